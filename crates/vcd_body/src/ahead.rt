@@ -379,7 +379,7 @@ pub fn item_comes(ahead: Ahead<'_>) -> bool
 /// completely in the chunk of the feed (`item_comes`). Call it before `next_item`, which may wait
 /// for input. Fails if the sink does.
 #[inline(always)]
-pub fn pass_on<S: Source, W: Sink>(
+pub fn pass_on_before_read<S: Source, W: Sink>(
     feed: &Feed<'_, '_, '_, '_, S>,
     out: &mut W,
 ) -> Result<(), WriteFailed>

@@ -178,7 +178,7 @@ pub(crate) fn put_shortest<W: Sink>(w: &mut W, digits: &[u8]) -> Result<(), Writ
 /// digits of a code of one bit, by its form and text, under the identifier code `id`. `event` says
 /// whether it is of an event; if it is not, digits must not be empty. If a write fails, a prefix
 /// was written.
-pub(crate) fn put_rare<W: Sink>(
+pub(crate) fn put_other<W: Sink>(
     event: bool,
     form: Form,
     text: &[u8],

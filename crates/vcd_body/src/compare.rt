@@ -3,7 +3,7 @@ ghost use Rattle.std.specs.Prelude.{◌≡◌, ◌≤◌, ◌<◌, length, true,
 ghost use Rattle.vcd_body.specs.Names.{AreTwo, Decides, HasDigits, are_two, differs, digits_of, extend, extended, extension, held_in, model_form, str_to_ascii_lowercase, value_at_size, value_with};
 
 use crate::change::extended_by;
-use crate::held::{count_of, digit_or, digit_shown, last_held};
+use crate::held::{digit_count, digit_or, digit_shown, last_held};
 use crate::item::Form;
 use crate::slot::{HeldValue, State};
 
@@ -52,7 +52,7 @@ fn shown_digit(held: HeldValue<'_>, size: usize, index: usize) -> u8
 fn places_differ(held: HeldValue<'_>, text: &[u8]) -> bool
     ensures { result ≡ true → AreTwo (digits_of held.entry) text.now }
 {
-    let count = count_of(held);
+    let count = digit_count(held);
     for back in 0..count.min(text.len()) {
         let digit = text[text.len() - 1 - back].to_ascii_lowercase();
         if digit_or(held, count - 1 - back) != digit {
@@ -91,7 +91,7 @@ fn several_differ(held: HeldValue<'_>, size: usize, text: &[u8]) -> bool
     requires digits { HasDigits held }
     ensures { result ≡ are_two size (digits_of held.entry) text.now }
 {
-    let count = count_of(held);
+    let count = digit_count(held);
     if size.max(count) != size.max(text.len()) {
         return true;
     }

@@ -9,7 +9,7 @@ use crate::slot::{HeldValue, State, digit_of_state};
 
 /// Returns how many digits of a value are held: 0 if there is no value, or if it is a real number.
 #[inline(always)]
-pub(crate) fn count_of(held: HeldValue<'_>) -> usize
+pub(crate) fn digit_count(held: HeldValue<'_>) -> usize
     ensures { result ≡ length (digits_of held.entry) }
 {
     match held.holding.state {
@@ -50,7 +50,7 @@ pub(crate) fn digit_shown(held: HeldValue<'_>, size: usize, index: usize) -> Opt
     ensures { result ≡ digit_in (value_at_size size (held_in held.entry)) index }
 {
     let first = digit_held(held, 0)?;
-    let missing = size.saturating_sub(count_of(held));
+    let missing = size.saturating_sub(digit_count(held));
     if index < missing {
         return Some(extension_of(first));
     }

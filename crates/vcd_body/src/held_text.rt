@@ -3,7 +3,7 @@ ghost use Rattle.std.specs.Prelude.{◌≡◌, ℕ, ◌+◌, ◌-◌, ◌^◌, �
 ghost use Rattle.vcd_body.specs.Names.{Puts, PutsTo, PutsWhere, digits_of, extend, held_in, line_if_set, short, shown, value_at_size};
 
 use crate::change::{extension_of, put_end, put_real};
-use crate::held::{count_of, digit_or};
+use crate::held::{digit_count, digit_or};
 use crate::slot::{HeldValue, State};
 use vcd_text::{Sink, WriteFailed, put};
 
@@ -42,7 +42,7 @@ fn put_from<W: Sink>(held: HeldValue<'_>, from: usize, w: &mut W) -> Result<(), 
     requires failures { (W.device w.old).failures < 2 ^ 64 - 1 }
     ensures { Puts (W.device w.old) (W.device w.new) (drop from (digits_of held.entry)) result }
 {
-    let count = count_of(held);
+    let count = digit_count(held);
     let mut block = [0u8; BLOCK];
     let mut at = from;
     while at < count {
@@ -61,7 +61,7 @@ fn first_needed(held: HeldValue<'_>) -> usize
     ensures { (size : ℕ) → drop result (digits_of held.entry)
         ≡ short (extend (digits_of held.entry) size) }
 {
-    let count = count_of(held);
+    let count = digit_count(held);
     let mut from = 0;
     'digits: while from + 1 < count {
         if digit_or(held, from) != extension_of(digit_or(held, from + 1)) {
@@ -127,7 +127,7 @@ fn put_extended<W: Sink>(held: HeldValue<'_>, size: usize, w: &mut W) -> Result<
     requires some { 0 < length (digits_of held) }
     ensures { Puts (W.device w.old) (W.device w.new) (extend (digits_of held.entry) size) result }
 {
-    let missing = size.saturating_sub(count_of(held));
+    let missing = size.saturating_sub(digit_count(held));
     put_repeated(extension_of(digit_or(held, 0)), missing, w)?;
     put_from(held, 0, w)
 }

@@ -7,8 +7,9 @@
 //! Most items are timestamps and changes that lie completely in the chunk. `walk_ahead` has a
 //! `Visit` handle these one after the other, skips the comments between them, and leaves the feed
 //! where it is; `pass_items` moves the feed past all of them. The `Visit` says what is done with
-//! each, which timestamps are left to the caller, and when the walk is over. `pass_on` is for a
-//! caller that reads on: before a read may wait, a sink writes what it keeps back to its device.
+//! each, which timestamps are left to the caller, and when the walk is over. `pass_on_before_read`
+//! is for a caller that reads on: before a read may wait, a sink writes what it keeps back to its
+//! device.
 //!
 //! The bytes of such a change are often the line that `put_change` would write, except its last
 //! byte and digits that the line does not need (`left_out` counts these). Then they may be copied
@@ -50,8 +51,8 @@
 //! - `read`: `next_item`, `change_text`; `phrases`, `tokens`: phrases by what they begin with, and
 //!   the next token
 //! - `walk`: `walk_ahead`, `Visit`: the loop over the items ahead
-//! - `ahead`: an item ahead, by what it begins with; `ScannedItem`, `item_comes`, `pass_on`,
-//!   `pass_items`
+//! - `ahead`: an item ahead, by what it begins with; `ScannedItem`, `item_comes`,
+//!   `pass_on_before_read`, `pass_items`
 //! - `words`: what a token is, by its first byte, and which bytes are digits
 //! - `item`, `fault`: `Item`, `Form`, `Section`, `Regs`; `BodyFault`
 //!
@@ -122,7 +123,7 @@ mod value;
 mod walk;
 mod words;
 
-pub use ahead::{ScannedItem, item_comes, pass_items, pass_on};
+pub use ahead::{ScannedItem, item_comes, pass_items, pass_on_before_read};
 pub use answer::{Done, More, Stop};
 pub use bits::Bits;
 pub use fault::BodyFault;

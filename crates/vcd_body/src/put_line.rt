@@ -2,7 +2,7 @@
 ghost use Rattle.std.specs.Prelude.{◌≡◌, ◌≢◌, ℕ, ◌-◌, ◌^◌, ◌<◌, ◌++◌, ◌∷◌, [], false, true, length};
 ghost use Rattle.vcd_body.specs.Names.{Puts, PutsTo, PutsWhere, extended, id_line, id_text, short};
 
-use crate::change::{put_end, put_rare, put_shortest};
+use crate::change::{put_end, put_other, put_shortest};
 use crate::id::Id;
 use crate::item::Form;
 use crate::renamed::put_code_line;
@@ -41,7 +41,7 @@ fn put_shortened<W: Sink>(digits: &[u8], id: Id<'_>, w: &mut W) -> Result<(), Wr
 /// whether it is of an event; if it is not, digits must not be empty. If a write fails, a prefix
 /// was written.
 #[inline(never)]
-fn put_other<W: Sink>(
+fn put_other_under<W: Sink>(
     event: bool,
     form: Form,
     text: &[u8],
@@ -54,8 +54,8 @@ fn put_other<W: Sink>(
         → PutsTo W.device w.old w.new (id_line id.entry size event form text.now) result }
 {
     match id {
-        Id::Own(code) => put_rare(event, form, text, code, w),
-        Id::Number(number) => put_rare(event, form, text, NewCode::of(number).text(), w),
+        Id::Own(code) => put_other(event, form, text, code, w),
+        Id::Number(number) => put_other(event, form, text, NewCode::of(number).text(), w),
     }
 }
 
@@ -100,6 +100,6 @@ pub(crate) fn put_line<W: Sink>(
     match text {
         [digit] if is_bit(size, event, form) => put_end_under(digit.to_ascii_lowercase(), id, w),
         _ if is_vector(size, event, form) => put_shortened(text, id, w),
-        _ => put_other(event, form, text, id, w),
+        _ => put_other_under(event, form, text, id, w),
     }
 }

@@ -35,7 +35,7 @@ pub trait Visit<C>: Drop {
 
     // Whether the walk leaves a timestamp with this time, and a section's keyword if this is the
     // last time.
-    ghost is_left: { Self → C → ℕ → Bool };
+    ghost stops_before: { Self → C → ℕ → Bool };
 
     // Whether no other item is to be taken.
     ghost over: { Self → Bool };
@@ -44,7 +44,7 @@ pub trait Visit<C>: Drop {
     /// caller. It is also asked before the begin or the end of a section, with the time of the last
     /// timestamp.
     fn ends_before(&self, command: &C, time: u64) -> bool
-        ensures { result ≡ is_left self.now command.now time };
+        ensures { result ≡ stops_before self.now command.now time };
 
     /// Returns whether the walk has to stop here, before any other item.
     fn is_over(&self) -> bool
@@ -61,7 +61,7 @@ pub trait Visit<C>: Drop {
         timestamp: ScannedItem<'_>,
     )
         requires stands { stands self.old command.old timestamp.bytes.now regs }
-        requires left { is_left self.old command.old time ≡ false }
+        requires no_stop { stops_before self.old command.old time ≡ false }
         requires item { (a a' : Ahead) × TakesItem view a a' regs timestamp }
         requires time { timestamp.item ≡ item.Time time }
         ensures takes { (a a' : Ahead) (out : Device)
@@ -107,7 +107,7 @@ pub trait Visit<C>: Drop {
     ) -> Result<(), WriteFailed>
         requires failures { (W.device out.old).failures < 2 ^ 64 - 1 }
         requires stands { stands self.old command.old section.bytes.now before }
-        requires left { is_left self.old command.old before.time ≡ false }
+        requires no_stop { stops_before self.old command.old before.time ≡ false }
         requires item { (a a' : Ahead) × TakesItem view a a' before section }
         requires section { IsSection section.item }
         requires after { after ≡ regs_after before section.item }
@@ -137,7 +137,7 @@ impl<'a, V> Walked<'a, V> {
     /// Returns the result of a walk: the look-ahead, the registers and the visitor after the items
     /// that were handled, and how it ended.
     #[inline(always)]
-    fn until(
+    fn ended_at(
         ahead: Ahead<'a>,
         regs: Regs,
         visit: V,
@@ -365,11 +365,11 @@ fn take_shorts<'a, C, V: Visit<C>, W: Sink, const CR_LF: bool>(
         let Some(taken) = take_short::<C, V, W, CR_LF>(
             command, &mut visit, view, regs, &mut ahead, out,
         ) else {
-            return Walked::until(ahead, regs, visit, Ok(false));
+            return Walked::ended_at(ahead, regs, visit, Ok(false));
         };
         match taken {
             Ok(()) => {}
-            Err(failed) => return Walked::until(ahead, regs, visit, Err(failed)),
+            Err(failed) => return Walked::ended_at(ahead, regs, visit, Err(failed)),
         }
     }
 }
@@ -421,7 +421,7 @@ fn take_lines_with_end<'a, C, V: Visit<C>, W: Sink, const CR_LF: bool>(
 {
     // What is known from here on is not asked again for each line.
     if view.entries.is_empty() || !ahead.two_byte_line_comes::<CR_LF>() {
-        return Walked::until(ahead, regs, visit, Ok(false));
+        return Walked::ended_at(ahead, regs, visit, Ok(false));
     }
     ahead.forget();
     'lines: loop {
@@ -435,10 +435,10 @@ fn take_lines_with_end<'a, C, V: Visit<C>, W: Sink, const CR_LF: bool>(
         let Some(()) = take_timestamp_line::<C, V, CR_LF>(
             command, &mut visit, view, &mut regs, &mut ahead,
         ) else {
-            return Walked::until(ahead, regs, visit, Ok(false));
+            return Walked::ended_at(ahead, regs, visit, Ok(false));
         };
         if visit.is_over() {
-            return Walked::until(ahead, regs, visit, Ok(true));
+            return Walked::ended_at(ahead, regs, visit, Ok(true));
         }
     }
 }
@@ -495,17 +495,17 @@ fn walk_items<'a, C, V: Visit<C>, W: Sink>(
     'items: loop {
         let Some(taken) = take_next(command, &mut visit, view, &mut regs, &mut ahead, out) else {
             ahead.forget();
-            return Walked::until(ahead, regs, visit, Ok(false));
+            return Walked::ended_at(ahead, regs, visit, Ok(false));
         };
         let was_no_change = match taken {
             Ok(was_no_change) => was_no_change,
-            Err(failed) => return Walked::until(ahead, regs, visit, Err(failed)),
+            Err(failed) => return Walked::ended_at(ahead, regs, visit, Err(failed)),
         };
         if visit.is_over() {
-            return Walked::until(ahead, regs, visit, Ok(true));
+            return Walked::ended_at(ahead, regs, visit, Ok(true));
         }
         if was_no_change && two_short_lines_come(ahead) {
-            return Walked::until(ahead, regs, visit, Ok(false));
+            return Walked::ended_at(ahead, regs, visit, Ok(false));
         }
     }
 }

@@ -246,7 +246,7 @@ impl Visit<()> for Noted {
 
     ghost takes = { λ _ _ _ _. Unit {0} };
 
-    ghost is_left = { λ _ _ _. false };
+    ghost stops_before = { λ _ _ _. false };
 
     ghost over = { λ _. false };
 

@@ -17,7 +17,7 @@ use Rattle.vcd_text.specs.Answer.{whole}
 use Rattle.vcd_text.specs.Feed.{HasGivenTo}
 use Rattle.vcd_text.specs.declared.offset.Offset.{Offset}
 use Rattle.vcd_body.specs.Reads.{BodyHas}
-use Rattle.vcd_changes.specs.Reading.{EndsAt, FindsUnder, GoesOnUnder, HasCodes, IsAfter, IsEnough}
+use Rattle.vcd_changes.specs.Reading.{EndsAt, FindsUnder, GoesOnUnder, HasCodes, IsAfter, IsLimitEnough}
 use Rattle.vcd_changes.specs.declared.reading.Place.{Place}
 use Rattle.vcd_changes.specs.declared.reading.Reading as reading
 use Rattle.vcd_changes.specs.declared.row.ChangeRow.{ChangeRow}
@@ -141,7 +141,7 @@ module _ (a b : ℕ) (le : a ≤ b) (text : List ℕ) where
     known = after.known;
   }
 
-  ends_at_more : (codes : List IdCode) (front : List Token) (items : List BodyItem) (r : reading.Reading) (rows : List ChangeRow) (status : ℕ) → IsEnough r status → EndsAt a codes (whole text) front items r rows status → EndsAt b codes (whole text) front items r rows status
+  ends_at_more : (codes : List IdCode) (front : List Token) (items : List BodyItem) (r : reading.Reading) (rows : List ChangeRow) (status : ℕ) → IsLimitEnough r status → EndsAt a codes (whole text) front items r rows status → EndsAt b codes (whole text) front items r rows status
   ends_at_more codes front items r rows status enough (inl done) = inl (done.0, body_more codes front items None (λ f e. absurd (cc)) done.1, after_more codes front items r.place enough.open done.2)
   ends_at_more codes front items r rows status enough (inr (inl faulty)) = inr (inl (faulty.0, body_more codes front items (Some (record { number = r.fault; line = r.line })) (λ f e. λ one. enough.fits faulty.0 (number_is f e ∙ one)) faulty.1))
     where
@@ -149,7 +149,7 @@ module _ (a b : ℕ) (le : a ≤ b) (text : List ℕ) where
       number_is f e = let same : ◌≡◌ {A = Fault} (record { number = r.fault; line = r.line }) f = cc in ap (λ (x : Fault). x.number) same
   ends_at_more codes front items r rows status enough (inr (inr full)) = inr (inr (full.0, full.1, after_more codes front items r.place enough.open full.2))
 
-  pub finds_more : (items : List BodyItem) (code : List ℕ) (r : reading.Reading) (rows : List ChangeRow) (status : ℕ) → IsEnough r status → FindsUnder a text items code r rows status → FindsUnder b text items code r rows status
+  pub finds_more : (items : List BodyItem) (code : List ℕ) (r : reading.Reading) (rows : List ChangeRow) (status : ℕ) → IsLimitEnough r status → FindsUnder a text items code r rows status → FindsUnder b text items code r rows status
   finds_more items code r rows status enough (FindsUnder.Found front codes has finds) =
       FindsUnder.Found front codes (codes_more front codes has) (record { more = finds.more; rows_are = finds.rows_are; ends = ends_at_more codes front (items ++ finds.more) r rows status enough finds.ends })
   finds_more items code r rows status enough (FindsUnder.NoCode front codes has none count_is status_is) = FindsUnder.NoCode front codes (codes_more front codes has) none count_is status_is

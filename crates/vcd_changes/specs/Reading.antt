@@ -119,7 +119,7 @@ pub data FindsUnder (limit : ℕ) (dump : List ℕ) (items : List BodyItem) (cod
 
 -- What a call under a lower limit found is what it finds under the limit of callers: its fault is
 -- not that a token is too long, and no halt is noted if the next call resumes.
-pub record IsEnough (r : Reading) (status : ℕ) : Type 0 where
+pub record IsLimitEnough (r : Reading) (status : ℕ) : Type 0 where
   pub fits : status ≡ 1 → r.fault ≢ 1
   pub «open» : r.place.offset.answer ≤ 1
 

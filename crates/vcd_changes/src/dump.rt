@@ -8,7 +8,7 @@ ghost use Rattle.vcd_model.specs.Declarations.{IdCode};
 ghost use Rattle.vcd_model.specs.Items.{BodyItem};
 ghost use Rattle.vcd_text.specs.Answer.{whole};
 ghost use Rattle.vcd_text.specs.Feed.{chunk_len_of, limit_of};
-ghost use Rattle.vcd_changes.specs.Reading.{Finds, FindsIn, FindsUnder, GoesOnAt, GoesOnUnder, IsEnough, Refused, StaysAt, status_of};
+ghost use Rattle.vcd_changes.specs.Reading.{Finds, FindsIn, FindsUnder, GoesOnAt, GoesOnUnder, IsLimitEnough, Refused, StaysAt, status_of};
 
 use crate::reading::{Reading, place_of, regs_of};
 use crate::row::ChangeRow;
@@ -210,8 +210,8 @@ fn read_under<B: BuildHasher>(
 /// Returns whether a call with the lower token limit, which left this status and reading, found
 /// what a call with the full limit (`LIMIT`) would find: it met no token that is too long. It is
 /// false also if the feed had halted at `reading.place`.
-fn is_enough(status: u8, reading: Reading) -> bool
-    ensures { result ≡ true → IsEnough reading status }
+fn is_limit_enough(status: u8, reading: Reading) -> bool
+    ensures { result ≡ true → IsLimitEnough reading status }
 {
     (status != FAULT || reading.fault != TOKEN_TOO_LONG) && reading.place.offset.answer <= 1
 }
@@ -243,7 +243,7 @@ pub fn changes<B: BuildHasher>(
         return read_under(alloc, LIMIT, dump, code, hasher, reading, rows);
     }
     let status = read_under(alloc, LOWER_LIMIT, dump, code, hasher, reading, rows);
-    if is_enough(status, *reading) {
+    if is_limit_enough(status, *reading) {
         return status;
     }
     *reading = before;

@@ -63,7 +63,7 @@ impl Collecting {
     /// to the end of the last row's change if the rows are full, otherwise past all items that the
     /// walk handled.
     #[inline(always)]
-    fn passed(&self, ahead: Ahead<'_>) -> usize
+    fn bytes_to_pass(&self, ahead: Ahead<'_>) -> usize
         ensures { result ≡ passed_with ahead.entry self.now }
     {
         if self.is_full() {
@@ -76,7 +76,7 @@ impl Collecting {
 
 // `is_over` is always false, so this visit ends a walk only before a timestamp or a section's begin
 // or end. Once the rows are full, the walk still visits the changes up to the next of these, and
-// `passed` leaves them out.
+// `bytes_to_pass` leaves them out.
 impl<'r> Visit<Rows<'r>> for Collecting {
     ghost use Rattle.std.specs.Prelude.{false};
     ghost use Rattle.vcd_changes.specs.Walk.{HasRoom, TakesRow, is_full};
@@ -85,7 +85,7 @@ impl<'r> Visit<Rows<'r>> for Collecting {
 
     ghost takes = { λ view s t result. TakesRow view s t result };
 
-    ghost is_left = { λ collecting _ _. is_full collecting };
+    ghost stops_before = { λ collecting _ _. is_full collecting };
 
     ghost over = { λ _. false };
 
@@ -155,7 +155,8 @@ impl<'r> Visit<Rows<'r>> for Collecting {
 
 /// Fills the rows with the changes of one code among the items that lie completely in the chunk,
 /// from `ahead` on, until the rows are full. Returns the look-ahead, the registers and `collecting`
-/// after the items that the walk handled; `passed` says which of these the feed has to move past.
+/// after the items that the walk handled; `bytes_to_pass` says which of these the feed has to
+/// move past.
 ///
 /// `collecting` says which code that is, and how many rows are filled before; they must not be
 /// full. `regs` are the registers before these items, and `ahead` must be at its first byte.
@@ -213,7 +214,7 @@ pub(crate) fn collect_ahead<S: Source>(
     };
     let mut lent = Rows::new(rows);
     let walked = walk_rows(&mut lent, collecting, view, *regs, ahead);
-    let passed = walked.visit.passed(walked.ahead);
+    let passed = walked.visit.bytes_to_pass(walked.ahead);
     *regs = walked.regs;
     let count = walked.visit.count;
     pass_items(feed, passed);

@@ -46,7 +46,7 @@ module _ (task : Request) (h : Header) (limit lines : ℕ) (bytes : List ℕ) (b
 -- what a task leaves that takes the items which lie completely in the chunk, from a position on
 pub record RunsOver (v : HeadView) (a : Ahead) (r : Regs) (m m' : TaskState) (out out' : Device) (t : WalkEnd) : Type 0 where
   pub gives : (h : Header) (lines : ℕ) (before : List BodyItem) → IsViewOf v h → length before + length (bytes_of a) < 2 ^ 63 → StandsAhead (request_in m) h (longest_of a) lines (bytes_of a) before (passed_of a) [] m r
-      → RunsAhead (request_in m) h (longest_of a) lines (bytes_of a) before t.passed m' t.regs out out' t.written
+      → RunsAhead (request_in m) h (longest_of a) lines (bytes_of a) before t.passed m' t.regs out out' t.write_result
   pub passes : (lines : ℕ) (ts : List Token) → Passed (longest_of a) lines (bytes_of a) (passed_of a) ts → (more : List Token) × Passed (longest_of a) lines (bytes_of a) t.passed (ts ++ more)
-  pub counts : Counts out out' t.written
+  pub counts : Counts out out' t.write_result
   pub same : SameTask m m'

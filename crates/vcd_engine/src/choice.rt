@@ -3,7 +3,7 @@ ghost use Rattle.std.specs.Prelude.{◌≡◌, ℕ, ◌<◌, ◌==◌, ◌||◌,
 ghost use Rattle.vcd_engine.specs.Names.{is_chosen};
 
 /// Sets all flags to 0: no code is chosen then. `flags` has one byte for each code.
-pub(crate) fn choose_none(flags: &mut [u8])
+pub(crate) fn clear_chosen(flags: &mut [u8])
     ensures codes { length flags.new ≡ length flags.old }
     ensures chosen { (code : ℕ) → is_chosen flags.new code ≡ false }
 {
@@ -12,7 +12,7 @@ pub(crate) fn choose_none(flags: &mut [u8])
 
 /// Sets the flag of the code at index `code`, which must exist, to 1: it is chosen then. The flags
 /// of all other codes stay as they are.
-pub(crate) fn choose(flags: &mut [u8], code: usize)
+pub(crate) fn set_chosen(flags: &mut [u8], code: usize)
     requires { code < length flags.old }
     ensures codes { length flags.new ≡ length flags.old }
     ensures chosen { (other : ℕ)

@@ -7,7 +7,9 @@ ghost use Rattle.vcd_text.specs.Feed.{source_of};
 
 use crate::task::{Room, Task};
 use crate::task_state::TaskState;
-use vcd_body::{Done, Item, More, Regs, Stop, change_text, next_item, pass_items, pass_on};
+use vcd_body::{
+    Done, Item, More, Regs, Stop, change_text, next_item, pass_items, pass_on_before_read,
+};
 use vcd_text::{Feed, Sink, Source, WriteFailed};
 use vcd_view::HeadView;
 
@@ -180,7 +182,7 @@ impl<'v, 'n, 'r> Engine<'v, 'n, 'r> {
             .take_ahead(view, self.regs, feed.ahead(), out);
         self.regs = taken.regs;
         pass_items(feed, taken.passed);
-        match taken.written {
+        match taken.write_result {
             Ok(()) => Ok(()),
             Err(failed) => {
                 self.going = false;
@@ -230,7 +232,7 @@ impl<'v, 'n, 'r> Engine<'v, 'n, 'r> {
             (W.device out.old) (W.device out.new) result }
     {
         self.advance_ahead(view, feed, out)?;
-        match pass_on(feed, out) {
+        match pass_on_before_read(feed, out) {
             Ok(()) => {}
             Err(failed) => {
                 self.going = false;

@@ -2,7 +2,7 @@
 ghost use Rattle.std.specs.Prelude.{◌≡◌, ℕ, ◌≤◌, List, length, map, string_bytes, MatchResult};
 ghost use Rattle.vcd_engine.specs.Names.{AreSelected, ChoosesMore, Header, is_marked, IsFirstUnmatched, IsUnmatched, IsViewOf, marks_of};
 
-use crate::choice::{choose, choose_none};
+use crate::choice::{clear_chosen, set_chosen};
 use vcd_body::Stop;
 use vcd_head::select;
 use vcd_view::{HeadView, Kind};
@@ -26,7 +26,7 @@ fn choose_marked(view: HeadView<'_>, marks: &[u8], flags: &mut [u8])
     for (row, mark) in view.rows.iter().zip(marks) {
         let code = row.code as usize;
         if row.kind == Kind::Var && *mark == 1 && code < view.codes.len() {
-            choose(flags, code);
+            set_chosen(flags, code);
         }
     }
 }
@@ -52,7 +52,7 @@ pub(crate) fn select_codes(
     if let Err(name) = select(view, names, marks) {
         return Err(Stop::Unmatched { name });
     }
-    choose_none(flags);
+    clear_chosen(flags);
     choose_marked(view, marks, flags);
     Ok(())
 }

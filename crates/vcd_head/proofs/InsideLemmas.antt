@@ -137,7 +137,7 @@ pub follows_kept : (names : List (List ℕ)) (order : List ℕ) (old new : List 
 follows_kept names order old new front r grows same f = record {
   up = f.up;
   within = f.within;
-  passed = f.passed;
+  front_len = f.front_len;
   inside = f.inside;
   outside = λ i l o. decided i l (f.outside i l o);
   whole = f.whole;

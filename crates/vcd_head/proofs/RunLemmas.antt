@@ -121,12 +121,12 @@ who_passes test (x ∷ names) e = by_test (test x) refl (who_passes test names) 
 -- ---- a run
 
 module _ (names : List (List ℕ)) (order : List ℕ) (flags : List Bool) (front : List ℕ) (r : NameRun) (f : Follows names order flags front r) where
-  pub next_is : (i : ℕ) (l : r.first ≤ i) (m : i < r.end) → next_in names order r.passed i ≡ first_of (f.inside i l m).0
+  pub next_is : (i : ℕ) (l : r.first ≤ i) (m : i < r.end) → next_in names order r.front_len i ≡ first_of (f.inside i l m).0
   next_is i l m =
       let e = f.inside i l m in
-      ap first_of (ap (λ n. drop n (text_at names order i)) (f.passed (omega (arith, l, m))) ∙ ap (drop (length front)) e.1 ∙ drop-append_seam front e.0)
+      ap first_of (ap (λ n. drop n (text_at names order i)) (f.front_len (omega (arith, l, m))) ∙ ap (drop (length front)) e.1 ∙ drop-append_seam front e.0)
 
-  pub rises_in : Rises names order r.passed r.first r.end
+  pub rises_in : Rises names order r.front_len r.first r.end
   rises_in i j l m n =
       let il : i < r.end = omega (arith, m, n) in
       let jl : r.first ≤ j = omega (arith, l, m) in
@@ -148,7 +148,7 @@ module _ (names : List (List ℕ)) (order : List ℕ) (flags : List Bool) (front
       not_out (inr none) = let no = sym (ap (λ l. selects_path l front) (append-nil front)) ∙ ap (selects_path (front ++ [])) (sym e) ∙ none [] in let yes = is_itself front in cc
 
   -- and it ends there
-  pub front_ends : (i : ℕ) (l : r.first ≤ i) (m : i < r.end) → text_at names order i ≡ front → next_in names order r.passed i ≡ 0
+  pub front_ends : (i : ℕ) (l : r.first ≤ i) (m : i < r.end) → text_at names order i ≡ front → next_in names order r.front_len i ≡ 0
   front_ends i l m e =
       let x = f.inside i l m in
       next_is i l m ∙ ap first_of (nothing front x.0 (sym x.1 ∙ e))
@@ -157,7 +157,7 @@ module _ (names : List (List ℕ)) (order : List ℕ) (flags : List Bool) (front
       nothing p rest h = sym (drop-append_seam p rest) ∙ ap (drop (length p)) h ∙ drop-length p
 
   -- a name of the run that ends there is the front
-  pub ends_front : (i : ℕ) (l : r.first ≤ i) (m : i < r.end) → next_in names order r.passed i ≡ 0 → text_at names order i ≡ front
+  pub ends_front : (i : ℕ) (l : r.first ≤ i) (m : i < r.end) → next_in names order r.front_len i ≡ 0 → text_at names order i ≡ front
   ends_front i l m e =
       let x = f.inside i l m in
       x.1 ∙ ap (λ q. front ++ q) (none_first x.0 (sym (next_is i l m) ∙ e)) ∙ append-nil front
@@ -170,7 +170,7 @@ pub record Noting (names : List (List ℕ)) (order : List ℕ) (front : List ℕ
   pub others : (p : ℕ) (name : List ℕ) → slice_get names p ≡ Some name → bytes_eq name front ≡ false → get_or new p false ≡ get_or old p false
 
 module _ (names : List (List ℕ)) (order : List ℕ) (old : List Bool) (front : List ℕ) (r : NameRun) (f : Follows names order old front r) where
-  pub noting_next : (new : List Bool) (at : ℕ) → r.first ≤ at → at < r.end → next_in names order r.passed at ≡ 0 → get_or order at 0 < length new → Noting names order front old new r.first at → Noting names order front old (set new (get_or order at 0) true) r.first (at + 1)
+  pub noting_next : (new : List Bool) (at : ℕ) → r.first ≤ at → at < r.end → next_in names order r.front_len at ≡ 0 → get_or order at 0 < length new → Noting names order front old new r.first at → Noting names order front old (set new (get_or order at 0) true) r.first (at + 1)
   noting_next new at l m ends room n = record {
     set_before = λ i a b. elim (cases_eq (get_or order i 0) (get_or order at 0)) [
       | inl e ↦ ap (λ k. get_or (set new (get_or order at 0) true) k false) e ∙ get_or-set_same new (get_or order at 0) true false room
@@ -188,7 +188,7 @@ module _ (names : List (List ℕ)) (order : List ℕ) (old : List Bool) (front :
       earlier i n l d = elim (cases_eq i n) [ inl e ↦ absurd (d e) | inr x ↦ omega (arith, l, x) ]
 
   -- where the first of the run does not end there, no name is the front
-  pub none_noted : (r.end ≤ r.first) ⊎ (next_in names order r.passed r.first ≢ 0) → Matches (λ name. bytes_eq name front) names old old false
+  pub none_noted : (r.end ≤ r.first) ⊎ (next_in names order r.front_len r.first ≢ 0) → Matches (λ name. bytes_eq name front) names old old false
   none_noted h = match_none (λ name. bytes_eq name front) names old (λ p name at. false_from_ne_true (bytes_eq name front) (λ same.
       let i = found_at names order f.order_is p name at in
       let e = i.3 ∙ same_bytes name front same in
@@ -196,11 +196,11 @@ module _ (names : List (List ℕ)) (order : List ℕ) (old : List Bool) (front :
       let ends = front_ends names order old front r f i.0 in_run.0 in_run.1 e in
       not_there i.0 in_run.0 in_run.1 ends h))
     where
-      not_there : (i : ℕ) → r.first ≤ i → i < r.end → next_in names order r.passed i ≡ 0 → (r.end ≤ r.first) ⊎ (next_in names order r.passed r.first ≢ 0) → ⊥
+      not_there : (i : ℕ) → r.first ≤ i → i < r.end → next_in names order r.front_len i ≡ 0 → (r.end ≤ r.first) ⊎ (next_in names order r.front_len r.first ≢ 0) → ⊥
       not_there i l m ends (inl none) = omega (arith, l, m, none)
       not_there i l m ends (inr d) = let up = rises_in names order old front r f r.first i (omega arith) l m in d (omega (arith, up, ends))
 
-  module _ (some : r.first < r.end) (ends : next_in names order r.passed r.first ≡ 0) where
+  module _ (some : r.first < r.end) (ends : next_in names order r.front_len r.first ≡ 0) where
     first_is : text_at names order r.first ≡ front
     first_is = ends_front names order old front r f r.first (omega arith) some ends
 
@@ -222,13 +222,13 @@ module _ (names : List (List ℕ)) (order : List ℕ) (old : List Bool) (front :
             set_here ∙ sym (or_true (get_or old p false) true refl)
 
     -- where all of the run that end there were flagged
-    pub noted_all : (new : List Bool) (at : ℕ) → (r.end ≤ at) ⊎ ((at < r.end) × (next_in names order r.passed at ≢ 0)) → r.first ≤ at → Noting names order front old new r.first at → Matches (λ name. bytes_eq name front) names old new true
+    pub noted_all : (new : List Bool) (at : ℕ) → (r.end ≤ at) ⊎ ((at < r.end) × (next_in names order r.front_len at ≢ 0)) → r.first ≤ at → Noting names order front old new r.first at → Matches (λ name. bytes_eq name front) names old new true
     noted_all new at stop up n = record {
       flags = λ p name is. by_test p name is (bytes_eq name front) refl;
       any = sym any_is;
     }
       where
-        is_before : (i : ℕ) → r.first ≤ i → i < r.end → next_in names order r.passed i ≡ 0 → (r.end ≤ at) ⊎ ((at < r.end) × (next_in names order r.passed at ≢ 0)) → i < at
+        is_before : (i : ℕ) → r.first ≤ i → i < r.end → next_in names order r.front_len i ≡ 0 → (r.end ≤ at) ⊎ ((at < r.end) × (next_in names order r.front_len at ≢ 0)) → i < at
         is_before i l m e (inl last) = omega (arith, m, last)
         is_before i l m e (inr goes_on) = elim (cases_lt i at) [
           | inl b ↦ b

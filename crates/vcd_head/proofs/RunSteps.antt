@@ -35,7 +35,7 @@ module _ (names : List (List ℕ)) (order : List ℕ) (old new : List Bool) (fro
   still_decided i l (inl d) = inl (whole ∙ ap (λ b. b || ends) d.0, kept i l d.1, all_behind front (byte ∷ []) (text_at names order i) d.2)
   still_decided i l (inr none) = inr (none_behind front (byte ∷ []) (text_at names order i) none)
 
-  now_decided : (i : ℕ) (l : r.first ≤ i) (h : i < r.end) → next_in names order r.passed i ≢ byte + 1 → IsDecided names order new (front ++ byte ∷ []) s.whole i
+  now_decided : (i : ℕ) (l : r.first ≤ i) (h : i < r.end) → next_in names order r.front_len i ≢ byte + 1 → IsDecided names order new (front ++ byte ∷ []) s.whole i
   now_decided i l h other = by_rest (f.inside i l h).0 (f.inside i l h).1
     where
       one_more : (a : ℕ) → a + 1 ≡ suc a
@@ -44,8 +44,8 @@ module _ (names : List (List ℕ)) (order : List ℕ) (old new : List Bool) (fro
       within : i < length names
       within = omega (arith, h, f.within)
 
-      behind : (k : ℕ) → r.first ≤ k → k < r.end → (rest : List ℕ) → text_at names order k ≡ front ++ rest → drop r.passed (text_at names order k) ≡ rest
-      behind k a b rest e = ap (λ p. drop p (text_at names order k)) (f.passed (omega (arith, a, b))) ∙ ap (drop (length front)) e ∙ drop-append_seam front rest
+      behind : (k : ℕ) → r.first ≤ k → k < r.end → (rest : List ℕ) → text_at names order k ≡ front ++ rest → drop r.front_len (text_at names order k) ≡ rest
+      behind k a b rest e = ap (λ p. drop p (text_at names order k)) (f.front_len (omega (arith, a, b))) ∙ ap (drop (length front)) e ∙ drop-append_seam front rest
 
       by_rest : (rest : List ℕ) → text_at names order i ≡ front ++ rest → IsDecided names order new (front ++ byte ∷ []) s.whole i
       by_rest [] e =
@@ -69,7 +69,7 @@ module _ (names : List (List ℕ)) (order : List ℕ) (old new : List Bool) (fro
   follows_step = record {
     up = n.up;
     within = omega (arith, n.high, f.within);
-    passed = λ l. n.passed l ∙ ap (λ k. k + 1) (f.passed (omega (arith, l, n.low, n.high))) ∙ sym (length-append front (byte ∷ []));
+    front_len = λ l. n.front_len l ∙ ap (λ k. k + 1) (f.front_len (omega (arith, l, n.low, n.high))) ∙ sym (length-append front (byte ∷ []));
     inside = λ i l h.
         let il : r.first ≤ i = omega (arith, l, n.low) in
         let ih : i < r.end = omega (arith, h, n.high) in
@@ -113,12 +113,12 @@ same_taken (suc n) (x ∷ a) [] l s = absurd (omega (arith, l))
 same_taken (suc n) (x ∷ a) (y ∷ b) l s = λ j. s.1 0 (omega arith) j ∷ same_taken n a b (omega (arith, l)) (omega (arith, s.0), λ i h. s.1 (suc i) (omega (arith, h))) j
 
 module _ (names : List (List ℕ)) (order : List ℕ) (flags : List Bool) (front bytes : List ℕ) (n : ℕ) (r s : NameRun) (f : Follows names order flags front r) (some : r.first < r.end) (within : n ≤ length bytes)
-    (low : AreShared (next_bytes names order r.passed r.first) bytes n) (high : AreShared (next_bytes names order r.passed (r.end - 1)) bytes n)
-    (first : s.first ≡ r.first) (end : s.end ≡ r.end) (passed : s.passed ≡ r.passed + n) (whole : s.whole ≡ r.whole) where
-  begins : (i : ℕ) (l : r.first ≤ i) (m : i < r.end) → AreShared (next_bytes names order r.passed i) bytes n → (f.inside i l m).0 ≡ take n bytes ++ drop n (f.inside i l m).0
+    (low : AreShared (next_bytes names order r.front_len r.first) bytes n) (high : AreShared (next_bytes names order r.front_len (r.end - 1)) bytes n)
+    (first : s.first ≡ r.first) (end : s.end ≡ r.end) (front_len : s.front_len ≡ r.front_len + n) (whole : s.whole ≡ r.whole) where
+  begins : (i : ℕ) (l : r.first ≤ i) (m : i < r.end) → AreShared (next_bytes names order r.front_len i) bytes n → (f.inside i l m).0 ≡ take n bytes ++ drop n (f.inside i l m).0
   begins i l m same =
       let x = f.inside i l m in
-      let rest : next_bytes names order r.passed i ≡ x.0 = ap (λ p. drop p (text_at names order i)) (f.passed some) ∙ ap (drop (length front)) x.1 ∙ drop-append_seam front x.0 in
+      let rest : next_bytes names order r.front_len i ≡ x.0 = ap (λ p. drop p (text_at names order i)) (f.front_len some) ∙ ap (drop (length front)) x.1 ∙ drop-append_seam front x.0 in
       sym (take-append-drop n x.0) ∙ ap (λ k. k ++ drop n x.0) (same_taken n x.0 bytes within (subst (λ t. AreShared t bytes n) rest same))
 
   between_all : (i : ℕ) → r.first ≤ i → i < r.end → (rest : List ℕ) × (text_at names order i ≡ (front ++ take n bytes) ++ rest)
@@ -142,7 +142,7 @@ module _ (names : List (List ℕ)) (order : List ℕ) (flags : List Bool) (front
   follows_along = record {
     up = omega (arith, first, end, f.up);
     within = omega (arith, end, f.within);
-    passed = λ l. passed ∙ ap (λ p. p + n) (f.passed some) ∙ ap (λ k. length front + k) (sym (length-take-le n bytes within)) ∙ sym (length-append front (take n bytes));
+    front_len = λ l. front_len ∙ ap (λ p. p + n) (f.front_len some) ∙ ap (λ k. length front + k) (sym (length-take-le n bytes within)) ∙ sym (length-append front (take n bytes));
     inside = λ i l m. between_all i (omega (arith, l, first)) (omega (arith, m, end));
     outside = λ i l o. decided i (f.outside i l (elim o [ inl b ↦ inl (omega (arith, b, first)) | inr a ↦ inr (omega (arith, a, end)) ]));
     whole = λ e. let x = f.whole (sym whole ∙ e) in (x.0, x.1, all_behind front (take n bytes) (text_at names order x.0) x.2);
@@ -189,7 +189,7 @@ goes_empty names order old new front more r none g =
       follows = record {
         up = f.up;
         within = f.within;
-        passed = λ l. absurd (omega (arith, l, none));
+        front_len = λ l. absurd (omega (arith, l, none));
         inside = λ i l h. absurd (omega (arith, l, h, none));
         outside = λ i l o. decided i (f.outside i l o);
         whole = λ e. let x = f.whole e in (x.0, x.1, all_behind front more (text_at names order x.0) x.2);

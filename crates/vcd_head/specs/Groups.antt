@@ -29,9 +29,9 @@ FlagsSome g old new run test some = (front : List ℕ) → IsRun g old front run
 
 -- between two indexes of its order the next byte of the names does not decrease
 abbrev pub AreRising : Group → ℕ → (first end : ℕ) → Type 0
-AreRising g passed first end = Rises (names_of g) g.order.now passed first end
+AreRising g front_len first end = Rises (names_of g) g.order.now front_len first end
 
 -- after this many bytes the name at an index of its order continues with the first of these, this
 -- many
 abbrev pub GoesOnWith : Group → ℕ → ℕ → List ℕ → ℕ → Type 0
-GoesOnWith g passed i bytes n = AreShared (next_bytes (names_of g) g.order.now passed i) bytes n
+GoesOnWith g front_len i bytes n = AreShared (next_bytes (names_of g) g.order.now front_len i) bytes n

@@ -34,11 +34,11 @@ first_of (byte ∷ bytes) = suc byte
 
 -- what comes after this many bytes of the name at an index of the order
 abbrev pub next_bytes : List (List ℕ) → List ℕ → ℕ → ℕ → List ℕ
-next_bytes names order passed i = drop passed (text_at names order i)
+next_bytes names order front_len i = drop front_len (text_at names order i)
 
 -- 1 plus the first byte of what comes after this many bytes, or 0 if there is none
 abbrev pub next_in : List (List ℕ) → List ℕ → ℕ → ℕ → ℕ
-next_in names order passed i = first_of (next_bytes names order passed i)
+next_in names order front_len i = first_of (next_bytes names order front_len i)
 
 -- both texts begin with the same bytes, this many
 abbrev pub AreShared : List ℕ → List ℕ → ℕ → Type 0
@@ -46,13 +46,13 @@ AreShared a b n = (n ≤ length a) × ((i : ℕ) → i < n → get_or a i 0 ≡ 
 
 -- between two indexes of the order that number does not decrease
 abbrev pub Rises : List (List ℕ) → List ℕ → ℕ → (first end : ℕ) → Type 0
-Rises names order passed first end = (i j : ℕ) → first ≤ i → i ≤ j → j < end → next_in names order passed i ≤ next_in names order passed j
+Rises names order front_len first end = (i j : ℕ) → first ≤ i → i ≤ j → j < end → next_in names order front_len i ≤ next_in names order front_len j
 
 -- between two indexes of the order, that number is less before a third index, and not less from
 -- there on
-pub record IsSplit (names : List (List ℕ)) (order : List ℕ) (passed first end least position : ℕ) : Type 0 where
-  pub below : (i : ℕ) → first ≤ i → i < position → next_in names order passed i < least
-  pub above : (i : ℕ) → position ≤ i → i < end → least ≤ next_in names order passed i
+pub record IsSplit (names : List (List ℕ)) (order : List ℕ) (front_len first end least position : ℕ) : Type 0 where
+  pub below : (i : ℕ) → first ≤ i → i < position → next_in names order front_len i < least
+  pub above : (i : ℕ) → position ≤ i → i < end → least ≤ next_in names order front_len i
 
 -- the name selects all that continues after this front of a path
 abbrev pub SelectsAll : List ℕ → List ℕ → Type 0

@@ -13,7 +13,7 @@ IsDecided names order flags front whole i = ((whole ≡ true) × (get_or flags (
 pub record Follows (names : List (List ℕ)) (order : List ℕ) (flags : List Bool) (front : List ℕ) (r : NameRun) : Type 0 where
   pub up : r.first ≤ r.end
   pub within : r.end ≤ length names
-  pub passed : r.first < r.end → r.passed ≡ length front
+  pub front_len : r.first < r.end → r.front_len ≡ length front
   pub inside : (i : ℕ) → r.first ≤ i → i < r.end → (rest : List ℕ) × (text_at names order i ≡ front ++ rest)
   pub outside : (i : ℕ) → i < length names → (i < r.first) ⊎ (r.end ≤ i) → IsDecided names order flags front r.whole i
   pub whole : r.whole ≡ true → (i : ℕ) × (i < length names) × SelectsAll front (text_at names order i)
@@ -25,9 +25,9 @@ pub record Narrows (names : List (List ℕ)) (order : List ℕ) (byte : ℕ) (ol
   pub up : new.first ≤ new.end
   pub low : old.first ≤ new.first
   pub high : new.end ≤ old.end
-  pub passed : new.first < new.end → new.passed ≡ old.passed + 1
-  pub has : (i : ℕ) → new.first ≤ i → i < new.end → next_in names order old.passed i ≡ byte + 1
-  pub others : (i : ℕ) → old.first ≤ i → i < old.end → (i < new.first) ⊎ (new.end ≤ i) → next_in names order old.passed i ≢ byte + 1
+  pub front_len : new.first < new.end → new.front_len ≡ old.front_len + 1
+  pub has : (i : ℕ) → new.first ≤ i → i < new.end → next_in names order old.front_len i ≡ byte + 1
+  pub others : (i : ℕ) → old.first ≤ i → i < old.end → (i < new.first) ⊎ (new.end ≤ i) → next_in names order old.front_len i ≢ byte + 1
 
 -- the run is that of a longer front, and names that select all after it were flagged
 pub record GoesOn (names : List (List ℕ)) (order : List ℕ) (old new : List Bool) (front : List ℕ) (r : NameRun) : Type 0 where

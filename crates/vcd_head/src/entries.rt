@@ -70,14 +70,14 @@ fn count_for(codes: usize, greatest: usize) -> usize
 }
 
 /// Writes the entry of each code to the table `entries`. The bytes of the codes lie in `text`, and
-/// `seed` hashes them. A code for which `enter` finds no free entry gets none.
+/// `seed` hashes them. A code for which `insert` finds no free entry gets none.
 fn fill(entries: &mut [Entry], text: &[u8], codes: &[Code], seed: CodeSeed)
     ensures right { KeepsRight text.now codes.now entries.old entries.new }
     ensures len { length entries.new ≡ length entries.old }
 {
     for (position, code) in codes.iter().enumerate() {
         let bytes = text_in(text, code.start, code.len as usize);
-        enter(entries, position, *code, bytes, seed);
+        insert(entries, position, *code, bytes, seed);
     }
 }
 
@@ -86,7 +86,7 @@ fn fill(entries: &mut [Entry], text: &[u8], codes: &[Code], seed: CodeSeed)
 /// `seed` leads to, whichever of these is free first. If none is free, the code gets no entry, and
 /// only a binary search finds it.
 #[inline(always)]
-fn enter(entries: &mut [Entry], position: usize, code: Code, bytes: &[u8], seed: CodeSeed)
+fn insert(entries: &mut [Entry], position: usize, code: Code, bytes: &[u8], seed: CodeSeed)
     ensures right { (text : List ℕ) (codes : List Code) → slice_get codes position ≡ Some code
         → bytes.now ≡ text_in text code.start code.len → KeepsRight text codes entries.old entries.new }
     ensures len { length entries.new ≡ length entries.old }

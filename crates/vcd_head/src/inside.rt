@@ -152,7 +152,7 @@ impl<'o> Open<'o> {
         let Some(around) = self.around(view, row) else {
             return;
         };
-        let run = group.enter(around.run, view.name_of(row), matched);
+        let run = group.follow_scope(around.run, view.name_of(row), matched);
         self.hold(Inside {
             scope: row + 1,
             run,

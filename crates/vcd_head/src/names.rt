@@ -25,7 +25,7 @@ pub(crate) struct NameRun {
     first: usize,
     end: usize,
     // How many bytes the front has, if there is such a name.
-    passed: usize,
+    front_len: usize,
     // Whether some name selects all paths that continue after the front.
     whole: bool,
 }
@@ -52,7 +52,7 @@ impl<'n> Group<'n> {
         NameRun {
             first: 0,
             end: self.names.len(),
-            passed: 0,
+            front_len: 0,
             whole: false,
         }
     }
@@ -71,34 +71,34 @@ impl<'n> Group<'n> {
         }
     }
 
-    /// Returns 1 plus the byte after the first `passed` bytes of a name, or 0 if the name has no
+    /// Returns 1 plus the byte after the first `front_len` bytes of a name, or 0 if the name has no
     /// more bytes than these. `at` is the place of the name in the order of bytes.
     #[inline(always)]
-    fn next_at(&self, at: usize, passed: usize) -> usize
-        ensures next { result ≡ next_in (names_of self.now) self.now.order.now passed at }
-        ensures within { 0 < result → passed < 2 ^ 63 }
+    fn next_at(&self, at: usize, front_len: usize) -> usize
+        ensures next { result ≡ next_in (names_of self.now) self.now.order.now front_len at }
+        ensures within { 0 < result → front_len < 2 ^ 63 }
     {
         let name = name_at(self.names, self.index_at(at));
-        match name.get(passed) {
+        match name.get(front_len) {
             Some(byte) => usize::from(*byte) + 1,
             None => 0,
         }
     }
 
     /// Returns the first place from `first` to `end` (exclusive), in the order of the names' bytes,
-    /// at which `next_at` with `passed` is at least `least`; `end` if there is none. `next_at` must
-    /// not decrease between these places.
+    /// at which `next_at` with `front_len` is at least `least`; `end` if there is none. `next_at`
+    /// must not decrease between these places.
     #[inline(always)]
-    fn first_from(&self, first: usize, end: usize, passed: usize, least: usize) -> usize
+    fn first_from(&self, first: usize, end: usize, front_len: usize, least: usize) -> usize
         ensures range { first ≤ end → (first ≤ result) × (result ≤ end) }
-        ensures split { first ≤ end → AreRising self.now passed first end
-            → IsSplit (names_of self.now) self.now.order.now passed first end least result }
+        ensures split { first ≤ end → AreRising self.now front_len first end
+            → IsSplit (names_of self.now) self.now.order.now front_len first end least result }
     {
         let mut low = first;
         let mut high = end;
         while low < high {
             let middle = low + (high - low) / 2;
-            if self.next_at(middle, passed) < least {
+            if self.next_at(middle, front_len) < least {
                 low = middle + 1;
             } else {
                 high = middle;
@@ -114,14 +114,14 @@ impl<'n> Group<'n> {
         ensures { FlagsSome self.now matched.old matched.new run
             (λ front name. bytes_eq name front) result }
     {
-        if run.first >= run.end || self.next_at(run.first, run.passed) != 0 {
+        if run.first >= run.end || self.next_at(run.first, run.front_len) != 0 {
             return false;
         }
         if matched[self.index_at(run.first)] {
             return true;
         }
         for at in run.first..run.end {
-            if self.next_at(at, run.passed) != 0 {
+            if self.next_at(at, run.front_len) != 0 {
                 return true;
             }
             matched[self.index_at(at)] = true;
@@ -149,13 +149,13 @@ impl<'n> Group<'n> {
     /// this one.
     #[inline(always)]
     fn with_byte(&self, run: NameRun, byte: u8, whole: bool) -> NameRun
-        ensures narrows { run.first ≤ run.end → AreRising self.now run.passed run.first run.end
+        ensures narrows { run.first ≤ run.end → AreRising self.now run.front_len run.first run.end
             → Narrows (names_of self.now) self.now.order.now byte run result }
         ensures whole { result.whole ≡ whole }
     {
         let next = usize::from(byte) + 1;
-        let first = self.first_from(run.first, run.end, run.passed, next);
-        if first >= run.end || self.next_at(first, run.passed) != next {
+        let first = self.first_from(run.first, run.end, run.front_len, next);
+        if first >= run.end || self.next_at(first, run.front_len) != next {
             return NameRun {
                 first,
                 end: first,
@@ -163,11 +163,11 @@ impl<'n> Group<'n> {
                 ..run
             };
         }
-        let end = self.first_from(first, run.end, run.passed, next + 1);
+        let end = self.first_from(first, run.end, run.front_len, next + 1);
         NameRun {
             first,
             end,
-            passed: run.passed + 1,
+            front_len: run.front_len + 1,
             whole,
         }
     }
@@ -176,7 +176,7 @@ impl<'n> Group<'n> {
     /// of this path. If it is a dot, sets the flags in `matched` of the names that end just before
     /// it, and so select every such path.
     #[inline(always)]
-    fn step(&self, run: NameRun, byte: u8, matched: &mut [bool; GROUP_NAMES]) -> NameRun
+    fn follow_byte(&self, run: NameRun, byte: u8, matched: &mut [bool; GROUP_NAMES]) -> NameRun
         ensures { RunsOn self.now matched.old matched.new run (λ front. front ++ byte ∷ []) result }
     {
         let ends = self.note_at(run, byte, matched);
@@ -187,15 +187,15 @@ impl<'n> Group<'n> {
     #[inline(always)]
     fn shared_by_run(&self, run: NameRun, bytes: &[u8]) -> usize
         ensures within { result ≤ length bytes.now }
-        ensures fits { run.passed + result < 2 ^ 64 }
-        ensures first { GoesOnWith self.now run.passed run.first bytes.now result }
-        ensures last { GoesOnWith self.now run.passed (run.end - 1) bytes.now result }
+        ensures fits { run.front_len + result < 2 ^ 64 }
+        ensures first { GoesOnWith self.now run.front_len run.first bytes.now result }
+        ensures last { GoesOnWith self.now run.front_len (run.end - 1) bytes.now result }
     {
         let first = name_at(self.names, self.index_at(run.first));
         let last = name_at(self.names, self.index_at(run.end.saturating_sub(1)));
         shared(
-            bytes_after(first, run.passed),
-            bytes_after(last, run.passed),
+            bytes_after(first, run.front_len),
+            bytes_after(last, run.front_len),
             bytes,
         )
     }
@@ -214,11 +214,11 @@ impl<'n> Group<'n> {
     {
         let shared = self.shared_by_run(run, bytes);
         let along = NameRun {
-            passed: run.passed + shared,
+            front_len: run.front_len + shared,
             ..run
         };
         match bytes.get(shared) {
-            Some(byte) => (self.step(along, *byte, matched), shared + 1),
+            Some(byte) => (self.follow_byte(along, *byte, matched), shared + 1),
             None => (along, shared),
         }
     }
@@ -250,7 +250,7 @@ impl<'n> Group<'n> {
     /// Returns the names of `run` that can select something inside the scope named `component`, and
     /// sets the flags in `matched` of those that select all that is in it; the other flags stay as
     /// they are. `run` has the names that can select something in the scope around it.
-    pub(crate) fn enter(
+    pub(crate) fn follow_scope(
         &self,
         run: NameRun,
         component: &[u8],
@@ -260,7 +260,7 @@ impl<'n> Group<'n> {
             (λ front. front ++ (component.now ++ 46 ∷ [])) result }
     {
         let named = self.follow(run, component, matched);
-        self.step(named, b'.', matched)
+        self.follow_byte(named, b'.', matched)
     }
 
     /// Returns whether some name selects a variable whose own name is `own`, and sets the flags in
@@ -343,12 +343,12 @@ fn name_at(names: &[String], position: usize) -> &[u8]
     }
 }
 
-/// Returns the bytes after the first `passed`; no bytes if there are fewer.
+/// Returns the bytes after the first `front_len`; no bytes if there are fewer.
 #[inline(always)]
-fn bytes_after(bytes: &[u8], passed: usize) -> &[u8]
-    ensures { result.now ≡ drop passed bytes.now }
+fn bytes_after(bytes: &[u8], front_len: usize) -> &[u8]
+    ensures { result.now ≡ drop front_len bytes.now }
 {
-    bytes.get(passed..).unwrap_or(&[])
+    bytes.get(front_len..).unwrap_or(&[])
 }
 
 /// Returns the length of the longest common prefix of the three texts.

@@ -4,10 +4,10 @@ use Rattle.std.proofs.lemmas.List.{length-take-le, take-take}
 use Rattle.std.proofs.Math.Seq.{take-append-add}
 
 -- where there is room, nothing was let go
-pub none-gone : (gone : List ℕ) (used size over : ℕ) → (over < 2 ^ 63 → over ≡ length gone) → used < size → (0 < over → used ≡ size) → gone ≡ []
-none-gone [] used size over number lt order = refl
+pub none-gone : (gone : List ℕ) (used size dropped : ℕ) → (dropped < 2 ^ 63 → dropped ≡ length gone) → used < size → (0 < dropped → used ≡ size) → gone ≡ []
+none-gone [] used size dropped number lt order = refl
 none-gone (g ∷ gone) used size zero number lt order = let none : 0 ≡ suc (length gone) = number (omega arith) in absurd (omega (arith, none))
-none-gone (g ∷ gone) used size (suc over) number lt order = let full : used ≡ size = order (omega arith) in absurd (omega (arith, full, lt))
+none-gone (g ∷ gone) used size (suc dropped) number lt order = let full : used ≡ size = order (omega arith) in absurd (omega (arith, full, lt))
 
 -- a front of what was copied
 pub front-copied : (xs new add : List ℕ) (used k n : ℕ) → used ≤ length xs → n ≤ k → take (used + k) new ≡ take used xs ++ add → take (used + n) new ≡ take used xs ++ take n add

@@ -16,12 +16,12 @@ pub struct LentOutput<'a> {
     bytes: &'a mut [u8],
     used: usize,
     // How many bytes found no room, if fewer than 2^63.
-    over: u64,
+    dropped: u64,
     gone: Gone,
     ghost within: { used ≤ length bytes.now },
-    ghost number: { over < 2 ^ 63 → over ≡ length gone.bytes },
+    ghost number: { dropped < 2 ^ 63 → dropped ≡ length gone.bytes },
     // Bytes are dropped only once there is no room.
-    ghost order: { 0 < over → used ≡ length bytes.now },
+    ghost order: { 0 < dropped → used ≡ length bytes.now },
 }
 
 impl<'a> LentOutput<'a> {
@@ -37,7 +37,7 @@ impl<'a> LentOutput<'a> {
         LentOutput {
             bytes,
             used: 0,
-            over: 0,
+            dropped: 0,
             gone: Gone::new(),
         }
     }
@@ -48,10 +48,10 @@ impl<'a> LentOutput<'a> {
     pub fn len(&self) -> Option<u64>
         ensures { IfSome result (λ n. Fills self.now.bytes.now n (written self.now)) }
     {
-        if self.over >= UNCOUNTED {
+        if self.dropped >= UNCOUNTED {
             return None;
         }
-        Some(self.used as u64 + self.over)
+        Some(self.used as u64 + self.dropped)
     }
 
     /// Takes some of these bytes, from the first one on, and returns how many: as many as the slice
@@ -71,7 +71,7 @@ impl<'a> LentOutput<'a> {
             self.used += room;
             return room;
         }
-        self.over = self.over.saturating_add(from.len() as u64);
+        self.dropped = self.dropped.saturating_add(from.len() as u64);
         self.gone.push(from);
         from.len()
     }

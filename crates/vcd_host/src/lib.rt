@@ -30,4 +30,4 @@ pub use asked::inputs_of;
 pub use buffered::Buffered;
 pub use host::{Host, OpenFault, Output};
 pub use lent_output::LentOutput;
-pub use opened::{OpenStop, Opened, called, max_bytes_of_all, open_inputs};
+pub use opened::{OpenInputs, OpenStop, called, max_bytes_of_all, open_inputs};

@@ -20,12 +20,12 @@ pub fn called<'a>(name: Option<&'a str>) -> &'a str
 
 /// Inputs that are open, and what each is called.
 #[derive(Drop)]
-pub struct Opened<I: Drop> {
+pub struct OpenInputs<I: Drop> {
     pub names: Vec<String>,
     pub readers: Vec<I>,
 }
 
-impl<I: Drop> Opened<I> {
+impl<I: Drop> OpenInputs<I> {
     /// Adds an open input to the list under this name; `None` is standard input. Fails if memory
     /// runs out; then no reader is added.
     fn push(&mut self, alloc: Global, name: Option<&str>, reader: I) -> Result<(), AllocError>
@@ -63,7 +63,7 @@ fn open_next<'a, H: Host>(
     alloc: Global,
     name: Option<&'a str>,
     host: &mut H,
-    opened: &mut Opened<H::Input>,
+    opened: &mut OpenInputs<H::Input>,
 ) -> Result<(), OpenStop<'a>>
     ensures opened { OnOk result (OpensOne H.opens H.Input.failures (text_of name.entry)
         host.old host.new opened.old.readers.items opened.new.readers.items) }
@@ -84,7 +84,7 @@ pub fn open_inputs<'a, H: Host>(
     alloc: Global,
     asked: &[Option<&'a str>],
     host: &mut H,
-) -> Result<Opened<H::Input>, OpenStop<'a>>
+) -> Result<OpenInputs<H::Input>, OpenStop<'a>>
     ensures opened { IfOk result (λ inputs.
         Opens H.opens host.old (map text_of asked.now) inputs.readers.items host.new) }
     ensures names { IfOk result (λ inputs.
@@ -92,7 +92,7 @@ pub fn open_inputs<'a, H: Host>(
     ensures fresh { IfOk result (λ inputs. All (λ r. H.Input.failures r ≡ 0) inputs.readers.items) }
     ensures stop { IfErr result (StopsAmong H.opens (map text_of asked.now) host.old host.new) }
 {
-    let mut opened = Opened {
+    let mut opened = OpenInputs {
         names: Vec::new(alloc),
         readers: Vec::new(alloc),
     };

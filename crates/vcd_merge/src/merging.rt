@@ -10,7 +10,7 @@ use crate::order::Turn;
 use crate::seat::Seat;
 use vcd_body::{
     Form, Item, Regs, ScannedItem, Stop, Visit, change_text, next_item, only_digit, pass_items,
-    pass_on, put_code_line, put_renamed, put_renamed_ahead, put_time, walk_ahead,
+    pass_on_before_read, put_code_line, put_renamed, put_renamed_ahead, put_time, walk_ahead,
 };
 use vcd_head::Head;
 use vcd_text::{Feed, Sink, Source, WriteFailed};
@@ -110,7 +110,7 @@ impl Visit<Option<u64>> for Merging {
 
     ghost takes = { λ view s t result. TakesNext view s t result };
 
-    ghost is_left = { λ merging _ time. nat_le (2 ^ 64) (time * merging.factor) };
+    ghost stops_before = { λ merging _ time. nat_le (2 ^ 64) (time * merging.factor) };
 
     ghost over = { λ merging. nat_le merging.before merging.time };
 
@@ -348,7 +348,7 @@ pub(crate) fn take_turn<S: Source, W: Sink>(
         if take_turn_ahead(head, turn.before, feed, seat, written, out)? {
             return Ok(());
         }
-        pass_on(feed, out)?;
+        pass_on_before_read(feed, out)?;
         take_item(head, turn.input, feed, seat, written, out)?;
         if seat.finished || seat.time >= turn.before {
             return Ok(());

@@ -61,13 +61,13 @@ all-known inputs = λ k d less. tt
 
 -- what opening one after the other leaves: the files as they were, the names noted, and the bytes
 -- of each name
-record Opened (files : List MemoryFile) (input : Text) (names : List (Option Text)) (inputs : List Bytes) (host after : Memory) : Type 0 where
+record HasOpened (files : List MemoryFile) (input : Text) (names : List (Option Text)) (inputs : List Bytes) (host after : Memory) : Type 0 where
   files_are : after.files.now ≡ files
   input_is : after.input.now ≡ input
   notes : noted after ≡ noted host ++ names
   bytes : map (λ name. bytes_among files input name) names ≡ map bytes_of inputs
 
-opened-in : (files : List MemoryFile) (input : Text) (host : Memory) (names : List (Option Text)) (inputs : List Bytes) (after : Memory) → host.files.now ≡ files → host.input.now ≡ input → Opens OpensIn host names inputs after → Opened files input names inputs host after
+opened-in : (files : List MemoryFile) (input : Text) (host : Memory) (names : List (Option Text)) (inputs : List Bytes) (after : Memory) → host.files.now ≡ files → host.input.now ≡ input → Opens OpensIn host names inputs after → HasOpened files input names inputs host after
 opened-in files input host [] [] after f i o = record { files_are = ap (λ (m : Memory). m.files.now) o ∙ f; input_is = ap (λ (m : Memory). m.input.now) o ∙ i; notes = ap noted o ∙ sym (append-nil (noted host)); bytes = refl }
 opened-in files input host [] (b ∷ inputs) after f i o = absurd o
 opened-in files input host (n ∷ names) [] after f i o = absurd o
@@ -125,7 +125,7 @@ module _ (a b : Bool) where
   out-of-memory left after out err status holds fails = record { output = holds.1 ∙ fails.0.0; message = holds.2 ∙ none-shown b [] err (program_line (codes "out of memory")) fails.1; status = holds.3 ∙ fails.2 }
 
   -- a step that found no file
-  missed : (files : List MemoryFile) (input : Text) (names : List (Option Text)) (inputs : List Bytes) (host next after : Memory) (name : Option Text) → Opened files input names inputs host next → OpensIn next name (Err Unopened) after
+  missed : (files : List MemoryFile) (input : Text) (names : List (Option Text)) (inputs : List Bytes) (host next after : Memory) (name : Option Text) → HasOpened files input names inputs host next → OpensIn next name (Err Unopened) after
       → (noted after ≡ noted host ++ (names ++ name ∷ [])) × (bytes_among files input name ≡ None)
   missed files input names inputs host next after name o p = (
     p.1 ∙ ap (λ l. l ++ name ∷ []) o.notes ∙ append_assoc (noted host) names (name ∷ []),
@@ -142,7 +142,7 @@ module _ (a b : Bool) where
       let texts = map (λ (b : Bytes). b.rest.now) readers in
       by_end o texts (o.bytes ∙ texts-of readers) (gives (all-known readers) texts (texts-of readers))
     where
-      by_end : Opened files input asked readers host after → (texts : List Text) → HaveTexts files input asked texts
+      by_end : HasOpened files input asked readers host after → (texts : List Text) → HaveTexts files input asked texts
           → Leaves (command_outcome words (map called asked)) want limit texts (map (supply bytes_of no_failures) readers) (map (supply bytes_of no_failures) done) (holding false []) (holding a out) (holding false []) (holding b err) status → IsLeftOf words asked files input left ⊎ IsOutOfMemory left
       by_end o texts have (Leaves.WithOutcome inputs read needed turns leaves) =
           let all = all-read (is_settled want) limit 65536 [] texts readers done inputs read in

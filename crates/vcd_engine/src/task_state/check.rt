@@ -65,11 +65,11 @@ impl AheadTask<NoLine> for Check {
 
     ghost is_ready = { λ _. true };
 
-    ghost is_left = { λ _ _. false };
+    ghost stops_before = { λ _ _. false };
 
     /// Returns false: no timestamp ends `check` or has output.
     #[inline(always)]
-    fn leaves(&self, _time: u64) -> bool {
+    fn ends_before(&self, _time: u64) -> bool {
         false
     }
 

@@ -201,12 +201,12 @@ impl<'r> AheadTask<NoLine> for Cut<'r> {
 
     ghost is_ready = { λ command. not command.started };
 
-    ghost is_left = { λ command time. nat_le command.from time };
+    ghost stops_before = { λ command time. nat_le command.from time };
 
     /// Returns whether the time is at least `from`: a walk then has to stop before a timestamp of
     /// this time, since the start section is written there.
     #[inline(always)]
-    fn leaves(&self, time: u64) -> bool {
+    fn ends_before(&self, time: u64) -> bool {
         self.from <= time
     }
 
@@ -239,11 +239,11 @@ impl<'r> AheadTask<KnownLine> for Cut<'r> {
 
     ghost is_ready = { λ command. command.started };
 
-    ghost is_left = { λ command time. nat_lt command.to time };
+    ghost stops_before = { λ command time. nat_lt command.to time };
 
     /// Returns whether the time is above `to`: a timestamp of this time ends the `cut`.
     #[inline(always)]
-    fn leaves(&self, time: u64) -> bool {
+    fn ends_before(&self, time: u64) -> bool {
         self.to < time
     }
 

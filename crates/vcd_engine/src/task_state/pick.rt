@@ -93,11 +93,11 @@ impl<'n, 'r> AheadTask<KnownLine> for Pick<'n, 'r> {
 
     ghost is_ready = { λ _. true };
 
-    ghost is_left = { λ _ _. false };
+    ghost stops_before = { λ _ _. false };
 
     /// Returns false: no timestamp ends `pick` or has output by itself.
     #[inline(always)]
-    fn leaves(&self, _time: u64) -> bool {
+    fn ends_before(&self, _time: u64) -> bool {
         false
     }
 

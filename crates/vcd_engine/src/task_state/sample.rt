@@ -140,13 +140,13 @@ impl<'n, 'r> AheadTask<NoLine> for Sample<'n, 'r> {
 
     ghost is_ready = { λ _. true };
 
-    ghost is_left = { λ command time. is_due command.rest.now time };
+    ghost stops_before = { λ command time. is_due command.rest.now time };
 
     /// Returns whether lines have to be written before a timestamp of this time: whether it is
     /// above a time asked for whose lines are not written yet. It is true too if no such time is
     /// left.
     #[inline(always)]
-    fn leaves(&self, time: u64) -> bool {
+    fn ends_before(&self, time: u64) -> bool {
         match self.rest {
             [first, ..] => *first < time,
             [] => true,

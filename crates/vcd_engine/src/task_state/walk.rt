@@ -29,22 +29,22 @@ pub(crate) struct WalkEnd {
     /// The registers after these items.
     pub(crate) regs: Regs,
     /// Fails if a write of the output of these items did.
-    pub(crate) written: Result<(), WriteFailed>,
+    pub(crate) write_result: Result<(), WriteFailed>,
 }
 
 impl WalkEnd {
     /// Returns the result of a walk over the chunk that ended at `ahead`: how many bytes ahead the
     /// items take that were handled, the registers after these items, and whether a write failed.
     #[inline(always)]
-    fn until(ahead: Ahead<'_>, regs: Regs, written: Result<(), WriteFailed>) -> WalkEnd
+    fn ended_at(ahead: Ahead<'_>, regs: Regs, write_result: Result<(), WriteFailed>) -> WalkEnd
         ensures passed { result.passed ≡ passed_of ahead.entry }
         ensures regs { result.regs ≡ regs }
-        ensures written { result.written ≡ written }
+        ensures write_result { result.write_result ≡ write_result }
     {
         WalkEnd {
             passed: ahead.passed(),
             regs,
-            written,
+            write_result,
         }
     }
 }
@@ -133,18 +133,18 @@ pub(crate) trait AheadTask<L: LineMemory> {
     ghost is_ready: { Self → Bool };
 
     // Whether a timestamp of this time is left to `TaskState::take`.
-    ghost is_left: { Self → ℕ → Bool };
+    ghost stops_before: { Self → ℕ → Bool };
 
     /// Returns whether a walk over the chunk has to stop before a timestamp of this time, so that
     /// `TaskState::take` handles it: it ends the run, or has output of its own.
-    fn leaves(&self, time: u64) -> bool
-        ensures { result ≡ is_left self.now time };
+    fn ends_before(&self, time: u64) -> bool
+        ensures { result ≡ stops_before self.now time };
 
-    /// Handles a timestamp of this time for which `leaves` is false: it does not end the run, and
-    /// has no output.
+    /// Handles a timestamp of this time for which `ends_before` is false: it does not end the run,
+    /// and has no output.
     fn note_time(&mut self, time: u64)
         requires ready { is_ready self.old ≡ true }
-        requires left { is_left self.old time ≡ false }
+        requires no_stop { stops_before self.old time ≡ false }
         ensures takes { TakesTimestamp time (task_state self.old) (task_state self.new) }
         ensures ready { is_ready self.new ≡ true }
         ensures same { SameTask (task_state self.old) (task_state self.new) };
@@ -189,14 +189,14 @@ impl<L: LineMemory, C: AheadTask<L>> Visit<C> for WalkState<L> {
 
     ghost takes = { λ view s t result. TakesByTask L.line C.task_state view s t result };
 
-    ghost is_left = { λ _ command time. C.is_left command time };
+    ghost stops_before = { λ _ command time. C.stops_before command time };
 
     ghost over = { λ _. false };
 
     /// Returns whether the task leaves a timestamp of this time to `TaskState::take`.
     #[inline(always)]
     fn ends_before(&self, command: &C, time: u64) -> bool {
-        command.leaves(time)
+        command.ends_before(time)
     }
 
     /// Returns false: only `ends_before` ends such a walk.
@@ -273,8 +273,8 @@ pub(crate) fn take_each<L: LineMemory, C: AheadTask<L>, W: Sink>(
     let regs = walked.regs;
     let mut state = walked.visit;
     match walked.ended {
-        Ok(_) => WalkEnd::until(ahead, regs, state.pending.flush(ahead.bytes(), out)),
-        Err(failed) => WalkEnd::until(ahead, regs, Err(failed)),
+        Ok(_) => WalkEnd::ended_at(ahead, regs, state.pending.flush(ahead.bytes(), out)),
+        Err(failed) => WalkEnd::ended_at(ahead, regs, Err(failed)),
     }
 }
 
@@ -317,7 +317,8 @@ pub(crate) fn take_given<L: LineMemory, C: AheadTask<L>, W: Sink>(
 ) -> Result<bool, WriteFailed>
     requires failures { (W.device out.old).failures < 2 ^ 64 - 1 }
     requires ready { C.is_ready command.old ≡ true }
-    requires left { (time : ℕ) → item ≡ Item.Time time → C.is_left command.old time ≡ false }
+    requires no_stop { (time : ℕ) → item ≡ Item.Time time
+        → C.stops_before command.old time ≡ false }
     requires sound { HasGoodText view.codes.now text.now item }
     ensures takes { TakesEach view.entry regs item text.now (Keeps (C.task_state command.old))
         (Keeps (C.task_state command.new)) (request_in (C.task_state command.old))

@@ -12,7 +12,7 @@ returns-in_err-put_repeated g c =
     let p = err_from_is_err_and c.from_residual.result c.from_residual.ensures.1 in
     let ds = digits_with c.args.held.holding c.args.held.bytes.now in
     let m = c.args.size - length ds in
-    let count : c.saturating_sub-missing.result ≡ m = omega (arith, c.saturating_sub-missing.ensures, c.count_of.ensures) in
+    let count : c.saturating_sub-missing.result ≡ m = omega (arith, c.saturating_sub-missing.ensures, c.digit_count.ensures) in
     let digit = c.extension_of.ensures ∙ ap (λ d. extension (d ∷ [])) c.digit_or.ensures ∙ sym (extension_at ds 0 c.requires.some) in
     let front = ap (λ n. replicate n c.extension_of.result) count ∙ ap (replicate m) digit in
     rw p.1 (some-first (g.W.Sink.device _) (g.W.Sink.device _) (replicate m (extension ds)) ds (subst (WritesSome (g.W.Sink.device c.args.w.now) (g.W.Sink.device c.put_repeated.new.w)) front c.in_err-put_repeated.ensures))
@@ -21,7 +21,7 @@ pub returns : goal.returns
 returns g c =
     let ds = digits_with c.args.held.holding c.args.held.bytes.now in
     let m = c.args.size - length ds in
-    let count : c.saturating_sub-missing.result ≡ m = omega (arith, c.saturating_sub-missing.ensures, c.count_of.ensures) in
+    let count : c.saturating_sub-missing.result ≡ m = omega (arith, c.saturating_sub-missing.ensures, c.digit_count.ensures) in
     let digit = c.extension_of.ensures ∙ ap (λ d. extension (d ∷ [])) c.digit_or.ensures ∙ sym (extension_at ds 0 c.requires.some) in
     let front = ap (λ n. replicate n c.extension_of.result) count ∙ ap (replicate m) digit in
     puts-twice (g.W.Sink.device _) (g.W.Sink.device _) (g.W.Sink.device _) (replicate m (extension ds)) ds c.put_from.result (subst (Writes (g.W.Sink.device c.args.w.now) (g.W.Sink.device c.put_repeated.new.w)) front c.in_ok-put_repeated.ensures) c.put_from.ensures

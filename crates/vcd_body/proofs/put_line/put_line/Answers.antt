@@ -19,4 +19,4 @@ returns-in_default g c =
     subst (λ l. Puts (g.W.Sink.device c.args.w.now) (g.W.Sink.device c.put_shortened.new.w) l c.put_shortened.result) (sym line) (c.put_shortened.ensures.0 c.args.size, c.put_shortened.ensures.1)
 
 pub returns-in_default-2 : goal.returns-in_default-2
-returns-in_default-2 g c = c.put_other.ensures c.args.size (c.is_vector.ensures.other c.if-is_vector.false)
+returns-in_default-2 g c = c.put_other_under.ensures c.args.size (c.is_vector.ensures.other c.if-is_vector.false)

@@ -4,7 +4,7 @@ use Rattle.vcd_body.proofs.WalkLemmas.{come_begins, come_on, come_past, walks_fu
 use Rattle.vcd_body.proofs.walk.take_lines_with_end.Goals as goal
 
 pub returns-then-is_empty : goal.returns-then-is_empty
-returns-then-is_empty g c = rw c.until.ensures (come_begins _ _ _ _ _ c.requires.stands c.requires.within)
+returns-then-is_empty g c = rw c.ended_at.ensures (come_begins _ _ _ _ _ c.requires.stands c.requires.within)
 
 pub lines-init : goal.lines-init
 lines-init g c = record { come = come_past _ _ _ _ _ _ _ (come_begins _ _ _ _ _ c.requires.stands c.requires.within) (same_place _ _ c.forget.ensures); on = c.requires.on }
@@ -16,12 +16,12 @@ pub returns-in_default : goal.returns-in_default
 returns-in_default g c =
     let ended : c.take_shorts-shorts.result.ended ≡ Ok false = search rules in
     let none = c.in_default.ensures (g.W.Sink.device c.take_shorts-shorts.new.out) in
-    rw (c.until-in_default.ensures, none) (walks_further _ _ _ _ _ _ _ (Ok false) c.lines.invariant.come (rw ended at c.take_shorts-shorts.ensures))
+    rw (c.ended_at-in_default.ensures, none) (walks_further _ _ _ _ _ _ _ (Ok false) c.lines.invariant.come (rw ended at c.take_shorts-shorts.ensures))
 
 pub returns-then-is_over : goal.returns-then-is_over
 returns-then-is_over g c =
     let ended : c.take_shorts-shorts.result.ended ≡ Ok false = search rules in
-    rw c.until-then-is_over.ensures (_, walks_further _ _ _ _ _ _ _ (Ok false) c.lines.invariant.come (rw ended at c.take_shorts-shorts.ensures), (c.in-Some.ensures _), sym c.is_over.ensures ∙ c.if-is_over.true)
+    rw c.ended_at-then-is_over.ensures (_, walks_further _ _ _ _ _ _ _ (Ok false) c.lines.invariant.come (rw ended at c.take_shorts-shorts.ensures), (c.in-Some.ensures _), sym c.is_over.ensures ∙ c.if-is_over.true)
 
 pub lines-preserved : goal.lines-preserved
 lines-preserved g c =

@@ -13,4 +13,4 @@ items-preserved g c =
     record { come = come_on _ _ _ _ _ _ _ inv.come (rw c.in-Ok.is at n.next) on; on = on }
 
 pub returns-in-Err : goal.returns-in-Err
-returns-in-Err g c = rw c.until-in-Err.ensures (_, c.items.invariant.come, rw c.in-Err.is at c.in-Some.ensures.next)
+returns-in-Err g c = rw c.ended_at-in-Err.ensures (_, c.items.invariant.come, rw c.in-Err.is at c.in-Some.ensures.next)

@@ -10,16 +10,16 @@ items-init g c = record { come = come_begins _ _ _ _ _ c.requires.stands c.requi
 pub returns-in_default : goal.returns-in_default
 returns-in_default g c =
     let come : HasCome g.V.Visit.takes g.V.Visit.stands g.V.Visit.over c.args.view (stage_at c.args.ahead c.args.regs c.args.visit c.args.command.now (g.W.Sink.device c.args.out.now)) (stage_at c.take_next.new.ahead c.take_next.new.regs c.take_next.new.visit c.take_next.new.command (g.W.Sink.device c.take_next.new.out)) = rw c.in_default.ensures.next c.items.invariant.come in
-    rw c.until.ensures (come_past _ _ _ _ _ _ _ come (same_place _ _ c.forget.ensures))
+    rw c.ended_at.ensures (come_past _ _ _ _ _ _ _ come (same_place _ _ c.forget.ensures))
 
 pub returns-in-Err : goal.returns-in-Err
-returns-in-Err g c = rw c.until-in-Err.ensures (_, c.items.invariant.come, rw c.in-Err.is at c.in-Some.ensures.next)
+returns-in-Err g c = rw c.ended_at-in-Err.ensures (_, c.items.invariant.come, rw c.in-Err.is at c.in-Some.ensures.next)
 
 pub returns-then-is_over : goal.returns-then-is_over
-returns-then-is_over g c = rw c.until-then-is_over.ensures (_, c.items.invariant.come, (rw c.in-Ok.is at c.in-Some.ensures.next), sym c.is_over.ensures ∙ c.if-is_over.true)
+returns-then-is_over g c = rw c.ended_at-then-is_over.ensures (_, c.items.invariant.come, (rw c.in-Ok.is at c.in-Some.ensures.next), sym c.is_over.ensures ∙ c.if-is_over.true)
 
 pub returns-then-two_short_lines_come : goal.returns-then-two_short_lines_come
-returns-then-two_short_lines_come g c = rw c.until-then-two_short_lines_come.ensures (come_on _ _ _ _ _ _ _ c.items.invariant.come (rw c.in-Ok.is at c.in-Some.ensures.next) (sym c.is_over.ensures ∙ c.if-is_over.false))
+returns-then-two_short_lines_come g c = rw c.ended_at-then-two_short_lines_come.ensures (come_on _ _ _ _ _ _ _ c.items.invariant.come (rw c.in-Ok.is at c.in-Some.ensures.next) (sym c.is_over.ensures ∙ c.if-is_over.false))
 
 pub items-preserved : goal.items-preserved
 items-preserved g c = record { come = come_on _ _ _ _ _ _ _ c.items.invariant.come (rw c.in-Ok.is at c.in-Some.ensures.next) (sym c.is_over.ensures ∙ c.if-is_over.false) }

@@ -17,7 +17,7 @@ pass_items-requires g c =
     let a = c.ahead-ahead.ensures in
     let came = c.walk_rows-walked.ensures.came in
     let p = came.passed (lines_of c.args.feed.now) in
-    (p.0, rw (sym a.limit, sym a.bytes, c.passed-passed.ensures) p.1)
+    (p.0, rw (sym a.limit, sym a.bytes, c.bytes_to_pass-passed.ensures) p.1)
 
 pub returns-then-rows-count-clause-reads : goal.returns-then-rows-count-clause-reads
 returns-then-rows-count-clause-reads g c = λ h i front items code views gave at. none_ahead code.text h.codes i front items _ _ _ gave
@@ -29,7 +29,7 @@ returns-clause-reads g c = λ h i front items code views gave at.
     let came = c.walk_rows-walked.ensures.came in
     let e : c.rows-1.given.0 ≡ c.walk_rows-walked.new.rows.rows.now = search rules in
     let more = came.adds h (lines_of f) items code views gave.known at in
-    let lies : GaveAhead h.codes (limit_of f) (lines_of f) (ahead_of f) c.passed-passed.result items more.more = rw (sym a.limit, sym a.bytes, c.passed-passed.ensures) more.gave in
+    let lies : GaveAhead h.codes (limit_of f) (lines_of f) (ahead_of f) c.bytes_to_pass-passed.result items more.more = rw (sym a.limit, sym a.bytes, c.bytes_to_pass-passed.ensures) more.gave in
     record {
       more = more.more;
       added = more.added;

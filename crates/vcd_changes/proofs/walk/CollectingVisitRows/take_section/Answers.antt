@@ -14,7 +14,7 @@ returns-clause-takes g c = λ a a' item.
       same = record { index = refl; loan = refl };
       room = c.requires.stands;
       regs = c.requires.after;
-      full = λ e. absurd (not_both _ e c.requires.left);
+      full = λ e. absurd (not_both _ e c.requires.no_stop);
       added = λ e. sym (append-nil rows) ∙ ap (λ l. rows ++ l) (sym (no_row own.index c.args._after.time section.text.now section.item c.requires.section));
       end = λ e. rw e refl;
     }

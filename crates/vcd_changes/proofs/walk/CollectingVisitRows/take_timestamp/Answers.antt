@@ -17,7 +17,7 @@ returns-clause-takes c = λ a a' out item.
       same = record { index = refl; loan = refl };
       room = c.requires.stands;
       regs = refl;
-      full = λ e. absurd (not_both _ e c.requires.left);
+      full = λ e. absurd (not_both _ e c.requires.no_stop);
       added = λ e. subst (λ (i : Item). rows ≡ rows ++ row_added own.index (regs_after c.args._regs timestamp.item).time timestamp.text.now i) (sym c.requires.time) (sym (append-nil rows));
       end = λ e. rw e refl;
     }

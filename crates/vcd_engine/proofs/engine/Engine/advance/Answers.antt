@@ -33,7 +33,7 @@ pub returns-clause-gives : goal.returns-clause-gives
 returns-clause-gives g c = inl (λ h i front items s.
     let t = request_of_engine c.args.self.now in
     let out = g.W.Sink.device c.args.out.now in
-    let mid = g.W.Sink.device c.pass_on.new.out in
+    let mid = g.W.Sink.device c.pass_on_before_read.new.out in
     let new = g.W.Sink.device c.read_on.new.out in
     let a = c.in_ok-advance_ahead.ensures.gives h i front items s in
     let step = subst (λ (q : Request). StepGives q h i front (items ++ a.more) c.read_on.new.self c.read_on.new.feed mid new c.read_on.result) c.advance_ahead.ensures.request (c.read_on.ensures.gives h i front (items ++ a.more) a.last.0) in

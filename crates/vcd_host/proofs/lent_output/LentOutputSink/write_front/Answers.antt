@@ -10,7 +10,7 @@ returns-clause-all c = λ _.
     let from = c.args.from.now in
     let few : c.args.n ≤ 64 = omega (arith, c.if-n-gt-SHORT.false) in
     let fits : sink.used + 64 < length xs = omega (arith, c.if-self-le-SHORT.false, sink.within) in
-    let none = none-gone sink.gone.bytes sink.used (length xs) sink.over sink.number (omega (arith, fits)) sink.order in
+    let none = none-gone sink.gone.bytes sink.used (length xs) sink.dropped sink.number (omega (arith, fits)) sink.order in
     let front = front-copied xs c.copy_short.new.to (take 64 from) sink.used 64 c.args.n sink.within few c.copy_short.ensures.copied
     ∙ ap (λ (l : List ℕ). take sink.used xs ++ l) (take-take c.args.n 64 from few) in
     (gained sink.bytes.ghost_name xs c.copy_short.new.to sink.gone.bytes (take c.args.n from) sink.used c.args.n none front, refl)

@@ -4,7 +4,7 @@ use Rattle.vcd_body.specs.Stored.{digits_held, held_by, len_of}
 use Rattle.vcd_body.specs.declared.slot.State.{State}
 use Rattle.vcd_body.proofs.BinaryLemmas.{length_binary}
 use Rattle.vcd_body.proofs.HeldLemmas.{count_held}
-use Rattle.vcd_body.proofs.held.count_of.Goals as goal
+use Rattle.vcd_body.proofs.held.digit_count.Goals as goal
 
 pub returns-in-Packed : goal.returns-in-Packed
 returns-in-Packed c = c.len.ensures ∙ count_held c.args.held.holding.state (len_of c.args.held.holding) c.args.held.bytes.now c.in-Packed.is

@@ -2,7 +2,7 @@ use Rattle.std.proofs.Common.{◌++◌, ◌∷◌, [], map, string_bytes, subst}
 use Rattle.std.proofs.lemmas.List.{append_assoc}
 use Rattle.vcd_head.specs.Runs.{GoesOn}
 use Rattle.vcd_head.proofs.RunSteps.{goes_both}
-use Rattle.vcd_head.proofs.names.Group.enter.Goals as goal
+use Rattle.vcd_head.proofs.names.Group.follow_scope.Goals as goal
 
 pub returns : goal.returns
 returns c = λ front f.
@@ -10,6 +10,6 @@ returns c = λ front f.
     let order = c.args.self.now.order.now in
     let component = c.args.component.now in
     let named = c.follow-named.ensures front f in
-    let new = c.step.new.matched in
-    subst (λ p. GoesOn names order c.args.matched.now new p c.step.result) (append_assoc front component (46 ∷ []))
-    (goes_both names order c.args.matched.now c.follow-named.new.matched new (front ++ component) (46 ∷ []) c.follow-named.result c.step.result named (c.step.ensures (front ++ component) named.follows))
+    let new = c.follow_byte.new.matched in
+    subst (λ p. GoesOn names order c.args.matched.now new p c.follow_byte.result) (append_assoc front component (46 ∷ []))
+    (goes_both names order c.args.matched.now c.follow-named.new.matched new (front ++ component) (46 ∷ []) c.follow-named.result c.follow_byte.result named (c.follow_byte.ensures (front ++ component) named.follows))

@@ -2,7 +2,7 @@ use Rattle.std.proofs.Common.{◌≢◌, sym, subst, rules}
 use Rattle.vcd_text.specs.Device.{Puts}
 use Rattle.vcd_body.specs.declared.item.Form.TheVariants.{RealText}
 use Rattle.vcd_body.proofs.ChangeLine.{all_line}
-use Rattle.vcd_body.proofs.change.put_rare.Goals as goal
+use Rattle.vcd_body.proofs.change.put_other.Goals as goal
 
 pub returns-in-Scalar : goal.returns-in-Scalar
 returns-in-Scalar g c = λ size one.
