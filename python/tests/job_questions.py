@@ -103,8 +103,9 @@ class Jobs(Scripts):
                   [] if fault else lines, status, fault or False)
         if len({bit.name for bit in bits}) < len(bits):
             return
-        nets = sorted(repr((re.sub(r"(\W)", r"\\\1", bit.name.rpartition(".")[2]), *bit.ticks,
-                            bit.rises + bit.falls)) for bit in bits)
+        names = [bit.name.rpartition(".")[2].lstrip("\\") for bit in bits]
+        nets = sorted(repr((re.sub(r"(\W)", r"\\\1", name), *bit.ticks, bit.rises + bit.falls))
+                      for name, bit in zip(names, bits))
         self.same("stats", ["--saif=-", *window.words, self.path, *self.names],
                   [] if fault else nets, status, fault or False,
                   lambda got: sorted(repr((name, *map(int, numbers))) for name, *numbers in

@@ -916,6 +916,13 @@ class Toggles(unittest.TestCase):
                       for counts in self.wanted(changes[code], size, begin, max(last, begin))]
             self.assertEqual([row[2:] for row in rows], wanted, seed)
 
+    def test_escaped_names_in_saif(self):
+        dump = Dump(b"$scope module \\u/a $end $var wire 1 ! \\q-r[3] $end $upscope $end "
+                    b"$enddefinitions $end #0 0! #5")
+        lines = "".join(_toggles.saif(dump, _toggles.rows_of(dump, ["\\u/a"], 0, 5, True),
+                                         5)).split("\n")
+        self.assertEqual(lines[11:14], ["(INSTANCE u\\/a", "  (NET", "    (q\\-r\\[3\\]"])
+
 
 class Many(Case):
     """vcdkit-explain over many dumps, and --names."""

@@ -14,7 +14,6 @@ from .values import Scope, Signal, full
 if TYPE_CHECKING:
     from .dump import Dump
 
-ODD = re.compile(r"([^A-Za-z0-9_])")  # what SAIF has a backslash before
 BATCH = 1 << 16  # lines that are looked at together
 ONES, UNKNOWNS, FLOATS = (str.maketrans("01xz", digits) for digits in ("0100", "0010", "0001"))
 BIT = (b"0", b"1", b"x", b"z")
@@ -285,6 +284,12 @@ def _quoted(text: str) -> str:
     return text.replace("\\", "\\\\").replace('"', '\\"')
 
 
+def _escaped(name: str) -> str:
+    """Returns a name as SAIF writes it: a backslash before each odd character, and none for the one
+    with which an escaped name of Verilog begins."""
+    return re.sub(r"(\W)", r"\\\1", name[name.startswith("\\"):], flags=re.ASCII)
+
+
 def _instance(scope: Scope, rows: Dict[str, List[Row]], ticks: int, indent: str) -> Iterator[str]:
     """Returns the lines of a scope; nothing if no row is in it."""
     inner = indent + "  " * bool(scope.name)
@@ -294,14 +299,14 @@ def _instance(scope: Scope, rows: Dict[str, List[Row]], ticks: int, indent: str)
     if not nets and not below:
         return
     if scope.name:
-        yield "%s(INSTANCE %s\n" % (indent, ODD.sub(r"\\\1", scope.name))
+        yield "%s(INSTANCE %s\n" % (indent, _escaped(scope.name))
     if nets:
         yield inner + "(NET\n"
     front = len(scope.path) + 1 if scope.path else 0
     for row in nets:
         low = ticks - row.high - row.unknown - row.floating
         yield "%s  (%s\n%s    (T0 %d) (T1 %d) (TX %d) (TZ %d) (TC %d) (IG 0)\n%s  )\n" % (
-            inner, ODD.sub(r"\\\1", row.name[front:]), inner, low, row.high,
+            inner, _escaped(row.name[front:]), inner, low, row.high,
             row.unknown, row.floating, row.rises + row.falls, inner)
     if nets:
         yield inner + ")\n"
