@@ -1,0 +1,21 @@
+use borrow.Author.Count.{below_more}
+use Rattle.std.proofs.Common.{◌≡◌, ◌≤◌, ℕ, Fits, w8, get_or, rules, ◌∷◌, [], ◌++◌, ◌∙◌, length, subst, ap, arith}
+use Rattle.vcd_head.specs.Fronts.{bytes_at, rank_in, rank_of}
+use Rattle.vcd_head.proofs.CodeKeys.{all_bytes}
+use Rattle.vcd_head.proofs.RankLemmas.{ranks_more}
+use Rattle.vcd_head.proofs.index.ranks_of_texts.Goals as goal
+
+pub loop-position-preserved : goal.loop-position-preserved
+loop-position-preserved c =
+    let text = c.args.text.now in
+    let codes = c.args.codes.now in
+    let position = c.loop-position.position in
+    let bytes = c.bytes_at-bytes.result.now in
+    let rank = c.rank_of.result in
+    let fits : (i : ℕ) → Fits w8 (get_or bytes i 0) = search rules in
+    let few : length bytes ≤ 4 = omega arith in
+    let short : length (bytes_at text codes position) ≤ 4 = subst (λ bs. length bs ≤ 4) c.bytes_at-bytes.ensures few in
+    let own : rank ≡ rank_of bytes position = c.rank_of.ensures bytes (all_bytes bytes fits) few c.key_of.ensures in (
+      c.in_ok-push.ensures.items ∙ ap (λ l. l ++ rank ∷ []) c.loop-position.invariant.0 ∙ ranks_more (rank_in text codes) position rank (own ∙ ap (λ bs. rank_of bs position) c.bytes_at-bytes.ensures),
+      below_more (λ p. length (bytes_at text codes p) ≤ 4) position c.loop-position.invariant.1 short,
+    )
