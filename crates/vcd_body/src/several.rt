@@ -5,7 +5,7 @@ ghost use Rattle.vcd_body.specs.Names.{Held, IsLaidOut, SetsCode, TellsStep, hel
 use crate::held::last_held;
 use crate::item::Form;
 use crate::packed::{ends_differ, holds_packed};
-use crate::slot::State;
+use crate::slot::{State, state_in};
 use crate::step::{Step, step_to_text};
 use crate::table::Table;
 
@@ -13,6 +13,8 @@ impl<'a> Table<'a> {
     /// Returns how the value of the code at index `code`, which must exist, would change to the
     /// digits of a text, if several packed digits are held, and either one of the last differs or
     /// all are the same. `None` otherwise.
+    // It looks at the state in a copy of the slot first, so that `held` takes no steps for other
+    // states: else `edges` of wide vectors takes 3 % more.
     #[inline(always)]
     fn step_by_ends(&self, code: usize, text: &[u8]) -> Option<Step>
         requires { code < length self.now.slots.now }
@@ -21,6 +23,10 @@ impl<'a> Table<'a> {
             → held_at self.now code ≡ Held.Digits (map held_digit text.now)) }
         ensures step { IsLaidOut self.now → TellsStep (held_at self.now code) text.now result }
     {
+        let slot = self.slots[code];
+        if state_in(slot.tag) != State::Packed {
+            return None;
+        }
         let held = self.held(code)?;
         match held.holding.state {
             State::Packed if ends_differ(held.bytes, text) => {
