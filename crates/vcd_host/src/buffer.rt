@@ -30,6 +30,38 @@ pub(crate) struct Buffer {
     ghost failed: { failed_at ≤ len + 1 },
 }
 
+/// Copies all of `from` to `to`, which has the same length.
+// Short copies have arms of their own: without them, in proved programs `pick` of all of scalars
+// takes 9 % more, and `merge` 3 %.
+#[inline(always)]
+pub(crate) fn copy(from: &[u8], to: &mut [u8])
+    requires { length to.old ≡ length from.now }
+    ensures { to.new ≡ from.now }
+{
+    match *from {
+        [a] => to[0] = a,
+        [a, b, c] => {
+            to[0] = a;
+            to[1] = b;
+            to[2] = c;
+        }
+        [a, b, c, d] => {
+            to[0] = a;
+            to[1] = b;
+            to[2] = c;
+            to[3] = d;
+        }
+        [a, b, c, d, e] => {
+            to[0] = a;
+            to[1] = b;
+            to[2] = c;
+            to[3] = d;
+            to[4] = e;
+        }
+        _ => to.copy_from_slice(from),
+    }
+}
+
 /// Copies the first 64 bytes of `from` into `to` from offset `position` on. Both must have as many.
 /// The other bytes of `to` stay as they are.
 #[inline(always)]
@@ -117,7 +149,7 @@ impl Buffer {
         ensures goes_on { 0 < length from.now → self.new.failed_at < self.new.len + 1 }
     {
         let end = self.len + from.len();
-        self.bytes[self.len..end].copy_from_slice(from);
+        copy(from, &mut self.bytes[self.len..end]);
         self.len = end;
     }
 

@@ -1,7 +1,7 @@
 //! An output into bytes that were lent.
 ghost use Rattle.std.specs.Prelude.{◌≡◌, ◌-◌, ◌^◌, ◌<◌, ◌≤◌, ◌++◌, [], IfSome, Some, length, take, false, true};
 
-use crate::buffer::{FEW, PARTS, SHORT, copy_eight, copy_parts, copy_short};
+use crate::buffer::{FEW, PARTS, SHORT, copy, copy_eight, copy_parts, copy_short};
 use crate::gone::Gone;
 use crate::host::Output;
 use vcd_text::{Sink, WriteFailed};
@@ -96,7 +96,7 @@ impl Sink for LentOutput<'_> {
             return Ok(self.write_over(from));
         }
         let end = self.used + from.len();
-        self.bytes[self.used..end].copy_from_slice(from);
+        copy(from, &mut self.bytes[self.used..end]);
         self.used = end;
         Ok(from.len())
     }
