@@ -454,6 +454,24 @@ class Answers(Case):
         self.assertEqual(said("vcdkit-values", dump, "tb.sum"), ["status 1"])
         self.assertEqual(said("vcdkit-values", "--four-state", dump, "tb.sum"),
                          ["tb.sum xxxxxxx1", "status 0"])
+        # The program stops early, long before the filter has written all.
+        long = self.file("long.vcd", b"$var wire 1 ! a $end\n$enddefinitions $end\n#0\nU!\n" +
+                         b"".join(b"#%d\n%d!\n" % (at, at % 2) for at in range(1, 100000)))
+        self.assertEqual(said("vcdkit-values", "--four-state", "--at=5", long, "a"),
+                         ["a 1", "status 0"])
+
+    @unittest.skipUnless(shutil.which("vcd2fst") and shutil.which("fst2vcd"), "needs GTKWave")
+    def test_fst(self):
+        time, scope = "--at=600", "bench.slow"
+        wanted = said("vcdkit-values", time, NESTED, scope)
+        for option in "-4", "-c":  # packed by blocks, and as a whole
+            name = os.path.join(self.folder.name, "some.fst")
+            subprocess.run(["vcd2fst", option, NESTED, name], stdout=subprocess.DEVNULL,
+                           stderr=subprocess.DEVNULL, check=True)
+            self.assertEqual(said("vcdkit-values", time, name, scope), wanted, option)
+            with subprocess.Popen(["cat", name], stdout=subprocess.PIPE) as cat:
+                status, out, _ = run("vcdkit-values", [time, "-", scope], stdin=cat.stdout)
+                self.assertEqual(out.decode().splitlines() + ["status %d" % status], wanted)
 
 
 def random_dump(rnd, sizes):

@@ -30,7 +30,7 @@ BINARY = [
      r"sed '1s/^\xEF\xBB\xBF//' < FILE | vcdkit check"),
     (rb"\A(\xff\xfe|\xfe\xff)", "the file is UTF-16",
      "iconv -f UTF-16 -t UTF-8 < FILE | vcdkit check"),
-    (rb"\A\x00\x00\x00\x00\x00\x00\x00\x01\x49", "a binary file: FST",
+    (rb"\A(\x00{7}\x01\x49|\xfe\x00\x00\x00)", "a binary file: FST",
      "fst2vcd FILE | vcdkit check    (fst2vcd: GTKWave)"),
     (rb"\A\x13\x80", "a binary file: LXT2", "lxt2vcd FILE | vcdkit check    (lxt2vcd: GTKWave)"),
     (rb"\AVZ", "a binary file: VZT", "vzt2vcd FILE | vcdkit check    (vzt2vcd: GTKWave)"),

@@ -90,8 +90,9 @@ class _Part:
             self.said = said.read().decode(errors="backslashreplace").strip()
 
     def ended_early(self) -> bool:
-        """Whether the next program did not read on."""
-        return self.status == -signal.SIGPIPE or self.said == "vcdkit: write failed"
+        """Whether the next program did not read on: a script says so as a shell does."""
+        return (self.status in (-signal.SIGPIPE, 128 + signal.SIGPIPE)
+                or self.said == "vcdkit: write failed")
 
     def error(self) -> VcdkitError:
         """Returns the exception of its status and message."""
@@ -128,8 +129,9 @@ class _Pipe:
         """Returns a file from which the text can be read, by a merge if `is_merged`."""
         if isinstance(text, File):
             self.files.append(text)
+            filters = text.filters()
             file = text.open()
-            for words in text.filters():
+            for words in filters:
                 file = self.start(words, file, {"(stdin)": text.name}, None, (), is_merged)
             return file
         if isinstance(text, Bytes):

@@ -9,10 +9,12 @@ from typing import BinaryIO, List, NamedTuple, Optional, Tuple, Union
 
 from .errors import RunFailed
 
+# How an FST file begins: with its header, or with a block that has the whole file packed.
+FST = b"\0\0\0\0\0\0\0\x01\x49", b"\xfe\0\0\0"
 # How a packed file begins, and what unpacks it from its standard input.
 UNPACKERS = [(b"\x1f\x8b", ["gzip", "-dc"]), (b"\xfd7zXZ\0", ["xz", "-dc"]),
              (b"BZh", ["bzip2", "-dc"]), (b"\x28\xb5\x2f\xfd", ["zstd", "-dcq"]),
-             (b"\0\0\0\0\0\0\0\x01\x49", ["fst2vcd", "/dev/stdin"])]
+             *((front, ["fst2vcd", "/dev/stdin"]) for front in FST)]
 # The program that is vcdkit-four-state.
 FOUR_STATE = """import sys
 sys.path.insert(0, %r)
@@ -128,6 +130,8 @@ class File:
         """Returns the words of the program that unpacks it; `None` if it is plain text."""
         with self.open() as file:
             front = file.read(16)
+            while self._kept and front.startswith(FST) and file.read(BLOCK):
+                pass  # fst2vcd seeks, so it needs all of a pipe before
         return next((words for magic, words in UNPACKERS if front.startswith(magic)), None)
 
     def filters(self) -> List[List[str]]:
