@@ -12,8 +12,6 @@ use Rattle.vcd_view.specs.Finds.{Finds}
 use Rattle.vcd_view.specs.Keys.{AreBytes, key_in}
 use Rattle.vcd_view.proofs.KeyLemmas.{same_key}
 use Rattle.vcd_view.proofs.ListLemmas.{same_bytes, there}
-use Rattle.vcd_view.specs.Views.{code_text}
-use Rattle.vcd_head.specs.Codes.{keys_behind}
 use Rattle.vcd_head.specs.Keys.{AreKeysOf, is_key, shape_in, shape_of}
 use Rattle.vcd_head.specs.declared.code_key.CodeKey.{CodeKey}
 
@@ -114,27 +112,6 @@ module _ (t : List ℕ) (a : AreBytes t) where
       let n = position_or_len (is_key t) keys in
       let below : nat_lt n (length keys) ≡ true = lt-ltb n (length keys) (omega (arith, is, l)) in
       subst (Finds cs t) (ap (λ b. cond b (Some n) None) below ∙ ap Some (sym is)) (finds_key keys cs h e)
-
--- ---- numbers
-
-number_is : (n : ℕ) (t : List ℕ) → n ∷ [] ≡ shape_in t → n ≡ key_in t
-number_is n t e = by_key (key_in t == 0) e
-  where
-    by_key : (b : Bool) → n ∷ [] ≡ cond b (0 ∷ 0 ∷ t) (key_in t ∷ []) → n ≡ key_in t
-    by_key true e = absurd (omega (arith, ap length e))
-    by_key false e = cc
-
--- numbers that are all of the keys are those of the codes
-pub numbers_are : (xs : List ℕ) (cs : List IdCode) → AreKeysOf (keys_behind xs []) cs → xs ≡ map (λ (c : IdCode). key_in c.text) cs
-numbers_are [] [] e = refl
-numbers_are [] (c ∷ cs) e = absurd (omega (arith, ap length e))
-numbers_are (x ∷ xs) [] e = absurd (omega (arith, ap length e))
-numbers_are (x ∷ xs) (c ∷ cs) e = ap (λ n. n ∷ xs) (number_is x c.text (ap first_of e)) ∙ ap (λ l. key_in c.text ∷ l) (numbers_are xs cs (ap rest_of e))
-
-pub number_at : (cs : List IdCode) (p : ℕ) → p < length cs → get_or (map (λ (c : IdCode). key_in c.text) cs) p 0 ≡ key_in (code_text cs p)
-number_at [] p l = absurd (omega arith)
-number_at (c ∷ cs) zero l = refl
-number_at (c ∷ cs) (suc p) l = number_at cs p (omega arith)
 
 -- ---- bytes
 

@@ -1,5 +1,5 @@
 -- The order of codes by their bytes.
-use Rattle.std.proofs.Common.{◌≡◌, ◌⊎◌, inl, inr, ℕ, zero, suc, ◌+◌, ◌<◌, ◌≤◌, Bool, true, false, List, [], ◌∷◌, ◌++◌, length, map, get_or, bytes_eq, option_map, unwrap_or, refl, sym, ap, subst, ◌∙◌, arith}
+use Rattle.std.proofs.Common.{◌≡◌, ◌⊎◌, inl, inr, ℕ, zero, suc, ◌+◌, ◌*◌, ◌^◌, ◌<◌, ◌≤◌, Bool, true, false, List, [], ◌∷◌, ◌++◌, length, map, get_or, bytes_eq, option_map, unwrap_or, refl, sym, ap, subst, ◌∙◌, arith}
 use Rattle.std.specs.Prelude.{IsPermutation}
 use Rattle.std.specs.Cmp.{IsStrictWeakOrder, nat_cmp_is}
 use Rattle.std.specs.List.{AllByRecursion, All, IsDistinct, range_with_len}
@@ -10,6 +10,7 @@ use Rattle.std.specs.declared.cmp.Ordering.TheVariants.{Less, Equal, Greater}
 use Rattle.std.specs.Cmp.Lexicographic.{slice_cmp}
 use Rattle.std.proofs.lemmas.Bool.{cases_lt}
 use Rattle.std.proofs.lemmas.Cmp.{nat_list_cmp_total}
+use Rattle.std.proofs.Math.Nat.{pow-le-pow_right}
 use Rattle.std.proofs.lemmas.List.{get_or-map, length-map}
 use Rattle.std.proofs.lemmas.List.FromFn.{get_or-range_with_len, length-range_with_len}
 use Rattle.std.proofs.lemmas.List.MinMax.{ranks_by}
@@ -29,7 +30,13 @@ use Rattle.vcd_view.proofs.RowLemmas.{text_within, code_of_shown}
 
 -- ---- prefixes
 
-pub byte_small : (bs : List ℕ) (i : ℕ) → AreBytes bs → get_or bs i 0 < 256
+-- eight bytes fit
+pub front_fits : (f n b : ℕ) → f < 256 ^ n → n < 8 → b < 256 → f * 256 + b < 2 ^ 64
+front_fits f n b l s k =
+    let most : 256 ^ n ≤ 256 ^ 7 = (let few : n ≤ 7 = omega (arith, s) in pow-le-pow_right (omega arith) few) in
+    omega (arith, l, k, most)
+
+byte_small : (bs : List ℕ) (i : ℕ) → AreBytes bs → get_or bs i 0 < 256
 byte_small [] i h = omega arith
 byte_small (b ∷ bs) zero h = h.0
 byte_small (b ∷ bs) (suc i) h = byte_small bs i h.1

@@ -24,7 +24,6 @@ pub mod CodesLemmas
 pub mod CodeKeys
 pub mod RisingLemmas
 pub mod IndexLemmas
-pub mod KeyRanks
 pub mod RankLemmas
 pub mod CodeChecks
 pub mod EnteredLemmas

@@ -19,11 +19,6 @@ use Rattle.vcd_head.specs.declared.code_key.CodeKey.TheVariants as key
 use Rattle.vcd_head.specs.declared.codes.Codes.{Codes}
 use Rattle.std.proofs.Math.Bool.{and-false, and-true}
 
--- a list without elements
-pub no_items : {X : Type 0} (xs : List X) → length xs ≡ 0 → xs ≡ []
-no_items [] e = refl
-no_items (x ∷ xs) e = absurd (omega (arith, e))
-
 -- ---- the last of them
 
 -- the last of these numbers, or the one before them
@@ -43,12 +38,6 @@ below_last : (n : ℕ) (xs : List ℕ) → RisesFrom n xs → n ≤ last_in n xs
 below_last n [] h = omega arith
 below_last n (x ∷ xs) h = let more = below_last x xs h.1 in omega (arith, h.0, more)
 
--- none of them is above the last one
-pub up_to_last : (n : ℕ) (xs : List ℕ) (i : ℕ) → RisesFrom n xs → i < length xs → get_or xs i 0 ≤ last_in n xs
-up_to_last n [] i h l = absurd (omega (arith, l))
-up_to_last n (x ∷ xs) zero h l = below_last x xs h.1
-up_to_last n (x ∷ xs) (suc i) h l = up_to_last x xs i h.1 (omega (arith, l))
-
 -- a number above the last one is not among them
 pub none_above : (n m : ℕ) (xs : List ℕ) → RisesFrom n xs → last_in n xs < m → list_any (nat_eq m) xs ≡ false
 none_above n m [] h l = refl
@@ -64,7 +53,7 @@ rises_more n m (x ∷ xs) h l = (h.0, rises_more x m xs h.1 l)
 
 -- ---- one before the other
 
-pub above : (n : ℕ) (xs : List ℕ) (i : ℕ) → RisesFrom n xs → i < length xs → n < get_or xs i 0
+above : (n : ℕ) (xs : List ℕ) (i : ℕ) → RisesFrom n xs → i < length xs → n < get_or xs i 0
 above n [] i h l = absurd (omega (arith, l))
 above n (x ∷ xs) zero h l = h.0
 above n (x ∷ xs) (suc i) h l = let more = above x xs i h.1 (omega (arith, l)) in omega (arith, h.0, more)

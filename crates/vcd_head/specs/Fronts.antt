@@ -3,7 +3,6 @@ use Rattle.std.specs.Prelude.{◌≡◌, ℕ, zero, suc, ◌+◌, ◌*◌, ◌%�
 use Rattle.std.specs.List.{range_with_len}
 use Rattle.vcd_view.specs.declared.view.Code.{Code}
 use Rattle.vcd_view.specs.Entries.{text_in}
-use Rattle.vcd_view.specs.Keys.{AreBytes, key_in}
 
 -- the bytes of the code at an index
 abbrev pub bytes_at : List ℕ → List Code → ℕ → List ℕ
@@ -21,10 +20,6 @@ AreShort text codes = (p : ℕ) → p < length codes → length (bytes_at text c
 -- at most four bytes, their number and an index as one number
 abbrev pub rank_of : List ℕ → ℕ → ℕ
 rank_of bs p = (prefix_in 4 bs * 8 + length bs) * 16777216 + p
-
--- the number is the rank of a code with this key and this index, if the code is short
-abbrev pub IsRankOf : ℕ → ℕ → ℕ → Type 0
-IsRankOf key p r = (bs : List ℕ) → AreBytes bs → length bs ≤ 4 → key ≡ key_in bs → r ≡ rank_of bs p
 
 -- the rank of the code at an index
 abbrev pub rank_in : List ℕ → List Code → ℕ → ℕ

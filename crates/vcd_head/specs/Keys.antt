@@ -6,7 +6,6 @@ use Rattle.std.proofs.Common.{ap}
 use Rattle.std.proofs.lemmas.Slice.Eq.{bytes_eq-Decides}
 use Rattle.vcd_model.specs.Declarations.{IdCode}
 use Rattle.vcd_view.specs.Keys.{key_in}
-use Rattle.vcd_head.specs.Codes.{Rises, keys_behind}
 use Rattle.vcd_head.specs.declared.code_key.CodeKey.{CodeKey}
 use Rattle.vcd_head.specs.declared.code_key.CodeKey.TheVariants as key
 
@@ -26,10 +25,6 @@ is_key t k = bytes_eq (shape_in t) (shape_of k)
 -- these are the keys of the codes, in order
 abbrev pub AreKeysOf : List CodeKey → List IdCode → Type 0
 AreKeysOf keys cs = map shape_of keys ≡ map (λ (c : IdCode). shape_in c.text) cs
-
--- these are the keys of all codes, in order, and each is above the one before it
-abbrev pub HasRisingKeys : List ℕ → List IdCode → Type 0
-HasRisingKeys rising cs = Rises rising × AreKeysOf (keys_behind rising []) cs
 
 -- the keys are of the same code
 abbrev pub same_shape : CodeKey → CodeKey → Bool

@@ -33,10 +33,10 @@ pub use Rattle.vcd_head.specs.Declares.{IsBarred, MayStart, Takes as TakesPhrase
 pub use Rattle.vcd_head.specs.Draft.{IsDraftOf, IsNew, goes_on}
 pub use Rattle.vcd_head.specs.Entered.{Enters, EntersKey, IsNewCode, code_with}
 pub use Rattle.vcd_head.specs.Fault.{IsFound, call_end, fault_number}
-pub use Rattle.vcd_head.specs.Fronts.{AreRanks, IsRankOf, bytes_at, place_in_rank}
+pub use Rattle.vcd_head.specs.Fronts.{AreRanks, bytes_at, prefix_in, place_in_rank, rank_of}
 pub use Rattle.vcd_head.specs.Groups.{AreRising, FlagsSome, GoesOnWith, IsRun, IsRunOn, RunsOn, names_of}
 pub use Rattle.vcd_head.specs.Inside.{AnyOpen, ComparesAt, Enters as EntersScope, FlagsSelected, GivesAround, IsOpen, KeepsOpen, SelectsAt, StaysOpen, front, row_path}
-pub use Rattle.vcd_head.specs.Keys.{AreKeysOf, HasRisingKeys, is_key, same_shape, same_writes, shape_in, shape_of, writes_of}
+pub use Rattle.vcd_head.specs.Keys.{AreKeysOf, is_key, same_shape, same_writes, shape_in, shape_of, writes_of}
 pub use Rattle.vcd_head.specs.Marks.{AreClosed, Marked, RefusesUnmatched, is_marked, marks_of, row_and_scopes}
 pub use Rattle.vcd_head.specs.Matched.{IsFirstFalse, Matches}
 pub use Rattle.vcd_head.specs.Merged.{FitNumbers, IsBehind as IsPast, ShowHeaders, closing, due, input_rows, openings}

@@ -55,7 +55,7 @@ fn enter_key(alloc: Global, known: &mut Codes, bytes: &[u8]) -> Result<(usize, b
     ensures refused { Rises known.old.rising.items
         → IfErr result (λ _. IsNewCode known.old bytes.now) }
 {
-    let number = key_of(bytes) as usize;
+    let number = key_of(bytes);
     if known.keys.is_empty() && number > last_rising(&known.rising) {
         let position = known.rising.len();
         append(&mut known.rising, number)?;

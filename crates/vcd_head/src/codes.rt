@@ -14,7 +14,7 @@ pub(crate) struct Codes {
     pub(crate) list: Vec<Code>,
     // The numbers of the first codes in the list, each above the one before it. Simulators number
     // codes in the order of declaration, so most headers have no other codes.
-    pub(crate) rising: Vec<usize>,
+    pub(crate) rising: Vec<u64>,
     // The key of each code after the first ones.
     pub(crate) keys: IndexSet<CodeKey, CodeSeed>,
 }

@@ -33,8 +33,9 @@ pub(crate) fn finish(alloc: Global, draft: Draft) -> Result<Head, HeadFault>
     } = codes;
     let seed = *keys.hasher();
     let in_order = keys.is_empty();
+    drop(rising);
     drop(keys);
-    let index = index_of(alloc, &text, &codes, rising, in_order)?;
+    let index = index_of(alloc, &text, &codes)?;
     let entries = entries_of(alloc, &text, &codes, in_order, seed)?;
     Ok(Head {
         text,

@@ -1,10 +1,9 @@
 // The order of codes by their bytes.
-ghost use Rattle.std.specs.Prelude.{◌≡◌, ◌<◌, ◌≤◌, ℕ, true, List, length, map, get_or, IfOk, IfSome};
-ghost use Rattle.vcd_head.specs.Names.{AnyHeld, AreRanks, Code, HasRisingKeys, IsIndex, IsRankOf, bytes_at, place_in_rank, range_with_len};
+ghost use Rattle.std.specs.Prelude.{◌≡◌, ◌^◌, ◌<◌, ◌≤◌, List, length, map, get_or, IfOk, IfSome};
+ghost use Rattle.vcd_head.specs.Names.{AnyHeld, AreRanks, IsIndex, bytes_at, prefix_in, place_in_rank, range_with_len, rank_of};
 
-use crate::rising::last_rising;
 use std::alloc::{AllocError, Global};
-use vcd_view::{Code, code_in, key_of, text_in};
+use vcd_view::{Code, code_in, text_in};
 
 // How many bytes of a code a rank has at most.
 const RANK_BYTES: usize = 4;
@@ -12,85 +11,41 @@ const RANK_BYTES: usize = 4;
 // How many indexes a rank can distinguish.
 const PLACES: usize = 16_777_216;
 
-// A key below this is of a code of at most `RANK_BYTES` bytes.
-const SHORT_KEYS: usize = 1 << 40;
-
-/// Returns the indexes of the codes in the order of the codes' bytes, which lie in `text`. If
-/// `in_order` is true, `rising` has the keys of all codes, which increase. Fails if there is no
-/// memory.
-pub(crate) fn index_of(
-    alloc: Global,
-    text: &[u8],
-    codes: &[Code],
-    rising: Vec<usize>,
-    in_order: bool,
-) -> Result<Vec<usize>, AllocError>
-    ensures { AnyHeld text.now codes.now (λ cs. (in_order ≡ true → HasRisingKeys rising.items cs)
-        → IfOk result (λ index. IsIndex cs index.items)) }
+/// Returns the indexes of the codes in the order of the codes' bytes, which lie in `text`. Fails if
+/// there is no memory.
+pub(crate) fn index_of(alloc: Global, text: &[u8], codes: &[Code]) -> Result<Vec<usize>, AllocError>
+    ensures { AnyHeld text.now codes.now (λ cs. IfOk result (λ index. IsIndex cs index.items)) }
 {
-    match ranks_of(alloc, text, codes, rising, in_order)? {
-        Some(ranks) => Ok(sorted(ranks)),
+    match index_by_ranks(alloc, text, codes)? {
+        Some(index) => Ok(index),
         None => index_by_bytes(alloc, text, codes),
     }
 }
 
-/// Returns the indexes in these numbers (`rank_of`), in increasing order of the numbers.
-// Numbers are sorted instead of texts.
-fn sorted(ranks: Vec<usize>) -> Vec<usize>
-    ensures { (text : List ℕ) (codes : List Code) → AreRanks text codes ranks.items
-        → AnyHeld text codes (λ cs. IsIndex cs result.items) }
+/// Returns the indexes of short codes in the order of the codes' bytes, which lie in `text`, by
+/// sorting numbers instead of texts. `None` if a code has more than 4 bytes, or if there are more
+/// than 16,777,216 codes. Fails if there is no memory.
+fn index_by_ranks(
+    alloc: Global,
+    text: &[u8],
+    codes: &[Code],
+) -> Result<Option<Vec<usize>>, AllocError>
+    ensures { AnyHeld text.now codes.now (λ cs.
+        IfOk result (λ found. IfSome found (λ index. IsIndex cs index.items))) }
 {
+    let Some(ranks) = ranks_of(alloc, text, codes)? else {
+        return Ok(None);
+    };
     let mut index = ranks;
     index.sort_unstable();
     ranks_to_indexes(&mut index);
-    index
+    Ok(Some(index))
 }
 
-/// Returns for each code, in the order of `codes`, the number that `rank_of` makes of its key and
-/// its index. The keys are those in `rising` if `in_order` is true, and are made of the bytes in
-/// `text` otherwise. `None` if a code has more than 4 bytes, or if there are more than 16,777,216
-/// codes. Fails if there is no memory.
-// If the keys were made of the bytes again, the header of 184,002 codes would take 3 % more
-// instructions, and 5 % more page faults.
-fn ranks_of(
-    alloc: Global,
-    text: &[u8],
-    codes: &[Code],
-    rising: Vec<usize>,
-    in_order: bool,
-) -> Result<Option<Vec<usize>>, AllocError>
-    ensures { AnyHeld text.now codes.now (λ cs. (in_order ≡ true → HasRisingKeys rising.items cs)
-        → IfOk result (λ some. IfSome some (λ ranks. AreRanks text.now codes.now ranks.items))) }
-{
-    if in_order && rising.len() <= PLACES && last_rising(&rising) < SHORT_KEYS {
-        let mut ranks = rising;
-        keys_to_ranks(&mut ranks);
-        return Ok(Some(ranks));
-    }
-    drop(rising);
-    ranks_of_texts(alloc, text, codes)
-}
-
-/// Replaces each of these keys, at most 16,777,216, by the number that `rank_of` makes of it and
-/// its index.
-fn keys_to_ranks(keys: &mut [usize])
-    requires { length keys.now ≤ 16777216 }
-    ensures len { length keys.new ≡ length keys.old }
-    ensures ranks { (p : ℕ) → p < length keys.old
-        → IsRankOf (get_or keys.old p 0) p (get_or keys.new p 0) }
-{
-    for (position, key) in keys.iter_mut().enumerate() {
-        *key = rank_of(*key, position);
-    }
-}
-
-/// Returns what `ranks_of` returns if the codes are not in order, by a look at each code's bytes in
-/// `text`.
-fn ranks_of_texts(
-    alloc: Global,
-    text: &[u8],
-    codes: &[Code],
-) -> Result<Option<Vec<usize>>, AllocError>
+/// Returns for each code, in the order of `codes`, the number that `rank_of` makes of its bytes,
+/// which lie in `text`, and its index. `None` if a code has more than 4 bytes, or if there are more
+/// than 16,777,216 codes. Fails if there is no memory.
+fn ranks_of(alloc: Global, text: &[u8], codes: &[Code]) -> Result<Option<Vec<usize>>, AllocError>
     ensures { IfOk result (λ some. IfSome some (λ ranks. AreRanks text.now codes.now ranks.items)) }
 {
     if codes.len() > PLACES {
@@ -102,25 +57,22 @@ fn ranks_of_texts(
         if bytes.len() > RANK_BYTES {
             return Ok(None);
         }
-        ranks.push(rank_of(key_of(bytes) as usize, position))?;
+        ranks.push(rank_of(bytes, position))?;
     }
     Ok(Some(ranks))
 }
 
-/// Returns the bytes of the code with this key (at most 4), how many they are, and its index
-/// `position` (below 16,777,216) in one number. Such numbers are in the order of the codes' bytes,
-/// so that they can be sorted without a look at the codes.
-// In a key, the first byte is the lowest, and a blank follows the last one.
+/// Returns the bytes of a code (at most 4), how many they are, and its index `position` (below
+/// 16,777,216) in one number. Such numbers are in the order of the codes' bytes, so that they can
+/// be sorted without a look at the codes.
 #[inline(always)]
-fn rank_of(key: usize, position: usize) -> usize
-    requires { position < 16777216 }
-    ensures { IsRankOf key position result }
+fn rank_of(bytes: &[u8], position: usize) -> usize
+    requires short { length bytes.now ≤ 4 }
+    requires position { position < 16777216 }
+    ensures { result ≡ rank_of bytes.now position }
 {
-    let key = key % SHORT_KEYS;
-    let len = (64 - key.leading_zeros() as usize) / 8;
-    let bytes = key % (1 << (8 * len));
-    let front = bytes.swap_bytes() >> 32;
-    (front * 8 + len) * PLACES + position
+    let front = prefix_of(bytes, RANK_BYTES);
+    (front as usize * 8 + bytes.len()) * PLACES + position
 }
 
 /// Replaces each number that `rank_of` returned by the index in it.
@@ -161,5 +113,32 @@ fn bytes_at<'a>(text: &'a [u8], codes: &[Code], position: usize) -> &'a [u8]
     match code_in(codes, position) {
         Some(code) => text_in(text, code.start, code.len as usize),
         None => &[],
+    }
+}
+
+/// Returns the first `count` bytes (at most 8) as a number, the first byte as the highest. Missing
+/// bytes count as zeros.
+#[inline(always)]
+fn prefix_of(bytes: &[u8], count: usize) -> u64
+    requires { count ≤ 8 }
+    ensures front { result ≡ prefix_in count bytes.now }
+    ensures small { result < 256 ^ count }
+{
+    let mut number = 0;
+    for position in 0..count {
+        number = number * 256 + byte_at(bytes, position);
+    }
+    number
+}
+
+/// Returns the byte at index `position`, or 0 if there is none.
+#[inline(always)]
+fn byte_at(bytes: &[u8], position: usize) -> u64
+    ensures byte { result ≡ get_or bytes.now position 0 }
+    ensures small { result < 256 }
+{
+    match bytes.get(position) {
+        Some(byte) => u64::from(*byte),
+        None => 0,
     }
 }

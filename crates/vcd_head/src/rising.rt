@@ -4,7 +4,7 @@ ghost use Rattle.vcd_head.specs.Names.{Rises};
 
 /// Returns the last of these numbers, which increase, or 0 if there is none.
 #[inline(always)]
-pub(crate) fn last_rising(rising: &[usize]) -> usize
+pub(crate) fn last_rising(rising: &[u64]) -> u64
     ensures { result ≡ unwrap_or (slice_get rising.now (length rising.now - 1)) 0 }
 {
     rising.last().copied().unwrap_or(0)
@@ -15,7 +15,7 @@ pub(crate) fn last_rising(rising: &[usize]) -> usize
 // Most new codes need one comparison and no hash: otherwise the header of 184,002 codes takes 15 %
 // more instructions.
 #[inline(always)]
-pub(crate) fn index_in_rising(rising: &[usize], number: usize) -> Option<usize>
+pub(crate) fn index_in_rising(rising: &[u64], number: u64) -> Option<usize>
     ensures { Rises rising.now → result ≡ position (nat_eq number) rising.now }
 {
     if number > last_rising(rising) {

@@ -1,13 +1,10 @@
-use Rattle.std.proofs.Common.{◌≡◌, true, length, ap, subst, arith}
+use Rattle.std.proofs.Common.{length, ap, subst, arith}
 use Rattle.vcd_model.specs.Declarations.{codes_of}
 use Rattle.vcd_model.specs.HeaderPhrases.{declarations_of}
 use Rattle.vcd_model.specs.Header.{header_of}
 use Rattle.vcd_view.specs.Views.{IsIndex}
 use Rattle.vcd_view.proofs.LookUpLemmas.{codes_len}
 use Rattle.vcd_view.proofs.RoomLemmas.{codes_few}
-use Rattle.vcd_head.specs.Codes.{keys_behind}
-use Rattle.vcd_head.specs.Keys.{AreKeysOf, HasRisingKeys}
-use Rattle.vcd_head.proofs.RisingLemmas.{no_items}
 use Rattle.vcd_head.proofs.finish.finish.Goals as goal
 
 pub returns-clause-head : goal.returns-clause-head
@@ -20,13 +17,10 @@ returns-clause-head c = λ most ps h.
     let ds_codes = codes_of ds in
     let stand = h.declares.codes.held.stand in
     let list = c.args.draft.codes.list.items in
-    let codes = c.args.draft.codes in
-    let numbered : c.is_empty-in_order.result ≡ true → HasRisingKeys codes.rising.items ds_codes = λ e.
-    (h.declares.codes.rises, subst (λ ks. AreKeysOf (keys_behind codes.rising.items ks) ds_codes) (no_items codes.keys.keys (omega arith)) h.declares.codes.keys) in
     record {
       rows = h.declares.rows;
       codes = stand;
-      index = subst (λ t. IsIndex ds_codes c.in_ok-index.index.items) c.deref.ensures.value (c.in_ok-index.ensures ds_codes (rw (c.deref.ensures.value, c.deref-2.ensures.value) h.declares.codes.held) numbered);
+      index = subst (λ t. IsIndex ds_codes c.in_ok-index.index.items) c.deref.ensures.value (c.in_ok-index.ensures ds_codes (rw (c.deref.ensures.value, c.deref-2.ensures.value) h.declares.codes.held));
       date = h.date;
       version = h.version;
       scale = h.scale;
