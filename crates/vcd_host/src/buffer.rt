@@ -31,8 +31,8 @@ pub(crate) struct Buffer {
 }
 
 /// Copies all of `from` to `to`, which has the same length.
-// Short copies have arms of their own: without them, in proved programs `pick` of all of scalars
-// takes 9 % more, and `merge` 3 %.
+// Short copies have arms of their own: without them, `cut` inside its window takes 6 % more over
+// scalars, and `pick` of all takes 3 % more (but `pick` of five variables 8 % less).
 #[inline(always)]
 pub(crate) fn copy(from: &[u8], to: &mut [u8])
     requires { length to.old ≡ length from.now }
