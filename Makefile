@@ -5,7 +5,7 @@
 # make trial   builds the program as ./vcdkit-unproved, for trying code. Nothing of it is proved: two
 #     CPU minutes
 # make test    the gate: all proofs, the must-fail edits, the tests, and the program as two compilers
-#     build it: about an hour
+#     build it: half an hour to an hour
 # make hostile runs the program while memory, reads and writes fail, with closed streams, and on
 #     dumps that are truncated, crafted or random, and asks the package and the scripts about every
 #     small dump: some minutes
