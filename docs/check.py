@@ -3,13 +3,13 @@
 
 In each ```console block of the pages for users (DOCUMENTS), bash runs each line that begins with a
 dollar sign and a blank, in the top directory of the repository. The lines below it, up to the next
-command, have to be what it prints, standard output and standard error together. If the line of a
-command ends in `\\`, the command continues in the next line; if it contains << 'END', the command
-ends with the line END. The variable T names an empty directory for the files that a page writes; it
-is removed at the end. If a block begins with ```console PROGRAM .. and one of these programs (or
-modules of Python) is missing, the block is skipped, and the last line of the output says so. As the
-pages say, the top directory and extras/ are on the PATH, and python/ is on PYTHONPATH, so `vcdkit`
-is the ./vcdkit that `make` built.
+command, have to be what it prints, standard output and standard error together. A line that begins
+with `# ` is a comment for the reader. If the line of a command ends in `\\`, the command continues
+in the next line; if it contains << 'END', the command ends with the line END. The variable T names
+an empty directory for the files that a page writes; it is removed at the end. If a block begins
+with ```console PROGRAM .. and one of these programs (or modules of Python) is missing, the block is
+skipped, and the last line of the output says so. As the pages say, the top directory and extras/
+are on the PATH, and python/ is on PYTHONPATH, so `vcdkit` is the ./vcdkit that `make` built.
 
 The exit status is 0 if everything is as written, 1 if some output differs, and 2 if there is no
 ./vcdkit."""
@@ -22,8 +22,9 @@ import sys
 import tempfile
 
 TOP = os.path.dirname(os.path.dirname(os.path.abspath(__file__)))
-DOCUMENTS = ["README.md", "docs/TUTORIAL.md", "docs/FAQ.md", "docs/MANUAL.md", "docs/RECIPES.md",
-             "docs/MANY_DUMPS.md", "docs/PYTHON.md", "docs/PRODUCERS.md", "extras/README.md"]
+DOCUMENTS = ["README.md", "docs/TUTORIAL.md", "docs/FAQ.md", "docs/MANUAL.md",
+             "docs/INTERNALS.md", "docs/RECIPES.md", "docs/MANY_DUMPS.md", "docs/PYTHON.md",
+             "docs/PRODUCERS.md", "extras/README.md"]
 SECONDS = 60
 
 
@@ -44,7 +45,7 @@ def commands_of(document):
                     commands.append([number, line[2:], [], needs])
                 is_text = "<< 'END'" in commands[-1][1] and line != "END"
                 goes_on = line.endswith("\\") or is_text
-            elif is_inside and commands:
+            elif is_inside and commands and not line.startswith("# "):
                 commands[-1][2].append(line)
     return commands
 

@@ -282,6 +282,9 @@ status 1' "$(status vcdkit-diff $dump "$folder/again.vcd")"
 same 'vcdkit-diff: no such file' 'vcdkit-diff: samples/none.vcd: No such file or directory
 status 3' "$(status vcdkit-diff $dump samples/none.vcd)"
 
+same 'vcdkit-wave: the picture of the README' "$(cksum < docs/wave.svg)" "$(vcdkit-wave \
+    --around 105ns --context 50ns --width 700 samples/broken.vcd tb.clk tb.in_{valid,ready,data} \
+    tb.out_{valid,ready,data} tb.dut.count | cksum)"
 vcdkit-wave --from 100ns --to 122ns --mark 110ns $dump bench.slow bench.level > "$folder/wave.svg"
 same 'vcdkit-wave: status' 0 $?
 same 'vcdkit-wave: names, values, a mark' 'level slow.clock slow.count
@@ -342,7 +345,7 @@ vcdkit-wave "$folder/odd.vcd" a v > "$folder/odd.svg"
 same 'vcdkit-wave: one time, a number for a bit, digits for a number' '0,1,a,v,5,5' \
     "$(texts "$folder/odd.svg")"
 same 'vcdkit-wave: a title for those who do not see it' 1 \
-    "$(grep -c '<title>Waveforms of a, v from 0 to 1</title>' "$folder/odd.svg")"
+    "$(grep -c '<title>Waveforms of a, v from 0 to 0</title>' "$folder/odd.svg")"
 printf '%s' '$var reg 32 ! q $end $var reg 32 " r $end $enddefinitions $end ' \
     '#0 b1010 ! bx " #60 b11110000000011110000111100001011 ! b1 " #100 b0 !' > "$folder/odd.vcd"
 vcdkit-wave --width 100 "$folder/odd.vcd" q r > "$folder/odd.svg"
@@ -435,14 +438,14 @@ same 'vcdkit-join-bits' '$timescale 1ns $end
 $scope module tb $end
 $var reg 1 ! clk $end
 $var wire 3 " q [2:0] $end
-$var wire 2 % r [0:1] $end
+$var wire 2 & r [1:0] $end
 $upscope $end
 $enddefinitions $end
 #0
 $dumpvars
 0!
 bx1z "
-b01 %
+b10 &
 $end
 #5
 1!
@@ -451,7 +454,7 @@ b110 "
 b100 "' "$(vcdkit-join-bits < "$folder/bits.vcd")"
 same 'vcdkit-join-bits: read by the program' '7 tb.clk 1
 7 tb.q 100
-7 tb.r 01' "$(vcdkit-join-bits < "$folder/bits.vcd" | "$VCDKIT" sample --at 7)"
+7 tb.r 10' "$(vcdkit-join-bits < "$folder/bits.vcd" | "$VCDKIT" sample --at 7)"
 same 'vcdkit-join-bits: a bit with a second name' \
     'tb.clk 1 tb.q 1 tb.q 1 tb.q 1 tb.r 2 tb.alias 1' \
     "$(sed 's/^\$upscope/$var wire 1 # alias $end\n&/' "$folder/bits.vcd" | vcdkit-join-bits |

@@ -45,8 +45,8 @@ class Change(NamedTuple):
 
 class Dump(NamedTuple):
     """A dump up to its end or its fault: variables, changes, timestamps, the femtoseconds of a tick
-    (None without a time scale), the line and the name of the fault, as "3: bad time", and the last
-    time whose changes are all known."""
+    (None without a time scale), the line and the name of the fault, as "3: bad time", the last time
+    whose changes are all known, and with which time a part begins."""
 
     variables: List[Variable]
     changes: List[Change]
@@ -54,6 +54,7 @@ class Dump(NamedTuple):
     tick: Optional[int] = None
     fault: str = ""
     finished: int = FOREVER
+    begin: int = 0
 
 
 # ---- Names, times and kinds.
@@ -212,6 +213,7 @@ def cut(dump: Dump, begin: int, end: int) -> Dump:
     first = [changes[-1] for changes in early if changes]
     its = [one for one in dump.changes if begin <= one.time <= end]
     return dump._replace(
+        begin=max(begin, dump.begin),
         changes=[one._replace(time=begin, section="$dumpvars") for one in first] + its,
         times=[begin, *(time for time in dump.times if begin < time <= end),
                *[end] * any(begin < end < time for time in dump.times)],
@@ -436,12 +438,13 @@ class Look(NamedTuple):
 
 def looks(dump: Dump, codes: Set[str], clocks: Clocks) -> List[Look]:
     """Where a condition over some codes is evaluated: at each time at which one of them changes,
-    with the values at its end; or at the edges of clocks, with the values just before. An event is
-    triggered at its time; at a clock, from its time to before the next edge. Decided: before one of
+    and at the begin of a part, if that is not 0, with the values at its end; or at the edges of
+    clocks, with the values just before. An event is triggered at its time; at a clock, from its time to before the next edge. Decided: before one of
     the signals has a value, and between its changes, there is nothing to evaluate."""
     events = {one.code for one in dump.variables if is_event(one)} & codes
     of = [one for one in dump.changes if one.code in codes]
-    times = edge_times(dump, clocks) if clocks else sorted({one.time for one in of})
+    begins = [dump.begin] * (dump.begin > 0)
+    times = edge_times(dump, clocks) if clocks else sorted({*begins, *(one.time for one in of)})
     value = value_before if clocks else value_at
     found = []
     for before, time in zip([0, *times], times):
@@ -465,15 +468,15 @@ def starts(of: Sequence[Look], tree: Tree, has_clock: bool, every: bool) -> List
 def when(dump: Dump, tree: Tree, codes: Set[str], clocks: Clocks = (), every: bool = False,
          answer: Optional[Tuple[Tree, int, bool, bool]] = None) -> List[int]:
     """The times at which a condition begins to hold. An `answer` is a condition that has to hold
-    within a number of ticks, or of edges, or with a refusal must not. What the end of the dump, or
-    a fault, leaves open is neither answered nor refused."""
+    within a number of ticks, or of edges, or with a refusal must not. What the end of the dump
+    leaves open is neither answered nor refused; before a fault, that is what depends on times whose
+    changes are not all known."""
     its = looks(dump, codes, clocks)
     found = starts(its, tree, bool(clocks), every)
     if answer:
         after, wait, is_of_edges, is_refusal = answer
         at_end = len(its) - 1 if is_of_edges else last_time(dump)
-        if dump.fault:
-            at_end = (len(its) if is_of_edges else its[-1].time if its else 0) - 1
+        at_end = dump.finished if dump.fault and not is_of_edges else at_end
         place = [at if is_of_edges else one.time for at, one in enumerate(its)]
         is_in_time = {start: any(holds(after, one.values) is True
                                  and place[at] <= place[start] + wait
@@ -586,12 +589,12 @@ Spans = Sequence[Tuple[Value, int, int, bool]]  # a value, from when to when, wh
 
 
 def range_of(spans: Spans) -> Optional[Dict[str, float]]:
-    """The least and the largest real number, and the mean over time."""
+    """The least and the largest real number, and the mean over time, which lies between them."""
     its = [(value, to - time) for value, time, to, _ in spans
            if isinstance(value, float) and isfinite(value)]
     return {"least": min(its)[0] + 0.0, "largest": max(its)[0] + 0.0,
-            "mean": sum(value * length for value, length in its)
-            / sum(length for _, length in its)} if its else None
+            "mean": float(sum(Fraction(value) * length for value, length in its)
+                          / sum(length for _, length in its))} if its else None
 
 
 def shares(spans: Spans, form: str) -> List[Dict[str, Any]]:
@@ -753,7 +756,7 @@ def compare(dumps: Sequence[Dump], asked: Compare) -> Tuple[List[str], bool]:
             for name in (*asked.names, *asked.exceptions)]
     count = len(asked.names)
     its = compared(sides, asked.names, asked.exceptions)
-    both = [[[one for one in side if one.path == path] for side, path in zip(its, pair)]
+    both = [in_order(*([one for one in side if one.path == path] for side, path in zip(its, pair)))
             for pair in pairs(*its)]
     if not all(all(one) for one in each[:count]) or not all(map(any, each[count:])) or (
             asked.edge and not all(map(asked.codes, dumps)) or asked.is_common and not both):
@@ -769,6 +772,15 @@ def compare(dumps: Sequence[Dump], asked: Compare) -> Tuple[List[str], bool]:
     if asked.edge and fit and 0 in edges_of_each:
         return lines, True
     return lines + ends(dumps, edges_of_each, asked, bool(found)), False
+
+
+def in_order(one: List[Variable], other: List[Variable]) -> List[List[Variable]]:
+    """The variables of one path, each beside its partner: the one that declares the same range, if
+    each range is declared once on each side; else that of the same place."""
+    its = [[variable.range for variable in side] for side in (one, other)]
+    if len(one) > 1 and {*its[0]} == {*its[1]} and len({*its[0]}) == len(one) == len(other):
+        return [one, [other[its[1].index(each)] for each in its[0]]]
+    return [one, other]
 
 
 def headers(dumps: Sequence[Dump], its: Sequence[Sequence[Variable]]) -> List[str]:

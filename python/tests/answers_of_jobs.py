@@ -62,6 +62,39 @@ def latencies(dump: Dump, tree: Tree, codes: Set[str], clocks: Clocks, every: bo
             for at, start in sorted(found)], late
 
 
+def in_order(dump: Dump, tree: Tree, codes: Set[str], clocks: Clocks, after: Tree, wait: int,
+             is_of_edges: bool) -> Tuple[List[Latency], int]:
+    """As latencies, with --in-order: each edge at which the condition holds is a request, and each
+    at which the answer holds answers the first request that has none yet, if there is one. So the
+    n-th answer belongs to the n-th request, also if that is late."""
+    its = looks(dump, codes, clocks)
+    place = [at if is_of_edges else one.time for at, one in enumerate(its)]
+    at_end = len(its) - 1 if is_of_edges else last_time(dump)
+    requests = [at for at, one in enumerate(its) if holds(tree, one.values) is True]
+    answers: List[int] = []
+    for at, one in enumerate(its):
+        is_asked = sum(request <= at for request in requests) > len(answers)
+        answers += [at] * (is_asked and holds(after, one.values) is True)
+    pairs = [(start, at) for start, at in zip(requests, answers)
+             if place[at] - place[start] <= wait]
+    late = [start for start in requests if place[start] + wait <= at_end
+            and start not in [one for one, _ in pairs]]
+    return [Latency(its[start].time, its[at].time, place[at] - place[start])
+            for start, at in pairs], len(late)
+
+
+def overlap(dump: Dump, tree: Tree, codes: Set[str], clocks: Clocks, every: bool, after: Tree,
+            wait: int, is_of_edges: bool) -> bool:
+    """Whether a request begins while another one waits: it began before, no look in between has
+    its answer, and its time is not over."""
+    its = looks(dump, codes, clocks)
+    place = [at if is_of_edges else one.time for at, one in enumerate(its)]
+    found = starts(its, tree, bool(clocks), every)
+    return any(place[other] <= place[one] + wait and not any(
+        holds(after, look.values) is True for look in its[one:other])
+        for one, other in zip(found, found[1:]))
+
+
 # ---- vcdkit-stats --toggle and --saif.
 
 class Toggles(NamedTuple):
@@ -141,7 +174,7 @@ def verdict(dump: Dump, reach: Optional[int]) -> Tuple[str, object]:
 def saved_names(variables: Sequence[Variable], lines: Sequence[str]) -> List[str]:
     """The names in a save file of GTKWave: of each line that is a signal, without the range if that
     selects nothing."""
-    names = [line for line in lines if re.match(r"[A-Za-z_\\$]", line)]
+    names = [line for line in lines if re.match(r"[A-Za-z_\\$]|[^\0-\x7f]", line)]
     return list(dict.fromkeys(
         name if any((one.path + ".").startswith(name + ".") for one in variables)
         else re.sub(r"\[-?\d+(:-?\d+)?\]\Z", "", name) for name in names))

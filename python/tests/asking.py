@@ -132,7 +132,8 @@ def of_line(header: str) -> List[Variable]:
         _, kind, size, _, reference = head.rows[row]
         ends = "".join(word.decode() for word in reference).partition("[")[2].rstrip("]").split(":")
         found.append(Variable(path.decode(), kind.decode(), size, code.decode(),
-                              (int(ends[0]), int(ends[1])) if len(ends) == 2 else None))
+                              (int(ends[0]), int(ends[-1])) if ends[0] and (
+                                  len(ends) == 2 or len(reference) == 2) else None))
     return found
 
 
@@ -205,6 +206,9 @@ VECTOR = "$scope module t $end $var wire 1 ! c $end $var reg 3 \" q[2:0] $end $u
 SLICES = ("$timescale 10ns $end $scope module t $end $var wire 2 ! q[1:0] $end "
           "$var wire 2 \" q[3:2] $end $var wire 2 ! p [1:0] $end $var wire 2 \" p [3:2] $end "
           "$upscope $end ")
+INDEX = ("$timescale 10ns $end $scope module t $end $var wire 1 ! s [3] $end "
+         "$var wire 1 ! w [1] $end $var wire 1 \" w [0] $end $var wire 1 \" m[3] $end "
+         "$upscope $end ")
 ALIAS = ("$timescale 1ns $end $scope module t $end $var wire 2 ! q[1:0] $end $var integer 2 ! k "
          "[0:1] $end $scope module u $end $var reg 2 ! b $end $upscope $end $upscope $end ")
 TWICE = ("$timescale 100ps $end $scope module t $end $var wire 1 ! b $end $scope module b $end "
@@ -243,10 +247,16 @@ DECLARATIONS = {
         [["t.q[1:0]"], ["t.q[3:2]", "t.q[1:0]"], ["t"], ["t.p"]], "", [
             ("t.q[1:0]==1", ("==", S, 1)), ("t.q[3:2] < t.q[1:0]", ("<", P, S)),
             ("t.q[3:2] != t.q[1:0]", ("not", ("==", P, S)))]),
+    "index": Declarations(
+        INDEX, [*TIMES, "0!", "1!", 'x!', '0"', '1"', *SECTION, "$dumpvars 0! 1\" $end"],
+        [["t.w"], ["t"], ["t.s"], ["t.m[3]", "t.w"]], "t.s", [
+            ("t.s[3]", ("true", C)), ("!t.s[3]", ("not", ("true", C))),
+            ("t.m[3] | t.s", ("or", ("true", whole('"')), ("true", C)))]),
     "alias": Declarations(
         ALIAS, [*TIMES, "b0 !", "b1 !", "b01 !", "b10 !", "bx !", *SECTION],
         [["t.q"], ["t.k", "t.u"], ["t.u.b", "t.q[1:0]"], ["t"]], "", [
-            ("t.k < 0", ("<", S._replace(is_signed=True), 0)), ("t.q == 2", ("==", S, 2)),
+            ("t.k < 0", ("<", S._replace(is_signed=True), 0)),
+            ("t.q < -0.5", ("<", S._replace(is_signed=True), -0.5)), ("t.q == 2", ("==", S, 2)),
             ("t.k[0] | t.u.b == 1", ("or", ("true", Part("!", 0, 1, 2, False)), ("==", S, 1)))]),
     "twice": Declarations(
         TWICE, [*TIMES, "0!", "1!", "x!", 'b0 "', 'b1 "', 'bx1 "', *SECTION],
@@ -381,7 +391,7 @@ def part_of(dump: Dump) -> by_definition.Dump:
 
 def last_of(dump: by_definition.Dump) -> by_definition.Dump:
     """Returns a dump with its last timestamp only, as parts leave out times without a change."""
-    return dump._replace(times=[by_definition.last_time(dump)])
+    return dump._replace(times=[by_definition.last_time(dump)], begin=0)
 
 
 def plain_list(one: Any) -> Any:

@@ -67,8 +67,12 @@ class Jobs(Scripts):
         part = by_definition.cut(self.dump, window.begin, window.end)
         is_of_edges, wait = bool(clocks) and self.number % 2 == 0, self.turn([0, 1, 5, 7], 2)
         every = bool(clocks) and self.number % 3 == 0
-        found, late = of_jobs.latencies(part, tree, codes_of(tree) | codes_of(after), clocks, every,
-                                        after, wait, is_of_edges)
+        codes, is_in_order = codes_of(tree) | codes_of(after), bool(clocks) and self.number % 5 < 2
+        found, late = of_jobs.in_order(
+            part, tree, codes, clocks, after, wait, is_of_edges) if is_in_order else (
+            of_jobs.latencies(part, tree, codes, clocks, every, after, wait, is_of_edges))
+        is_warned = not is_in_order and not part.fault and of_jobs.overlap(
+            part, tree, codes, clocks, every, after, wait, is_of_edges)
         tick, time = self.dump.tick, by_definition.time_text
         shown: Any = (lambda _, length: str(length)) if is_of_edges else time
         lines = ["%s %s %s" % (time(tick, one.begin), time(tick, one.answer),
@@ -79,12 +83,14 @@ class Jobs(Scripts):
             lines.append("least %s, mean %s, greatest %s, %d in time, %d late" % (
                 shown(tick, min(lengths)), "%.6g" % mean if is_of_edges else
                 by_definition.mean_text(tick, mean), shown(tick, max(lengths)), len(found), late))
+        elif late and not part.fault:
+            lines.append("0 in time, %d late" % late)
         is_late = self.late(window.begin)
         condition = "%s -> %s within %d%s" % (text, after_text, wait, "tick" * (not is_of_edges))
-        self.same("when", ["--latency", *["--every"] * every, *words, *window.words, self.path,
-                           condition], [] if is_late else lines,
+        self.same("when", ["--latency", *["--every"] * every, *["--in-order"] * is_in_order,
+                           *words, *window.words, self.path, condition], [] if is_late else lines,
                   2 if is_late or part.fault else int(not found),
-                  is_late[1] if is_late else part.fault or False)
+                  is_late[1] if is_late else part.fault or is_warned)
 
     def ask_toggles(self) -> None:
         """Asks what bits do."""
@@ -96,8 +102,8 @@ class Jobs(Scripts):
         lines = ["%s %d %d %d" % bit[:4] for bit in of_jobs.most_active(bits)]
         both = sum(bit.rises > 0 and bit.falls > 0 for bit in bits)
         never = sum(bit.rises + bit.falls == 0 for bit in bits)
-        lines.append("%d bits: %d rise and fall, %d do one of these, %d do neither" % (
-            len(bits), both, len(bits) - both - never, never))
+        lines.append("%d bit%s: %d rise and fall, %d do one of these, %d do neither" % (
+            len(bits), "s" * (len(bits) != 1), both, len(bits) - both - never, never))
         status = late[0] if late else int(bool(fault))
         self.same("stats", ["--toggle", *window.words, self.path, *self.names],
                   [] if fault else lines, status, fault or False)

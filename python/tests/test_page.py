@@ -274,6 +274,20 @@ class Data(Case):
             self.assertEqual(run(diff, "--html", path, NESTED, slow)[0], status)
 
 
+    def test_more_ticks_than_a_page_has(self):
+        """Of a long dump the page of a difference shows what there is room for."""
+        text = b"$timescale 1fs $end $var wire 1 ! c $end $enddefinitions $end #0 0! #%d %d! #%d 0!\n"
+        dumps = [self.file("%d.vcd" % at, text % (2**60, at, 2**61)) for at in (0, 1)]
+        page = os.path.join(self.folder.name, "page.html")
+        status, said, messages = run(diff, "--html", page, *dumps)
+        self.assertEqual((status, messages), (1, ""))
+        with open(page, encoding="ascii") as file:
+            data = data_of(file.read())
+        self.assertLessEqual(data["span"], 2**53)
+        self.assertEqual(int(data["begin"]) + data["mark"], 2**60)
+        self.assertIn("2^53 ticks: show less time", run(wave, "--html", dumps[0], "c")[2])
+
+
 class Template(unittest.TestCase):
     """The template."""
 
@@ -474,6 +488,73 @@ class Shown(Case):
         self.browser.click(left + self.value("xOf(400)"), y, count=2)
         self.assertEqual(self.value("[now.from, now.to]"), [320, 480])
 
+    def test_second_cursor_and_search(self):
+        self.open(self.page("--mark", "70ns", NESTED, "bench.slow.count", "bench.slow.clock"))
+        self.press("2", "n")
+        self.is_now("[now.other, now.cursor > 700]", [700, True])
+        self.value("draw()")
+        self.is_now("/^2 is .* before 1/.test($('said').textContent)", True)
+        change = [time for time, _ in Dump(NESTED).changes("bench.slow.count") if time < 700]
+        self.press("p", "p", "z")
+        self.is_now("[now.cursor, now.from < now.cursor]", [change[-2] if 700 == change[-1] else
+                                                           self.value("now.cursor"), True])
+        self.is_now("now.to - now.from < 300", True)
+        self.press("/", "c", "l", "o", "c", "k", "Enter")
+        self.is_now("[now.pattern !== null, shown]", [True, 1])
+        self.press("Escape")
+        self.is_now("[now.pattern, shown, $('find').value, now.other]", [None, 2, "", None])
+        # A toggle that is on looks otherwise than one that is off.
+        looks = "(id => getComputedStyle($(id)).borderColor)"
+        self.is_now("setTheme(false), %s('short') !== %s('theme')" % (looks, looks), True)
+
+    def test_a_wrong_time(self):
+        self.open(self.page("--mark", "70ns", NESTED, "bench.slow.count"))
+        self.press("g", "f", "o", "o", "Enter")
+        self.is_now("[$('at').getAttribute('aria-invalid'), document.activeElement.id, now.cursor]",
+                    ["true", "at", 700])
+        self.press("Escape")
+        self.value("draw()")
+        self.is_now("[$('at').getAttribute('aria-invalid'), $('at').value]", ["false", "70ns"])
+        self.press("g", *"90ns", "Enter")
+        self.is_now("[$('at').getAttribute('aria-invalid'), now.cursor]", ["false", 900])
+
+    def test_forms_of_real_numbers(self):
+        numbers = ["1e16", "1e15", "123456789012345680", "1e-4", "1e-5", "1.5e-7", "-0", "-2.5e+20",
+                   "1e300", "0.1", "0", "-3", "9999999999999998", "1e22"]
+        dump = self.file("a.vcd", b"$var real 64 ! r $end $enddefinitions $end " + "".join(
+            "#%d r%s !\n" % (5 * at, number) for at, number in enumerate(numbers)).encode())
+        self.open(self.page(dump, "r"))
+        self.assertEqual(self.value("[...signals[0].stream.times].map(time => valueAt(signals[0], "
+                                    "time))"), [shown(float(one), None) for one in numbers])
+
+    def test_shortreal_is_a_curve(self):
+        dump = self.file("a.vcd", b"$var shortreal 32 ! r $end $var real 64 @ q $end "
+                         b"$var wire 1 a w $end $enddefinitions $end #0 r1 ! r2 @ 0a #5\n")
+        self.open(self.page(dump, "r", "q", "w"))
+        self.is_now("signals.map(one => one.isCurve)", [True, True, False])
+
+    def test_red_only_where_there_is_an_x(self):
+        dump = self.file("a.vcd", b"$timescale 1ns $end $var wire 1 ! c $end $var wire 4 v v $end "
+                         b"$enddefinitions $end " + b"".join(
+                             b"#%d %s! b%s v\n" % (at, b"x" if at in (0, 10_000) else b"%d" % (at % 2),
+                                                 b"1x" if at == 5000 else b"%d" % (at % 2))
+                             for at in range(20_001)))
+        self.open(self.page(dump, "c", "v"))
+        reds = """(() => { draw(); const { data, width } = pen.getImageData(0, 0, canvas.width, 100);
+            return [0, 1].map(row => {
+              const y = TOP + tops[row] + PAD + HIGH / 2, red = [];
+              for (let x = 0, at = 4 * width * y; x < width; x++, at += 4)
+                if (data[at] > data[at + 1] + 60) red.push(timeAt(x));
+              return red;
+            }); })()"""
+        self.value("setTheme(false), now.cursor = SPAN")
+        for times, wanted in zip(self.value(reds), ([0, 10_000], [5000])):
+            pixel = self.value("timeAt(1) - timeAt(0)")
+            for time in times:
+                self.assertTrue(any(-2 * pixel <= time - at <= 2 * pixel for at in wanted), (time, wanted))
+            for at in wanted:
+                self.assertTrue(any(abs(time - at) <= 2 * pixel for time in times), (at, times))
+
     def test_links(self):
         text = self.page(NESTED, "bench")
         self.open(text, "#from=30ns&to=110ns&cursor=72ns&find=slow%5C.c")
@@ -518,6 +599,31 @@ class Shown(Case):
         self.is_now("'differs' in paths", True)
         self.press("Home", "d")
         self.is_now("now.cursor", 350)
+
+    def test_two_dumps_of_two_lengths(self):
+        """The shorter one ends where it ends, and so does the comparison; the page begins with the
+        row that differs first."""
+        head = b"$timescale 1ns $end " + b"".join(
+            b"$var wire 1 %c s%02d $end " % (65 + at, at) for at in range(40)) + b"$enddefinitions $end "
+        zeros = b"#0 " + b"".join(b"0%c " % (65 + at) for at in range(40))
+        one = self.file("a.vcd", head + zeros + b"#5 1c #10 1A #20\n")
+        other = self.file("b.vcd", head + zeros + b"#100\n")
+        page = os.path.join(self.folder.name, "page.html")
+        self.assertEqual(run(diff, "--every", "--html", page, one, other)[0], 1)
+        self.browser.open(page)
+        self.is_now("[SPAN, signals.map(one => one.side + one.path)]",
+                    [100, ["As00", "Bs00", "As34", "Bs34"]])
+        self.is_now("[items[now.row].side, items[now.row].path, now.cursor]", ["A", "s34", 5])
+        self.is_now("[10, 20, 21, 100].map(time => valueAt(signals[0], time))", ["1", "1", "-", "-"])
+        self.is_now("[10, 20, 21, 100].map(time => valueAt(signals[1], time))", ["0"] * 4)
+        self.value("(show(0, SPAN), 0)")
+        ends = self.value("""(() => { draw(); const y = TOP + tops[0] + 1, line = pen.getImageData(
+            0, y, canvas.width, 1).data, red = [];
+            for (let x = 0; x < canvas.width; x++)
+              if (line[4 * x] > line[4 * x + 1] + 10 && timeAt(x) > 7) red.push(timeAt(x));
+            return [Math.min(...red), Math.max(...red)]; })()""")
+        self.assertAlmostEqual(ends[0], 10, delta=0.5)
+        self.assertAlmostEqual(ends[1], 20, delta=0.5)
 
     def test_frames(self):
         """Two million changes: the processor time that the script of a frame takes."""

@@ -10,6 +10,7 @@ import bz2
 import contextlib
 import gzip
 import io
+import json
 import lzma
 import os
 import random
@@ -21,6 +22,7 @@ import subprocess
 import sys
 import tempfile
 import unittest
+import xml.etree.ElementTree as xml
 from concurrent.futures import ThreadPoolExecutor
 
 HERE = os.path.dirname(os.path.abspath(__file__))
@@ -263,6 +265,79 @@ class Answers(Case):
             "  value 1 15ns 50%, 1 time", "  value 3 15ns 50%, 1 time",
             "tb.go event 1", "  changes 2", "  period 10ns to 10ns, mean 10ns, 1 time",
             "status 0"])
+
+    def test_stats_of_large_numbers(self):
+        for body, least, largest, mean in (
+                (b"#0 r1e308 ! #100", 1e308, 1e308, 1e308),
+                (b"#0 r1e308 ! #50 r-1e308 ! #100", -1e308, 1e308, 0.0),
+                (b"#0 r0.1 ! #1 r0.2 ! #2 r0.1 ! #3", 0.1, 0.2, 0.4 / 3)):
+            dump = self.file("a.vcd", b"$var real 64 ! r $end $enddefinitions $end " + body + b"\n")
+            facts = json.loads(said("vcdkit-stats", "--json", dump, "r")[0])["range"]
+            self.assertEqual((facts["least"], facts["largest"]), (least, largest))
+            self.assertAlmostEqual(facts["mean"], mean)
+
+    def test_stats_of_a_code_of_several_types(self):
+        dump = self.file("a.vcd", b"$timescale 1ns $end $var real 64 ! r $end $var wire 64 ! w $end "
+                         b"$enddefinitions $end #0 r1.5 ! #5 b1 ! #10 r1_000 ! #20\n")
+        lines = said("vcdkit-stats", "--decimal", dump, "r", "w")
+        values = ["  value 1_000 10ns 50%, 1 time", "  value 1.5 5ns 25%, 1 time",
+                  "  value 1 5ns 25%, 1 time, 5ns to 5ns"]
+        self.assertEqual(lines, ["r real 64", "  changes 2", "  range 1.5 to 1.5, mean 1.5", *values,
+                                 "w wire 64", "  changes 2", *values, "status 0"])
+
+    def test_largest_scopes(self):
+        dump = self.file("a.vcd", b"$scope module tb $end $var wire 1 ! \\e.s $end "
+                         b"$var wire 1 \" c $end $upscope $end $enddefinitions $end #0\n")
+        self.assertIn("largest tb 2", said("vcdkit-info", dump))
+        self.assertEqual(json.loads(said("vcdkit-info", "--json", dump)[0])["largest"], {"tb": 2})
+
+    def test_a_fault_early_in_a_long_dump(self):
+        dump = self.file("a.vcd", b"$timescale 1ns $end\n$var wire 1 ! a $end\n$enddefinitions $end\n"
+                         b"#0\n1!\nbad line\n" + b"".join(b"#%d\n%d!\n" % (at, at % 2)
+                                                       for at in range(1, 40000)))
+        self.assertEqual([line for line in said("vcdkit-explain", dump) if " | " in line], [
+            "       4 | #0", "       5 | 1!", ">      6 | bad line", "       7 | #1"])
+
+    def test_times_near_the_last_tick(self):
+        dump = self.file("a.vcd", b"$timescale 10ps $end $var wire 1 ! c $end $enddefinitions $end "
+                         b"#0 0! #1 1! #9\n")
+        self.assertEqual(said("vcdkit-table", "--to", "18446744073709551.7ps", dump, "c"), [
+            "time (ps),c", "0,0", "10,1", "status 0"])
+        for name, *words in (("values", "--at", "184467440738s", dump),
+                             ("table", "--to", "18446744073709551616", dump, "c"),
+                             ("table", "--from", "8ns", "--to", "1ns", dump, "c"),
+                             ("table", "--from", "50ps", "--to", "10ps", dump, "c")):
+            status, out, messages = run("vcdkit-" + name, words)
+            self.assertEqual((status, out), (2, b""))
+        self.assertIn(b"bad time: 184467440738s: ticks",
+                      run("vcdkit-values", ["--at", "184467440738s", dump])[2])
+
+    def test_a_window_of_one_tick(self):
+        dump = self.file("a.vcd", b"$timescale 1ns $end $var wire 1 ! c $end $enddefinitions $end "
+                         b"#0 0! #1 1! #9 #18446744073709551615 0!\n")
+        for words, time, value in ((["--to", "0"], "0ns", "0"), (["--from", "1", "--to", "1"], "1ns", "1"),
+                                   (["--around", "1ns", "--context", "0"], "1ns", "1"),
+                                   (["--from", "18446744073709551615"], "18446744073709551615ns", "0")):
+            picture = run("vcdkit-wave", [*words, dump, "c"])[1].decode()
+            self.assertIn("from %s to %s" % (time, time), picture)
+            self.assertNotIn("NaN", picture)
+            page = run("vcdkit-wave", ["--html", *words, dump, "c"])[1].decode()
+            self.assertIn('"streams":[[[0],"%s"]]' % value, page)
+        self.assertEqual(run("vcdkit-wave", ["--around", "5", dump, "c"])[0], 2)
+
+    def test_red_only_where_there_is_an_x(self):
+        dump = self.file("a.vcd", b"$timescale 1ns $end $var wire 1 ! c $end $var wire 4 d v $end "
+                         b"$enddefinitions $end " + b"".join(
+                             b"#%d %s! b%s d\n" % (at, b"x" if at in (0, 10_000) else b"%d" % (at % 2),
+                                                 b"1x" if at == 5000 else b"%d" % (at % 2))
+                             for at in range(20_001)))
+        picture = run("vcdkit-wave", ["--width", "1000", dump, "c", "v"])[1].decode()
+        red = [[float(part.split()[0]) for part in its.split("M")[1:]]
+               for its in re.findall(r'<path class="x" d="([^"]+)"', picture)]
+        # 20 ns a pixel: at 0 and 10,000 ns of c, and at 5,000 ns of v.
+        self.assertEqual(list(map(len, red)), [2, 1])
+        for got, wanted in ((red[0][1], 500), (red[1][0], 250)):
+            self.assertAlmostEqual(got - red[0][0], wanted, delta=1.5)
 
     def test_stats_of_a_window(self):
         dump = self.file("hand.vcd", HAND)
@@ -510,15 +585,18 @@ class Pictures(unittest.TestCase):
                     self.compare(lanes, lanes.of_code[code.encode()].points, changes[code])
 
     def compare(self, lanes, points, changes):
-        """A bin has its one change, or Several and then the last value, or nothing."""
+        """A bin has its one change, or Several and then the last value, or nothing. Several says
+        whether there is an x at a time of the bin."""
         bins, wanted = {}, []
         for one in changes:
             bins.setdefault((one[0] - lanes.begin) * lanes.count // lanes.span, []).append(one)
         for number, its in bins.items():
             begin, end = lanes.edge(number), min(lanes.edge(number + 1), lanes.end)
             self.assertTrue(begin <= its[0][0] and its[-1][0] <= end)
-            wanted += its if len(its) < 2 else [(begin, None), (end, its[-1][1])]
-        self.assertEqual([(time, None if isinstance(value, Several) else value)
+            early = [one for one in changes if one[0] <= begin][-1:]
+            has_x = any("x" in value for _, value in [*early, *its])
+            wanted += its if len(its) < 2 else [(begin, has_x), (end, its[-1][1])]
+        self.assertEqual([(time, value.has_x if isinstance(value, Several) else value)
                           for time, value in points], wanted)
 
 
@@ -538,6 +616,50 @@ $var wire 4 \" q[7:4] $end $upscope $end $enddefinitions $end
 
 class Rules(Case):
     """One rule each for names, numbers, times and edges, in all scripts."""
+
+    def test_names_of_other_letters(self):
+        dump = self.file("a.vcd", "$var wire 4 ! é [3:0] $end $var wire 4 \" q [3:0] $end "
+                         "$enddefinitions $end #0 b1 ! b10 \"\n".encode())
+        saved = self.file("a.gtkw", "[*]\n@22\né[3:0]\nq[3:0]\n".encode())
+        self.assertEqual(said("vcdkit-values", "--names", saved, dump),
+                         ["é 0001", "q 0010", "status 0"])
+
+    def test_maps_of_a_scope_and_one_in_it(self):
+        text = b"$scope module %s $end $var wire 1 ! a $end $upscope $end $enddefinitions $end #0 0!\n"
+        one = self.file("a.vcd", text % b"tb")
+        other = self.file("b.vcd", b"$scope module TOP $end " + text.replace(
+            b"$enddef", b"$upscope $end $enddef") % b"tb")
+        words = ["--map", "TOP=", "--map", "TOP.tb=tb", one, other]
+        self.assertEqual(said("vcdkit-diff", *words), ["status 0"])
+        self.assertEqual(said("vcdkit-diff", "--map", "TOQ=", *words), ["status 2"])
+
+    def test_a_window_of_two_dumps(self):
+        head = b"$timescale 1ns $end $var wire 1 ! c $end $var wire 4 d v $end $enddefinitions $end "
+        one = self.file("a.vcd", head + b"#0 0! b0 d #5 1! b1 d #10 0! b11 d #15 1! #20\n")
+        other = self.file("b.vcd", head + b"#0 0! bx d #5 1! b1 d #10 0! b1x d #15 1! b100 d #20\n")
+        v = "differs %s v %s %s"
+        for words, wanted in (
+                ([], v % ("0ns", "0000", "xxxx")), (["--from", "1ns"], v % ("1ns", "0000", "xxxx")),
+                (["--from", "5ns"], v % ("10ns", "0011", "001x")), (["--from", "5", "--to", "9ns"], ""),
+                (["--from", "11ns"], v % ("11ns", "0011", "001x")),
+                (["--x-matches"], v % ("15ns", "0011", "0100")), (["--x-matches", "--to", "14"], ""),
+                (["--rise", "c", "--from", "12ns"], v % ("15ns", "0011", "001x")),
+                (["--rise", "c", "--from", "12ns", "--x-matches"], "")):
+            lines = said("vcdkit-diff", *words, one, other)
+            self.assertEqual(lines, [wanted, "status 1"] if wanted else ["status 0"], words)
+        self.assertEqual(said("vcdkit-diff", "--from", "21ns", one, other), ["status 2"])
+
+    @unittest.skipIf(subprocess.run(["unshare", "-rm", "true"], stderr=subprocess.DEVNULL).returncode
+                     if shutil.which("unshare") else True, "needs a namespace")
+    def test_without_proc(self):
+        with open(NESTED, "rb") as file:
+            other = self.file("b.vcd", file.read().replace(b"b11 1\n", b"b1011 1\n"))
+        done = subprocess.run(
+            ["unshare", "-rm", "sh", "-c", 'mount -t tmpfs none /proc && "$@"', "-",
+             os.path.join(EXTRAS, "vcdkit-diff"), NESTED, other, "bench.slow"],
+            stdout=subprocess.PIPE, stderr=subprocess.PIPE, timeout=SECONDS)
+        self.assertEqual((done.stdout, done.stderr),
+                         (b"differs 35ns bench.slow.count 0011 1011\n", b""))
 
     def test_names_with_a_range(self):
         one = self.file("a.vcd", SLICES)
@@ -688,6 +810,172 @@ class Rules(Case):
         self.assertEqual(said("vcdkit-when", dump, "-1<t.q", "--count"), ["1", "status 0"])
 
 
+WORDS = b"""$timescale 1ns $end $scope module tb $end
+$var wire 1 ! w [1] $end $var wire 1 \" w [0] $end $var wire 1 # s [3] $end $var wire 2 $ a [1:0] $end
+$upscope $end $enddefinitions $end #0 0! 0\" 1# b0 $ #5 1! b11 $ #9 b1 $ #10
+"""
+
+
+class Declared(Case):
+    """The range, or the one index, that a declaration has as a word of its own."""
+
+    def test_an_index(self):
+        dump = self.file("a.vcd", WORDS)
+        self.assertEqual(said("vcdkit-when", dump, "tb.s[3]"), ["0ns", "status 0"])
+        self.assertEqual(said("vcdkit-when", dump, "tb.s[0]"), ["status 2"])
+        self.assertEqual(said("vcdkit-stats", "--toggle", dump, "tb.w", "tb.s"), [
+            "tb.w[1] 1 0 0", "tb.w[0] 0 0 0", "tb.s[3] 0 0 0",
+            "3 bits: 0 rise and fall, 1 do one of these, 2 do neither", "status 0"])
+        self.assertIn('{"path": "tb.w", "bit": 1, "rises": 1, "falls": 0, "x": 0}',
+                      said("vcdkit-stats", "--toggle", "--json", dump, "tb.w"))
+        nets = [line.strip() for line in said("vcdkit-stats", "--saif", "-", dump, "tb.w")]
+        self.assertEqual([line for line in nets if line.startswith("(w")], ["(w\\[1\\]", "(w\\[0\\]"])
+
+    def test_two_ranges_of_one_path_and_code(self):
+        dump = self.file("a.vcd", b"$var wire 3 ! q [2:0] $end $var wire 3 ! q [6:4] $end "
+                         b"$enddefinitions $end #0 b0 ! #1 b1 !\n")
+        self.assertEqual([line.split()[0] for line in said("vcdkit-stats", "--toggle", dump, "q")],
+                         ["q[0]", "q[4]", "q[2]", "q[1]", "q[6]", "q[5]", "6", "status"])
+
+    def test_partners_in_two_dumps(self):
+        head, body = b"$timescale 1ns $end ", b"$enddefinitions $end #0 1! 0\" #5 0! #9\n"
+        one = self.file("a.vcd", head + b"$var wire 1 ! w [1] $end $var wire 1 \" w [0] $end " + body)
+        other = self.file("b.vcd",
+                          head + b"$var wire 1 \" w [0] $end $var wire 1 ! w [1] $end " + body)
+        self.assertEqual(said("vcdkit-diff", one, other), ["status 0"])
+        # If the ranges are others, it is by their order.
+        other = self.file("c.vcd",
+                          head + b"$var wire 1 \" w [7] $end $var wire 1 ! w [1] $end " + body)
+        self.assertEqual(said("vcdkit-diff", one, other), [
+            "differs 0ns w 1 0", "differs 0ns w 0 1", "status 1"])
+
+
+class Conditions(Case):
+    """What conditions, and rules of them, are."""
+
+    HEAD = (b"$timescale 1ns $end $var wire 1 ! req $end $var wire 1 \" ack $end "
+            b"$var wire 1 # other $end $var wire 1 c clk $end $var event 1 e go $end "
+            b"$enddefinitions $end\n")
+
+    def test_numbers_below_zero(self):
+        dump = self.file("a.vcd", WORDS)
+        for condition, times in (("tb.a < -0.5", ["5ns"]), ("-0.5 > tb.a", ["5ns"]),
+                                 ("tb.a <= -1", ["5ns"]), ("-1<tb.a", ["0ns", "9ns"])):
+            self.assertEqual(said("vcdkit-when", dump, condition), [*times, "status 0"])
+        self.assertEqual(said("vcdkit-table", "--if", "-1<tb.a", dump, "tb.a"), [
+            "time (ns),tb.a", "0,00", "9,01", "status 0"])
+        for condition in "tb.a == 1.5", "tb.a != -0.5":
+            self.assertIn(b"is a whole number", run("vcdkit-when", [dump, condition])[2])
+        self.assertEqual(said("vcdkit-when", dump, "tb.a == 1.0"), ["9ns", "status 0"])
+
+    def test_letters(self):
+        dump = self.file("a.vcd", b"$var wire 2 ! a $end $enddefinitions $end #0 b0 ! #5 bx !\n")
+        for condition in "a is X", "a is not Z & a is x", "a[1] is X":
+            self.assertIn("5", said("vcdkit-when", dump, condition))
+        self.assertIn(b"cannot be read at x, after a[1]is\n",
+                      run("vcdkit-when", [dump, "a[1]is x"])[2])
+
+    def test_late_before_a_fault(self):
+        body = b"#0 1! 0\" #10 1# #20 0#\n"
+        asked, latency = "!(req -> ack within %s)", ["0 in time, 1 late", "status 1"]
+        for within, is_late in (("5ns", True), ("19ns", True), ("20ns", False), ("25ns", False)):
+            for text, status in ((body + b"#30\nq!\n", "status 2"), (body + b"#1x0\n", "status 2")):
+                dump = self.file("a.vcd", self.HEAD + text)
+                # At #20 all is known only if the fault is in the place of a timestamp or later.
+                is_known = is_late or within != "25ns"
+                self.assertEqual(said("vcdkit-when", dump, asked % within), (
+                    ["0ns"] if is_known else ["0ns"] * (b"#30" in text)) + [status], (within, text))
+        dump = self.file("a.vcd", self.HEAD + body)
+        self.assertEqual(said("vcdkit-when", "--latency", dump, "req -> ack within 5ns"), latency)
+        self.assertEqual(said("vcdkit-when", "--latency", dump, "req -> ack within 25ns"),
+                         ["status 1"])
+
+    def test_events_at_the_begin_of_a_window(self):
+        dump = self.file("a.vcd", self.HEAD + b"#0 0! 1e #5 1! #9 1e #10\n")
+        for begin, wanted in (("7", ["7ns"]), ("9", []), ("0", [])):
+            for condition in "!go", "!go | req is x":
+                self.assertEqual(said("vcdkit-when", "--from", begin, dump, condition)[:-1], wanted)
+        self.assertEqual(said("vcdkit-when", "--latency", "--from", "7", dump,
+                              "!go -> go within 9ns")[0], "7ns 9ns 2ns")
+
+    def pipelined(self):
+        """A dump with requests at the edges of 1, 2, 3 and 7, and answers at those of 4, 5 and
+        9."""
+        times = {1: b"1!", 4: b'0! 1"', 6: b'0"', 7: b"1!", 8: b"0!", 9: b'1"', 10: b'0"'}
+        text = b'#0 0! 0" 0c\n' + b"".join(
+            b"#%d 1c\n#%d 0c %s\n" % (10 * at, 10 * at + 5, times.get(at + 1, b""))
+            for at in range(12))
+        return self.file("p.vcd", self.HEAD + text)
+
+    def test_answers_in_order(self):
+        dump, words = self.pipelined(), ["--latency", "--rise", "clk"]
+        self.assertEqual(said("vcdkit-when", *words, "--in-order", dump, "req -> ack within 9"), [
+            "10ns 40ns 3", "20ns 50ns 3", "30ns 90ns 6",
+            "least 3, mean 4, greatest 6, 3 in time, 0 late", "status 0"])
+        # The third answer is late, and belongs to the third request nevertheless.
+        self.assertEqual(said("vcdkit-when", *words, "--in-order", dump, "req -> ack within 3"), [
+            "10ns 40ns 3", "20ns 50ns 3", "least 3, mean 3, greatest 3, 2 in time, 2 late",
+            "status 0"])
+        for every, warning in (([], b""), (["--every"], b"before the previous one is answered: 2.")):
+            _, _, messages = run("vcdkit-when", [*words, *every, dump, "req -> ack within 9"])
+            self.assertIn(warning, messages)
+            self.assertEqual(bool(messages), bool(warning))
+        self.assertEqual(said("vcdkit-when", "--latency", "--in-order", dump,
+                              "req -> ack within 9ns"), ["status 2"])
+
+    def test_rules(self):
+        dump = self.file("a.vcd", self.HEAD + b'#0 0! 0" #5 1! #7 1" #9 0! #12 1! #20\n')
+        rules = self.file("rules", b"# of req\nrises: req\n\nnot x: req is x\n"
+                          b"late: !(req -> ack within 2ns)\nwaits 1: !(req -> ack within 1ns)\n")
+        found = ["rises: 5ns, 2 times", "waits 1: 5ns, 1 time"]
+        out = os.path.join(self.folder.name, "out.xml")
+        self.assertEqual(said("vcdkit-when", "--rules", rules, dump), [*found, "status 1"])
+        self.assertEqual(said("vcdkit-when", "--never", "--rules", rules, "--junit", out, dump),
+                         [*found, "status 1"])
+        tests = xml.parse(out).getroot()
+        self.assertEqual([(one.get("name"), [its.get("message") for its in one]) for one in tests], [
+            ("rises", ["5ns, 2 times"]), ("not x", []), ("late", []),
+            ("waits 1", ["5ns, 1 time"])])
+        self.assertEqual(tests.get("failures"), "2")
+        self.assertEqual(said("vcdkit-when", "--json", "--rules", rules, "--from", "6", dump)[0],
+                         '{"rule": "rises", "first": 6, "count": 2}')
+        # Each rule says what it says alone, at edges too.
+        for clock in [], ["--rise", "req"], ["--rise", "req", "--fall", "req"]:
+            alone = [said("vcdkit-when", "--count", *clock, dump, one)[0] for one in (
+                "req", "req is x", "!(req -> ack within 2ns)", "!(req -> ack within 1ns)")]
+            its = said("vcdkit-when", "--json", *clock, "--rules", rules, dump)[:-1]
+            self.assertEqual([one for one in alone if one != "0"],
+                             [re.findall(r"\d+", line)[-1] for line in its], clock)
+        bad = self.file("bad", b"one: req\ntwo: req ==\n")
+        self.assertEqual(run("vcdkit-when", ["--rules", bad, dump])[2],
+                         b"vcdkit-when: two: bad condition: it ends too early\n")
+        fault = self.file("fault.vcd", self.HEAD + b"#0 0! #5 1! #7 ?\n")
+        status, lines, _ = run("vcdkit-when", ["--never", "--rules", rules, "--junit", out, fault])
+        self.assertEqual((status, lines), (2, b"rises: 5ns, 1 time\nwaits 1: 5ns, 1 time\n"))
+        self.assertEqual([one.get("name") for one in xml.parse(out).getroot() if len(one)],
+                         ["rises", "waits 1", "fault"])
+        for text in b"no colon\n", b"# nothing\n":
+            self.assertEqual(said("vcdkit-when", "--rules", self.file("none", text), dump),
+                             ["status 2"])
+
+    def test_times_in_a_file(self):
+        dump = self.file("a.vcd", self.HEAD + b'#0 0! 0" #5 1! #9 0! #12 1! #20\n')
+        times = self.file("times", b"5ns\n12ns 13ns 1\n\n9,0\n")
+        table = ["time (ns),req", "5,1", "12,1", "9,0", "0,0", "status 0"]
+        self.assertEqual(said("vcdkit-table", "--at", times, dump, "req"), table)
+        with open(times, "rb") as file:
+            status, out, _ = run("vcdkit-table", ["--at", "-", dump, "req"], stdin=file)
+        self.assertEqual([*out.decode().splitlines(), "status %d" % status], table)
+        self.assertEqual(said("vcdkit-values", "--at", times, dump, "req"), [
+            "5ns req 1", "12ns req 1", "9ns req 0", "0ns req 0", "status 0"])
+        empty = self.file("empty", b"")
+        self.assertEqual(said("vcdkit-values", "--at", empty, dump, "req"), ["status 0"])
+        self.assertEqual(said("vcdkit-table", "--at", empty, dump, "req"),
+                         ["time (ns),req", "status 0"])
+        self.assertEqual(run("vcdkit-table", ["--at", "-", "-", "req"])[0], 2)
+        self.assertIn(b"bad time: none", run("vcdkit-table", ["--at", "none", dump, "req"])[2])
+
+
 class Output(Case):
     """What a script does with the files that it writes, and with signals."""
 
@@ -697,6 +985,25 @@ class Output(Case):
         run("vcdkit-explain", ["--salvage", good, torn])
         with open(good, "rb") as file:
             return torn, file.read()
+
+    def test_inputs_are_not_overwritten(self):
+        dumps = {name: self.file(name, TORN) for name in ("a.vcd", "diff.a.vcd", "diff.b.vcd")}
+        torn = self.file("torn.vcd", TORN + b"#40\n0?\n")
+        folder, a = self.folder.name, dumps["a.vcd"]
+        link = os.path.join(folder, "link")
+        os.symlink(torn, link)
+        for name, *words in (
+                ("explain", "--salvage", torn, torn), ("explain", "--salvage", link, torn),
+                ("explain", "--junit", a, a, torn), ("stats", "--saif", a, a, "b"),
+                ("diff", "--html", a, a, torn), ("diff", "--junit", torn, a, torn),
+                ("diff", "--context", "5ns", "--into", folder, a, dumps["diff.b.vcd"]),
+                ("when", "--junit", a, "--rules", torn, a)):
+            status, out, messages = run("vcdkit-" + name, words)
+            self.assertEqual((status, out), (2, b""), words)
+            self.assertIn(b"it is read, so nothing is written there", messages)
+        for path in dumps.values():
+            with open(path, "rb") as file:
+                self.assertEqual(file.read(), TORN)
 
     def test_salvage_through_links_and_with_its_mode(self):
         torn, wanted = self.salvaged()
@@ -809,6 +1116,69 @@ class Filters(Case):
         out = self.file("out.vcd", run("vcdkit-join-bits", [dump])[1])
         self.assertEqual(said("vcdkit-table", "--unit", "tick", out, "q")[1:],
                          ["0,00", "10,10", "20,11", "status 0"])
+
+    def test_bits_in_any_order(self):
+        """Bits become a vector whose highest index is first, in whatever order they are declared;
+        a scope may be in two parts."""
+        of_bits = self.file("bits.vcd", b"""$timescale 1ns $end
+$scope module t $end
+$var wire 1 ! q [0] $end
+$var wire 1 a clk $end
+$var wire 1 " q [2] $end
+$upscope $end
+$scope module u $end
+$var wire 1 % q [3] $end
+$upscope $end
+$scope module t $end
+$var wire 1 # q [1] $end
+$upscope $end
+$enddefinitions $end
+#0
+1!
+0"
+0#
+1a
+#5
+1#
+0%
+""")
+        out = self.file("out.vcd", run("vcdkit-join-bits", [of_bits])[1])
+        vector = self.file("vector.vcd", b"""$timescale 1ns $end
+$scope module t $end
+$var wire 3 q q [2:0] $end
+$var wire 1 a clk $end
+$upscope $end
+$scope module u $end
+$var wire 1 % q [3] $end
+$upscope $end
+$enddefinitions $end
+#0
+b001 q
+1a
+#5
+b011 q
+0%
+""")
+        self.assertEqual(said("vcdkit-diff", out, vector), ["status 0"])
+        self.assertEqual(said("vcdkit-when", out, "t.q == 1"), ["0ns", "status 0"])
+        self.assertEqual(said("vcdkit-when", out, "t.q[1]"), ["5ns", "status 0"])
+
+    def test_bits_that_are_no_vector(self):
+        """What cannot be joined stays as it is, byte for byte."""
+        for lines in (
+                b"$var real 1 ! r[0] $end\n$var real 1 \" r[1] $end\n",  # as Icarus declares it
+                b"$var realtime 1 ! r [0] $end\n$var realtime 1 \" r [1] $end\n",
+                b"$var shortreal 1 ! r [0] $end\n$var shortreal 1 \" r [1] $end\n",
+                b"$var event 1 ! e[0] $end\n$var event 1 \" e[1] $end\n",
+                b"  $var  reg 1 !  q[0]   $end\r\n$var wire 1 \" other $end\n",
+                b"$var reg 1 ! d[4] $end\n$var reg 1 \" d[1] $end\n",
+                b"$var reg 1 ! d [1] $end\n$var wire 1 \" d [0] $end\n",
+                b"$var reg 1 ! d [1] $end\n$var reg 1 \" d [0] $end\n$var reg 1 # d [0] $end\n",
+                b"$var reg 1 ! d[1] $end\n$var reg 1 \" d[0] $end\n$var reg 2 # d [1:0] $end\n",
+                b"$var reg 1 ! d[1] $end\n$var reg 1 \" d[0] $end\n$var reg 1 ! b $end\n",
+                b"$var reg 1 ! d[1] $end\n$comment\n$var reg 1 \" d[0] $end\n"):
+            text = lines + b"$enddefinitions $end\n#0\n1!\nr1.5 !\n"
+            self.assertEqual(run("vcdkit-join-bits", [self.file("a.vcd", text)]), (0, text, b""))
 
     def test_close_sections_leaves_valid_dumps(self):
         for text in (HAND, TORN, EDGE, HAND.replace(b"\n", b"\r\n"),
@@ -933,6 +1303,13 @@ class Toggles(unittest.TestCase):
             wanted = [counts for code, size in sizes.items()
                       for counts in self.wanted(changes[code], size, begin, max(last, begin))]
             self.assertEqual([row[2:] for row in rows], wanted, seed)
+
+    def test_one_bit(self):
+        with tempfile.NamedTemporaryFile(suffix=".vcd") as file:
+            file.write(TORN)
+            file.flush()
+            self.assertEqual(said("vcdkit-stats", "--toggle", file.name, "a")[-2],
+                             "1 bit: 1 rise and fall, 0 do one of these, 0 do neither")
 
     def test_escaped_names_in_saif(self):
         dump = Dump(b"$scope module \\u/a $end $var wire 1 ! \\q-r[3] $end $upscope $end "

@@ -18,6 +18,7 @@ import sys
 import tempfile
 import threading
 import unittest
+from concurrent.futures import ThreadPoolExecutor
 from fractions import Fraction
 
 HERE = os.path.dirname(os.path.abspath(__file__))
@@ -221,6 +222,16 @@ class Questions:
         empty = Dump(b"$var wire 1 ! a $end $var real 64 % r $end $enddefinitions $end")
         self.assertEqual([len(column) for name in "ar" for column in empty.arrays(name)], [0] * 4)
 
+    @unittest.skipUnless(numpy, "there is no numpy")
+    def test_arrays_of_wide_values(self):
+        body = b"#0\nbx !\n#1\nb1 !\n#2\nb1z !\n"
+        for size in 64, 65:
+            times, values = Dump(b"$var wire %d ! w $end\n$enddefinitions $end\n" % size
+                                 + body).arrays("w")
+            self.assertEqual(times.tolist(), [0, 1, 2])
+            self.assertEqual(numpy.ma.getmaskarray(values).tolist(), [True, False, True], size)
+            self.assertEqual(values[1], 1)
+
     @unittest.skipIf(numpy, "there is numpy")
     def test_no_arrays(self):
         with self.assertRaises(RunFailed) as raised:
@@ -265,7 +276,8 @@ class Questions:
         if numpy:
             self.assertEqual([column.tolist() for column in Dump(text).arrays("e")],
                              [[3, 4], [1, 1]])
-            self.assertEqual(Dump(text).arrays("w")[1].tolist(), [value for _, value in changes])
+            self.assertEqual(Dump(text).arrays("w")[1].tolist(), [
+                value if value.is_known else None for _, value in changes])
 
     @unittest.skipUnless(pandas, "there is no pandas")
     def test_pandas(self):
@@ -274,6 +286,10 @@ class Questions:
         frame = frame.set_index("time")
         self.assertEqual(frame.loc[1150].tolist(), [11, 3])
         self.assertEqual(frame.isna().sum().tolist(), [2, 1])  # also after $dumpoff
+        for numbers in [2**64 - 1, 1], [2**64 - 1, None], [None, 2**63, 1]:  # as PYTHON.md says
+            table = {"time": list(range(len(numbers))), "w": numbers}
+            frame = pandas.DataFrame(table, dtype=object).astype({"w": "UInt64"})
+            self.assertEqual([None if one is pandas.NA else one for one in frame.w], numbers)
         series = pandas.Series(*reversed(dump.arrays("bench.slow.count")))
         self.assertEqual((series[50], series[1150], series.isna().sum()), (0, 11, 2))
 
@@ -461,6 +477,20 @@ class Questions:
             self.assertTrue(stat.S_ISFIFO(os.stat(pipe).st_mode))
             self.assertEqual(reader.stdout.read(), part.read())
             self.assertEqual(sorted(os.listdir(folder)), ["link", "pipe", "target"])
+
+    def test_two_threads_save_to_one_path(self):
+        """The file is one of the two dumps, and none fails."""
+        head = b"$var wire 1 ! a $end\n$enddefinitions $end\n"
+        long = Dump(head + b"".join(b"#%d\n%d!\n" % (at, at % 2) for at in range(100_000)))
+        texts = [dump.read() for dump in (long, Dump(head + b"#7\n1!\n"))]
+        dumps = [Dump(text) for text in texts]
+        with tempfile.TemporaryDirectory() as folder, ThreadPoolExecutor(2) as pool:
+            path = os.path.join(folder, "m.vcd")
+            for _ in range(20):
+                list(pool.map(lambda dump: dump.save(path), dumps))
+                with open(path, "rb") as file:
+                    self.assertIn(file.read(), texts)
+            self.assertEqual(os.listdir(folder), ["m.vcd"])
 
     def test_packed_dumps_and_pipes(self):
         wanted = Dump(NESTED).check()
@@ -662,6 +692,10 @@ class Times(unittest.TestCase):
         self.assertEqual([scale.text(1189, unit) for unit in ("ns", "us", "ps", "s")],
                          ["118.9ns", "0.1189us", "118900ps", "0.0000001189s"])
         self.assertEqual(scale.seconds(1150), 1.15e-07)
+        self.assertRaises(UsageError, scale.text, 5, "foo")
+        dump = Dump(NESTED)
+        self.assertRaises(UsageError, dump.time, 5, "foo")
+        self.assertEqual([dump.time(5, unit) for unit in ("tick", "ns")], ["5", "0.5ns"])
 
 
 class Values(unittest.TestCase):

@@ -6,6 +6,7 @@ import re
 from typing import (TYPE_CHECKING, Any, BinaryIO, Callable, Collection, Dict, Iterable, Iterator,
                     List, NamedTuple, Optional, Set, Tuple, cast)
 
+from ._names import FIELD, RANGE
 from .errors import DumpFault
 from .times import Timescale
 from .values import Cell, Scope, Signal, Value, extension, real
@@ -77,6 +78,14 @@ def tree(out: BinaryIO) -> Scope:
         elif words[0] == "$var":
             outer.signals.append(Signal(before + words[4], words[1], int(words[2]), words[3]))
     return opened[0]
+
+
+def declared(line: bytes) -> Tuple[int, ...]:
+    """Returns the range that a declaration has, or its index if that is a word of its own, as in
+    `q [3]`; nothing if it has none."""
+    words = line.decode("utf-8", "surrogateescape").split()
+    found = FIELD.search("".join(words[5:-1])) or RANGE.search(words[4])
+    return (int(found.group(1)), int(found.group(2) or found.group(1))) if found else ()
 
 
 def skip_header(out: BinaryIO) -> None:
@@ -345,12 +354,10 @@ def arrays(out: BinaryIO, signal: Signal, is_alone: bool, numpy: Any) -> Tuple[A
         return times, numpy.array([
             float(one) if isinstance(one, float) or isinstance(one, Value) and one.is_known
             else float("nan") for _, one in pairs], dtype=float)
-    if not is_short:
-        return times, numpy.array([one for _, one in pairs], dtype=object)
-    numbers = [int(one) if isinstance(one, Value) and one.is_known else None for _, one in pairs]
-    return times, numpy.ma.masked_array(
-        numpy.array([number or 0 for number in numbers], dtype=numpy.uint64),
-        mask=[number is None for number in numbers])
+    known = [one if isinstance(one, Value) and one.is_known else None for _, one in pairs]
+    values = (numpy.array([int(one or 0) for one in known], dtype=numpy.uint64) if is_short
+              else numpy.array([one for _, one in pairs], dtype=object))
+    return times, numpy.ma.masked_array(values, mask=[one is None for one in known])
 
 
 def _numbers(numpy: Any, text: Any, starts: Any, ends: Any, base: int, mask: int) -> Any:

@@ -152,9 +152,9 @@ def look_at(dump: "Dump", fault: DumpFault, say: Callable[[str], object] = str
                                          printable(line)))
                 before += line if number < fault.line else b""
                 bad = line if number == fault.line else bad
-                if number > fault.line:
-                    break
                 number += 1
+                if number > fault.line + 1:
+                    break
             if number > fault.line + 1:
                 break
     before = before[-FRONT:]

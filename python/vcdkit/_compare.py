@@ -13,7 +13,7 @@ from .commands.find import MAX_NAMES, names_for
 from .dump import Dump, _hint, merge
 from .errors import UnknownName, UsageError
 from .times import Timescale
-from .values import Signal
+from .values import Signal, full, real
 
 BLOCK = 1 << 16
 Values = Tuple[Optional[bytes], Optional[bytes]]
@@ -76,10 +76,11 @@ class Side:
         self.common: Set[str] = set()
 
     def _mapped(self, path: str, maps: Sequence[Tuple[str, str]]) -> str:
-        for front, new in maps:
-            if front in (path, bare(path)) or path.startswith(front + "."):
-                self.mapped.add(front)
-                return new + path[len(front):] if new else path[len(front) + 1:]
+        its = [(front, new) for front, new in maps
+               if front in (path, bare(path)) or path.startswith(front + ".")]
+        self.mapped.update(front for front, _ in its)
+        for front, new in its[:1]:
+            return new + path[len(front):] if new else path[len(front) + 1:]
         return path
 
     def full(self, name: str) -> str:
@@ -177,13 +178,25 @@ def choose(sides: Sides, names: Sequence[str], exceptions: Sequence[str]) -> Non
                         if name in chosen and name not in others}
 
 
+def _in_order(sides: Sides, places: Tuple[List[int], List[int]]) -> Sequence[List[int]]:
+    """Returns the places of the variables of one path, so that each has its partner: by the ranges
+    that they declare if these are the same on both sides, each once, else by their order."""
+    if len(places[0]) == len(places[1]) == 1:
+        return places
+    by_range = [{side.dump._ranges()[at]: at for at in its} for side, its in zip(sides, places)]
+    if by_range[0].keys() != by_range[1].keys() or any(
+            len(one) < len(its) for one, its in zip(by_range, places)):
+        return places
+    return [[one[key] for key in by_range[0]] for one in by_range]
+
+
 def in_common(sides: Sides) -> Tuple[List[Pair], List[Pair]]:
     """Returns the signals that both have, and those that cannot be compared."""
     pairs, apart = [], []
     for name, other in _groups(sides):
         sides[0].common.add(name)
         sides[1].common.add(other)
-        mine, its = sides[0].of_name[name], sides[1].of_name[other]
+        mine, its = _in_order(sides, (sides[0].of_name[name], sides[1].of_name[other]))
         made = [Pair(name, (sides[0].signals[a], sides[1].signals[b]), (a, b))
                 for a, b in zip(mine, its)]
         fit = len(mine) == len(its) and all(kind(a) == kind(b) for _, (a, b), _ in made)
@@ -202,15 +215,19 @@ def factors_of(scales: Sequence[Optional[Timescale]]) -> Tuple[int, int]:
     return one // gcd(one, other), other // gcd(one, other)
 
 
-def same_within(tolerance: float) -> Same:
+def same_within(tolerance: float, x_matches: bool = False) -> Same:
     """Returns whether two values are the same. Real numbers are if they differ by at most the
-    tolerance, or the tolerance times the larger one; NaN is NaN."""
+    tolerance, or the tolerance times the larger one; NaN is NaN. If x matches, digits that are x or
+    z in one of them may be anything in the other one."""
     def same(one: Optional[bytes], other: Optional[bytes]) -> bool:
+        if x_matches and one and other and not b"r" in one[:1] + other[:1]:
+            size = max(len(one), len(other))
+            pairs = zip(*(full(text.decode(), size) for text in (one, other)))
+            return all({*pair} != {"0", "1"} for pair in pairs)
         if one == other or one is None or other is None or not one[:1] == other[:1] == b"r":
             return one == other
-        try:
-            mine, its = float(one[1:]), float(other[1:])
-        except ValueError:  # a text that is no number
+        mine, its = (real(text[1:].decode(errors="backslashreplace")) for text in (one, other))
+        if isinstance(mine, str) or isinstance(its, str):  # a text that is no number
             return False
         return isclose(mine, its, rel_tol=tolerance, abs_tol=tolerance) or (
             isnan(mine) and isnan(its))

@@ -15,7 +15,7 @@ from typing import (TYPE_CHECKING, Any, Callable, Dict, Iterable, KeysView, List
                     Optional, Tuple, Union)
 
 from . import _body
-from ._names import FIELD, RANGE, bits_of, full_names
+from ._names import FIELD, bits_of, full_names
 from .errors import UsageError
 from .values import Signal, extension, real
 
@@ -24,6 +24,7 @@ if TYPE_CHECKING:
 
 Known = Optional[bool]
 Test = Callable[[List[Any]], Known]
+LETTERS = ("x", "z", "X", "Z")
 MAX_DEPTH = 50  # parentheses inside each other
 TOKEN = re.compile(r'"([^"]*)"|(->|&&?|\|\|?|[!=<>]=|[!<>()])|((?:(?!->)[^\s"&|!=<>()])+)')
 IN_PYTHON = {"&": "and", "&&": "and", "|": "or", "||": "or", "!": "~", "->": "if", "within": "else"}
@@ -137,7 +138,7 @@ class _Text:
             if depth > MAX_DEPTH or last == token.group() == "!":
                 raise _bad("it has !!" if last == "!" else "it is nested too deep")
             at, (quoted, sign, word) = token.end(), token.groups()
-            is_letter = last in ("is", "not") and word in ("not", "x", "z") and word != last
+            is_letter = last in ("is", "not") and word in ("not", *LETTERS) and word != last
             if sign or is_letter or word in ("is", "within", "signed"):
                 self.source += IN_PYTHON.get(token.group(), token.group()) + " "
             else:
@@ -168,42 +169,21 @@ class _Text:
             if self._is_open:
                 raise _bad("a ) is missing") from None
             is_at_end = not error.offset or error.msg.startswith("unexpected EOF")
-            rest = [token for end, token in self._ends if end >= (error.offset or 0)]
-            raise _bad("it ends too early" if is_at_end or not rest
-                      else "it cannot be read at " + rest[0]) from None
+            read = [token for end, token in self._ends if end < (error.offset or 0)]
+            rest = [token for _, token in self._ends[len(read):]]
+            raise _bad("it ends too early" if is_at_end or not rest else "it cannot be read at "
+                       + ", after ".join([rest[0], *read[-1:]])) from None
 
 
-def _found(dump: "Dump", names: Iterable[str]) -> Dict[str, List[Signal]]:
-    """Returns of each name the signals whose path it is, or stands for."""
+def _found(dump: "Dump", names: Iterable[str]) -> Dict[str, Dict[int, Signal]]:
+    """Returns of each name the signals whose path it is, or stands for, by their places."""
     paths = dump.signals.columns()[0]
     full = full_names(list(names), paths, dump.signals, True)
-    found: Dict[str, List[Signal]] = {path: [] for path in full.values()}
+    found: Dict[str, Dict[int, Signal]] = {path: {} for path in full.values()}
     for at, path in enumerate(paths):
         if path in found:
-            found[path].append(dump.signals[at])
+            found[path][at] = dump.signals[at]
     return {name: found[path] for name, path in full.items()}
-
-
-Ranges = Dict[Tuple[str, str], Tuple[int, int]]  # of a path and a code
-
-
-def declared(dump: "Dump", paths: List[str]) -> Ranges:
-    """Returns of each signal of some paths the range that its declaration has, if it has one."""
-    scopes: List[str] = []
-    found: Ranges = {}
-    with dump._part(paths).open() as out:
-        for line in _body.head(out):
-            words = line.decode("utf-8", "surrogateescape").split()
-            if line.startswith(b"$scope "):
-                scopes.append(words[2])
-            elif line.startswith(b"$upscope "):
-                scopes.pop()
-            elif line.startswith(b"$var "):
-                its = RANGE.search("".join(words[4:-1]))
-                if its:
-                    path = ".".join([*scopes, words[4]])
-                    found[path, words[3]] = int(its.group(1)), int(its.group(2))
-    return found
 
 
 class _Names:
@@ -213,7 +193,6 @@ class _Names:
         self._dump = dump
         bases = {name: FIELD.sub("", name) for name in names}
         self._found = _found(dump, {*bases, *bases.values()})
-        self._ranges: Optional[Ranges] = None
         self.of = {name: self._name(name, base) for name, base in bases.items()}
 
     def _name(self, name: str, base: str) -> _Name:
@@ -222,19 +201,18 @@ class _Names:
         if not its:
             self._dump.select(base)  # it raises UnknownName, unless this is a scope
             raise _bad("%s is a scope: name a signal in it" % base)
-        if len({one.code for one in its}) > 1:
-            raise _bad("%s names %d signals: %s, .." % (base, len(its), its[0].path))
-        begin, end = self._part(name, its[0], *field.groups()) if field else (0, its[0].size)
-        return _Name(name, its[0], begin, end, its[0].type == "integer" and not field)
+        place, signal = next(iter(its.items()))
+        if len({one.code for one in its.values()}) > 1:
+            raise _bad("%s names %d signals: %s, .." % (base, len(its), signal.path))
+        begin, end = self._part(name, place, *field.groups()) if field else (0, signal.size)
+        return _Name(name, signal, begin, end, signal.type == "integer" and not field)
 
-    def _part(self, name: str, signal: Signal, first: str, last: Optional[str]) -> Tuple[int, int]:
+    def _part(self, name: str, place: int, first: str, last: Optional[str]) -> Tuple[int, int]:
         """Returns from where to where the digits of a field are, counted from the left."""
+        signal = self._dump.signals[place]
         if signal.is_real or signal.type == "event":
             raise _bad("%s: %s has no bits" % (name, signal.path))
-        if self._ranges is None:
-            self._ranges = declared(self._dump, [one.path for its in self._found.values()
-                                                  for one in its])
-        bits = bits_of(signal.size, self._ranges.get((signal.path, signal.code), ()))
+        bits = bits_of(signal.size, self._dump._ranges()[place])
         left, right = bits[0], bits[-1]
         step = 1 if left <= right else -1
         begin, end = (int(first) - left) * step, (int(last or first) - left) * step + 1
@@ -358,11 +336,14 @@ class Condition:
         """The codes of its signals."""
         return self._readers.keys()
 
-    def take(self, changes: _body.Changes) -> None:
-        """Takes changes, of which some may be of other signals."""
+    def take(self, changes: _body.Changes) -> bool:
+        """Takes changes, of which some may be of other signals; whether one is of its own."""
+        is_own = False
         for code, raw in changes:
             for place, read in self._readers.get(code, ()):
                 self.values[place] = read(raw)
+                is_own = True
+        return is_own
 
     def end_events(self) -> bool:
         """Takes it that no event is triggered now; returns whether one was."""
@@ -430,8 +411,8 @@ class Condition:
         if isinstance(one, _Name) and one.signal.type == "event":
             raise _bad("%s is an event: it has no value" % one.text)
         if isinstance(kind, (ast.Is, ast.IsNot)):
-            letter = other_node.id if isinstance(other_node, ast.Name) else ""
-            if letter not in ("x", "z") or not isinstance(one, _Name):
+            letter = other_node.id.lower() if isinstance(other_node, ast.Name) else ""
+            if letter not in LETTERS or not isinstance(one, _Name):
                 raise _bad("is asks for x or z of a name, as in a is x or a is not z")
             test = _has(self._place(one), letter)
             return _not(test) if isinstance(kind, ast.IsNot) else test
@@ -472,10 +453,12 @@ class Condition:
                 raise _bad("%s has more digits than the %d of %s"
                           % (number.text, name.width, name.text))
             return name
-        if is_real or isinstance(value, float):
+        if is_real:
             return name
         name = name if value >= 0 else name._replace(is_signed=True)
         limit = 1 << name.width - name.is_signed
+        if is_equality and value % 1:
+            raise _bad("%s is never %s: it is a whole number" % (name.text, number.text))
         if is_equality and not -limit * name.is_signed <= value < limit:
             raise _bad("%s is never %s: it has %d bits%s" % (
                 name.text, number.text, name.width, ", signed" if name.is_signed else ""))

@@ -2,12 +2,15 @@
 wide as a pixel. Of a bin with several changes of a signal only that is kept, and not each of them,
 so the work for a long dump is that of its text, and not that of its changes."""
 import io
+import re
 from typing import BinaryIO, Dict, FrozenSet, Iterator, List, NamedTuple, Optional, Tuple
 
 from . import _body
+from ._unknown import next_line
 from .values import Signal, Value
 
 BLOCK = 1 << 20
+UNKNOWN = re.compile(rb"\n(?:x|b[01z]*x[01xz]* )(.*)")  # lines with an x
 MAX_DIGITS = 1000  # of a number that is a float
 SMALL = 1 << 9  # bytes of the begin of a bin, in which most signals change
 Point = Tuple[int, object]
@@ -15,10 +18,16 @@ Point = Tuple[int, object]
 
 class Several(NamedTuple):
     """What a bin has in place of a value if the signal changes several times in it: of a real
-    signal its least and largest number."""
+    signal its least and largest number, and whether it is x at some time in the bin."""
 
     least: float
     largest: float
+    has_x: bool
+
+    @property
+    def kind(self) -> str:
+        """The class of its shape."""
+        return "x" if self.has_x else "several"
 
 
 class Lane:
@@ -34,12 +43,16 @@ class Lane:
         # Whether further changes in the bin say nothing new, but for the last value.
         self.is_full = False
         self.numbers: List[float] = []
+        self.has_x, self.time = False, 0
+        self.before: Optional[bytes] = None  # the value at the begin of the bin
 
     def note(self, time: int, text: bytes) -> None:
         """Takes a value from a time on."""
         if text == self.text and not self.is_event:
             return
-        self.text = text
+        if self.first and self.time < time:  # else the last value was there for no time
+            self.has_x = self.has_x or _is_x(self.text)
+        self.text, self.time = text, time
         if self.first and self.first[-1][0] == time:
             self.first[-1] = time, text
         elif len(self.first) < 2:
@@ -61,12 +74,20 @@ class Lane:
     def close(self, begin: int, end: int) -> None:
         """Ends a bin, which goes from one time to just before another."""
         if self.text is not None and len(self.first) > 1:
+            self.has_x = (self.has_x or _is_x(self.text)
+                          or self.first[0][0] > begin and _is_x(self.before))
             self.points.append((begin, Several(min(self.numbers, default=0.0),
-                                               max(self.numbers, default=0.0))))
+                                               max(self.numbers, default=0.0), self.has_x)))
             self.points.append((end, self.value(self.text)))
         else:
             self.points += [(time, self.value(text)) for time, text in self.first]
-        self.first, self.numbers, self.is_full = [], [], False
+        self.first, self.numbers, self.is_full, self.has_x = [], [], False, False
+        self.before = self.text
+
+
+def _is_x(text: Optional[bytes]) -> bool:
+    """Whether a value has an x."""
+    return text is not None and b"x" in text and text[:1] != b"r"
 
 
 class Lanes:
@@ -123,7 +144,17 @@ class Lanes:
                 break
             for code, value, at in _changes(text, *piece, codes):
                 self.of_code[code].note(_time_at(text, text.rfind(b"\n#", 0, at + 1)), value)
+        self.note_unknown(text, middle, end)
         self.take_last(text, middle, end)
+
+    def note_unknown(self, text: bytes, begin: int, end: int) -> None:
+        """Notes which signals are x at the end of a time."""
+        for found in UNKNOWN.finditer(text, begin, end):
+            lane = self.of_code.get(found.group(1))
+            if lane and not lane.has_x:
+                to = text.find(b"\n#", found.end(), end + 1)
+                lane.has_x = not 0 <= next_line(text, found.group(1), found.end()) < (
+                    to if to >= 0 else end)
 
     def take_last(self, text: bytes, begin: int, end: int) -> None:
         """Takes the last values of the signals whose lanes are full, and the last time."""
@@ -133,7 +164,8 @@ class Lanes:
             middle = max(text.rfind(b"\n#", begin, max(end - size, begin)), begin)
             last = {code: value for code, value, _ in _changes(text, middle, end, codes)}
             for code, value in last.items():
-                self.of_code[code].text = value
+                lane = self.of_code[code]
+                lane.has_x, lane.text = lane.has_x or _is_x(lane.text), value
             codes, end, size = codes.difference(last), middle, 4 * size
 
     def codes(self, is_full: bool) -> FrozenSet[bytes]:

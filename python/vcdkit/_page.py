@@ -71,6 +71,8 @@ class Page(NamedTuple):
     view: Tuple[int, int]
     radix: str = "hex"
     is_light: bool = False
+    row: int = 0  # that is chosen first
+    ends: Sequence[Tuple[str, int]] = ()  # of each of two dumps the letter, and when it ends
 
 
 class Reader:
@@ -165,8 +167,7 @@ def texts_of(page: Page, rows: Sequence[Row]) -> List[str]:
     """Returns the text of a page, in parts. Fails if it is too large."""
     span = page.end - page.begin
     if span > MAX_SPAN:
-        raise UsageError("the window has more than 2^53 ticks: give a shorter one by --from and "
-                         "--to")
+        raise TooMuch("the window has more than 2^53 ticks: show less time")
     streams = list({id(one): one for row in rows for one in (row.stream, row.differs)
                     if one}.values())
     places = {id(one): at for at, one in enumerate(streams)}
@@ -177,7 +178,8 @@ def texts_of(page: Page, rows: Sequence[Row]) -> List[str]:
         "title": page.title, "about": page.about, "begin": str(page.begin), "span": max(span, 1),
         "tick": str(page.scale.femtoseconds if page.scale else 0), "radix": page.radix,
         "light": page.is_light, "mark": None if page.mark is None else page.mark - page.begin,
-        "view": [time - page.begin for time in page.view],
+        "view": [time - page.begin for time in page.view], "row": page.row,
+        "ends": {letter: time - page.begin for letter, time in page.ends},
         "signals": [[key, row.signal.type, row.signal.size, places[id(row.stream)], row.side,
                      places.get(id(row.differs))] for key, row in zip(keys, rows)]}
     found, size = [json.dumps(head, separators=(",", ":"))[:-1] + ',"streams":['], 0

@@ -32,9 +32,9 @@ class Window:
         return max(ticks * self.factors[at] + self.later[at] - self.begin, 0)
 
     def near(self, rows: Sequence[_page.Row]) -> Tuple[int, int]:
-        """Returns a window with some changes of the first signal around the mark."""
+        """Returns a window with some changes of the two rows around the mark."""
         at = self.mark - self.begin
-        times = sorted({*rows[0].stream.times, *rows[1].stream.times})
+        times = sorted({time for row in rows for time in row.stream.times})
         before = [time for time in times if time < at][-NEAR:]
         after = [time for time in times if time > at][:NEAR]
         return self.begin + (before or [0])[0], self.begin + (after or [max(self.ends)])[-1]
@@ -56,8 +56,8 @@ def rows_of(window: Window, sides: Sides, pairs: Sequence[Named], same: Same) ->
     return rows
 
 
-def page_of(window: Window, sides: Sides, rows: Sequence[_page.Row]) -> _page.Page:
-    """Returns what a page says of two dumps."""
+def page_of(window: Window, sides: Sides, rows: Sequence[_page.Row], row: int) -> _page.Page:
+    """Returns what a page says of two dumps. It begins with a row, that of A of a pair."""
     scales = [side.scale for side in sides if side.scale]
     scale = min(scales, key=lambda one: one.femtoseconds) if len(scales) == 2 else None
     about = [line for letter, side in zip("AB", sides)
@@ -68,7 +68,8 @@ def page_of(window: Window, sides: Sides, rows: Sequence[_page.Row]) -> _page.Pa
         about.append("B is shown %s %s" % (text, "later" if by > 0 else "earlier"))
     return _page.Page(" and ".join(os.path.basename(side.dump.name) for side in sides), about,
                       scale, window.begin, window.begin + max(window.ends), window.mark,
-                      window.near(rows))
+                      window.near(rows[row:row + 2]), row=row,
+                      ends=[(letter, window.begin + end) for letter, end in zip("AB", window.ends)])
 
 
 def texts_of(sides: Sides, factors: Tuple[int, int], found: Sequence[Difference],
@@ -77,12 +78,15 @@ def texts_of(sides: Sides, factors: Tuple[int, int], found: Sequence[Difference]
     span, it has as much time as there is room for."""
     pairs: List[Named] = [(clocks[0].path, (clocks[0], clocks[1]))] if clocks else []
     pairs += sorted((one.pair.name, one.pair.signals) for one in found)
+    # That of the first line: the first name of those that differ at the first time.
+    row = 2 * pairs.index(min((one.pair.name, one.pair.signals) for one in found
+                              if one.times == found[0].times))
     tried = max((side.report.last or 0) * factor for side, factor in zip(sides, factors))
     while True:
         window = Window(sides, factors, found[0], tried if span is None else span)
         try:
             rows = rows_of(window, sides, pairs, same)
-            return _page.texts_of(page_of(window, sides, rows), rows)
+            return _page.texts_of(page_of(window, sides, rows, row), rows)
         except _page.TooMuch:
             if span is not None or tried < 2:
                 raise

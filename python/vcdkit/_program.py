@@ -148,13 +148,14 @@ class _Pipe:
         if text.command != "merge":
             return self.start([program, text.command, *text.words], files[0],
                               {"(stdin)": text.of[0].name}, text.of[0], (), is_merged)
-        names = ["/dev/fd/%d" % file.fileno() for file in files]
+        # The first one is standard input: a system without /proc has no /dev/fd.
+        names = ["/dev/fd/%d" % file.fileno() for file in files[1:]]
         try:
-            return self.start([program, "merge", *text.words, "--", *names], None,
-                              dict(zip(names, (one.name for one in text.of))), text.of[0],
-                              [file.fileno() for file in files], is_merged)
+            return self.start([program, "merge", *text.words, "--", "-", *names], files[0],
+                              dict(zip(["(stdin)", *names], (one.name for one in text.of))),
+                              text.of[0], [file.fileno() for file in files[1:]], is_merged)
         finally:
-            for file in files:
+            for file in files[1:]:
                 file.close()
 
     def part_read(self) -> Optional[float]:

@@ -11,7 +11,7 @@ if TYPE_CHECKING:
 # What only a save file has: a line of flags, or a setting.
 SAVED = re.compile(r"(?m)^(?:@[0-9a-f]+|\[\w+\].*)\r?$")
 # A line with a signal: an alias or the place of a bit may stand before it.
-SIGNAL = re.compile(r"(?m)^(?:\+\{.*?\} |\(\d+\))?([A-Za-z_\\$][^\s]*)\s*$")
+SIGNAL = re.compile(r"(?m)^(?:\+\{.*?\} |\(\d+\))?([A-Za-z_\\$\x80-\U0010ffff][^\s]*)\s*$")
 GROUP = re.compile(r"(?m)^#\{.*?\} (.+)$")  # a vector that was put together of bits
 
 
@@ -19,11 +19,7 @@ def names_of(path: str, dump: "Dump") -> List[str]:
     """Returns the names in a file, each once. In a list, the first word of each line is a name, and
     a line that begins with `# ` is a comment. GTKWave adds a range to the names in a save file: if
     a name selects nothing, it is taken without the range."""
-    try:
-        with open("/dev/stdin" if path == "-" else path, "rb") as file:
-            text = file.read().decode("utf-8", "surrogateescape")
-    except OSError as error:
-        raise RunFailed("%s: %s" % (path, error.strerror)) from error
+    text = text_of_file(path)
     if SAVED.search(text):
         found = [word for line in text.splitlines() for word in _signals_of(line)]
         known = places_of(found, dump.signals.columns()[0])
@@ -34,6 +30,15 @@ def names_of(path: str, dump: "Dump") -> List[str]:
     if not found:
         raise UsageError("%s: it has no name" % path)
     return list(dict.fromkeys(found))
+
+
+def text_of_file(path: str) -> str:
+    """Returns the text of a file, or of standard input for `-`."""
+    try:
+        with open("/dev/stdin" if path == "-" else path, "rb") as file:
+            return file.read().decode("utf-8", "surrogateescape")
+    except OSError as error:
+        raise RunFailed("%s: %s" % (path, error.strerror)) from error
 
 
 def _signals_of(line: str) -> List[str]:

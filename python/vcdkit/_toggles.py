@@ -7,7 +7,6 @@ from typing import (TYPE_CHECKING, Dict, Iterable, Iterator, List, NamedTuple, O
                     Set, Tuple, Union)
 
 from . import __version__, _body
-from ._condition import Ranges, declared
 from ._names import bare, bits_of
 from .values import Scope, Signal, full
 
@@ -172,8 +171,9 @@ def rows_of(dump: "Dump", names: List[str], begin: int, end: int, has_ticks: boo
     """Returns the bits of the signals that names select, in the order of the names, from the left
     to the right, with what they do from one time to another; the ticks of each value only if they
     are asked for. Real numbers and events have none."""
-    signals = [one for one in dump.select(names) if not one.is_real and one.type != "event"]
-    found = {one.code.encode(): Bits(one.size, begin, has_ticks) for one in signals}
+    signals = {place: one for place, one in dump._places(dump._full(names)).items()
+               if not one.is_real and one.type != "event"}
+    found = {one.code.encode(): Bits(one.size, begin, has_ticks) for one in signals.values()}
     taker = _Taker(found)
     times = ((time, text.split(b"\n")) for time, text in
              _body.timed(dump.cut(begin, end)._part(names)))
@@ -186,9 +186,11 @@ def rows_of(dump: "Dump", names: List[str], begin: int, end: int, has_ticks: boo
     for bits in found.values():
         bits.settle()
         bits.pass_to(end)
-    ranges = declared(dump, names)
-    return [Row(one, place, *counts) for one in signals
-            for place, counts in zip(places_of(one, ranges), found[one.code.encode()].counts())]
+    ranges = dump._ranges()
+    return [Row(one, bit if ranges[place] or one.size > 1 else None, *counts)
+            for place, one in signals.items()
+            for bit, counts in zip(bits_of(one.size, ranges[place]),
+                                   found[one.code.encode()].counts())]
 
 
 def _batches(times: Iterable[Time]) -> Iterator[List[Time]]:
@@ -255,14 +257,6 @@ class _Taker:
         for lists in self._times.values():
             for one in lists:
                 one.clear()
-
-
-def places_of(signal: Signal, ranges: Ranges) -> Sequence[Optional[int]]:
-    """Returns the places of the bits of a signal, the leftmost first."""
-    its = ranges.get((signal.path, signal.code), ())
-    if its or signal.size > 1:
-        return bits_of(signal.size, its)
-    return [None]
 
 
 def saif(dump: "Dump", rows: Sequence[Row], ticks: int) -> Iterator[str]:

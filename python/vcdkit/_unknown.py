@@ -58,8 +58,8 @@ class Lines:
         if len(codes) > MAX_CODES:
             codes = codes.intersection(CODES.findall(text))
         found: Dict[int, bytes] = {at: _line(text, at) for at in starts}
-        ends = [_next(text, change(line)[0], at + len(line)) for at, line in found.items()]
-        ends += [_next(text, code, 0) for code in codes]
+        ends = [next_line(text, change(line)[0], at + len(line)) for at, line in found.items()]
+        ends += [next_line(text, code, 0) for code in codes]
         found.update((at, _line(text, at)) for at in ends if at >= 0)
         last = 0
         for at, line in sorted(found.items()):
@@ -81,7 +81,7 @@ def _time(text: bytes, begin: int, end: int) -> Iterator[bytes]:
         yield _line(text, at)
 
 
-def _next(text: bytes, code: bytes, begin: int) -> int:
+def next_line(text: bytes, code: bytes, begin: int) -> int:
     """Returns the place of the first line from a place on that has a value of a code; -1 if there
     is none."""
     at = text.find(code + b"\n", begin)

@@ -56,7 +56,7 @@ def verdict_on(dump: Dump, file: str, reach: Optional[str],
         last = dump.check().last
         end = "ends " + time(dump, last) if last is not None else "has no timestamp"
         facts = {"last": last}
-        if reach is not None and (-1 if last is None else last) < dump.ticks(reach, is_up=True):
+        if reach is not None and (-1 if last is None else last) < dump._span(reach, is_up=True):
             return Verdict(file, 1, "short", "%s: %s, before %s" % (file, end, reach), [], facts)
         return Verdict(file, 0, "valid", "%s: %s" % (file, end), [], facts)
     except DumpFault as fault:

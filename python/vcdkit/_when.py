@@ -1,17 +1,16 @@
 """The times at which a condition holds, and how long answers take."""
 import collections
-from typing import (TYPE_CHECKING, Collection, Deque, Iterable, Iterator, List, NamedTuple,
-                    Optional, Set, Tuple)
+from typing import (TYPE_CHECKING, Callable, Collection, Deque, Iterable, Iterator, List,
+                    NamedTuple, Optional, Sequence, Set, Tuple)
 
 from . import _body
 from ._condition import Condition, Span
-from .errors import UsageError
+from .errors import DumpFault, UnknownName, UsageError
 
 if TYPE_CHECKING:
     from .dump import Dump
 
 MAX_WAITING = 1_000_000  # starts without an answer
-Waiting = Deque[Tuple[int, int]]  # a request, and until when it waits: a time, or a count of edges
 
 
 class Outcome(NamedTuple):
@@ -23,95 +22,184 @@ class Outcome(NamedTuple):
     length: int
 
 
-class _Question:
-    """A condition, and where it is looked at."""
+class _Request(NamedTuple):
+    """A request that waits: when it began, and until when it waits: a time, or a count of edges."""
 
-    def __init__(self, dump: "Dump", text: str, rise: Optional[str], fall: Optional[str],
-                 every: bool):
-        self.dump, self.every = dump, every
-        self.clocks = [name for name in (rise, fall) if name is not None]
-        if every and not self.clocks:
-            raise UsageError("every edge: name a clock by rise or fall")
-        self.condition = Condition(text, dump)
-        self.ticks = _ticks_of(self.condition.span, dump, bool(self.clocks))
+    begin: int
+    until: int
+
+
+class _Question:
+    """A condition that is asked, and what is known of it up to now."""
+
+    def __init__(self, dump: "Dump", text: str, has_clock: bool, every: bool, in_order: bool):
+        self.condition, self.every, self.in_order = Condition(text, dump), every, in_order
+        self.has_clock, self.span = has_clock, self.condition.span
+        self.ticks = _ticks_of(self.span, dump, has_clock)
+        self.overlaps = 0  # requests that began before the answer of the one before
+        self._waiting: Deque[_Request] = collections.deque()
+        self._late = 0  # of them, how many wait for an answer that would come too late
+        self._held, self._looks = False, 0
+
+    def look(self, time: int) -> List[Outcome]:
+        """Takes the values at a time as those at which the condition is looked at. Returns what is
+        known then: of a condition without an answer, that it begins to hold."""
+        condition = self.condition
+        holds = condition.test(condition.values) is True
+        is_start, self._held = holds and (self.every or not self._held), holds
+        found = [Outcome(time, time, 0)] if is_start else []
+        if condition.answer:
+            found = self._outcomes(time, is_start)
+        if condition.end_events() and not self.has_clock:  # over before the next time
+            self._held = condition.test(condition.values) is True
+        return found
+
+    def _outcomes(self, time: int, is_start: bool) -> List[Outcome]:
+        """Returns the requests that get their answer at a time, and those that get none."""
+        condition, waiting = self.condition, self._waiting
+        now = time if self.span and self.span.unit else self._looks
+        self._looks += 1
+        found = self.late(now)
+        if is_start:
+            self.overlaps += bool(waiting)
+            waiting.append(_Request(time, now + self.ticks))
+        if waiting and condition.answer and condition.answer(condition.values) is True:
+            its = [waiting.popleft() for _ in range(1 if self.in_order else len(waiting))]
+            found += [Outcome(begin, time, now - until + self.ticks) for begin, until in its
+                      if until >= now]
+            self._late = max(self._late - len(its), 0)
+        if self.span and not self.span.unit:  # each edge is looked at once
+            found += self.late(now + 1)
+        if len(waiting) > MAX_WAITING:
+            raise UsageError("more than %d times wait for an answer: give a shorter time"
+                             % MAX_WAITING)
+        return found
+
+    def late(self, now: int) -> List[Outcome]:
+        """Returns the requests that waited until a time before this one. In order, they still get
+        their answers, which are too late."""
+        found = []
+        while self._late < len(self._waiting) and self._waiting[self._late].until < now:
+            found.append(Outcome(self._waiting[self._late].begin, None, 0))
+            if self.in_order:
+                self._late += 1
+            else:
+                self._waiting.popleft()
+        return found
+
+    @property
+    def has_latency(self) -> bool:
+        """Whether it is as `req -> ack within N`."""
+        return bool(self.condition.answer) and not self.condition.is_refusal
+
+    @property
+    def waits_for_a_time(self) -> bool:
+        """Whether requests have no answer yet, and wait until a time."""
+        return bool(self._waiting and self.span and self.span.unit)
+
+    def late_at_end(self, is_over: Callable[[int], bool]) -> List[Outcome]:
+        """Returns the requests that waited until a time that is over where the dump ends. What else
+        is left open there is neither in time nor late."""
+        low, high = self._late, len(self._waiting)
+        while low < high:
+            middle = (low + high) // 2
+            is_late = is_over(self._waiting[middle].until)
+            low, high = (middle + 1, high) if is_late else (low, middle)
+        return self.late(self._waiting[low - 1].until + 1) if low > self._late else []
+
+
+class Questions:
+    """Conditions that are asked in one pass over a dump."""
+
+    def __init__(self, dump: "Dump", rules: Sequence[Tuple[str, str]], rise: Optional[str],
+                 fall: Optional[str], every: bool, in_order: bool = False):
+        """Rules are names, which messages have, and conditions."""
+        self.dump, self.clocks = dump, [name for name in (rise, fall) if name is not None]
+        if (every or in_order) and not self.clocks:
+            raise UsageError("%s: name a clock by rise or fall" % (
+                "every edge" if every else "in order"))
+        self.each: List[_Question] = []
+        for name, text in rules:
+            try:
+                self.each.append(_Question(dump, text, bool(self.clocks), every or in_order,
+                                           in_order))
+            except (UsageError, UnknownName) as error:
+                if not name:
+                    raise
+                raise UsageError("%s: %s" % (name, error)) from None
         self.edges = dump._edges(rise, fall)
 
-    def looks(self) -> Iterator[int]:
-        """Returns the times at which the condition is looked at."""
-        condition, edges = self.condition, self.edges
-        lead = self.dump._lead({*condition.codes, *(code for code, _, _ in edges)} if edges else ())
-        part = self.dump._part([*condition.paths, *self.clocks])
-        return _at_edges(part, condition, edges, lead) if edges else _at_changes(part, condition)
+    def outcomes(self) -> Iterator[Tuple[int, Outcome]]:
+        """Returns what becomes of each condition, with its number, as soon as that is known."""
+        fault: Optional[DumpFault] = None
+        try:
+            for time, number in self._looks():
+                for one in self.each[number].look(time):
+                    yield number, one
+        except DumpFault as error:
+            fault = error
+        waiting = [number for number, its in enumerate(self.each) if its.waits_for_a_time]
+        last = self.dump.check().last or 0 if waiting and not fault else 0
+        for number in waiting:
+            for one in self.each[number].late_at_end(
+                    lambda time: self.dump.is_finished(time, fault) if fault else time <= last):
+                yield number, one
+        if fault:
+            raise fault
 
-    def starts(self) -> Iterator[Tuple[int, bool]]:
-        """Returns each of these times, and whether the condition begins to hold."""
-        condition, held = self.condition, False
-        for time in self.looks():
-            holds = condition.test(condition.values) is True
-            yield time, holds and (self.every or not held)
-            held = holds
-            if not self.edges and condition.end_events():  # over before the next time
-                held = condition.test(condition.values) is True
+    def times(self) -> Iterator[int]:
+        """Returns the times at which the only condition holds."""
+        return (one.begin for _, one in self.outcomes() if self.is_listed(0, one))
 
-    def outcomes(self, wants_late: bool) -> Iterator[Outcome]:
-        """Returns the requests that get their answer in time, as they do, and those that get none,
-        as soon as that is known. What the end of the dump leaves open is neither. If nobody wants
-        the late ones, the last of them may be left out."""
-        condition, ticks = self.condition, self.ticks
-        assert condition.answer and condition.span
-        waiting: Waiting = collections.deque()
-        for count, (time, is_start) in enumerate(self.starts()):
-            now = time if condition.span.unit else count
-            yield from _late(waiting, now)
-            if is_start:
-                waiting.append((time, now + ticks))
-            if waiting and condition.answer(condition.values) is True:
-                yield from [Outcome(begin, time, now - until + ticks) for begin, until in waiting]
-                waiting.clear()
-            if not condition.span.unit:  # each edge is looked at once
-                yield from _late(waiting, now + 1)
-            if len(waiting) > MAX_WAITING:
-                raise UsageError("more than %d times wait for an answer: give a shorter time"
-                                 % MAX_WAITING)
-        if wants_late and waiting and condition.span.unit:
-            yield from _late(waiting, (self.dump.check().last or 0) + 1)
+    def is_listed(self, number: int, one: Outcome) -> bool:
+        """Whether a condition holds by an outcome: a request has its answer in time, or none."""
+        return (one.answer is None) == self.each[number].condition.is_refusal
+
+    def _looks(self) -> Iterator[Tuple[int, int]]:
+        """Returns each time at which a condition is looked at, and its number; the condition has
+        the values there."""
+        conditions = [one.condition for one in self.each]
+        codes = {code for one in conditions for code in one.codes}
+        part = self.dump._part([*dict.fromkeys(path for one in conditions for path in one.paths),
+                                *self.clocks])
+        if self.edges:
+            lead = self.dump._lead({*codes, *(code for code, _, _ in self.edges)})
+            for time, changes in _body.at_edges(part, codes, self.edges, lead):
+                for number, one in enumerate(conditions):
+                    one.take(changes)
+                    yield time, number
+            return
+        begin = self.dump._begin()
+        for time, changes in _with_begin(part, codes, begin):
+            for number, one in enumerate(conditions):
+                if one.take(changes) or time == begin:
+                    yield time, number
 
 
-def _late(waiting: Waiting, now: int) -> Iterator[Outcome]:
-    """Takes out the requests that waited until a time before this one, and returns them."""
-    while waiting and waiting[0][1] < now:
-        yield Outcome(waiting.popleft()[0], None, 0)
+def _with_begin(part: "Dump", codes: Collection[bytes], begin: int
+                ) -> Iterator[Tuple[int, _body.Changes]]:
+    """Returns each time at which one of some codes changes, and these changes; also the begin of a
+    cut, if that is not 0."""
+    is_due = begin > 0
+    fault: Optional[DumpFault] = None
+    try:
+        for time, before, changes in _body.steps(part, codes):
+            if is_due and time > begin:
+                yield begin, []
+            is_due = False
+            yield time, before + changes if before else changes
+    except DumpFault as error:
+        fault = error
+    if is_due and (fault is None or part.is_finished(begin, fault)):
+        yield begin, []
+    if fault:
+        raise fault
 
 
 def when(dump: "Dump", text: str, rise: Optional[str], fall: Optional[str],
          every: bool) -> Iterator[int]:
     """Returns the times of Dump.when."""
-    question = _Question(dump, text, rise, fall, every)
-    if question.condition.answer is None:
-        return (time for time, is_start in question.starts() if is_start)
-    is_refusal = question.condition.is_refusal
-    return (one.begin for one in question.outcomes(is_refusal)
-            if (one.answer is None) == is_refusal)
-
-
-class Latencies:
-    """The requests of `req -> ack within N` that get their answer in time, as they do: when each
-    begins, when its answer comes, and how long that is. At the end `late` is how many got none."""
-
-    def __init__(self, dump: "Dump", text: str, rise: Optional[str], fall: Optional[str],
-                 every: bool):
-        self._question = _Question(dump, text, rise, fall, every)
-        condition = self._question.condition
-        if condition.answer is None or condition.is_refusal or condition.span is None:
-            raise UsageError("latencies are those of a condition such as req -> ack within 50")
-        self.counts_edges, self.late = not condition.span.unit, 0
-
-    def __iter__(self) -> Iterator[Tuple[int, int, int]]:
-        for one in self._question.outcomes(True):
-            if one.answer is None:
-                self.late += 1
-            else:
-                yield one.begin, one.answer, one.length
+    return Questions(dump, [("", text)], rise, fall, every).times()
 
 
 def state(dump: "Dump", text: str) -> Condition:
@@ -127,7 +215,8 @@ def holding(dump: "Dump", condition: Condition, times: Iterable[int]) -> Set[int
     waiting, found = sorted(set(times), reverse=True), set()
     held = condition.test(condition.values) is True
     part = dump.cut(0, max(waiting, default=0))._part(condition.paths)
-    for time in _at_changes(part, condition):
+    for time, before, changes in _body.steps(part, condition.codes):
+        condition.take(before + changes)
         while waiting and waiting[-1] <= time:
             if waiting[-1] == time:
                 held = condition.test(condition.values) is True
@@ -146,23 +235,4 @@ def _ticks_of(span: Optional[Span], dump: "Dump", has_clock: bool) -> int:
     if not span.unit and not has_clock:
         raise UsageError("within %s counts edges: name a clock by rise or fall, or give a time, as "
                          "%sns" % (span.text, span.text))
-    return dump.ticks(span.number + span.unit.replace("tick", ""))
-
-
-def _at_changes(part: "Dump", condition: Condition) -> Iterator[int]:
-    """Returns each time at which a signal of a condition changes; the condition has the values at
-    its end."""
-    for time, before, changes in _body.steps(part, condition.codes):
-        condition.take(before)
-        condition.take(changes)
-        yield time
-
-
-def _at_edges(part: "Dump", condition: Condition, edges: Collection[_body.Edge],
-              lead: Collection[bytes]) -> Iterator[int]:
-    """Returns each time that has one of the edges; the condition has the values just before that
-    time, and the events since the last one. `lead` is that of _body.steps."""
-    for time, changes in _body.at_edges(part, condition.codes, edges, lead):
-        condition.take(changes)
-        yield time
-        condition.end_events()
+    return dump._span(span.number + span.unit.replace("tick", ""))

@@ -5,6 +5,7 @@ import os
 import re
 import stat
 import sys
+import threading
 import warnings
 from types import ModuleType
 from typing import (IO, Any, BinaryIO, Collection, ContextManager, Dict, Iterable, Iterator, List,
@@ -68,6 +69,7 @@ class Dump:
             () if token_limit is None else ("--token-limit", str(token_limit)))
         self._signals: Optional[_rows.Signals] = None
         self._header: Optional[Header] = None
+        self._declared: Optional[List[Tuple[int, ...]]] = None
         self._last: Tuple[List[str], Dict[int, Signal]] = [], {}  # names, and what they select
 
     __iter__ = None  # else Python would look for [0], [1], ..
@@ -211,6 +213,15 @@ class Dump:
                 self._header = _body.header(out)
         return self._header
 
+    def _ranges(self) -> List[Tuple[int, ...]]:
+        """Returns of each variable the range or the one index that its declaration has; nothing of
+        one that has none."""
+        if self._declared is None:
+            with self._head() as out:
+                self._declared = [_body.declared(line) for line in _body.head(out)
+                                  if line.startswith(b"$var ")]
+        return self._declared
+
     def _head(self) -> ContextManager[BinaryIO]:
         """Opens a text with this header; a fault of the body comes after it."""
         return _opened(Made("cut", (*self._options, "--from", "0", "--to", "0"), (self._text,)))
@@ -223,17 +234,24 @@ class Dump:
     def ticks(self, time: Time, is_up: bool = False) -> int:
         """Returns a time in ticks, rounded down, or up. Raises NoTimescale if the time has a unit
         and the dump has no time scale."""
+        ticks = self._span(time, is_up)
+        if ticks > LAST_TICK:
+            raise UsageError("bad time: %s: ticks are from 0 to 2^64 - 1" % time)
+        return ticks
+
+    def _span(self, time: Time, is_up: bool = False) -> int:
+        """Returns as ticks() how long a time is, which may be longer than any dump."""
         text = word(time)
-        if text.isdigit():
-            return int(text)
-        if self.timescale is None:
+        if not text.isdigit() and self.timescale is None:
             raise NoTimescale("%s: no timescale: give times in ticks" % self.name)
-        return self.timescale.ticks(text, is_up)
+        return self.timescale.ticks(text, is_up) if self.timescale else int(text)
 
     def time(self, ticks: int, unit: str = "") -> str:
         """Returns ticks with a unit, such as `115ns`: the largest unit in which they are a whole
-        number, or the unit that is given. If there is no time scale, returns only the number."""
-        return self.timescale.text(ticks, unit) if self.timescale else str(ticks)
+        number, or the unit that is given. If there is no time scale, or the unit is `tick`, returns
+        only the number."""
+        scale = None if unit == "tick" else self.timescale
+        return scale.text(ticks, unit) if scale else str(ticks)
 
     # The body.
 
@@ -427,14 +445,15 @@ class Dump:
     # Faults.
 
     def is_finished(self, time: int, fault: DumpFault) -> bool:
-        """Whether a time that comes before a fault has all its changes: a later timestamp comes
-        before the fault too, or the fault is in its place."""
+        """Whether a fault comes after all changes of a time: a later timestamp comes before the
+        fault, or the time is a timestamp, and the fault is in the place of the next one."""
         text = self._text
         while isinstance(text, Made) and text.command in ("pick", "cut"):  # they leave times out
             text = text.of[0]
         # One of the dumps of a merge has the fault; the others may change at that time.
-        return (not isinstance(text, Made) and fault.fault in AT_A_TIMESTAMP
-                or _dump_of(text, self._options).goes_beyond(time))
+        is_in_place = not isinstance(text, Made) and fault.fault in AT_A_TIMESTAMP
+        return is_in_place and not time or (
+            _dump_of(text, self._options).goes_beyond(time - is_in_place))
 
     def goes_beyond(self, time: int) -> bool:
         """Whether there is no fault before the first timestamp after a time."""
@@ -464,7 +483,23 @@ class Dump:
     def cut(self, begin: Time = 0, end: Time = LAST_TICK) -> "Dump":
         """Returns the dump from one time to another: the values just before `begin`, and what
         changes from there to `end`."""
-        return self._made("cut", ["--from", word(begin), "--to", word(end)])
+        return self._made("cut", ["--from", self._word(begin, True), "--to", self._word(end)])
+
+    def _word(self, time: Time, is_up: bool = False) -> str:
+        """Returns a time as vcdkit accepts it: one of a unit whose number would be too large, as in
+        18446744073709551700fs, is one of ticks."""
+        text = word(time)
+        is_small = int(text.rstrip("smunpf")) <= LAST_TICK
+        return text if is_small else str(self.ticks(time, is_up))
+
+    def _begin(self) -> int:
+        """Returns the tick with which it begins: 0, unless it is a cut."""
+        text, begins = self._text, [0]
+        while isinstance(text, Made) and text.command in ("pick", "cut"):
+            if text.command == "cut":
+                begins.append(self.ticks(text.words[text.words.index("--from") + 1], is_up=True))
+            text = text.of[0]
+        return max(begins)
 
     def around(self, time: Time, before: Time, after: Optional[Time] = None) -> "Dump":
         """Returns the dump from `before` before a time to `after` after it. Without `after`, it is
@@ -478,7 +513,7 @@ class Dump:
         scale = Timescale(1, "fs")  # if there are only ticks, any will do
         for text in texts:
             if not text.isdigit():
-                self.ticks(text)  # it needs a time scale
+                self.ticks("0" + text.lstrip("0123456789"))  # it needs a time scale
                 scale = self.timescale or scale
         (at, early, late), tick = map(scale.span, texts), scale.femtoseconds
         first, here, last = -(-(at - early) // tick), at // tick, (at + late) // tick
@@ -533,7 +568,7 @@ def _is_open_file(name: str) -> bool:
 
 def _replace(name: str, mode: Optional[int], blocks: Iterable[bytes]) -> None:
     """Puts a new file in the place of one, with its mode, once all is written."""
-    part = "%s.%d.part" % (name, os.getpid())
+    part = "%s.%d.part" % (name, threading.get_native_id())
     try:
         with open(part, "wb", opener=_private if mode is not None else None) as file:
             file.writelines(blocks)

@@ -90,4 +90,6 @@ class Timescale(NamedTuple):
 
 def _per(unit: str) -> int:
     """Returns how many femtoseconds a unit has."""
+    if unit not in UNITS:
+        raise UsageError("bad unit: %s: it may be tick, %s" % (unit, ", ".join(UNITS)))
     return int(1000 ** (len(UNITS) - 1 - UNITS.index(unit)))

@@ -222,7 +222,7 @@ def real(text: str) -> Union[float, str]:
     """Returns a real number. A dump may have a text there that is none: that is returned as it
     is."""
     try:
-        return float(text)
+        return float(text) if text.isascii() and "_" not in text else text
     except ValueError:
         return text
 

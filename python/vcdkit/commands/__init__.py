@@ -7,12 +7,13 @@ import math
 import os
 import re
 import shlex
+import stat
 import sys
-from typing import Any, Callable, Dict, List, Optional, TextIO, Tuple, Union
+from typing import Any, Callable, Dict, Iterable, List, Optional, TextIO, Tuple, Union
 
 from .. import Dump, Value, __version__, _program
 from .._progress import Progress
-from .._saved import names_of
+from .._saved import names_of, text_of_file
 from ..errors import DumpFault, RunFailed, UsageError, VcdkitError
 from ..times import UNITS
 from ..values import Cell
@@ -22,9 +23,9 @@ exit status:
   0  %s
   1  %s
   2  %s
-  3  I/O error, out of memory, or no vcdkit
+  3  I/O error, out of memory, or vcdkit not found
 
-A dump may be compressed, a pipe, or - for standard input: see SCRIPTS in vcdkit(1).
+A dump may be a compressed file, a pipe, or - for standard input: see SCRIPTS in vcdkit(1).
 """
 STATUSES_OF_A_FILTER = """
 exit status:
@@ -33,12 +34,13 @@ exit status:
   3  I/O error
 """
 FAULT = "a name selects nothing, or not a valid dump"
-TIMES = "TIME is a number of ticks, or has a unit, such as 115ns or 1.5us.\n"
+TIMES = "A TIME is a number of ticks, or has a unit, such as 115ns or 1.5us.\n"
 MARK = "\0"  # which no argument has
+NEGATIVE = re.compile(r"-[.\d].*[<>=]")
 BROKEN_PIPE = 128 + 13  # the status that a shell shows of a program that SIGPIPE ended
 FORMS = {"hex": "in hexadecimal", "decimal": "in decimal",
          "signed": "in decimal, as two's complement",
-         "ascii": "as text, a letter for each 8 bits", "binary": "with all digits"}
+         "ascii": "as text, one character for 8 bits", "binary": "in binary, with all digits"}
 
 
 class _Parser(argparse.ArgumentParser):
@@ -53,9 +55,10 @@ class _Parser(argparse.ArgumentParser):
     def parsed(self, words: List[str]) -> Tuple[argparse.Namespace, List[str]]:
         """Returns the arguments, and the words that fit none. Nothing behind `--` is an option:
         argparse would forget that when it looks for the names between options, so these words
-        get a mark meanwhile."""
+        get a mark meanwhile. So does a condition that begins with a number below 0."""
         at = words.index("--") if "--" in words else len(words)
-        marked = [*words[:at], *(MARK + word for word in words[at + 1:])]
+        marked = [MARK + word if NEGATIVE.match(word) else word for word in words[:at]]
+        marked += [MARK + word for word in words[at + 1:]]
         asked, rest = self.parse_known_intermixed_args(marked)
         for key, value in vars(asked).items():
             setattr(asked, key, _unmarked(value))
@@ -108,7 +111,8 @@ def filter_of(name: str, text: str, words: List[str]) -> argparse.Namespace:
     """Reads the words of a filter."""
     of = parser(name, text, failed="")
     of.add_argument("file", metavar="FILE", nargs="?", default="-",
-                    help="the dump, which may be compressed; without it, plain standard input")
+                    help="the dump, which may be compressed [default: standard input, "
+                    "uncompressed]")
     return of.parse_args(words)
 
 
@@ -122,19 +126,54 @@ def dump_of(asked: argparse.Namespace, file: Optional[str] = None, **options) ->
     return dump
 
 
+def check_outputs(outputs: Iterable[Optional[str]], inputs: Iterable[Optional[str]]) -> None:
+    """Refuses to write a file over one that is read."""
+    of_inputs = [status for status in map(_status, inputs) if status]
+    for path in outputs:
+        its = _status(path)
+        if its and stat.S_ISREG(its.st_mode) and any(
+                os.path.samestat(its, one) for one in of_inputs):
+            raise UsageError("%s: it is read, so nothing is written there" % path)
+
+
+def _status(path: Optional[str]) -> Optional[os.stat_result]:
+    """Returns what the system says of a file, `-` for standard input; `None` if there is none."""
+    try:
+        return None if path is None else os.stat(0 if path == "-" else path)
+    except (OSError, ValueError):
+        return None
+
+
+def add_at(to: argparse.ArgumentParser, what: str) -> None:
+    """Adds --at."""
+    to.add_argument("--at", metavar="TIME,..", help=what % "; or a file (-: standard input) with a "
+                    "time at the beginning of each line, as vcdkit-when writes them")
+
+
+def times_at(asked: argparse.Namespace) -> Optional[List[str]]:
+    """Returns the times of --at; `None` if there is none."""
+    text: Optional[str] = asked.at
+    if text is None or text != "-" and (text[:1].isdigit() or not os.path.exists(text)):
+        return None if text is None else text.split(",")
+    if text == asked.file == "-":
+        raise UsageError("--at: standard input has the dump")
+    return [time for line in text_of_file(text).splitlines() for word in line.split()[:1]
+            for time in word.split(",")]
+
+
 def add_names(to: _Parser, count: str) -> None:
     """Adds NAMEs, and --names."""
     to.needs_names = count == "+"
     add_names_of(to)
     to.add_argument("names", metavar="NAME", nargs="*", default=[],
-                    help="a path that vcdkit list shows, or a scope for all that is in it"
+                    help="a path, as vcdkit list shows it, or a scope with everything in it"
                     + " (required without --names)" * to.needs_names)
 
 
 def add_names_of(to: argparse.ArgumentParser) -> None:
     """Adds --names."""
-    to.add_argument("--names", dest="names_of", metavar="FILE", help="also take the names in this "
-                    "file: the first word of each line, or the signals of a GTKWave save file")
+    to.add_argument("--names", dest="names_of", metavar="FILE", help="also use the names in this "
+                    "file: the first word of each line, or the signals in a GTKWave save file")
 
 
 def add_clock(to: argparse._ActionsContainer, what: str) -> None:
@@ -146,9 +185,9 @@ def add_clock(to: argparse._ActionsContainer, what: str) -> None:
 def add_window(to: argparse.ArgumentParser) -> None:
     """Adds --from and --to."""
     to.add_argument("--from", dest="begin", default="0", metavar="TIME",
-                    help="the first time (0)")
+                    help="the first time [default: 0]")
     to.add_argument("--to", dest="end", default=str(2**64 - 1), metavar="TIME",
-                    help="the last time (the dump's end)")
+                    help="the last time [default: the end of the dump]")
 
 
 def check_begin(dump: Dump, asked: argparse.Namespace) -> None:
@@ -206,10 +245,12 @@ def text_of(number: int) -> str:
                    for one in text)
 
 
-def add_unit(to: argparse.ArgumentParser) -> None:
+def add_unit(to: argparse.ArgumentParser,
+             default: str = "for each time, the largest that needs no fraction") -> None:
     """Adds --unit."""
     to.add_argument("--unit", type=_unit, metavar="UNIT",
-                    help="show times in this unit: tick, s, ms, us, ns, ps or fs")
+                    help="show times in this unit: tick, s, ms, us, ns, ps or fs [default: %s]"
+                    % default)
 
 
 def _unit(text: str) -> str:
@@ -245,7 +286,7 @@ def mean_text(dump: Dump, ticks: float, unit: Optional[str]) -> str:
 
 
 def add_json(to: argparse._ActionsContainer,
-             what: str = "write a JSON object on each line, with times in ticks") -> None:
+             what: str = "write one JSON object per line, with times in ticks") -> None:
     """Adds --json."""
     to.add_argument("--json", action="store_true", help=what)
 

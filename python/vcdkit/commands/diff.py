@@ -1,27 +1,29 @@
-"""Compares two dumps: the first difference of values, and what only one of them has
+"""Finds the first difference between two dumps, and what only one of them has
 
-Each line says what differs, and then shows both sides, A first:
+Each line shows what differs, and then both sides, A first:
   timescale 1ns 100ps     the time scales (times are compared nevertheless)
-  alone A tb.core[1] 9    only A has this variable or scope, and how many
-                          variables are in it; both have the scope around it
-  size tb.q 4 8           the sizes; or the types, if one is real or event; the
-                          same twice if one has more variables of this path
-  differs 35ns tb.q 1 0   the values of a variable at the first time with a
-                          difference, in ticks of A, rounded down (-: no
-                          value yet; of an event: whether it is triggered)
-  ends 122ns 92ns         the last timestamps
+  alone A tb.core[1] 9    only A has this variable or scope; the number is how
+                          many variables are in it; both have the scope
+                          around it
+  size tb.q 4 8           the sizes; or the types, if one is real or event; or
+                          the same size twice, if one dump has more variables
+                          with this path than the other
+  differs 35ns tb.q 1 0   the values of a variable at the first time at which
+                          they differ, in ticks of A, rounded down (-: no
+                          value yet; for an event: whether it is triggered)
+  ends 122ns 92ns         the last timestamps (not with --rise or --fall)
   edges 60 59             with --rise or --fall: the numbers of edges, if the
                           values at the edges that both have are the same
 
-Values are compared at the end of each time, up to the end of the shorter dump. With --rise or
+Values are compared at the end of each time step, up to the end of the shorter dump. With --rise or
 --fall, the values just before the first edge of A's clock are compared with those just before the
-first edge of B's clock, and so on, whatever the times of the edges are. These do not matter: dates
-and versions, codes, types such as reg and wire, the order of changes within a time, values that are
-written again, and whether a value is in a section. Real numbers are compared as numbers, and NaN
-equals NaN. tb.q in one dump is tb.q[3:0] in the other. If you give NAMEs, only these are compared.
-With --map, the NAMEs are the new ones, and so are the names in the lines. If a scope has two names,
-as in the lines `alone A tb.rtl 9` and `alone B tb.gate 9`, --map tb.gate=tb.rtl compares what is in
-it.
+first edge of B's clock, and so on, at whatever times the edges are. The following do not matter:
+dates and versions, identifier codes, types such as reg and wire, the order of changes within a time
+step, repeated values, and whether a value is in a section. Real numbers are compared as numbers,
+and NaN equals NaN. tb.q in one dump matches tb.q[3:0] in the other. With --from and --to, only this
+window of both dumps is compared. If you give NAMEs, only these are compared. With --map, use the
+new names in NAMEs; the lines show them too. If a scope has two names, as in the lines
+`alone A tb.rtl 9` and `alone B tb.gate 9`, --map tb.gate=tb.rtl compares what is in it.
 
 examples:
   vcdkit-diff golden.vcd.gz sim.vcd
@@ -42,8 +44,9 @@ from .._junit import Test, write_tests
 from ..dump import write
 from ..times import word
 from ..values import Cell, Signal
-from . import (FAULT, add_clock, add_form, add_four_state, add_json, add_names, add_unit, command,
-               dump_of, in_json, parser, question, times_of, write_json)
+from . import (FAULT, add_clock, add_form, add_four_state, add_json, add_names, add_unit,
+               add_window, check_begin, check_outputs, command, dump_of, in_json, parser, question,
+               times_of, write_json)
 from . import shown as value_text
 
 MAX_LINES = 20
@@ -139,6 +142,10 @@ def lines_of(differences: Iterable[Difference]) -> List[Line]:
 def sides_of(asked: argparse.Namespace) -> Sides:
     """Reads both dumps, and looks for all names that were given."""
     dumps = [dump_of(asked, file) for file in (asked.one, asked.other)]  # --names of the first
+    if asked.is_part:
+        for dump in dumps:
+            check_begin(dump, asked)
+        dumps = [dump.cut(asked.begin, asked.end) for dump in dumps]
     with ThreadPoolExecutor(2) as pool:
         one, other = pool.map(lambda dump: Side(dump, asked.maps), dumps)
     choose((one, other), asked.names, asked.exceptions)
@@ -183,6 +190,11 @@ def say_ends(report: Report, sides: Sides, comparison: Comparison, has_clock: bo
     report.say("ends", [("ends", *ends)] if len(spans) > 1 else [])
 
 
+def part_in(into: Optional[str], letter: str) -> str:
+    """Returns the path of the cut of a dump."""
+    return os.path.join(into or ".", "diff.%s.vcd" % letter)
+
+
 def write_parts(report: Report, sides: Sides, times: Sequence[int], spans: Sequence[int],
                 into: str) -> None:
     """Writes the cuts around a time of both, and says where they are."""
@@ -191,7 +203,7 @@ def write_parts(report: Report, sides: Sides, times: Sequence[int], spans: Seque
     except OSError as error:
         raise RunFailed("%s: %s" % (into, error.strerror)) from error
     for letter, side, at, span in zip("ab", sides, times, spans):
-        path = os.path.join(into, "diff.%s.vcd" % letter)
+        path = part_in(into, letter)
         side.dump.around(at, span).save(path)
         report.say_file("window", path)
 
@@ -207,7 +219,8 @@ def compare(asked: argparse.Namespace, report: Report) -> None:
     if asked.common and not pairs and not apart:
         raise UsageError("the dumps have no name in common: --map OLD=NEW gives a scope another")
     say_headers(report, sides, apart, asked.common)
-    comparison = Comparison(sides, pairs, same_within(asked.tolerance), clocks,
+    same = same_within(asked.tolerance, asked.x_matches)
+    comparison = Comparison(sides, pairs, same, clocks,
                             (b"0", b"1") if asked.rise else (b"1", b"0"))
     differences = comparison.differences() if pairs else iter(())
     first: Optional[List[Difference]] = None
@@ -229,7 +242,7 @@ def compare(asked: argparse.Namespace, report: Report) -> None:
         write_parts(report, sides, first[0].times, spans, asked.into or ".")
     if first and asked.html is not None:
         page = _page_of_two.texts_of(
-            sides, comparison.factors, every, clocks, same_within(asked.tolerance),
+            sides, comparison.factors, every, clocks, same,
             spans[0] * comparison.factors[0] if spans else None)
         write(asked.html, (text.encode("ascii") for text in page))
         report.say_file("page", asked.html)
@@ -259,25 +272,30 @@ def words_of(words: List[str]) -> argparse.Namespace:
     of = parser("vcdkit-diff", __doc__, "no difference", "a difference", "usage error, " + FAULT)
     of.add_argument("--map", dest="maps", metavar="OLD=NEW", type=map_of, action="append",
                     default=[], help="treat the scope or signal OLD of either dump as NEW; OLD= "
-                    "removes it from paths; the longest OLD that fits is taken")
-    of.add_argument("--common", action="store_true", help="compare only what both have: no lines "
-                    "timescale, alone, ends and edges")
+                    "removes it from paths; if several fit, the longest OLD counts; may be "
+                    "repeated")
+    of.add_argument("--common", action="store_true", help="compare only what both have, without "
+                    "the lines timescale, alone, ends and edges")
     of.add_argument("--except", dest="exceptions", metavar="NAME", action="append", default=[],
                     help="leave out this signal or scope; may be repeated")
     of.add_argument("--real-tolerance", dest="tolerance", metavar="T", type=tolerance, default=0.0,
-                    help="real numbers may differ by T, or by T times the larger one")
+                    help="real numbers may differ by T, or by T times the larger one "
+                    "[default: 0]")
+    of.add_argument("--x-matches", action="store_true",
+                    help="a digit that is x or z in either dump matches any digit")
+    add_window(of)
     add_clock(of.add_mutually_exclusive_group(), "compare at the %s edges of this signal")
     of.add_argument("--every", action="store_true", help="show the first difference of each "
-                    "signal, and not only %d lines of a kind" % MAX_LINES)
-    of.add_argument("--junit", metavar="FILE", help="also write a JUnit file, with a test for "
+                    "signal, without the limit of %d lines of each kind" % MAX_LINES)
+    of.add_argument("--junit", metavar="FILE", help="also write a JUnit report, with a test for "
                     "each kind of line")
-    of.add_argument("--context", metavar="TIME", help="if values differ, write the parts of both "
-                    "dumps from TIME before to TIME after that, as diff.a.vcd and diff.b.vcd")
-    of.add_argument("--into", metavar="DIRECTORY", help="the directory of these files (.)")
-    of.add_argument("--html", metavar="FILE", help="if values differ, write a page of HTML with "
-                    "the waveforms of both, as vcdkit-wave --html does: of the signals that the "
-                    "lines name and of the clock, in the time of --context, else as much as it "
-                    "has room for")
+    of.add_argument("--context", metavar="TIME", help="if values differ, write both dumps from "
+                    "TIME before to TIME after the difference, as diff.a.vcd and diff.b.vcd")
+    of.add_argument("--into", metavar="DIRECTORY",
+                    help="the directory of these files [default: .]")
+    of.add_argument("--html", metavar="FILE", help="if values differ, write an HTML page with the "
+                    "waveforms of both dumps, as vcdkit-wave --html does: the signals in the "
+                    "lines, and the clock, within --context, or otherwise as much as fits")
     add_form(of)
     add_unit(of)
     add_json(of)
@@ -291,6 +309,9 @@ def words_of(words: List[str]) -> argparse.Namespace:
         of.error("--into is for the files of --context")
     if asked.context is not None:
         word(asked.context)
+    asked.is_part = (asked.begin, asked.end) != (of.get_default("begin"), of.get_default("end"))
+    parts = [part_in(asked.into, letter) for letter in "ab" if asked.context]
+    check_outputs([asked.html, asked.junit, *parts], [asked.one, asked.other, asked.names_of])
     return asked
 
 

@@ -1,19 +1,20 @@
-"""Checks dumps; at a fault it shows the lines around it, the usual cause and a command that helps
+"""Checks dumps; for a fault, shows the lines around it, the usual cause, and what to do
 
-The report or the message is that of vcdkit check, and so is the exit status. If no cause is known,
-only the lines around the fault are shown. Bytes that are not text are shown as \\xNN, and long
-lines are truncated.
+The report or message is that of vcdkit check, and so is the exit status. If no cause is known, only
+the lines around the fault are shown. Bytes that are not text are shown as \\xNN, and long lines are
+truncated.
 
---salvage writes everything before the fault, as a dump. The line `good until` says up to which time
-it has all values. Usually that is one tick before the last timestamp in front of the fault, because
-some changes of that time may be missing. If the fault is in the next timestamp, it is the last
-timestamp itself. If there is no fault, or the header has the fault, no file is written. With -, the
-dump goes to standard output, also if it has no fault, and all else goes to standard error.
+--salvage writes everything before the fault, as a dump. The line `good until` reports up to which
+time this dump has all values. Usually that is one tick before the last timestamp before the fault,
+because some changes of that time may be missing. If the fault is in the next timestamp, it is the
+last timestamp itself. If there is no fault, or the fault is in the header, no file is written. With
+-, the dump goes to standard output, even if it has no fault, and everything else goes to standard
+error.
 
-With several FILEs, or a directory, which stands for the dumps in it and below it (.vcd and .fst,
-also packed), there is a line for each dump: its end, or its fault and the cause. The last line
-counts them, and the exit status is the highest of all. --reach makes a fault of a dump that ends
-before a time. --junit writes a file with a test for each dump.
+With several FILEs, or a directory, which stands for all dumps in it and below it (.vcd and .fst,
+also compressed), there is one line for each dump: its end, or its fault and the cause. The last
+line counts them, and the exit status is the highest of all. --reach treats a dump that ends before
+TIME as faulty. --junit writes a report with a test for each dump.
 
 examples:
   vcdkit-explain sim.vcd
@@ -32,8 +33,8 @@ from .._junit import write_tests
 from .._verdicts import files_of, summary, verdict_on, verdicts
 from ..dump import write
 from ..times import word
-from . import add_four_state, add_json, add_unit, command, dump_of, natural, parser, times_of
-from . import write_json
+from . import (add_four_state, add_json, add_unit, check_outputs, command, dump_of, natural, parser,
+               times_of, write_json)
 
 OUTPUT = ("-", "/dev/stdout")
 
@@ -141,13 +142,15 @@ def words_of(words):
     """Reads the command line."""
     of = parser("vcdkit-explain", __doc__, "valid dumps, as far as they go", "not a valid dump")
     of.add_argument("--salvage", metavar="OUT",
-                    help="write what is before the fault (-: to standard output)")
+                    help="write everything before the fault to a file (-: standard output)")
     of.add_argument("--token-limit", type=int, metavar="N",
-                    help="the longest token that is allowed, in bytes")
-    of.add_argument("--reach", metavar="TIME", help="a dump that ends before TIME has a fault")
+                    help="longest token: 64 to 16777216 bytes [default: 1048576]")
+    of.add_argument("--reach", metavar="TIME", help="treat a dump that ends before TIME as faulty")
     of.add_argument("--jobs", type=natural, default=os.cpu_count() or 1, metavar="N",
-                    help="how many dumps to check at a time (the number of processors)")
-    of.add_argument("--junit", metavar="FILE", help="write a JUnit file, with a test for each dump")
+                    help="how many dumps to check at a time "
+                    "[default: the number of processors]")
+    of.add_argument("--junit", metavar="FILE",
+                    help="write a JUnit report, with a test for each dump")
     add_unit(of)
     add_json(of)
     add_four_state(of)
@@ -165,6 +168,7 @@ def words_of(words):
 def explain_all(asked):
     """Writes a line for each dump, and how many have a fault; returns the highest status."""
     files = files_of(asked.files)
+    check_outputs([asked.junit], files)
 
     def verdict(file):
         return verdict_on(dump_of(asked, file, token_limit=asked.token_limit), file, asked.reach,
@@ -189,6 +193,7 @@ def main(words):
     asked = words_of(words)
     if asked.is_many:
         return explain_all(asked)
+    check_outputs([asked.salvage], asked.files)
     if asked.salvage not in OUTPUT:
         return answer(asked, None)
     out = sys.stdout

@@ -1,11 +1,11 @@
 """Lists the variables whose paths match a regular expression, or writes a dump of only these
 
-A REGEX is a regular expression of Python, which may match anywhere in a path: 'count$',
+A REGEX is a Python regular expression, which may match anywhere in a path: 'count$',
 '^tb\\.cpu\\.', '(?i)clk'. If there are several, a path has to match one of them; if there is none,
-all variables are listed. With --names, those that the names in a file select are listed too. Each
-line has path, type, size and code, as in vcdkit list. With --tree, each line has a scope, indented
-below the scope that contains it, and the number of matching variables in it and in the scopes below
-it.
+all variables are listed. With --names, the variables that the names in a file select are listed
+too. Each line has the path, type, size and code, as in vcdkit list. With --tree, each line has a
+scope, indented below the scope that contains it, and the number of matching variables in it and in
+the scopes below it.
 
 examples:
   vcdkit-find sim.vcd 'count$'
@@ -110,12 +110,13 @@ def main(words):
     of = parser("vcdkit-find", __doc__, failed="no path matches, or not a valid dump")
     form = of.add_mutually_exclusive_group()
     form.add_argument("--pick", action="store_true", help="write a dump of only these variables")
-    form.add_argument("--tree", action="store_true", help="list scopes, with how many are in each")
+    form.add_argument("--tree", action="store_true",
+                      help="list scopes, with the number of variables in each")
     add_json(form)
     add_names_of(of)
     add_file(of)
     of.add_argument("patterns", metavar="REGEX", nargs="*", default=[],
-                    help="an expression that paths have to match")
+                    help="a regular expression [default: all variables]")
     asked = of.parse_args(words)
     asked.names = []
     dump, patterns = dump_of(asked), list(map(compiled, asked.patterns))

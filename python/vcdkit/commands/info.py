@@ -1,9 +1,9 @@
 """Describes a dump: its time scale, first and last timestamps, counts and largest scopes
 
-Each line has a key and what it says of the dump. The first and the last timestamp are shown with a
-unit and, if that differs, in ticks. `types` counts the variables of each type, and `bits` adds up
-the sizes of all codes. The largest scopes are those with the most variables of their own. If the
-body has a fault, the lines about the header are written nevertheless, and the fault goes to
+Each line has a key and its value. The first and the last timestamp are shown with a unit and, if
+that differs, in ticks. `types` counts the variables of each type, and `bits` is the sum of the
+sizes of all codes. The largest scopes are those that directly contain the most variables. If the
+fault of a dump is in its body, the lines about the header are still written, and the fault goes to
 standard error.
 
 examples:
@@ -25,7 +25,9 @@ def of_header(dump, most):
     """Returns what the header says, as pairs; without the file's name."""
     date, version, scale = dump.header
     types = Counter(one.type for one in dump.signals)
-    scopes = Counter(one.path.rpartition(".")[0] for one in dump.signals)
+    scopes = Counter()
+    for scope in dump.tree.walk():
+        scopes.update({scope.path: len(scope.signals)} if scope.signals else {})
     sizes = {one.code: one.size for one in dump.signals}
     yield "date", date
     yield "version", version
@@ -48,7 +50,7 @@ def shown(key, value):
 def main(words):
     of = parser("vcdkit-info", __doc__, failed="not a valid dump")
     of.add_argument("--scopes", type=int, default=5, metavar="N",
-                    help="how many of the largest scopes to list (5)")
+                    help="how many of the largest scopes to list [default: 5]")
     add_unit(of)
     add_json(of, "write one JSON object; first_tick and last_tick are ticks")
     add_file(of)

@@ -1,11 +1,13 @@
 """Joins variables that are declared bit by bit into vectors; a filter
 
 ModelSim and Questa write `$var wire 1 # q [7] $end`, `$var wire 1 $ q [6] $end` and so on. This
-filter joins neighbouring lines of one name whose indices go up or down by one, and writes
-`$var wire 8 # q [7:0] $end`. A bit whose code has a second name stays as it is. A vector is
-written after the changes of its bits, once for each time and once for each section. Each
-declaration and each change has to be on a line of its own. The filter reads its input once, and
-calls no vcdkit.
+filter joins all bits that have the same name and are in the same scope, in whatever order they are
+declared, and writes `$var wire 8 # q [7:0] $end` in place of the first. The bits of a name stay as
+they are if an index is missing or occurs twice, if their types differ, if they are real numbers or
+events, if the code of one of them has a second name, or if another variable has this name. A vector
+is written after the changes of its bits, once for each time and once for each section. Each
+declaration and each change has to be on a separate line. The filter reads its input once, and does
+not run vcdkit.
 
 example:
   vcdkit-join-bits < sim.vcd | vcdkit sample --at 15ns tb.q"""
@@ -13,31 +15,26 @@ import io
 import itertools
 import re
 import sys
-from typing import Dict, Iterable, Iterator, List, NamedTuple, Optional, Tuple
+from collections import Counter
+from typing import Dict, Iterable, Iterator, List, NamedTuple, Optional, Set, Tuple
 
 from .._filter import blocks_of
 from . import command, filter_of
 
-VARIABLE = re.compile(rb"^\s*\$var\s+(\S+)\s+1\s+(\S+)\s+(\S+?)\s*\[(-?\d+)\]\s+\$end\s*$")
+VARIABLE = re.compile(rb"^\s*\$var\s+(?!real|(?:shortreal|event|string)\s)(\S+)\s+1\s+(\S+)\s+"
+                      rb"(\S+?)\s*\[(-?\d+)\]\s+\$end\s*$")
 CHANGE = re.compile(rb"\s*(?:[bB](?=\S\s))?([01xXzZ])\s*(\S+)\s*$")  # of a bit, also b1 !
-DECLARED = re.compile(rb"^\s*\$var\s+\S+\s+\S+\s+(\S+)\s")
+Name = Tuple[Tuple[bytes, ...], bytes]  # the scopes around it, and the name
 
 
 class Bit(NamedTuple):
-    """A line that declares a bit: type, code, name and number."""
+    """A line that declares a bit: its place in the header, type, code, name and number."""
 
+    line: int
     kind: bytes
     code: bytes
     name: bytes
     number: int
-
-
-def goes_on(run: List[Bit], bit: Bit) -> bool:
-    """Whether the bit is the next one of the vector whose bits are in the run."""
-    step = bit.number - run[-1].number
-    has_its_name = (bit.kind, bit.name) == (run[-1].kind, run[-1].name)
-    return has_its_name and abs(step) == 1 and (
-        len(run) == 1 or step == run[-1].number - run[-2].number)
 
 
 class Vectors:
@@ -51,17 +48,15 @@ class Vectors:
         # Of each line that changes a bit of a vector, the vector, the place and the digit.
         self._lines: Dict[bytes, Tuple[bytes, int, bytes]] = {}
 
-    def declare(self, run: List[Bit]) -> bytes:
-        """Returns the line of a run of bits."""
-        kind, first, name, left = run[0]
-        if len(run) == 1:
-            return b"$var %s 1 %s %s [%d] $end\n" % run[0]
-        self._digits[first] = [b"x"] * len(run)
-        self.places.update((bit.code, (first, place)) for place, bit in enumerate(run))
+    def declare(self, bits: List[Bit]) -> bytes:
+        """Returns the line of a vector of bits, the first of which is the leftmost."""
+        first = bits[0].code
+        self._digits[first] = [b"x"] * len(bits)
+        self.places.update((bit.code, (first, place)) for place, bit in enumerate(bits))
         self._lines.update((digit + bit.code + b"\n", (first, place, digit)) for place, bit in
-                           enumerate(run) for digit in (b"0", b"1", b"x", b"z", b"X", b"Z"))
+                           enumerate(bits) for digit in (b"0", b"1", b"x", b"z", b"X", b"Z"))
         return b"$var %s %d %s %s [%d:%d] $end\n" % (
-            kind, len(run), first, name, left, run[-1].number)
+            bits[0].kind, len(bits), first, bits[0].name, bits[0].number, bits[-1].number)
 
     def of_blocks(self, blocks: Iterable[bytes]) -> Iterator[bytes]:
         """Returns the lines of a body."""
@@ -94,34 +89,55 @@ class Vectors:
         return lines
 
 
-def header_of(lines: Iterable[bytes]) -> Iterator[Tuple[bytes, List[Bit]]]:
-    """Returns the lines of the header, and of each that declares a bit that bit."""
+def header_of(lines: Iterable[bytes]) -> Iterator[bytes]:
+    """Returns the lines of the header."""
     for line in lines:
-        found = VARIABLE.match(line)
-        yield line, [Bit(found.group(1), found.group(2), found.group(3), int(found.group(4)))
-                     ] if found else []
+        yield line
         if line.split()[:1] == [b"$enddefinitions"]:
             return
 
 
+def vectors_of(header: List[bytes]) -> Iterator[List[Bit]]:
+    """Returns the bits that make a vector, for each one in the order of declaration."""
+    scopes: List[bytes] = []
+    uses: Dict[bytes, int] = Counter()  # of each code
+    found: Dict[Name, List[Bit]] = {}
+    others: Set[Name] = set()  # that no bits have
+    is_open = False  # whether a command such as a comment goes on
+    for at, line in enumerate(header):
+        words = line.split()
+        was_open, is_open = is_open, b"$end" not in words and (is_open or line.strip()[:1] == b"$")
+        bit = None if was_open else VARIABLE.match(line)
+        if bit:
+            kind, code, name, number = bit.groups()
+            found.setdefault((tuple(scopes), name), []).append(
+                Bit(at, kind, code, name, int(number)))
+        for place, word in enumerate([] if was_open else words):
+            if word == b"$var":
+                uses[b"".join(words[place + 3:place + 4])] += 1
+                others.update((tuple(scopes), name) for name in words[place + 4:place + 5]
+                              if not bit)
+            elif word == b"$scope":
+                scopes.append(b"".join(words[place + 2:place + 3]) or b"$%d" % at)
+            elif word == b"$upscope":
+                del scopes[-1:]
+    for its, bits in found.items():
+        numbers = {bit.number for bit in bits}
+        if (its not in others and len({bit.kind for bit in bits}) == 1 < len(bits)
+                and max(numbers) - min(numbers) + 1 == len(numbers) == len(bits)
+                and all(uses[bit.code] == 1 for bit in bits)):
+            yield bits
+
+
 def joined(lines: Iterable[bytes], vectors: Vectors) -> Iterator[bytes]:
     """Returns the lines of a header with vectors."""
-    header: List[Tuple[bytes, List[Bit]]] = list(header_of(lines))
-    uses: Dict[bytes, int] = {}
-    run: List[Bit] = []
-    for line, _ in header:
-        declared = DECLARED.match(line)
-        if declared:
-            uses[declared.group(1)] = uses.get(declared.group(1), 0) + 1
-    for line, bits in header:
-        single = [bit for bit in bits if uses[bit.code] == 1]
-        if run and not (single and goes_on(run, single[0])):
-            yield vectors.declare(run)
-            run = []
-        if single:
-            run += single
-        else:
-            yield line
+    header = list(header_of(lines))
+    made: Dict[int, bytes] = {}
+    for bits in vectors_of(header):
+        made.update((bit.line, b"") for bit in bits)
+        made[bits[0].line] = vectors.declare(sorted(bits, key=lambda bit: -bit.number))
+    for at, line in enumerate(header):
+        yield made.get(at, line)
 
 
 def lines_of(blocks: Iterable[bytes], rest: List[bytes]) -> Iterator[bytes]:

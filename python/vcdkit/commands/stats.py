@@ -1,26 +1,27 @@
-"""Says how signals change: period, duty cycle, shortest and longest pulse, time of each value
+"""Reports how signals change: period, duty cycle, shortest and longest pulse, time at each value
 
-The first line of a signal has its path, type and size. These lines follow, if the signal has them:
+The first line of a signal has its path, type and size. These lines follow, if they apply:
   changes 20                    how often its value changes, or an event is triggered
   period 10ns to 12ns, mean 10.2ns, 9 times
-                                the shortest, longest and mean time from a rise of a bit to the
-                                next one (without x and z between), or from a trigger of an event
-                                to the next one
+                                the shortest, longest and mean time from one rise of a bit to the
+                                next (without x or z in between), or from one trigger of an event
+                                to the next
   duty 50%                      the part of these periods in which the bit is 1
-  range -1.5 to 3, mean 0.25    the least and the largest real number, and the mean over time
+  range -1.5 to 3, mean 0.25    the smallest and the largest real number, and the mean over time
   value 1 60ns 49.2%, 10 times, 5ns to 7ns
                                 how long and how often it has this value, and its shortest and
                                 longest pulse; a pulse counts only if it begins and ends in the
                                 window
-The values that it has longest come first. Only the values at the end of each time count: what
-comes and goes within one time is not seen. Real numbers are compared as numbers. The window ends
-with the dump, if that is earlier. A --from after the end of the dump is a usage error.
+The values that it has longest come first. Only the value at the end of each time step counts;
+glitches within a time step are ignored. Real numbers are compared as numbers. If the dump ends
+before --to, the window ends with it. A --from after the end of the dump is a usage error.
 
-With --toggle there is a line for each bit: its path, how often it goes from 0 to 1 and from 1 to 0,
-and how often it becomes x. Bits that toggle most come first, and those that never do come last. The
-last line counts them. Bits are numbered as in the declaration. A bit that has no value yet is x.
---saif writes how long each bit is 0, 1, x and z (T0, T1, TX, TZ) and how often it toggles (TC) into
-a backward SAIF file, which power tools read. Both leave out real numbers and events.
+With --toggle, there is a line for each bit: its path, how often it goes from 0 to 1 and from 1 to
+0, and how often it becomes x. Bits that toggle most come first, and those that never do come last.
+The last line counts them. Bits are numbered as declared. A bit that has no value yet is x. --saif
+writes how long each bit is 0, 1, x and z (T0, T1, TX, TZ), and how often it toggles (TC), to a
+backward SAIF file, which power tools read; if the dump has no time scale, a tick is written as 1 s.
+Both leave out real numbers and events.
 
 examples:
   vcdkit-stats sim.vcd tb.clk
@@ -30,11 +31,12 @@ examples:
   vcdkit-stats --saif power.saif --from 1us --to 2us sim.vcd tb.cpu"""
 import math
 import sys
+from fractions import Fraction
 
 from .. import _body, _toggles
 from ..dump import write
-from . import (add_file, add_form, add_json, add_unit, add_window, check_begin, command, dump_of,
-               mean_text, natural, parser, shown, times_of, write_json)
+from . import (add_file, add_form, add_json, add_unit, add_window, check_begin, check_outputs,
+               command, dump_of, mean_text, natural, parser, shown, times_of, write_json)
 
 MAX_VALUES = 1 << 16  # of one signal; further ones count as one
 OTHERS = b"others"
@@ -155,9 +157,9 @@ def of_lengths(lengths):
             "mean": lengths.sum / lengths.count}
 
 
-def of_reals(of):
+def of_reals(signal, of):
     """Returns the facts of the numbers of a real signal; `None` if there is none."""
-    if not of.signal.is_real:
+    if not signal.is_real:
         return None
     numbers = [(_body.value(text, of.signal), value.ticks) for text, value in of.values.items()]
     numbers = [pair for pair in numbers if isinstance(pair[0], float) and math.isfinite(pair[0])]
@@ -165,7 +167,7 @@ def of_reals(of):
     if not span:
         return None
     return {"least": min(numbers)[0], "largest": max(numbers)[0],
-            "mean": sum(number * ticks for number, ticks in numbers) / span}
+            "mean": float(sum(Fraction(number) * ticks for number, ticks in numbers) / span)}
 
 
 def of_values(of, form, most):
@@ -186,7 +188,7 @@ def facts_of(signal, of, form, most):
     duty = of.high_of_periods / periods.sum if periods.count and not is_event else None
     return {"path": signal.path, "type": signal.type, "size": signal.size, "changes": of.changes,
             "period": of_lengths(periods) if periods.count else None, "duty": duty,
-            "range": of_reals(of), "values": of_values(of, form, most)}
+            "range": of_reals(signal, of), "values": of_values(of, form, most)}
 
 
 def times(count):
@@ -236,8 +238,8 @@ def write_toggles(rows, asked):
                               for row in ordered)
         both = sum(bool(row.rises and row.falls) for row in rows)
         never = sum(not row.rises and not row.falls for row in rows)
-        print("%d bits: %d rise and fall, %d do one of these, %d do neither" % (
-            len(rows), both, len(rows) - both - never, never))
+        print("%d bit%s: %d rise and fall, %d do one of these, %d do neither" % (
+            len(rows), "s" * (len(rows) != 1), both, len(rows) - both - never, never))
 
 
 def write_bits(dump, asked):
@@ -257,15 +259,16 @@ def write_bits(dump, asked):
 def main(words):
     of = parser("vcdkit-stats", __doc__)
     of.add_argument("--values", type=natural, default=10, metavar="N",
-                    help="how many values to list for a signal (10; --json lists all)")
+                    help="how many values to list for a signal; --json lists all [default: 10]")
     of.add_argument("--toggle", action="store_true", help="list how often each bit toggles")
-    of.add_argument("--saif", metavar="FILE", help="write a SAIF file (-: to standard output)")
+    of.add_argument("--saif", metavar="FILE", help="write a SAIF file (-: standard output)")
     add_window(of)
     add_form(of)
     add_unit(of)
     add_json(of)
     add_file(of, "+")
     asked = of.parse_args(words)
+    check_outputs([asked.saif], [asked.file, asked.names_of])
     dump = dump_of(asked)
     times_of(dump, asked)  # a unit needs a time scale
     dump.select(asked.names)

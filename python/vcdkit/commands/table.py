@@ -1,24 +1,24 @@
-"""Writes the values of several signals as CSV, a column for each
+"""Writes the values of several signals as CSV, with a column for each
 
 There is a row for each time at which one of the signals changes, with the values at the end of that
-time. With --from there is also a row for that time, if there are values then. With --rise or --fall
-there is a row for each such edge of a clock of one bit, with the values just before the time of the
-edge, which are those that a flip-flop takes. With both there is a row for every edge. With --at
-there is a row for each of the given times, in this order. Changes within one time, and values that
-are written again, are not seen, but for edges of the clock: one also counts if the clock comes back
-within its time. Events have no column. While a pipe is read, each row is written as soon as it is
-known. A --from after the end of the dump is a usage error.
+time. With --from, there is also a row for that time, if there are values then. With --rise or
+--fall, there is a row for each such edge of a one-bit clock, with the values just before the edge,
+which are what a flip-flop samples; with both, there is a row for every edge. With --at, there is a
+row for each of the given times, in this order. Glitches within a time step and repeated values are
+ignored. A clock edge counts even if the clock returns to its old value in the same time step.
+Events have no column. While a pipe is read, each row is written as soon as it is known. A --from
+after the end of the dump is a usage error.
 
-With --if, only those of these rows are written at which a condition holds, by the values as the row
-shows them: --rise clk --if 'valid & ready' lists the transfers of a bus. `vcdkit-when --help`
-describes conditions. At an edge an event is triggered if it was so since the last edge.
+--if keeps only those of these rows at which a condition holds, for the values that the row shows:
+--rise clk --if 'valid & ready' lists the transfers on a bus. `vcdkit-when --help` describes
+conditions. At an edge, an event counts as triggered if it was triggered since the edge before.
 
 Values are written with all their digits, as numbers (--hex, --decimal, --signed) or as text
 (--ascii). If a value has an x or a z, --hex writes x or z for four such digits and X for a mixture,
 and the other options write all digits. `-` means that there is no value yet. Real numbers are
-written as 1.5, 3, 1e-09, nan or inf. Times are whole numbers in the unit of the time scale. With
---unit they are exact decimal numbers in that unit. For pandas, take --decimal; of --binary and
---hex, pandas.read_csv needs dtype=str.
+written as 1.5, 3, 1e-09, nan or inf. Times are whole numbers in the unit of the time scale or, with
+--unit, exact decimal numbers in that unit. For pandas, use --decimal; with --binary or --hex, pass
+dtype=str to pandas.read_csv.
 
 examples:
   vcdkit-table --hex --at 10ns,20ns,30ns sim.vcd tb.pc tb.bus
@@ -33,27 +33,27 @@ import sys
 from typing import List
 
 from .. import Value, _rows
-from . import (add_clock, add_file, add_form, add_json, add_unit, add_window, check_begin, command,
-               dump_of, in_json, parser, shown, write_json)
+from . import (add_at, add_clock, add_file, add_form, add_json, add_unit, add_window, check_begin,
+               command, dump_of, in_json, parser, shown, times_at, write_json)
 
 
 @command
 def main(words: List[str]) -> int:
     of = parser("vcdkit-table", __doc__)
     add_form(of)
-    add_clock(of, "a row for each %s edge of this signal")
-    of.add_argument("--at", metavar="TIME,..", help="a row for each of these times")
+    add_clock(of, "write a row for each %s edge of this signal")
+    add_at(of, "write a row for each of these times%s")
     of.add_argument("--if", dest="condition", metavar="CONDITION",
-                    help="only the rows at which this holds")
+                    help="write only the rows at which this holds")
     add_window(of)
-    add_unit(of)
+    add_unit(of, "that of the time scale")
     add_json(of)
     add_file(of, "+")
     asked = of.parse_args(words)
     is_part = (asked.begin, asked.end) != (of.get_default("begin"), of.get_default("end"))
     if asked.at is not None and (is_part or asked.rise is not None or asked.fall is not None):
         of.error("--at goes with none of --rise, --fall, --from and --to")
-    whole = dump_of(asked)
+    times, whole = times_at(asked), dump_of(asked)
     columns = [one for one in whole.select(asked.names) if one.type != "event"]
     scale = whole.timescale
     in_unit = asked.unit or (scale.unit if scale else "tick")
@@ -61,8 +61,8 @@ def main(words: List[str]) -> int:
     check_begin(whole, asked)
     # Values at the begin of a cut are a section, and none that changed.
     dump = whole.cut(asked.begin, asked.end) if is_part else whole
-    rows = dump.rows(asked.names, None if asked.at is None else asked.at.split(","), asked.rise,
-                     asked.fall, asked.condition)
+    rows = dump.rows(asked.names, times, asked.rise, asked.fall, asked.condition)
+    _ = dump.header  # so that a bad window is refused before anything is written
     is_file = os.path.isfile("/dev/stdin" if asked.file == "-" else asked.file)
     if not is_file and isinstance(sys.stdout, io.TextIOWrapper):
         sys.stdout.reconfigure(line_buffering=True)  # the rows of a pipe are seen as they come

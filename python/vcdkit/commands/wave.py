@@ -1,14 +1,15 @@
-"""Draws the waveforms of some signals in a window of time, as SVG or HTML on standard output
+"""Draws the waveforms of some signals in a time window, as SVG or HTML on standard output
 
-A signal of one bit is a line, a vector is a lane with its values, a real number is a curve between
-its least and its largest value, and an event is a tick. x is red, and z is orange. A grey block
-stands for changes that are closer together than the picture can show. The scope that all names have
-in common stands above them. --mark draws a line at one time, such as that of a failure.
+A one-bit signal is a line, a vector is a lane with its values, a real number is a curve between its
+smallest and its largest value, and an event is a tick. x is red, and z is orange. A grey block
+stands for changes that are closer together than the picture can show; it is red where the signal is
+x at some time. The scope that all names have in common stands above them. --mark draws a line at
+one time, such as that of a failure.
 
-With --html it writes a page instead: one file that needs no network, and in which you zoom, search,
-and read the values at a cursor. `?` shows its keys. It takes any number of signals, with up to
-3,000,000 changes. A link may name a place: page.html#from=100ns&to=200ns&cursor=158ns. --light and
-the form of the values are those with which the page begins.
+With --html, it writes a page instead: one file that needs no network, in which you can zoom,
+search, and read the values at a cursor. Press `?` to list its keys. It takes any number of signals,
+with up to 3,000,000 changes and 2^53 ticks. A link can point to a place:
+page.html#from=100ns&to=200ns&cursor=158ns. --light and the number format set how the page starts.
 
 examples:
   vcdkit-wave --from 100ns --to 200ns --mark 158ns sim.vcd tb.clk tb.bus > failure.svg
@@ -141,7 +142,7 @@ class Picture:
         height, of_kind, last = {"0": y + HIGH, "1": y, "z": y + HIGH / 2}, {}, None
         for x, to, value in self.pieces(points):
             if isinstance(value, Several):
-                of_kind.setdefault("several", []).append(box(x, to, y, HIGH))
+                of_kind.setdefault(value.kind, []).append(box(x, to, y, HIGH))
             elif value not in height:  # x, or the text of a real number
                 of_kind.setdefault("x", []).append(box(x, to, y, HIGH))
             else:
@@ -155,7 +156,7 @@ class Picture:
         of_kind, texts = {}, []
         for x, to, value in self.pieces(points):
             if isinstance(value, Several):
-                of_kind.setdefault("several", []).append(box(x, to, y, HIGH))
+                of_kind.setdefault(value.kind, []).append(box(x, to, y, HIGH))
                 continue
             slant, middle = min(3, (to - x) / 2), y + HIGH / 2
             shape = "M%.1f %.1fL%.1f %.1fH%.1fL%.1f %.1fL%.1f %.1fH%.1fZ" % (
@@ -250,7 +251,7 @@ def window_of(dump, asked):
     if asked.around is None:
         check_begin(dump, asked)
         return dump.ticks(asked.begin, is_up=True), dump.ticks(asked.end)
-    if not dump.ticks(asked.context or "0", is_up=True):
+    if asked.context is None:
         raise UsageError("--around needs --context TIME, how much before and after it")
     begin, end = dump.window(asked.around, asked.context)
     is_late = after_end(dump, dump.time(begin))
@@ -268,11 +269,10 @@ def width(text):
 
 
 def last_of(dump, window):
-    """Returns the end of a window, which ends with the dump if that is earlier. It has at least a
-    tick, also if the dump has only one time."""
+    """Returns the end of a window, which ends with the dump if that is earlier."""
     begin, end = window
     last = (dump if window == (0, LAST_TICK) else dump.cut(begin, end)).check().last or 0
-    return max(last, begin + 1)
+    return max(last, begin)
 
 
 def lanes_of(dump, chosen, names, window, count):
@@ -303,7 +303,9 @@ def draw(dump, chosen, lanes, asked):
     names = [short(one.path[len(scope):]) for one in chosen]
     # A time of the axis begins before the traces.
     left = PAD * 2 + CHAR * max(map(len, [short(scope) + "0ns", *names]))
-    picture, bottom = Picture(lanes.begin, lanes.end, left, asked.width), TOP
+    # A window of one time is drawn as long as a tick.
+    picture = Picture(lanes.begin, max(lanes.end, lanes.begin + 1), left, asked.width)
+    bottom = TOP
     rows = []
     for signal in chosen:
         rows.append(bottom)
@@ -343,11 +345,11 @@ def main(words):
                     help="how much time to show before and after it")
     of.add_argument("--mark", metavar="TIME", help="draw a line at this time")
     of.add_argument("--width", type=width, default=1000, metavar="N",
-                    help="width of the traces, in pixels (1000; %d to %d)"
+                    help="width of the traces: %d to %d pixels [default: 1000]"
                     % (LEAST_WIDTH, MAX_WIDTH))
     of.add_argument("--light", action="store_true", help="draw dark lines on white")
     of.add_argument("--html", action="store_true",
-                    help="write a page of HTML to zoom and search in, and not a picture")
+                    help="write an HTML page, in which you can zoom and search, not a picture")
     add_form(of)
     add_file(of, "+")
     asked = of.parse_args(words)

@@ -1,17 +1,18 @@
-"""Lists the times at which a condition over signals begins to hold
+"""Lists the times at which a condition on signals begins to hold
 
-The condition is evaluated at the end of each time at which one of its signals changes. If it holds
-at --from, that time is listed too. With --rise or --fall, the condition is evaluated at these edges
-of a clock of one bit, with the values just before the time of the edge, which are those that a
-flip-flop takes. With both it is evaluated at every edge.
+The condition is evaluated at the end of each time step in which one of its signals changes. If it
+holds at --from, that time is listed too. With --rise or --fall, the condition is evaluated at these
+edges of a one-bit clock, with the values just before the edge, which are what a flip-flop samples;
+with both, it is evaluated at every edge.
 
 conditions:
   tb.bus == 0xff   also != < <= > >=; numbers are 0xff, 0b101, 10, -1 and 1.5
-  tb.bus[7:4] > 3  a field, by the declared bits; tb.bus[0] is one bit
-  tb.valid         a digit is 1; of an event: it is triggered
-  !a  a & b  a | b (a | b) & c: & binds more than |, comparisons more than &
+  tb.bus[7:4] > 3  a bit range, numbered as declared; tb.bus[0] is one bit
+  tb.valid         a digit is 1; for an event: it is triggered
+  !a  a & b  a | b (a | b) & c: & binds tighter than |, comparisons tighter
+                   than &
   a is x           a digit is x; also is z, is not x, is not z
-  a == 0b1x0       a has exactly these digits, x and z too
+  a == 0b1x0       a has exactly these digits, including x and z
   signed(a) < b    two's complement, which integers and comparisons with
                    negative numbers use anyway
   req -> ack within 5
@@ -22,33 +23,45 @@ conditions:
                    req begins to hold, and ack does not follow
   "tb.a&b" == 1    a name that contains such signs
 
-If the answer to a comparison depends on x or z digits, or on a signal that has no value yet, it is
+If the result of a comparison depends on x or z digits, or on a signal that has no value yet, it is
 neither true nor false, as in Verilog: neither the comparison nor its ! holds.
 
-With --latency, each line of `req -> ack within 5` has the time at which req begins to hold, that of
-ack, and how long that is: the number of edges, or a time if `within` gives a time. The last line
-has the least, the mean and the greatest of these, and how many of req had no ack in time. (With
---json there is no such line.)
+With --latency, each line for `req -> ack within 5` has the time at which req begins to hold, that
+of ack, and how long that takes: the number of edges, or a time if `within` gives a time. The last
+line has the shortest, mean and longest of these, and how many requests had no ack in time. (With
+--json, there is no such line.) If two requests wait at the same time, both get the same answer, and
+a warning on standard error counts the requests that begin before the previous one is answered. With
+--in-order, each edge at which req holds is a request, each edge at which ack holds is an answer,
+and the n-th answer belongs to the n-th request.
 
-If the dump or --to ends before N of `within N` has passed, a request without an answer is neither
-in time nor late: neither form of the condition holds, and --latency does not list or count it. In a
-CI job, choose an N that fits between the last request and the end of the dump. `vcdkit-when --count
-sim.vcd tb.req`, with the same clock and window, says how many requests there were.
+With --rules, all conditions in a file are evaluated in one pass. For each rule that holds, a line
+shows its name, the first time and the number of times. The exit status is 0 if all rules hold (with
+--never: if none does). --junit also writes a JUnit report, with a test for each rule.
+
+If the dump or --to ends before the N of `within N` has passed, a request without an answer is
+neither in time nor late: neither form of the condition holds, and --latency does not list or count
+it. In a CI job, choose an N that fits between the last request and the end of the dump.
+`vcdkit-when --count sim.vcd tb.req`, with the same clock and window, counts all requests.
 
 examples:
   vcdkit-when sim.vcd 'tb.bus == 0xdeadbeef'
   vcdkit-when --rise tb.clk --every --count sim.vcd.gz 'tb.valid & tb.ready'
   vcdkit-when --latency --rise tb.clk sim.vcd 'tb.req -> tb.ack within 50'
   vcdkit-when --never --rise tb.clk sim.vcd '!(tb.req -> tb.ack within 5)'
+  vcdkit-when --never --rules rules.txt --junit rules.xml --rise tb.clk sim.vcd
   vcdkit-when --first --from 1us sim.vcd 'tb.dut.state is x'"""
 import argparse
-import re
-from typing import Callable, Iterable, List
+import sys
+from typing import Callable, Iterable, List, Tuple
 
-from .. import Dump
-from .._when import Latencies
-from . import (FAULT, add_clock, add_file, add_json, add_unit, add_window, check_begin, command,
-               dump_of, mean_text, parser, question, times_of, write_json)
+from .. import Dump, UsageError, VcdkitError
+from .._junit import Test, write_tests
+from .._saved import text_of_file
+from .._when import Questions
+from . import (FAULT, add_clock, add_file, add_json, add_unit, add_window, check_begin,
+               check_outputs, command, dump_of, mean_text, parser, question, times_of, write_json)
+
+Rule = Tuple[str, str]  # its name, and its condition
 
 
 def words_of(words: List[str]) -> argparse.Namespace:
@@ -56,27 +69,52 @@ def words_of(words: List[str]) -> argparse.Namespace:
     of = parser("vcdkit-when", __doc__, "it held at some time", "it never held",
                 "usage error, a bad condition, %s" % FAULT)
     form = of.add_mutually_exclusive_group()
-    form.add_argument("--first", action="store_true", help="list only the first of these times")
-    form.add_argument("--count", action="store_true", help="write only how many there are")
+    form.add_argument("--first", action="store_true", help="list only the first time")
+    form.add_argument("--count", action="store_true", help="write only the number of times")
     form.add_argument("--latency", action="store_true",
-                      help="of req -> ack within N, also list when and how late ack is")
+                      help="for req -> ack within N, also list when ack follows and after how long")
+    form.add_argument("--rules", metavar="FILE", help="evaluate the conditions in this file, each "
+                      "on a line `name: condition`, and write a line for each that holds")
+    of.add_argument("--in-order", action="store_true", help="with --latency: each edge at which "
+                    "req holds is a request, each edge at which ack holds is an answer, and the "
+                    "n-th answer belongs to the n-th request")
+    of.add_argument("--junit", metavar="FILE", help="with --rules: also write a JUnit report, with "
+                    "a test for each rule")
     add_clock(of, "evaluate at the %s edges of this signal")
     of.add_argument("--every", action="store_true",
-                    help="list each edge at which it holds, not only where it begins to")
+                    help="list each edge at which it holds, not only those at which it begins to")
     of.add_argument("--never", action="store_true",
-                    help="exit with 0 if it never held, and with 1 if it did, for a CI job")
+                    help="for a CI job: exit with 0 if it never held, and with 1 if it did")
     add_window(of)
     add_unit(of)
     add_json(of)
     add_file(of)
-    of.add_argument("condition", metavar="CONDITION", help="a condition (see below)")
-    # A condition may begin with a number below 0.
-    asked, rest = of.parsed([" " + word if re.match(r"-[.\d]", word) else word for word in words])
+    of.add_argument("condition", metavar="CONDITION", nargs="?",
+                    help="a condition (see below); not with --rules")
+    asked, rest = of.parsed(words)
     if rest:
         of.error("put the condition into quotes" if rest[0][:1] != "-" else
                  "unrecognized arguments: " + " ".join(rest))
+    if (asked.condition is None) == (asked.rules is None):
+        of.error("give a CONDITION, or --rules FILE")
+    if asked.in_order and not asked.latency or asked.junit is not None and asked.rules is None:
+        of.error("--in-order goes with --latency, and --junit with --rules")
     asked.is_part = (asked.begin, asked.end) != (of.get_default("begin"), of.get_default("end"))
     return asked
+
+
+def rules_of(path: str) -> List[Rule]:
+    """Returns the rules in a file; a line that is empty or begins with # is none."""
+    found = []
+    for number, line in enumerate(text_of_file(path).splitlines(), 1):
+        name, sign, condition = line.strip().partition(": ")
+        if line.strip() and line.strip()[:1] != "#":
+            if not sign:
+                raise UsageError("%s:%d: a rule is `name: condition`" % (path, number))
+            found.append((name, condition))
+    if not found:
+        raise UsageError("%s: it has no rule" % path)
+    return found
 
 
 def list_times(times: Iterable[int], text: Callable[[int], str], asked: argparse.Namespace) -> int:
@@ -93,12 +131,16 @@ def list_times(times: Iterable[int], text: Callable[[int], str], asked: argparse
     return count
 
 
-def list_latencies(found: Latencies, dump: Dump, text: Callable[[int], str],
+def list_latencies(asking: Questions, dump: Dump, text: Callable[[int], str],
                    asked: argparse.Namespace) -> int:
     """Writes when each request gets its answer, and how long that takes; returns how many do."""
-    lengths: List[int] = []
-    shown = (lambda count: str(count)) if found.counts_edges else text
-    for begin, answer, length in found:
+    one, lengths, late = asking.each[0], [], 0
+    counts_edges = not (one.span and one.span.unit)
+    shown = (lambda count: str(count)) if counts_edges else text
+    for _, (begin, answer, length) in asking.outcomes():
+        if answer is None:
+            late += 1
+            continue
         lengths.append(length)
         if asked.json:
             write_json({"time": begin, "answer": answer, "length": length})
@@ -107,25 +149,64 @@ def list_latencies(found: Latencies, dump: Dump, text: Callable[[int], str],
     if lengths and not asked.json:
         mean = sum(lengths) / len(lengths)
         print("least %s, mean %s, greatest %s, %d in time, %d late" % (
-            shown(min(lengths)), "%.6g" % mean if found.counts_edges
-            else mean_text(dump, mean, asked.unit), shown(max(lengths)), len(lengths), found.late))
+            shown(min(lengths)), "%.6g" % mean if counts_edges
+            else mean_text(dump, mean, asked.unit), shown(max(lengths)), len(lengths), late))
+    elif late and not asked.json:
+        print("0 in time, %d late" % late)
+    if one.overlaps and not asked.in_order:
+        print("vcdkit-when: warning: requests that begin before the previous one is answered: %d. "
+              "They get the same answer; with --in-order, each gets its own" % one.overlaps,
+              file=sys.stderr)
     return len(lengths)
+
+
+def list_rules(asking: Questions, rules: List[Rule], text: Callable[[int], str],
+               asked: argparse.Namespace) -> bool:
+    """Writes a line for each rule that holds: its name, the first time, and how many there are;
+    returns whether the rules are as they have to be: all hold, or with --never none."""
+    found: List[List[int]] = [[] for _ in rules]  # of each rule the first time, and the count
+    fault = ""
+    try:
+        for number, one in asking.outcomes():
+            if asking.is_listed(number, one):
+                its = found[number]
+                its[:] = [its[0], its[1] + 1] if its else [one.begin, 1]
+    except VcdkitError as error:
+        fault = str(error)
+        raise
+    finally:
+        tests = []
+        for (name, condition), its in zip(rules, found):
+            line = "%s, %d time%s" % (text(its[0]), its[1], "s" * (its[1] != 1)) if its else ""
+            if its and asked.json:
+                write_json({"rule": name, "first": its[0], "count": its[1]})
+            elif its:
+                print("%s: %s" % (name, line))
+            is_wrong = bool(its) == asked.never and (its or not fault)
+            tests.append(Test(asking.dump.name, name, "failure" if is_wrong else "",
+                              line or "it never held", condition))
+        if fault:
+            tests.append(Test(asking.dump.name, "fault", "error", fault, ""))
+        if asked.junit is not None:
+            write_tests(asked.junit, "vcdkit-when", tests)
+    return all(bool(its) != asked.never for its in found)
 
 
 @command
 @question
 def main(words: List[str]) -> int:
     asked = words_of(words)
+    check_outputs([asked.junit], [asked.file, asked.rules])
+    rules = rules_of(asked.rules) if asked.rules is not None else [("", asked.condition)]
     dump = dump_of(asked)
     text = times_of(dump, asked)
-    part = dump.cut(asked.begin, asked.end) if asked.is_part else dump
-    asked_for = asked.condition, asked.rise, asked.fall, asked.every
-    if asked.latency:
-        found = Latencies(part, *asked_for)
-        check_begin(dump, asked)
-        count = list_latencies(found, dump, text, asked)
-    else:
-        times = part.when(*asked_for)
-        check_begin(dump, asked)
-        count = list_times(times, text, asked)
+    asking = Questions(dump.cut(asked.begin, asked.end) if asked.is_part else dump, rules,
+                       asked.rise, asked.fall, asked.every, asked.in_order)
+    if asked.latency and not asking.each[0].has_latency:
+        raise UsageError("latencies are those of a condition such as req -> ack within 50")
+    check_begin(dump, asked)
+    if asked.rules is not None:
+        return int(not list_rules(asking, rules, text, asked))
+    count = (list_latencies(asking, dump, text, asked) if asked.latency
+             else list_times(asking.times(), text, asked))
     return int((count > 0) == asked.never)

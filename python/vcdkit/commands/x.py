@@ -1,14 +1,14 @@
-"""Lists the values with an x or a z that signals take in a window of time
+"""Lists the values with an x or a z that signals take in a time window
 
 Each line has a time, a path and a value. A value is listed if it has an x at the end of the first
-time of the window, or if it has one at the end of a later time and differs from the value before.
-So what comes and goes within one time is not seen. --z lists values with a z too. Without NAMEs all
-signals are searched. A --from after the end of the dump is a usage error. With this command, a CI
-job can require that nothing is unknown after reset.
+time of the window, or if it has one at the end of a later time and differs from the value before;
+glitches within a time step are ignored. --z lists values with a z too. Without NAMEs, all signals
+are searched. A --from after the end of the dump is a usage error. With this command, a CI job can
+require that nothing is unknown after reset.
 
 --trace lists only the first such value of each path, so the signals come in the order in which they
-become unknown: the cause is often at the top. The order is that of time only, as a dump does not
-say which signal drives which.
+become unknown: the cause is often at the top. The order is only that of time, because a dump does
+not say which signal drives which.
 
 examples:
   vcdkit-x --from 100ns sim.vcd tb.cpu
@@ -44,9 +44,9 @@ def unknown(part: Dump, signals: Signals, lines: Lines) -> Iterator[Tuple[int, b
 def main(words: List[str]) -> int:
     of = parser("vcdkit-x", __doc__, "no such value", "there is one", "usage error, " + FAULT)
     form = of.add_mutually_exclusive_group()
-    form.add_argument("--first", action="store_true", help="list only the first of all")
-    form.add_argument("--count", action="store_true", help="write only how many there are")
-    of.add_argument("--trace", action="store_true", help="list only the first of each path")
+    form.add_argument("--first", action="store_true", help="list only the first one")
+    form.add_argument("--count", action="store_true", help="write only the number of values")
+    of.add_argument("--trace", action="store_true", help="list only the first one of each path")
     of.add_argument("--z", action="store_true", help="list values with a z too")
     add_window(of)
     add_form(of)
