@@ -25,3 +25,4 @@ pub mod Taken
 pub mod Answer
 pub mod Device
 pub mod Walk
+pub mod Prompt

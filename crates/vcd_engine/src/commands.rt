@@ -1,5 +1,6 @@
 //! The commands over items. Each is a call with its task.
 ghost use Rattle.std.specs.Prelude.{◌≢◌, ◌≤◌, [], map, string_bytes};
+ghost use Rattle.vcd_body.specs.Prompt.{HasPassedOn};
 ghost use Rattle.vcd_engine.specs.Names.{HasRoomFor, IsStrictlyIncreasing, MayRun, no_room, Request, room_size, RunsTask, RunsWhole};
 
 use crate::engine::run_task;
@@ -19,6 +20,7 @@ pub fn check<S: Source, W: Sink>(
     requires run { MayRun S.failures feed.old view no_room (W.device out.old) }
     ensures runs { RunsWhole S.failures Request.Check view.entry
         feed.old feed.new (W.device out.old) (W.device out.new) result }
+    ensures passed_on { HasPassedOn (W.kept_back out.new) result }
 {
     let room = Room {
         values: &mut [],
@@ -47,6 +49,7 @@ pub fn pick<S: Source, W: Sink>(
     requires room { HasRoomFor (Task.Pick names) view room }
     ensures runs { RunsWhole S.failures (Request.Pick (map string_bytes names.now)) view.entry
         feed.old feed.new (W.device out.old) (W.device out.new) result }
+    ensures passed_on { HasPassedOn (W.kept_back out.new) result }
 {
     run_task(Task::Pick(names), view, feed, room, out)
 }
@@ -68,6 +71,7 @@ pub fn edges<S: Source, W: Sink>(
     requires room { HasRoomFor (Task.Edges names) view room }
     ensures runs { RunsWhole S.failures (Request.Edges (map string_bytes names.now)) view.entry
         feed.old feed.new (W.device out.old) (W.device out.new) result }
+    ensures passed_on { HasPassedOn (W.kept_back out.new) result }
 {
     run_task(Task::Edges(names), view, feed, room, out)
 }
@@ -91,6 +95,7 @@ pub fn cut<S: Source, W: Sink>(
     requires room { HasRoomFor (Task.Cut from to) view room }
     ensures runs { RunsTask S.failures (Request.Cut from to) view.entry
         feed.old feed.new (W.device out.old) (W.device out.new) result }
+    ensures passed_on { HasPassedOn (W.kept_back out.new) result }
 {
     run_task(Task::Cut { from, to }, view, feed, room, out)
 }
@@ -117,6 +122,7 @@ pub fn sample<S: Source, W: Sink>(
     requires room { HasRoomFor (Task.Sample times names) view room }
     ensures runs { RunsTask S.failures (Request.Sample times.now (map string_bytes names.now)) view.entry
         feed.old feed.new (W.device out.old) (W.device out.new) result }
+    ensures passed_on { HasPassedOn (W.kept_back out.new) result }
 {
     run_task(Task::Sample { times, names }, view, feed, room, out)
 }

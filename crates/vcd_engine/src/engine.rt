@@ -2,15 +2,19 @@
 ghost use Rattle.std.specs.Prelude.{◌≡◌, ◌≢◌, ◌-◌, ◌^◌, ◌<◌, [], List, true, false, MatchBool, Ok, MatchResult};
 ghost use Rattle.vcd_engine.specs.Names.{Advances, Again, BeginsAs, BodyItem, CallEnd, CanRun, close_text, Counts, CountsOn, Early, EndsAsAsked, EndsAtRead, Finish, Finishes, HasBegun, HasRoomFor, Header, Holds, is_going, IsValid, IsViewOf, IsWithinEachBound, item_text, MayRun, MayStep, parts, request_of, request_of_begun, request_of_engine, room_in, room_of_begun, room_size, RunsTask, SameHold, SameWindows, seen, StartsOver, Steps, StepsAhead, StepsOver, Takes, view_in};
 ghost use Rattle.vcd_engine.specs.Waits.{StepsOrStops};
-ghost use Rattle.vcd_body.specs.Whole.{IsPrompt};
-ghost use Rattle.vcd_text.specs.Feed.{source_of};
+ghost use Rattle.vcd_body.specs.Prompt.{HasPassedOn, LeavesSink};
+ghost use Rattle.vcd_body.specs.Whole.{HoldsItem, IsPrompt};
+ghost use Rattle.vcd_text.specs.Advances.{HasNotFailed};
+ghost use Rattle.vcd_text.specs.Ahead.{ahead_of};
+ghost use Rattle.vcd_text.specs.Feed.{limit_of, source_of};
 
 use crate::task::{Room, Task};
 use crate::task_state::TaskState;
+use std::mem::size_of;
 use vcd_body::{
     Done, Item, More, Regs, Stop, change_text, next_item, pass_items, pass_on_before_read,
 };
-use vcd_text::{Feed, Sink, Source, WriteFailed};
+use vcd_text::{Bytes, Feed, Sink, Source, WriteFailed};
 use vcd_view::HeadView;
 
 /// A task between two items of a body: its header's view, the registers, and what it keeps.
@@ -22,6 +26,13 @@ pub struct Engine<'v, 'n, 'r> {
     task_state: TaskState<'n, 'r>,
     going: bool,
 }
+
+// The memory bound reserves 512 bytes for each input, for what is kept of it between two calls.
+const _: () = prove!(
+    size_of::<Engine<'static, 'static, 'static>>()
+        + size_of::<Feed<'static, 'static, 'static, 'static, Bytes<'static>>>()
+        <= 512
+);
 
 /// Returns whether the item is `Item::Finish`, the end of the body.
 #[inline(always)]
@@ -124,6 +135,9 @@ impl<'v, 'n, 'r> Engine<'v, 'n, 'r> {
         ensures gives { Steps W.device self.old self.new feed.old feed.new out.old out.new result }
         ensures over { StepsOver S.failures self.old self.new feed.old feed.new
             (W.device out.old) (W.device out.new) result }
+        ensures ahead { HoldsItem (limit_of feed.old) (ahead_of feed.old)
+            → source_of feed.new ≡ source_of feed.old }
+        ensures sink { LeavesSink out.old out.new result }
     {
         let item = match next_item(feed, view, &mut self.regs) {
             Ok(item) => item,
@@ -205,9 +219,11 @@ impl<'v, 'n, 'r> Engine<'v, 'n, 'r> {
         requires step { MayStep S.failures self.old feed.old (W.device out.old) }
         requires view { parts view ≡ parts self.old.view }
         requires prompt { IsPrompt (W.kept_back out.old) feed.old }
+        requires open { HasNotFailed feed.old }
         ensures gives { Steps W.device self.old self.new feed.old feed.new out.old out.new result }
         ensures over { StepsOver S.failures self.old self.new feed.old feed.new
             (W.device out.old) (W.device out.new) result }
+        ensures passed_on { HasPassedOn (W.kept_back out.new) result }
     {
         self.step_with_view(view, feed, out)
     }
@@ -226,10 +242,12 @@ impl<'v, 'n, 'r> Engine<'v, 'n, 'r> {
     ) -> Result<More, Stop>
         requires step { MayStep S.failures self.old feed.old (W.device out.old) }
         requires view { parts view ≡ parts self.old.view }
+        requires open { HasNotFailed feed.old }
         ensures gives { StepsOrStops self.old self.new feed.old feed.new
             (W.device out.old) (W.device out.new) result }
         ensures over { StepsOver S.failures self.old self.new feed.old feed.new
             (W.device out.old) (W.device out.new) result }
+        ensures passed_on { HasPassedOn (W.kept_back out.new) result }
     {
         self.advance_ahead(view, feed, out)?;
         match pass_on_before_read(feed, out) {
@@ -275,6 +293,7 @@ impl<'v, 'n, 'r> Engine<'v, 'n, 'r> {
         ensures last { EndsAtRead (S.last_failed (source_of feed.new)) result }
         ensures answer { EndsAsAsked (request_of_engine self.old) result }
         ensures windows { SameWindows feed.old feed.new }
+        ensures passed_on { HasPassedOn (W.kept_back out.new) result }
     {
         let view = self.view;
         'items: loop {
@@ -303,6 +322,12 @@ pub fn step<S: Source, W: Sink>(
     ensures gives { Steps W.device engine.old engine.new feed.old feed.new out.old out.new result }
     ensures over { StepsOver S.failures engine.old engine.new feed.old feed.new
         (W.device out.old) (W.device out.new) result }
+
+    // An item that lies completely in the chunk is taken without a read, and a failed read leaves
+    // the sink as it was.
+    ensures ahead { HoldsItem (limit_of feed.old) (ahead_of feed.old)
+        → source_of feed.new ≡ source_of feed.old }
+    ensures sink { LeavesSink out.old out.new result }
 {
     engine.step_with_view(engine.view, feed, out)
 }
@@ -329,6 +354,9 @@ pub fn run_task<S: Source, W: Sink>(
     ensures runs { RunsTask S.failures (request_of task.entry) view.entry feed.old feed.new
         (W.device out.old) (W.device out.new) result }
     ensures answer { EndsAsAsked (request_of task.entry) result }
+
+    // If a read fails, the sink keeps nothing back of the output that was due before that read.
+    ensures passed_on { HasPassedOn (W.kept_back out.new) result }
 {
     let begun = Begun::start(task, view, room, out)?;
     let mut engine = Engine::new(begun, view);

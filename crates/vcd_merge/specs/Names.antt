@@ -19,6 +19,7 @@ pub use Rattle.vcd_head.specs.Merged.{ShowHeaders}
 pub use Rattle.vcd_head.specs.Shown.{shown}
 pub use Rattle.vcd_body.specs.Answer.{EndsAtRead, goes_on, NamesInput, reads_failed}
 pub use Rattle.vcd_body.specs.Given.{IsGoodText}
+pub use Rattle.vcd_body.specs.Prompt.{HasPassedOn}
 pub use Rattle.vcd_body.specs.Taken.{TakesItem}
 pub use Rattle.vcd_merge.specs.MergeAhead.{PutsDue, seat_with, TakesNext}
 pub use Rattle.vcd_merge.specs.MergeOrder.{greatest_time, IsNext}

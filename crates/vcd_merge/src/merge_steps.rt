@@ -1,6 +1,6 @@
 //! The start of a merge, a step of it over all inputs, and the loop over its steps.
 ghost use Rattle.std.specs.Prelude.{◌≡◌, ◌≢◌, ℕ, ◌+◌, ◌-◌, ◌*◌, ◌^◌, ◌<◌, ◌≤◌, Bool, true, false, ◌⊎◌, take, slice_get, List, length, All, MatchOption, MatchBool, IfErr, IfOk, Some, Option, Ok, map};
-ghost use Rattle.vcd_merge.specs.Names.{AllWait, AreBegun, AreMarked, AreParts, AreSeated, AtSeat, BodyItem, Counts, CountsWrites, Device, Dump, EndsAtReadOf, failures_after, failures_with, Follows, Gives, goes_on, greatest_time, HasBegun, Header, Holds, is_going, IsNext, IsReady, Lane, last_written, left_of, merge_close, merge_open, merged_head, merged_items, MergeIsWithinBound, NamesInput, no_windows, part, part_len, Runs, SameLengths, ShowHeaders, shown, Spot, spot_at, standing, standing_of, supply, Takes, Touches, TurnsAt, Views, windows_size, Writes};
+ghost use Rattle.vcd_merge.specs.Names.{AllWait, AreBegun, AreMarked, AreParts, AreSeated, AtSeat, BodyItem, Counts, CountsWrites, Device, Dump, EndsAtReadOf, failures_after, failures_with, Follows, Gives, goes_on, greatest_time, HasBegun, HasPassedOn, Header, Holds, is_going, IsNext, IsReady, Lane, last_written, left_of, merge_close, merge_open, merged_head, merged_items, MergeIsWithinBound, NamesInput, no_windows, part, part_len, Runs, SameLengths, ShowHeaders, shown, Spot, spot_at, standing, standing_of, supply, Takes, Touches, TurnsAt, Views, windows_size, Writes};
 
 use crate::beginning::set_seats;
 use crate::merge_state::Merge;
@@ -62,6 +62,7 @@ fn run_turn<S: Source, W: Sink>(
         (standing heads.now seats.new written.new sources.new windows.new)
         (W.device out.old) (W.device out.new) turn.input result }
     ensures last { EndsAtReadOf (map S.last_failed sources.new) result }
+    ensures passed_on { HasPassedOn (W.kept_back out.new) result }
     ensures kept { (j : ℕ) → j ≢ turn.input → slice_get seats.new j ≡ slice_get seats.old j }
     ensures sources { length sources.new ≡ length sources.old }
     ensures seated { IfOk result
@@ -174,6 +175,7 @@ fn run_step<S: Source, W: Sink>(
         (standing heads.now seats.new written.new sources.new windows.new)
         (W.device out.old) (W.device out.new) result }
     ensures last { EndsAtReadOf (map S.last_failed sources.new) result }
+    ensures passed_on { HasPassedOn (W.kept_back out.new) result }
     ensures order { result ≡ Ok More.Again → AllWait seats.new order.new.inputs order.new.len }
 {
     let next = order.take_next(seats);
@@ -244,6 +246,7 @@ pub fn merge_step<S: Source, W: Sink>(
         × (part (part_len (length merge.old.seats.now) windows.old.tokens.now) j windows.new.values.now
         ≡ part (part_len (length merge.old.seats.now) windows.old.tokens.now) j windows.old.values.now)) }
     ensures last { EndsAtReadOf (map S.last_failed sources.new) result }
+    ensures passed_on { HasPassedOn (W.kept_back out.new) result }
     ensures writes { CountsWrites (W.device out.old) (W.device out.new) result }
     ensures going { is_going merge.new ≡ goes_on result }
 {
@@ -297,6 +300,7 @@ impl<'h, 's> Merge<'h, 's> {
             × (map S.failures sources.new ≡ failures_with (map S.failures sources.old) k result)
             × NamesInput k result }
         ensures last { EndsAtReadOf (map S.last_failed sources.new) result }
+        ensures passed_on { HasPassedOn (W.kept_back out.new) result }
         ensures writes { CountsWrites (W.device out.old) (W.device out.new) result }
         ensures over { is_going self.new ≡ false }
     {

@@ -1,6 +1,6 @@
 //! The turn of one input of a merge, over its feed.
 ghost use Rattle.std.specs.Prelude.{◌≡◌, ◌≢◌, ℕ, ◌-◌, ◌^◌, ◌<◌, ◌≤◌, ◌++◌, [], List, Option, Some, None, slice_get, IfOk, IfSome, MatchOption, Ok, true, false, is_some, ◌&&◌};
-ghost use Rattle.vcd_merge.specs.Names.{Advances, AheadTurns, AtSeat, BodyItem, bytes_of, CallEnd, chunk_len_of, Code, Counts, CountsWrites, Device, failures_after, Fits, HasNotFailed, IsGoodText, IsRun, Lane, limit_of, longest_of, Moved, NamesInput, parked_of, passed_of, Puts, PutsDue, RunTurns, SameLoans, SameSeat, seat_with, seen, shown, source_of, spot_with, stage_with, time_due, Turns, Views};
+ghost use Rattle.vcd_merge.specs.Names.{Advances, AheadTurns, AtSeat, BodyItem, bytes_of, CallEnd, chunk_len_of, Code, Counts, CountsWrites, Device, failures_after, Fits, HasNotFailed, HasPassedOn, IsGoodText, IsRun, Lane, limit_of, longest_of, Moved, NamesInput, parked_of, passed_of, Puts, PutsDue, RunTurns, SameLoans, SameSeat, seat_with, seen, shown, source_of, spot_with, stage_with, time_due, Turns, Views};
 ghost use Rattle.vcd_body.specs.declared.answer.Stop.TheVariants as stop;
 ghost use Rattle.vcd_body.specs.declared.item.Item.TheVariants as item;
 ghost use Rattle.vcd_body.specs.declared.item.Regs.{Regs};
@@ -276,6 +276,7 @@ fn take_item<S: Source, W: Sink>(
     requires out_failures { (W.device out.old).failures < 2 ^ 64 - 1 }
     requires unfinished { seat.old.finished ≡ false }
     requires prompt { IsPrompt (W.kept_back out.old) feed.old }
+    requires open { HasNotFailed feed.old }
     ensures turns { (scale first : ℕ) (l : Lane) (items : List BodyItem)
         → Views (shown head.now) l.header → AtSeat scale first l items (spot_with seat.old feed.old)
         → Turns input scale first l items written.old written.new (spot_with seat.new feed.new)
@@ -285,6 +286,7 @@ fn take_item<S: Source, W: Sink>(
     ensures same { SameSeat seat.old seat.new }
     ensures named { NamesInput input result }
     ensures writes { CountsWrites (W.device out.old) (W.device out.new) result }
+    ensures passed_on { HasPassedOn (W.kept_back out.new) result }
 {
     let view = head.view();
     let item = match next_item(feed, view, &mut seat.regs) {
@@ -343,6 +345,7 @@ pub(crate) fn take_turn<S: Source, W: Sink>(
     ensures same { SameSeat seat.old seat.new }
     ensures named { NamesInput turn.input result }
     ensures writes { CountsWrites (W.device out.old) (W.device out.new) result }
+    ensures passed_on { HasPassedOn (W.kept_back out.new) result }
 {
     'items: loop {
         if take_turn_ahead(head, turn.before, feed, seat, written, out)? {

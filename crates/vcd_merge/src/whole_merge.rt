@@ -1,6 +1,6 @@
 //! `merge` over whole inputs.
 ghost use Rattle.std.specs.Prelude.{◌≡◌, ℕ, ◌+◌, ◌-◌, ◌^◌, ◌<◌, ◌≤◌, List, length, map, All};
-ghost use Rattle.vcd_merge.specs.Names.{AreParts, AreSeated, CountsWrites, EndsAtReadOf, failures_with, Follows, HaveNoItems, Header, Lane, MergeIsWithinBound, NamesInput, part_len, SameLengths, ShowHeaders, supply, windows_size};
+ghost use Rattle.vcd_merge.specs.Names.{AreParts, AreSeated, CountsWrites, EndsAtReadOf, failures_with, Follows, HasPassedOn, HaveNoItems, Header, Lane, MergeIsWithinBound, NamesInput, part_len, SameLengths, ShowHeaders, supply, windows_size};
 
 use crate::merge_state::Merge;
 use crate::seat::Seat;
@@ -50,6 +50,9 @@ pub fn merge<S: Source, W: Sink>(
         × NamesInput k result }
     ensures last { EndsAtReadOf (map S.last_failed sources.new) result }
     ensures writes { CountsWrites (W.device out.old) (W.device out.new) result }
+
+    // If a read fails, the sink keeps nothing back of the output that was due before that read.
+    ensures passed_on { HasPassedOn (W.kept_back out.new) result }
 {
     let mut merge = Merge::start(heads, seats, out)?;
     merge.finish(sources, windows, out)

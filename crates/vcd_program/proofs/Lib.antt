@@ -1,4 +1,5 @@
 mod MemoryLemmas
 mod LentLemmas
+mod HostLemmas
 mod RunsLemmas
 mod Statuses

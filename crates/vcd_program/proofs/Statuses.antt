@@ -7,7 +7,9 @@ use Rattle.vcd_model.specs.Outcome.{Outcome, clean_outcome}
 use Rattle.vcd_model.specs.Words.{Words, command_outcome}
 use Rattle.vcd_text.specs.Device.{Device}
 use Rattle.vcd_words.specs.Words.{parse_status_of}
-use Rattle.vcdkit.specs.Message.{unopened_outcome}
+use Rattle.vcd_words.specs.declared.job.UseFault.{UseFault}
+use Rattle.vcd_words.specs.declared.job.UseFault.TheVariants as use_fault
+use Rattle.vcdkit.specs.Message.{unopened_outcome, use_outcome}
 use Rattle.vcdkit.proofs.Statuses.{end-low}
 use Rattle.vcdkit.specs.Run.{IsOutcome}
 use Rattle.vcdkit.specs.Run.IsOutcome.{Whole, Part}
@@ -50,3 +52,13 @@ pub finishes-low : {W : Type 0} (device : W → Device) (flushes : W → Bool �
 finishes-low device flushes Left out' err' status low (Finishes.Flushed before left flushed held same) = low (device before) err' status left
 finishes-low device flushes Left out' err' status low (Finishes.Failed before left machine fails held same) = low (device before) err' status left
 finishes-low device flushes Left out' err' status low (Finishes.Unflushed before shown was left below fails held same then is) = omega arith
+
+pub use-low : (fault : UseFault) → (use_outcome fault).status ≤ 3
+use-low use_fault.BadWords = omega arith
+use-low (use_fault.BadLimit word) = omega arith
+use-low (use_fault.BadTime word) = omega arith
+use-low use_fault.FromAboveTo = omega arith
+use-low use_fault.NotRising = omega arith
+use-low use_fault.TooManyFiles = omega arith
+use-low use_fault.InputTwice = omega arith
+use-low use_fault.OutOfMemory = omega arith

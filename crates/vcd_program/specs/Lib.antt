@@ -1,4 +1,4 @@
 pub mod Runs
 pub mod Memory
-pub mod Machine
+pub mod Process
 pub mod Names

@@ -12,15 +12,19 @@
 //!
 //! - `command_line`: from the words to the exit status
 //! - `memory`: a host in memory
-//! - `machine`: the machine that a process runs on, as a host
+//! - `process`: any process, as a host
+//! - `machine`: the process that the program runs in
 //!
-//! In `specs/`: `Runs`, what a program ends with; `Memory`, what it leaves over a host in memory.
+//! In `specs/`: `Runs`, what a program ends with; `Memory`, what it leaves over a host in memory;
+//! `Process`, what it leaves over a process.
 #![tactic(auto)]
 
 mod command_line;
 mod machine;
 mod memory;
+mod process;
 
 pub use command_line::run_program;
 pub use machine::{run_on_machine, run_words_on_machine};
 pub use memory::{Filled, Left, Memory, MemoryFile, run_in_memory, run_into_memory};
+pub use process::{Process, run_process};

@@ -1,5 +1,5 @@
 //! The tests of `vcd_program`: command lines over a host in memory, files of the machine that
-//! cannot be read, and the buffer of an output.
+//! cannot be read, the buffer of an output, and a process in memory.
 #![tactic(auto)]
 
 #[cfg(test)]
@@ -10,5 +10,7 @@ mod command_lines;
 mod flush;
 #[cfg(test)]
 mod machine;
+#[cfg(test)]
+mod process;
 #[cfg(test)]
 mod prompt;

@@ -1,5 +1,5 @@
 -- How a run ends, and what it leaves.
-use Rattle.std.proofs.Common.{◌≡◌, ◌==◌, ℕ, Bool, true, false, cond, zero, suc, ◌+◌, ◌<◌, ◌≤◌, ◌++◌, inl, inr, List, [], ◌∷◌, length, nat_lt, take, map, get_or, set, slice_set, Option, None, Some, Result, Ok, Err, refl, sym, ap, subst, ◌∙◌, arith}
+use Rattle.std.proofs.Common.{◌≡◌, ◌≢◌, ◌==◌, ℕ, Bool, true, false, cond, zero, suc, ◌+◌, ◌<◌, ◌≤◌, ◌++◌, inl, inr, List, [], ◌∷◌, length, nat_lt, take, map, get_or, set, slice_set, Option, None, Some, Result, Ok, Err, refl, sym, ap, subst, ◌∙◌, arith}
 use Rattle.std.specs.Prelude.{MatchResult, IfOk, IfErr}
 use Rattle.std.specs.List.{list_any}
 use Rattle.vcd_model.specs.Input.{Input}
@@ -26,6 +26,7 @@ use Rattle.vcd_text.specs.declared.feed.Feed.{Feed}
 use Rattle.vcd_text.proofs.Writes.{appends-none}
 use Rattle.vcd_engine.specs.TaskRun.{Belongs, Follows, IsRefused, KeepsUp, is_early, is_more_due}
 use Rattle.vcd_body.specs.Answer.{EndsAtRead as EndsAtStop, reads_failed, writes_failed}
+use Rattle.vcd_body.specs.Prompt.{HasPassedOn as HasPassedOnAt}
 use Rattle.vcd_body.specs.declared.answer.Done.{Done}
 use Rattle.vcd_body.specs.declared.answer.Stop.{Stop}
 use Rattle.vcd_body.specs.declared.answer.Stop.TheVariants.{Dump, Read, Write, Unmatched}
@@ -33,7 +34,7 @@ use Rattle.vcd_words.specs.declared.job.Want.{Want}
 use Rattle.vcdkit.specs.declared.failure.Failure.{Failure}
 use Rattle.vcdkit.specs.declared.failure.Failure.TheVariants as failure
 use Rattle.vcd_words.specs.declared.refusal.Refusal.{Refusal}
-use Rattle.vcdkit.specs.Failure.{end_of, failure_of, merge_end, writes_failed as failure_writes, CountsRead, EndsAtRead, EndsAtReadOf}
+use Rattle.vcdkit.specs.Failure.{end_of, failure_of, merge_end, writes_failed as failure_writes, CountsRead, CountsReads, EndsAtRead, EndsAtReadOf, HasPassedOn}
 use Rattle.vcdkit.specs.Message.{Shows}
 use Rattle.vcd_words.specs.Refusal.{model_refusal}
 use Rattle.vcd_words.specs.Job.{is_merge, model_want, names_asked}
@@ -138,6 +139,33 @@ pub one_last : {X : Type 0} (f : X → Bool) (xs : List X) (k before after : ℕ
 one_last f xs k before after x why within counts e = λ input is.
     let named : input ≡ k = (subst (CountsRead k before after) is counts).0 in
     rw named (set_last f xs k x within (e input is))
+
+-- ---- what is kept back after a failed read
+
+pub list_passed : (kept : ℕ) (r : Result Done Stop) → MatchResult r (λ done. done ≡ Done.Whole) (λ stop. stop ≡ Write) → HasPassedOnAt kept r
+list_passed kept (Ok done) m = λ input is. absurd (cc)
+list_passed kept (Err stop) m = λ input is. absurd (cc)
+
+pub ended_passed : {W : Type 0} (kept : W → ℕ) (out out' : W) (r : Result Done Stop) → HasPassedOnAt (kept out') r → HasPassedOn kept out out' (failure_of (end_of r 0))
+ended_passed kept out out' (Ok done) e = λ input is before. absurd (cc)
+ended_passed kept out out' (Err (Dump only line fault)) e = λ input is before. absurd (cc)
+ended_passed kept out out' (Err (Read only)) e = λ input is before. e only refl
+ended_passed kept out out' (Err Write) e = λ input is before. absurd (cc)
+ended_passed kept out out' (Err (Unmatched name)) e = λ input is before. absurd (cc)
+
+pub merged_passed : {W : Type 0} (kept : W → ℕ) (out out' : W) (r : Result Done Stop) → HasPassedOnAt (kept out') r → HasPassedOn kept out out' (failure_of (merge_end r))
+merged_passed kept out out' (Ok done) e = λ input is before. absurd (cc)
+merged_passed kept out out' (Err stop) e = λ input is before. e input (cc)
+
+-- if a count of failed reads grew, a failed read ended the run
+pub failed_read : (before after : List ℕ) (why : Option Failure) → CountsReads before after why → after ≢ before → (input : ℕ) × why ≡ Some (failure.Stopped (Read input))
+failed_read before after None counts more = absurd (more counts)
+failed_read before after (Some (failure.Stopped (Read input))) counts more = (input, refl)
+failed_read before after (Some (failure.Stopped (Dump input line fault))) counts more = absurd (more counts)
+failed_read before after (Some (failure.Stopped Write)) counts more = absurd (more counts)
+failed_read before after (Some (failure.Stopped (Unmatched name))) counts more = absurd (more counts)
+failed_read before after (Some (failure.Refused why)) counts more = absurd (more counts)
+failed_read before after (Some failure.OutOfMemory) counts more = absurd (more counts)
 
 pub listed : {X : Type 0} {x : Ghosts X} (limit chunk : ℕ) (i : Input) (front : List Token) (h : Header) (name : List ℕ) (before : Supply) (old : Feed X x) (out out' : Device) (r : Result Done Stop)
     → limit_of old ≡ limit → HasGiven i front old → Takes out out' (list_text h) r → Counts out out' r → MatchResult r (λ done. done ≡ Done.Whole) (λ stop. stop ≡ Write)

@@ -1,5 +1,5 @@
 -- Why a run ends before it is done, and which calls of its devices failed.
-use Rattle.std.specs.Prelude.{◌≡◌, ℕ, ◌+◌, ◌<◌, Bool, true, List, length, map, slice_get, slice_set, slice_index, Option, Some, None, Result, Ok, Err}
+use Rattle.std.specs.Prelude.{◌≡◌, ◌≢◌, ℕ, ◌+◌, ◌<◌, Bool, true, List, length, map, slice_get, slice_set, slice_index, Option, Some, None, Result, Ok, Err}
 use Rattle.vcd_text.specs.Device.{Device, failures_then}
 use Rattle.vcd_head.specs.Fault.{fault_number}
 use Rattle.vcd_head.specs.declared.fault.HeadFault.{HeadFault}
@@ -61,6 +61,15 @@ EndsAtReadOf last_failed why = (input : ℕ) → why ≡ Some (Stopped (Read inp
 abbrev pub writes_failed : Option Failure → ℕ
 writes_failed (Some (Stopped Write)) = 1
 writes_failed why = 0
+
+-- if a read failed, the output keeps nothing back, unless it did so before: so what was due before
+-- the read is with its reader
+abbrev pub HasPassedOn : {W : Type 0} → (kept_back : W → ℕ) → W → W → Option Failure → Type 0
+HasPassedOn kept_back out out' why = (input : ℕ) → why ≡ Some (Stopped (Read input)) → kept_back out ≡ 0 → kept_back out' ≡ 0
+
+-- the same of a run over these readers, by what they say of themselves
+abbrev pub PassesOn : {X W : Type 0} → (failures : X → ℕ) → (kept_back : W → ℕ) → (old new : List X) → W → W → Type 0
+PassesOn failures kept_back old new out out' = map failures new ≢ map failures old → kept_back out ≡ 0 → kept_back out' ≡ 0
 
 -- ---- the devices themselves
 

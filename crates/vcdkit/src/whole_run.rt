@@ -1,6 +1,6 @@
 //! A job, from its readers to its output, its message and its status.
 ghost use Rattle.std.specs.Prelude.{◌≡◌, ◌+◌, ◌-◌, ◌^◌, ◌<◌, ◌≤◌, map, length, string_bytes, true, false, IfSome};
-ghost use Rattle.vcdkit.specs.Names.{AreReaders, AreWithin, AreWithinBound, chunk_len_of, CountsAt, CountsReadsOf, CountsWrites, Does, end_of, EndsAtRead, EndsAtReadOf, EndsAtStop, EndsSo, FailOnce, failure_of, HasNotFailed, InputEnds, is_asked, is_merge, IsEnough, IsValid, JobEnds, limit_of, MayFailOnce, merge_end, Merges, names_asked, Narrows, reads_failed, request_for, request_of_task, room_size, RunsJob, RunsUnder, SameLoans, source_of, stop_writes, WantEnds, writes_failed};
+ghost use Rattle.vcdkit.specs.Names.{AreReaders, AreWithin, AreWithinBound, chunk_len_of, CountsAt, CountsReadsOf, CountsWrites, Does, end_of, EndsAtRead, EndsAtReadOf, EndsAtStop, EndsSo, FailOnce, failure_of, HasNotFailed, HasPassedOn, HasPassedOnAt, InputEnds, is_asked, is_merge, IsEnough, IsValid, JobEnds, limit_of, MayFailOnce, merge_end, Merges, names_asked, Narrows, PassesOn, reads_failed, request_for, request_of_task, room_size, RunsJob, RunsUnder, SameLoans, source_of, stop_writes, WantEnds, writes_failed};
 
 use crate::failure::Failure;
 use crate::inputs::{MAX_DECLARATIONS, Reading, open_input, open_inputs, windows_for};
@@ -59,6 +59,7 @@ fn run_in<S: Source, W: Sink>(
         ≡ S.failures (source_of feed.old) + reads_failed result }
     ensures writes { CountsWrites W.device out.old out.new (stop_writes result) }
     ensures last { EndsAtStop (S.last_failed (source_of feed.new)) result }
+    ensures passed_on { HasPassedOnAt (W.kept_back out.new) result }
     ensures loans { SameLoans feed.old feed.new }
 {
     match task {
@@ -87,6 +88,7 @@ fn run_want<S: Source, W: Sink>(
     ensures reads { CountsAt S.failures 0 (source_of feed.old) (source_of feed.new) result }
     ensures writes { CountsWrites W.device out.old out.new (writes_failed (failure_of result)) }
     ensures last { EndsAtRead (S.last_failed (source_of feed.new)) (failure_of result) }
+    ensures passed_on { HasPassedOn W.kept_back out.old out.new (failure_of result) }
     ensures loans { SameLoans feed.old feed.new }
     ensures names { names_asked want.new ≡ names_asked want.old }
     ensures asked { is_asked want.new ≡ true }
@@ -121,6 +123,7 @@ fn run_input<S: Source, W: Sink, B: BuildHasher>(
     ensures reads { CountsAt S.failures 0 reader.old reader.new result }
     ensures writes { CountsWrites W.device out.old out.new (writes_failed (failure_of result)) }
     ensures last { EndsAtRead (S.last_failed reader.new) (failure_of result) }
+    ensures passed_on { HasPassedOn W.kept_back out.old out.new (failure_of result) }
     ensures names { names_asked job.new.task ≡ names_asked job.old.task }
 {
     let mut memory = windows_for(alloc, job, 1)?;
@@ -155,6 +158,7 @@ fn run_merge<S: Source, W: Sink, B: BuildHasher>(
     ensures reads { CountsReadsOf S.failures readers.old readers.new (failure_of result) }
     ensures writes { CountsWrites W.device out.old out.new (writes_failed (failure_of result)) }
     ensures last { EndsAtReadOf (map S.last_failed readers.new) (failure_of result) }
+    ensures passed_on { HasPassedOn W.kept_back out.old out.new (failure_of result) }
 {
     let mut memory = windows_for(alloc, job, readers.len())?;
     let mut windows = Windows {
@@ -183,6 +187,7 @@ fn run_readers<S: Source, W: Sink, B: BuildHasher>(
     ensures reads { CountsReadsOf S.failures readers.old readers.new (failure_of result) }
     ensures writes { CountsWrites W.device out.old out.new (writes_failed (failure_of result)) }
     ensures last { EndsAtReadOf (map S.last_failed readers.new) (failure_of result) }
+    ensures passed_on { HasPassedOn W.kept_back out.old out.new (failure_of result) }
     ensures names { names_asked job.new.task ≡ names_asked job.old.task }
 {
     if job.task.is_merge() {
@@ -225,6 +230,10 @@ pub fn run_with_hasher<S: Source, W: Sink, E: Sink, B: BuildHasher>(
     // write.
     ensures ends { EndsSo S.Source W.Sink E.Sink job (map string_bytes names.now)
         readers.old readers.new out.old out.new err.old err.new result }
+
+    // If a read failed, the output keeps nothing back, unless it did so before the run.
+    ensures passed_on { PassesOn S.failures W.kept_back
+        readers.old readers.new out.old out.new }
 
     // Over readers whose bytes are known, it is the outcome of the definitions, and no more was
     // read than what settles it.
@@ -283,6 +292,10 @@ pub fn run_within<S: Source, W: Sink, E: Sink, B: BuildHasher>(
     ensures ends { EndsSo S.Source W.Sink E.Sink job (map string_bytes names.now)
         readers.old readers.new out.old out.new err.old err.new result }
 
+    // If a read failed, the output keeps nothing back, unless it did so before the run.
+    ensures passed_on { PassesOn S.failures W.kept_back
+        readers.old readers.new out.old out.new }
+
     // If no reader returns more than `longest` bytes, it is the outcome of the definitions.
     ensures gives { AreWithin S.rest longest readers.old
         → RunsJob S.Source W.Sink E.Sink job (map string_bytes names.now)
@@ -328,6 +341,10 @@ pub fn run<S: Source, W: Sink, E: Sink>(
     // write.
     ensures ends { EndsSo S.Source W.Sink E.Sink job (map string_bytes names.now)
         readers.old readers.new out.old out.new err.old err.new result }
+
+    // If a read failed, the output keeps nothing back, unless it did so before the run.
+    ensures passed_on { PassesOn S.failures W.kept_back
+        readers.old readers.new out.old out.new }
 
     // Over readers whose bytes are known, it is the outcome of the definitions, and no more was
     // read than what settles it.

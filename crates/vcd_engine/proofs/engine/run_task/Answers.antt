@@ -23,5 +23,12 @@ returns-in_err-begun-clause-runs g c = record {
   windows = search rules;
 }
 
+pub returns-in_err-begun-clause-passed_on : goal.returns-in_err-begun-clause-passed_on
+returns-in_err-begun-clause-passed_on g c = λ input is.
+    let stop = c.in_err-begun.field-0.0 in
+    let e : c.from_residual.result ≡ Err stop = search rules in
+    let named : stop ≡ Read input = cc in
+    absurd (subst StopsUnread named c.in_err-begun.ensures.begins.answer)
+
 pub start-requires-clause-bound : goal.start-requires-clause-bound
 start-requires-clause-bound g c = within_each _ _ c.args.view _ c.requires.run.bound

@@ -219,3 +219,10 @@ returns-in_err-run_turn-clause-last g c = λ input is.
     let e : c.from_residual.result ≡ Err stop = search rules in
     let named : stop ≡ Read input = cc in
     c.in_err-run_turn.ensures.last input (ap (λ (s : Stop). Err s) named)
+
+pub returns-in_err-run_turn-clause-passed_on : goal.returns-in_err-run_turn-clause-passed_on
+returns-in_err-run_turn-clause-passed_on g c = λ input is.
+    let stop = c.in_err-run_turn.field-0.0 in
+    let e : c.from_residual.result ≡ Err stop = search rules in
+    let named : stop ≡ Read input = cc in
+    c.in_err-run_turn.ensures.passed_on input (ap (λ (s : Stop). Err s) named)

@@ -1,4 +1,4 @@
-use Rattle.std.proofs.Common.{true, ℕ, List, ◌≡◌, ◌≤◌, ◌^◌, sym, ap, subst, ◌∙◌, refl, ◌*◌, inl, inr, rules, arith, Err, mul_comm}
+use Rattle.std.proofs.Common.{true, ◌+◌, ℕ, List, ◌≡◌, ◌≤◌, ◌^◌, sym, ap, subst, ◌∙◌, refl, ◌*◌, inl, inr, rules, arith, Err, mul_comm}
 use Rattle.vcd_model.specs.Items.{BodyItem}
 use Rattle.vcd_view.specs.Shown.{HeadShown}
 use Rattle.vcd_view.specs.Views.{Views}
@@ -6,7 +6,13 @@ use Rattle.vcd_body.specs.Given.{text_of}
 use Rattle.vcd_body.specs.Items.{AreRegsAfter, model_form, model_section}
 use Rattle.vcd_body.specs.declared.item.Regs.{Regs}
 use Rattle.vcd_text.specs.Feed.{limit_of}
-use Rattle.vcd_body.specs.declared.answer.Stop.TheVariants.{Write}
+use Rattle.vcd_body.specs.Answer.{stop_of_body}
+use Rattle.vcd_body.specs.Fault.{call_end}
+use Rattle.vcd_body.specs.declared.answer.Stop.TheVariants.{Read, Write}
+use Rattle.vcd_body.specs.declared.fault.BodyFault.{BodyFault}
+use Rattle.vcd_body.specs.declared.item.Item.{Item}
+use Rattle.vcd_body.specs.declared.fault.BodyFault.TheVariants as fault
+use Rattle.vcd_text.specs.Advances.{CallEnd}
 use Rattle.vcd_body.proofs.Results.{writes-none}
 use Rattle.vcd_merge.proofs.Dumps.{marked_dump}
 use Rattle.vcd_merge.proofs.SeatLemmas.{out_of, turned, ended, faulty, large, not_large, timed, no_more_at_end, no_more_at_item}
@@ -89,3 +95,41 @@ returns-in-End-clause-turns g c = λ scale first l items shows at.
     let gives = rw c.in-End.is at c.in-Ok.ensures.reads l.header l.input l.front items views (out_of scale first l items s c.args.feed.now at) in
     let regs = rw c.in-End.is at c.in-Ok.ensures.regs in
     inl (BodyItem.End, (c.requires.unfinished, turned scale first l items s r s.time s.finished c.args.feed.now c.next_item.new.feed BodyItem.End at gives.gave refl (timed scale items s r at.gave.known (ap (λ (q : Regs). q.time) regs) at.time_is) c.requires.unfinished, refl, no_more_at_item l l.input items c.next_item.new.feed BodyItem.End r gives), writes-none (g.W.Sink.device _))
+
+-- a stop for a failed read is one of a read that failed
+at_failed_read : (fault : BodyFault) (input line at : ℕ) → stop_of_body fault input line ≡ Read at → call_end {A = Item} (Err fault) ≡ CallEnd.Fails
+at_failed_read fault.TokenTooLong input line at e = absurd (cc)
+at_failed_read fault.EndOfInput input line at e = absurd (cc)
+at_failed_read fault.UnknownCommand input line at e = absurd (cc)
+at_failed_read fault.OutOfPlace input line at e = absurd (cc)
+at_failed_read fault.BadTime input line at e = absurd (cc)
+at_failed_read fault.TimeBack input line at e = absurd (cc)
+at_failed_read fault.BadValue input line at e = absurd (cc)
+at_failed_read fault.UnknownCode input line at e = absurd (cc)
+at_failed_read fault.TooWide input line at e = absurd (cc)
+at_failed_read fault.RealTooLong input line at e = absurd (cc)
+at_failed_read fault.TimeInSection input line at e = absurd (cc)
+at_failed_read fault.InputTooLong input line at e = absurd (cc)
+at_failed_read fault.ReadFailed input line at e = refl
+
+not_one_more : (n : ℕ) → n ≡ n + 1 → ⊥
+not_one_more n e = omega (arith, e)
+
+pub returns-in-Err-clause-passed_on : goal.returns-in-Err-clause-passed_on
+returns-in-Err-clause-passed_on g c = λ at is.
+    let e : c.of_body.result ≡ Read at = cc in
+    let n = c.in-Err.ensures in
+    elim c.requires.prompt [
+      | inl none ↦ none
+      | inr holds ↦ absurd (not_one_more _ (sym (ap g.S.Source.failures (n.ahead holds)) ∙ n.advances.failed (at_failed_read c.in-Err.fault c.args.input c.line.result at (sym c.of_body.ensures ∙ e)) c.requires.«open»))
+    ]
+
+pub returns-in-None-clause-passed_on : goal.returns-in-None-clause-passed_on
+returns-in-None-clause-passed_on g c = λ at is.
+    let e = c.time_too_large.ensures in
+    absurd (cc)
+
+pub returns-in_err-put_unsized-in-Change-clause-passed_on : goal.returns-in_err-put_unsized-in-Change-clause-passed_on
+returns-in_err-put_unsized-in-Change-clause-passed_on g c = λ at is.
+    let e : c.from_residual.result ≡ Err Write = search rules in
+    absurd (cc)

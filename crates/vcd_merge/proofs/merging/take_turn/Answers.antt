@@ -2,7 +2,8 @@ use Rattle.std.proofs.Common.{◌≡◌, ◌<◌, Ok, Err, refl, ap, ◌∙◌, 
 use Rattle.vcd_text.specs.Device.{Device}
 use Rattle.vcd_merge.specs.MergeTrail.{stage_with}
 use Rattle.vcd_merge.specs.Seat.{spot_with}
-use Rattle.vcd_body.specs.declared.answer.Stop.TheVariants.{Write}
+use Rattle.vcd_body.specs.declared.answer.Stop.{Stop}
+use Rattle.vcd_body.specs.declared.answer.Stop.TheVariants.{Read, Write}
 use Rattle.vcd_merge.specs.declared.seat.Seat.{Seat}
 use Rattle.vcd_merge.proofs.SeatTrails.{at_once, cut_ahead, goes_on, late_ahead, past_ahead, stays_at, turns_after, turns_at}
 use Rattle.vcd_merge.proofs.merging.take_turn.Goals as goal
@@ -99,3 +100,23 @@ items-preserved g c =
           goes_on g.S.Source.failures c.args.turn.input scale first l c.args.turn.before (stage_with items c.args.written.now c.args.seat.now c.args.feed.now out0) w.0 c.take_turn_ahead.new.written c.take_item.new.written c.take_turn_ahead.new.seat c.take_item.new.seat c.take_turn_ahead.new.feed c.take_item.new.feed out2 new c.in_ok-take_item.field-0 c.if-seat.false early same (m.goes open_still) m.chunk m.limit w.2
           (turns_after {A = Unit {0}} c.args.turn.input scale first l w.0 c.take_turn_ahead.new.written c.take_item.new.written (spot_with c.take_item.new.seat c.take_item.new.feed) out2 (g.W.Sink.device c.pass_on_before_read.new.out) (g.W.Sink.device c.take_item.new.out) (Ok c.in_ok-take_item.field-0) c.in_ok-pass_on_before_read.ensures.puts (c.in_ok-take_item.ensures.turns scale first l w.0 views w.1));
     }
+
+pub take_item-requires-clause-open : goal.take_item-requires-clause-open
+take_item-requires-clause-open g c = c.in_ok-take_turn_ahead.ensures.advances.goes refl c.items.invariant.open_still
+
+pub returns-in_err-take_turn_ahead-clause-passed_on : goal.returns-in_err-take_turn_ahead-clause-passed_on
+returns-in_err-take_turn_ahead-clause-passed_on g c = λ input is.
+    let e : c.from_residual.result ≡ Err Write = search rules in
+    absurd (cc)
+
+pub returns-in_err-pass_on_before_read-clause-passed_on : goal.returns-in_err-pass_on_before_read-clause-passed_on
+returns-in_err-pass_on_before_read-clause-passed_on g c = λ input is.
+    let e : c.from_residual-in_err-pass_on_before_read.result ≡ Err Write = search rules in
+    absurd (cc)
+
+pub returns-in_err-take_item-clause-passed_on : goal.returns-in_err-take_item-clause-passed_on
+returns-in_err-take_item-clause-passed_on g c = λ input is.
+    let stop = c.in_err-take_item.field-0.0 in
+    let e : c.from_residual-in_err-take_item.result ≡ Err stop = search rules in
+    let named : stop ≡ Read input = cc in
+    c.in_err-take_item.ensures.passed_on input (ap (λ (s : Stop). Err s) named)

@@ -75,3 +75,9 @@ returns-clause-follows g c = λ hs lanes names show lanes_are none.
     let head : Writes out mid (merged_head hs) = (st.takes hs show, st.counts) in
     subst (λ n. Follows (part_len n w.tokens.now) (part_len n w.chunks.now) lanes names (map (supply g.S.Source.rest g.S.Source.failures) c.args.sources.now) (map (supply g.S.Source.rest g.S.Source.failures) c.finish.new.sources) out (g.W.Sink.device c.finish.new.out) c.finish.result) st.begun.many
     (c.finish.ensures.gives hs lanes (no_items lanes) names out holds (subst (Writes out mid) (sym (opens hs lanes lanes_are)) head))
+
+pub returns-in_err-merge-clause-passed_on : goal.returns-in_err-merge-clause-passed_on
+returns-in_err-merge-clause-passed_on g c = λ input is.
+    let stop : c.in_err-merge.field-0.0 ≡ Write = c.in_err-merge.ensures.stops in
+    let e : c.from_residual.result ≡ Err c.in_err-merge.field-0.0 = search rules in
+    absurd (cc)

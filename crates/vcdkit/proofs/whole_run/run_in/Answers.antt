@@ -1,6 +1,6 @@
 use Rattle.std.proofs.Common.{refl}
 use Rattle.vcd_engine.proofs.RoomLemmas.{no_room_in_each}
-use Rattle.vcdkit.proofs.RunLemmas.{list_last, list_reads, list_writes, listed}
+use Rattle.vcdkit.proofs.RunLemmas.{list_last, list_passed, list_reads, list_writes, listed}
 use Rattle.vcdkit.proofs.whole_run.run_in.Goals as goal
 
 pub list-requires-clause-bound : goal.list-requires-clause-bound
@@ -18,3 +18,6 @@ returns-in-None-clause-writes g c = list_writes (g.W.Sink.device c.args.out.now)
 
 pub returns-in-None-clause-last : goal.returns-in-None-clause-last
 returns-in-None-clause-last g c = list_last _ c.list.result c.list.ensures.answer
+
+pub returns-in-None-clause-passed_on : goal.returns-in-None-clause-passed_on
+returns-in-None-clause-passed_on g c = list_passed _ c.list.result c.list.ensures.answer

@@ -48,3 +48,6 @@ returns-clause-ends g c = λ text name h.
     (read_on c.args.job.now.task c.args.job.now.limit c.args.job.now.chunk (limit_of feed) (chunk_len_of feed) (whole text) (record { header = header_of (phrases_of head.placed); input = whole text; front = head.given }) name before _ _ _ _ c.run_want.result limit chunk
     (begun declarations_allowed c.args.job.now.limit c.args.job.now.chunk (whole text) before feed limit chunk (shown c.in_ok-head.head) same head)
     (c.run_want.ensures.ends (header_of (phrases_of head.placed)) (whole text) head.given name views head.stands))
+
+pub returns-in_err-head-clause-passed_on : goal.returns-in_err-head-clause-passed_on
+returns-in_err-head-clause-passed_on g c = λ input is before. before

@@ -6,7 +6,7 @@ use Rattle.vcdkit.specs.declared.failure.Failure.TheVariants.{OutOfMemory}
 use Rattle.vcdkit.specs.Inputs.{AreParked, headers_in}
 use Rattle.vcdkit.proofs.OpenLemmas.{nothing_stops, still_low}
 use Rattle.vcdkit.proofs.EndLemmas.{counts_merge, lends_within, merge_ends, part_is, parts_of, stopped}
-use Rattle.vcdkit.proofs.RunLemmas.{merged_last}
+use Rattle.vcdkit.proofs.RunLemmas.{merged_last, merged_passed}
 use Rattle.vcdkit.proofs.whole_run.run_merge.Goals as goal
 
 pub returns-in_err-memory-clause-ends : goal.returns-in_err-memory-clause-ends
@@ -75,3 +75,9 @@ returns-clause-reads g c =
 
 pub returns-clause-last : goal.returns-clause-last
 returns-clause-last g c = rw c.merged.ensures (merged_last _ c.merge.result c.merge.ensures.last)
+
+pub returns-in_err-inputs-clause-passed_on : goal.returns-in_err-inputs-clause-passed_on
+returns-in_err-inputs-clause-passed_on g c = λ input is before. before
+
+pub returns-clause-passed_on : goal.returns-clause-passed_on
+returns-clause-passed_on g c = rw c.merged.ensures (merged_passed g.W.Sink.kept_back c.args.out.now c.merge.new.out c.merge.result c.merge.ensures.passed_on)

@@ -5,7 +5,7 @@ use Rattle.vcd_words.specs.Job.{model_want}
 use Rattle.vcdkit.specs.Tasks.{request_for}
 use Rattle.vcdkit.specs.declared.failure.Failure.TheVariants.{OutOfMemory, Refused}
 use Rattle.vcdkit.proofs.OutcomeLemmas.{asked_for}
-use Rattle.vcdkit.proofs.RunLemmas.{ended_last, followed, no_room, no_ticks}
+use Rattle.vcdkit.proofs.RunLemmas.{ended_last, ended_passed, followed, no_room, no_ticks}
 use Rattle.vcdkit.proofs.whole_run.run_want.Goals as goal
 
 pub returns-in_err-write_ticks-clause-ends : goal.returns-in_err-write_ticks-clause-ends
@@ -35,3 +35,6 @@ run_in-requires-clause-bound g c = c.need_of-need.ensures.bound _ _ _ c.requires
 
 pub returns-clause-last : goal.returns-clause-last
 returns-clause-last g c = rw (c.ended.ensures) (ended_last _ c.run_in.result c.run_in.ensures.last)
+
+pub returns-clause-passed_on : goal.returns-clause-passed_on
+returns-clause-passed_on g c = rw (c.ended.ensures) (ended_passed g.W.Sink.kept_back c.args.out.now c.run_in.new.out c.run_in.result c.run_in.ensures.passed_on)

@@ -4,7 +4,7 @@ use Rattle.std.proofs.lemmas.List.{length-map}
 use Rattle.vcd_words.specs.Job.{model_want, names_asked}
 use Rattle.vcdkit.specs.Failure.{writes_failed}
 use Rattle.vcdkit.proofs.EndLemmas.{has_run, shows_nothing}
-use Rattle.vcdkit.proofs.RunLemmas.{few_writes, most_one, shown_once}
+use Rattle.vcdkit.proofs.RunLemmas.{failed_read, few_writes, most_one, shown_once}
 use Rattle.vcdkit.proofs.whole_run.run_with_hasher.Goals as goal
 
 pub returns-in-Ok-clause-gives : goal.returns-in-Ok-clause-gives
@@ -24,3 +24,11 @@ returns-clause-failures g c = (
   most_one (writes_failed (Some c.in-Err.failure)) (g.W.Sink.device c.args.out.now) (g.W.Sink.device c.run_readers.new.out) (few_writes (Some c.in-Err.failure)) c.in-Err.ensures.writes,
   shown_once (g.E.Sink.device c.args.err.now) (g.E.Sink.device c.report.new.err) _ c.report.ensures.line,
 )
+
+pub returns-in-Ok-clause-passed_on : goal.returns-in-Ok-clause-passed_on
+returns-in-Ok-clause-passed_on g c = λ more before. absurd (more c.in-Ok.ensures.reads)
+
+pub returns-clause-passed_on : goal.returns-clause-passed_on
+returns-clause-passed_on g c = λ more before.
+    let at = failed_read _ _ (Some c.in-Err.failure) c.in-Err.ensures.reads more in
+    c.in-Err.ensures.passed_on at.0 at.1 before

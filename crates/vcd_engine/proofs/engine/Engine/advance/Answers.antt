@@ -38,3 +38,16 @@ returns-clause-gives g c = inl (λ h i front items s.
     let a = c.in_ok-advance_ahead.ensures.gives h i front items s in
     let step = subst (λ (q : Request). StepGives q h i front (items ++ a.more) c.read_on.new.self c.read_on.new.feed mid new c.read_on.result) c.advance_ahead.ensures.request (c.read_on.ensures.gives h i front (items ++ a.more) a.last.0) in
     steps_behind t h i front items a.more c.read_on.new.self c.read_on.new.feed out mid new c.read_on.result a.on (grows_still (g.W.Sink.device _) (g.W.Sink.device _) (g.W.Sink.device _) _ _ a.last.1 c.in-Ok.ensures.puts) step)
+
+pub returns-in_err-advance_ahead-clause-passed_on : goal.returns-in_err-advance_ahead-clause-passed_on
+returns-in_err-advance_ahead-clause-passed_on g c = λ input is.
+    let e : c.from_residual.result ≡ Err Write = search rules in
+    absurd (cc)
+
+pub returns-in-Err-clause-passed_on : goal.returns-in-Err-clause-passed_on
+returns-in-Err-clause-passed_on g c = λ input is.
+    let e : c.into.result ≡ Write = search rules in
+    absurd (cc)
+
+pub read_on-requires-clause-open : goal.read_on-requires-clause-open
+read_on-requires-clause-open g c = c.in_ok-advance_ahead.ensures.advances.goes refl c.requires.open

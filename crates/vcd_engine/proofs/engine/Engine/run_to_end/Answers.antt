@@ -36,6 +36,7 @@ advance-requires g c =
         bound = rw (since.limit, since.chunk, c.items.invariant.4.0, c.items.invariant.4.1) c.requires.run.bound;
       };
       view = search rules;
+      «open» = since.goes refl c.requires.run.unfailed;
     }
 
 pub returns-in_err-advance-clause-gives : goal.returns-in_err-advance-clause-gives
@@ -64,6 +65,13 @@ returns-in_err-advance-clause-last g c = λ input is.
     let named : stop ≡ Read input = cc in
     let unfailed = c.items.invariant.0.goes refl c.requires.run.unfailed in
     step_last g.S.Source.failures c.items.feed c.advance.new.feed (Err stop) unfailed c.in_err-advance.ensures.over.advances input (ap (λ (s : Stop). Err s) named)
+
+pub returns-in_err-advance-clause-passed_on : goal.returns-in_err-advance-clause-passed_on
+returns-in_err-advance-clause-passed_on g c = λ input is.
+    let stop = c.in_err-advance.field-0.0 in
+    let e : c.from_residual.result ≡ Err stop = search rules in
+    let named : stop ≡ Read input = cc in
+    c.in_err-advance.ensures.passed_on input (ap (λ (s : Stop). Err s) named)
 
 pub returns-in-Ended-clause-gives : goal.returns-in-Ended-clause-gives
 returns-in-Ended-clause-gives g c = λ h i front name begin holds st w.

@@ -74,3 +74,13 @@ returns-in-Err-take-clause-gives g c = λ h i front items s.
     let due = t.due in
     let w : c.into.result ≡ Write = search rules in
     rw w (inl (x.0, x.2, (due.0, due.1, (due.2, c.in-Err-take.ensures.counts))))
+
+pub returns-in_err-close-clause-sink : goal.returns-in_err-close-clause-sink
+returns-in_err-close-clause-sink g c = λ input is.
+    let e : c.from_residual.result ≡ Err Write = search rules in
+    absurd (cc)
+
+pub returns-in-Err-take-clause-sink : goal.returns-in-Err-take-clause-sink
+returns-in-Err-take-clause-sink g c = λ input is.
+    let w : c.into.result ≡ Write = search rules in
+    absurd (cc)

@@ -146,3 +146,10 @@ returns-in-Ended-clause-reads g c =
 
 pub items-smaller : goal.items-smaller
 items-smaller g c = c.in_ok-run_step.ensures.runs.leaves.left (ap (λ a. Ok a) c.in-Again.is)
+
+pub returns-in_err-run_step-clause-passed_on : goal.returns-in_err-run_step-clause-passed_on
+returns-in_err-run_step-clause-passed_on g c = λ input is.
+    let stop = c.in_err-run_step.field-0.0 in
+    let e : c.from_residual.result ≡ Err stop = search rules in
+    let named : stop ≡ Read input = cc in
+    c.in_err-run_step.ensures.passed_on input (ap (λ (s : Stop). Err s) named)
