@@ -15,7 +15,7 @@ fn token_limit<'a>(alloc: Global) -> Arg<'a>
     Arg::new(alloc, "token-limit")
         .long("token-limit")
         .value_name("N")
-        .help("Longest token: 64 to 16777216 bytes [default: 1048576]")
+        .help("Maximum token length: 64 to 16777216 [default: 1048576]")
 }
 
 /// Returns the definition of a command of this name for `clap`, with these help texts, and no

@@ -83,7 +83,7 @@ Exit status:
 };
 
 pub const SAMPLE: Help<'static> = Help {
-    about: "Writes the values of variables at some times",
+    about: "Writes the values of variables at given times",
     usage: "vcdkit sample [OPTIONS] [-i FILE] --at TIME,... [NAME...]",
     after: "Examples:
   vcdkit sample -i sim.vcd --at 0,15ns,2us top.cpu.pc
@@ -127,7 +127,7 @@ pub const MERGE: Help<'static> = Help {
   gzip -dc cpu.vcd.gz | vcdkit merge - bus.vcd > both.vcd
 
 The variables of the first file are in the scope in1, those of the second in
-in2, and so on. All changes are in the order of time.
+in2, and so on. All changes are in time order.
 
 Exit status:
   0  everything was written
@@ -137,7 +137,7 @@ Exit status:
 };
 
 pub const PROGRAM: Help<'static> = Help {
-    about: "Reads value change dumps (VCD), and answers questions about them",
+    about: "Reads value change dumps (VCD) and answers questions about them",
     usage: "vcdkit COMMAND [ARGUMENT...]",
     after: "check, list and cut take the dump as an argument; pick, sample and edges take it
 after -i, because their arguments are names; merge takes several dumps. Without
@@ -148,7 +148,7 @@ Scripts, each with its own --help:
   vcdkit-info            What is in this dump?
   vcdkit-find            Which variables match a pattern?
   vcdkit-values          Which values do signals have at a given time?
-  vcdkit-table           Which values at each change or clock edge? (CSV)
+  vcdkit-table           What are the values at each change or clock edge? (CSV)
   vcdkit-when            When does a condition hold?
   vcdkit-x               Which signals are unknown, and when?
   vcdkit-stats           Which periods, duty cycles and pulses do signals have?
@@ -159,7 +159,7 @@ Scripts, each with its own --help:
   vcdkit-close-sections  Adds the missing $end of sections
   vcdkit-join-bits       Joins variables of one bit into vectors
 
-They also read packed dumps (gzip, xz, bzip2, zstd), and FST if fst2vcd is
+They also read compressed dumps (gzip, xz, bzip2, zstd), and FST if fst2vcd is
 installed. In the sources and the tarball, the scripts are in extras/.
 
 The man page is vcdkit(1). The manual and recipes are in share/doc/vcdkit below
