@@ -102,7 +102,7 @@ class Questions:
         os.environ["VCDKIT_LIBRARY"] = LIBRARY
 
     def test_the_way(self):
-        self.assertEqual(vcdkit.way().__name__, "vcdkit._" + self.WAY)
+        self.assertEqual(vcdkit.dump.way().__name__, "vcdkit._" + self.WAY)
 
     def test_report_and_header(self):
         dump = Dump(NESTED)

@@ -15,11 +15,11 @@
     merge(dump, Dump("other.vcd")).check()
 
 The library libvcdkit.so answers if it is beside this package, or if VCDKIT_LIBRARY names it.
-Otherwise the program vcdkit on the PATH answers, or the one that VCDKIT names. Both give the same
-answers, which are proved. This package, which reads them, is only tested.
+Otherwise the program that VCDKIT names answers, or the vcdkit on the PATH. Library and program run
+the same code, whose core is proved. This package, which reads what they write, is only tested.
 """
 from ._body import Header
-from .dump import Dump, merge, way
+from .dump import Dump, merge
 from .errors import (DumpFault, NoTimescale, RunFailed, UnknownName, UsageError, VcdkitError)
 from .times import Time, Timescale
 from .values import Cell, Edges, Report, Row, Scope, Signal, Value
@@ -27,4 +27,4 @@ from .values import Cell, Edges, Report, Row, Scope, Signal, Value
 __version__ = "0.1.0"
 __all__ = ["Cell", "Dump", "DumpFault", "Edges", "Header", "NoTimescale", "Report", "Row",
            "RunFailed", "Scope", "Signal", "Time", "Timescale", "UnknownName", "UsageError",
-           "Value", "VcdkitError", "merge", "way"]
+           "Value", "VcdkitError", "merge"]

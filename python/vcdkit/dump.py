@@ -56,10 +56,10 @@ class Dump:
     def __init__(self, source: Union[str, "os.PathLike[str]", bytes, IO[Any]],
                  name: Optional[str] = None, token_limit: Optional[int] = None,
                  four_state: bool = False):
-        """An open file is read to its end, and kept in memory. `name` is what faults call the
-        bytes. `token_limit` is the longest token that is allowed,
-        in bytes (1,048,576 without it). With `four_state`, a file is read through
-        vcdkit-four-state, which converts the nine states of VHDL."""
+        """An open file is read to its end and kept in memory. `name` is what faults call the bytes.
+        `token_limit` is the maximum length of a token in bytes (by default 1,048,576). With
+        `four_state`, a file is read through vcdkit-four-state, which converts the nine states of
+        VHDL."""
         if hasattr(source, "read"):
             source, name = _bytes_of(source), name or str(getattr(source, "name", "(file)"))
         self._text: Text = (

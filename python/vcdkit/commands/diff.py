@@ -1,4 +1,4 @@
-"""Finds the first difference between two dumps, and what only one of them has
+"""Finds the first difference between two dumps and what only one of them has
 
 Each line shows what differs, and then both sides, A first:
   timescale 1ns 100ps     the time scales (times are compared nevertheless)

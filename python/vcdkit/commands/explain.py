@@ -1,4 +1,4 @@
-"""Checks dumps; for a fault, shows the lines around it, the usual cause, and what to do
+"""Checks dumps; for a fault, shows the lines around it, the usual cause and what to do
 
 The report or message is that of vcdkit check, and so is the exit status. If no cause is known, only
 the lines around the fault are shown. Bytes that are not text are shown as \\xNN, and long lines are
@@ -144,7 +144,7 @@ def words_of(words):
     of.add_argument("--salvage", metavar="OUT",
                     help="write everything before the fault to a file (-: standard output)")
     of.add_argument("--token-limit", type=int, metavar="N",
-                    help="longest token: 64 to 16777216 bytes [default: 1048576]")
+                    help="maximum token length: 64 to 16777216 bytes [default: 1048576]")
     of.add_argument("--reach", metavar="TIME", help="treat a dump that ends before TIME as faulty")
     of.add_argument("--jobs", type=natural, default=os.cpu_count() or 1, metavar="N",
                     help="how many dumps to check at a time "

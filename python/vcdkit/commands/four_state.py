@@ -4,7 +4,7 @@ u, w and - become x, l becomes 0, and h becomes 1, in upper or lower case. Varia
 strings are left out, with their values: Amaranth, MyHDL and fst2vcd write enumerations as strings.
 Each declaration and each change has to be on a separate line, as GHDL and fst2vcd write them. If
 you can run the simulation again, use an option of the simulator instead, such as GHDL's
-`--vcd-4states`. The filter reads its input once, and does not run vcdkit.
+`--vcd-4states`. The filter reads its input once and does not run vcdkit.
 
 example:
   vcdkit-four-state < tb.vcd | vcdkit check"""

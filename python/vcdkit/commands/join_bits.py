@@ -6,7 +6,7 @@ declared, and writes `$var wire 8 # q [7:0] $end` in place of the first. The bit
 they are if an index is missing or occurs twice, if their types differ, if they are real numbers or
 events, if the code of one of them has a second name, or if another variable has this name. A vector
 is written after the changes of its bits, once for each time and once for each section. Each
-declaration and each change has to be on a separate line. The filter reads its input once, and does
+declaration and each change has to be on a separate line. The filter reads its input once and does
 not run vcdkit.
 
 example:

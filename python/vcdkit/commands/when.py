@@ -38,6 +38,11 @@ With --rules, all conditions in a file are evaluated in one pass. For each rule 
 shows its name, the first time and the number of times. The exit status is 0 if all rules hold (with
 --never: if none does). --junit also writes a JUnit report, with a test for each rule.
 
+While a pipe is read, each time is written as soon as it is known. Without --rise or --fall, it is
+known only after the next change of a signal in the condition, so if the condition keeps holding,
+the answer does not come before the end of the dump. For an early answer from a running simulation,
+add --rise. --count and --rules answer at the end.
+
 If the dump or --to ends before the N of `within N` has passed, a request without an answer is
 neither in time nor late: neither form of the condition holds, and --latency does not list or count
 it. In a CI job, choose an N that fits between the last request and the end of the dump.
@@ -84,7 +89,7 @@ def words_of(words: List[str]) -> argparse.Namespace:
     of.add_argument("--every", action="store_true",
                     help="list each edge at which it holds, not only those at which it begins to")
     of.add_argument("--never", action="store_true",
-                    help="for a CI job: exit with 0 if it never held, and with 1 if it did")
+                    help="for a CI job: exit with 0 if it never held and with 1 if it did")
     add_window(of)
     add_unit(of)
     add_json(of)
