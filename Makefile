@@ -48,6 +48,7 @@ scripts := $(notdir $(wildcard extras/vcdkit-*))
 # The directory of the Python package. The scripts look there, and then where Python looks.
 PYTHON_FOLDER ?= $(PREFIX)/share/vcdkit/python
 python := $(DESTDIR)$(PYTHON_FOLDER)/vcdkit
+layers := model reading questions forms commands
 documents := $(DESTDIR)$(PREFIX)/share/doc/vcdkit
 library := $(DESTDIR)$(PREFIX)/lib
 headers := $(DESTDIR)$(PREFIX)/include
@@ -117,7 +118,7 @@ toolchain: sources
 # This builds and proves nothing, so that no proof runs as root: run `make` first.
 install:
 	@test -x vcdkit || { echo "make: there is no ./vcdkit to install. Run make first." >&2; exit 1; }
-	install -d "$(bin)" "$(man)" "$(bash_words)" "$(zsh_words)" "$(python)/commands"
+	install -d "$(bin)" "$(man)" "$(bash_words)" "$(zsh_words)" $(patsubst %,"$(python)/%",$(layers))
 	install -m 755 vcdkit "$(bin)"
 	for name in $(scripts); do install -m 755 extras/launch "$(bin)/$$name"; done
 	install -m 644 man/vcdkit.1 "$(man)/vcdkit.1"
@@ -127,7 +128,8 @@ install:
 	for name in $(scripts); do ln -sf vcdkit "$(bash_words)/$$name"; done
 	install -m 644 completions/_vcdkit "$(zsh_words)/_vcdkit"
 	install -m 644 python/vcdkit/*.py python/vcdkit/py.typed python/vcdkit/page.html "$(python)"
-	install -m 644 python/vcdkit/commands/*.py "$(python)/commands"
+	for name in $(layers); do \
+	    install -m 644 python/vcdkit/$$name/*.py "$(python)/$$name" || exit 1; done
 	if test -e libvcdkit.so; then install -m 644 libvcdkit.so "$(python)"; fi
 	if [ -e libvcdkit.a ]; then \
 	    install -d "$(library)/pkgconfig" "$(headers)" && \

@@ -17,9 +17,10 @@ os.environ.setdefault("VCDKIT", os.path.join(TOP, "vcdkit"))
 
 import answers as by_definition
 import evaluator  # type: ignore[import]
-import vcdkit.dump
 from answers import Change, Part, Tree, Variable
-from vcdkit import Dump, DumpFault, Value, VcdkitError, _condition, _library, _program
+from vcdkit import Dump, DumpFault, Value, VcdkitError
+from vcdkit.questions import condition, dump
+from vcdkit.reading import library, program, source
 
 EACH = 100  # of so many questions one goes through the program too
 Outcome = Any
@@ -47,7 +48,7 @@ class Heads:
 
 
 class Evaluator:
-    """Stands for the library: `run` is as that of vcdkit._library."""
+    """Stands for the library: `run` is as that of vcdkit.reading.library."""
 
     def __init__(self) -> None:
         self.known: Dict[Any, Tuple[bytes, bytes, int]] = {}
@@ -82,7 +83,7 @@ def moment_of(time: str) -> Tuple[int, Optional[int]]:
     return int(digits), evaluator.UNITS[unit.encode()] if unit else None
 
 
-class Condition(_condition._Text):
+class Condition(condition._Text):
     """The text of a condition, which is parsed once for all dumps."""
 
     def tree(self) -> ast.expr:
@@ -97,19 +98,19 @@ class Ways:
 
     def __init__(self) -> None:
         evaluator.read_head = Heads()
-        setattr(_condition, "_Text", functools.lru_cache(maxsize=None)(Condition))
+        setattr(condition, "_Text", functools.lru_cache(maxsize=None)(Condition))
         self._evaluator = Evaluator()
-        self._library = _library.run, _library.changes
-        self.others = [_program] if _program.path() else []
-        if _library.path():
-            self.others.append(_library)
+        self._library = library.run, library.changes
+        self.others = [program] if program.path() else []
+        if library.path():
+            self.others.append(library)
         self.take()
 
     def take(self, way: Any = None) -> None:
         """Lets one of them answer, the evaluator if none is named."""
-        _library.run, _library.changes = self._library if way is _library else (
+        library.run, library.changes = self._library if way is library else (
             self._evaluator.run, lambda *_: None)
-        vcdkit.dump.way = lambda: way or _library
+        source.way = dump.way = lambda: way or library  # type: ignore[assignment]
 
 
 # ---- Small dumps.

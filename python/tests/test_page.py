@@ -26,8 +26,11 @@ os.environ.setdefault("VCDKIT", os.path.join(TOP, "vcdkit"))
 
 import browser
 import test_against_reader as plain
-from vcdkit import Dump, Signal, Value, _page
-from vcdkit.commands import FORMS, diff, shown, wave
+from vcdkit import Dump, Signal, Value
+from vcdkit.commands import diff, wave
+from vcdkit.forms import page
+from vcdkit.forms.text import FORMS, shown
+from vcdkit.questions import streams
 
 NESTED = os.path.join(TOP, "samples", "nested.vcd")
 HOSTILE = b"""$date </script><script>hacked = 1</script> $end
@@ -167,7 +170,7 @@ class Data(Case):
     def test_hostile_names(self):
         text = self.page(self.file("</title><img src=x onerror=hacked=1>.vcd".replace("/", ""),
                                    HOSTILE), "<b>&amp;")
-        blank = "".join(_page.template())
+        blank = "".join(page.template())
         self.assertEqual(text.count("<"), blank.count("<"))
         self.assertTrue(text.isascii())
         self.assertEqual([one[0] for one in data_of(text)["signals"]], [
@@ -185,13 +188,15 @@ class Data(Case):
                  "(there is room up to 99ns)"),
                 ("MAX_BYTES", 1000, "more than 0 MB of values: name fewer"),
                 ("MAX_BYTES", 7000, "the page would have more than 0 MB: name fewer signals")):
-            was = getattr(_page, name)
-            setattr(_page, name, limit)
+            was, modules = getattr(streams, name), [streams, page][:1 + (name == "MAX_BYTES")]
+            for module in modules:
+                setattr(module, name, limit)
             try:
                 status, text, messages = run(wave, "--html", path, "q", "c")
                 self.assertEqual(run(wave, "--html", path, "c")[0], 0)
             finally:
-                setattr(_page, name, was)
+                for module in modules:
+                    setattr(module, name, was)
             self.assertEqual((status, text), (2, ""))
             self.assertIn("vcdkit-wave: " + message, messages)
         head = b"$var wire 1 ! q $end $enddefinitions $end "
@@ -259,7 +264,7 @@ class Data(Case):
         self.assertEqual((data["mark"], data["tick"]), (450, "100000"))
         self.assertIn("B is shown 405ns earlier", data["about"])
         fast = self.file("fast.vcd", text.replace(b"b11 1\n", b"b1011 1\n"))
-        was, _page.MAX_CHANGES = _page.MAX_CHANGES, 12  # then it shows less time
+        was, streams.MAX_CHANGES = streams.MAX_CHANGES, 12  # then it shows less time
         try:
             self.assertEqual(run(diff, "--html", page, NESTED, fast)[0], 1)
             with open(page, encoding="ascii") as file:
@@ -269,7 +274,7 @@ class Data(Case):
             self.assertEqual(run(diff, "--context", "100ns", "--html", page, "--into",
                                  self.folder.name, NESTED, fast)[0], 2)
         finally:
-            _page.MAX_CHANGES = was
+            streams.MAX_CHANGES = was
         for path, status in ((os.path.join(self.folder.name, "none", "page.html"), 3), (page, 1)):
             self.assertEqual(run(diff, "--html", path, NESTED, slow)[0], status)
 
@@ -292,7 +297,7 @@ class Template(unittest.TestCase):
     """The template."""
 
     def setUp(self):
-        self.text = "".join(_page.template())
+        self.text = "".join(page.template())
 
     def test_policy(self):
         policy = " ".join(re.search('Content-Security-Policy" content="(.*?)"', self.text,
@@ -630,14 +635,14 @@ class Shown(Case):
         of = random.Random(1)
         rows = []
         for number in range(20):
-            stream = _page.Stream()
+            stream = streams.Stream()
             size, kind = [(1, "wire"), (32, "wire"), (1, "wire"), (64, "real")][number % 4]
             step = of.choice([2, 9, 50])
             stream.times.extend(range(0, step * 100_000, step))
             stream.values += [at % 97 / 7 if kind == "real" else "%x" % of.getrandbits(size)
                               for at in range(100_000)]
-            rows.append(_page.Row(Signal("t.s%d" % number, kind, size, str(number)), stream))
-        self.open("".join(_page.texts_of(_page.Page(
+            rows.append(page.PageRow(Signal("t.s%d" % number, kind, size, str(number)), stream))
+        self.open("".join(page.texts_of(page.Page(
             "large", [], None, 0, 5_000_000, None, (0, 5_000_000)), rows)))
         self.browser.tell("Performance.enable", timeDomain="threadTicks")
 

@@ -32,9 +32,14 @@ sys.path.insert(0, os.path.dirname(HERE))
 os.environ.setdefault("VCDKIT", os.path.join(TOP, "vcdkit"))
 os.environ["PYTHONDONTWRITEBYTECODE"] = "1"
 
-from vcdkit import Dump, Signal, _body, _lanes, _toggles, _unknown
-from vcdkit._lanes import Lanes, Several
-from vcdkit.commands import close_sections, find, four_state, join_bits, x
+from vcdkit import Dump, Signal
+from vcdkit.commands import x
+from vcdkit.forms import saif
+from vcdkit.model.names import names_for
+from vcdkit.model.times import Window
+from vcdkit.model.values import value_in
+from vcdkit.questions import lanes, picked, toggles, unknown
+from vcdkit.reading import bits, body, sections, states
 
 NESTED = os.path.join(TOP, "samples", "nested.vcd")
 SCRIPTS = sorted(name for name in os.listdir(EXTRAS) if name.startswith("vcdkit-"))
@@ -572,31 +577,32 @@ class Pictures(unittest.TestCase):
 
     def test_bins(self):
         sizes = {"!": 1, "0": 1, "1": 8, "b!": 3, "#": 1}
-        _lanes.SMALL, _lanes.BLOCK = 64, 4096
+        lanes.SMALL, lanes.BLOCK = 64, 4096
         for seed in range(40):
             rnd = random.Random(seed)
-            body, changes, last = random_dump(rnd, sizes)
-            begin = int(body[1:body.index(b"\n")])
+            text, changes, last = random_dump(rnd, sizes)
+            begin = int(text[1:text.index(b"\n")])
             signals = [Signal("s" + code, "wire", size, code) for code, size in sizes.items()]
-            lanes = Lanes(signals, begin, last, rnd.choice([3, 10, 50, 100_000]))
-            lanes.read(io.BytesIO(body))
+            its = lanes.Lanes(signals, Window(begin, last + 1), rnd.choice([3, 10, 50, 100_000]))
+            its.read(io.BytesIO(text))
             for code in sizes:
                 with self.subTest(seed=seed, code=code):
-                    self.compare(lanes, lanes.of_code[code.encode()].points, changes[code])
+                    self.compare(its, its.of_code[code.encode()].points, changes[code])
 
-    def compare(self, lanes, points, changes):
+    def compare(self, its_lanes, points, changes):
         """A bin has its one change, or Several and then the last value, or nothing. Several says
         whether there is an x at a time of the bin."""
         bins, wanted = {}, []
         for one in changes:
-            bins.setdefault((one[0] - lanes.begin) * lanes.count // lanes.span, []).append(one)
+            bins.setdefault((one[0] - its_lanes.window.begin) * its_lanes.count // its_lanes.span,
+                            []).append(one)
         for number, its in bins.items():
-            begin, end = lanes.edge(number), min(lanes.edge(number + 1), lanes.end)
+            begin, end = its_lanes.edge(number), min(its_lanes.edge(number + 1), its_lanes.window.last)
             self.assertTrue(begin <= its[0][0] and its[-1][0] <= end)
             early = [one for one in changes if one[0] <= begin][-1:]
             has_x = any("x" in value for _, value in [*early, *its])
             wanted += its if len(its) < 2 else [(begin, has_x), (end, its[-1][1])]
-        self.assertEqual([(time, value.has_x if isinstance(value, Several) else value)
+        self.assertEqual([(time, value.has_x if isinstance(value, lanes.Several) else value)
                           for time, value in points], wanted)
 
 
@@ -1210,17 +1216,10 @@ b011 q
                 0, 20, size // 10 + 1))]
             parts[-1] = parts[-1][:-1 if seed % 5 else None]
             for name, filtered in (
-                    ("four-state", lambda blocks: map(four_state.States().of_block, blocks)),
-                    ("close-sections", lambda blocks: close_sections.Sections().of_blocks(blocks)),
-                    ("join-bits", self.joined)):
+                    ("four-state", states.four_states),
+                    ("close-sections", sections.closed),
+                    ("join-bits", bits.joined)):
                 self.assertEqual(b"".join(filtered(parts)), b"".join(filtered([text])), (name, seed))
-
-    @staticmethod
-    def joined(blocks):
-        """Returns what vcdkit-join-bits writes of blocks."""
-        vectors, rest, blocks = join_bits.Vectors(), [], iter(blocks)
-        head = list(join_bits.joined(join_bits.lines_of(blocks, rest), vectors))
-        return [*head, *vectors.of_blocks([b"".join(reversed(rest)), *blocks])]
 
 
 class Unknown(Case):
@@ -1230,14 +1229,14 @@ class Unknown(Case):
         """Returns the lines of vcdkit-x, from each step of the body."""
         last, lines = {}, []
         dump = Dump(text).cut(begin, end)
-        for time, before, found in _body.steps(dump, {one.code.encode() for one in dump.signals},
+        for time, before, found in body.steps(dump, {one.code.encode() for one in dump.signals},
                                                is_cut=True):
             ends = dict(reversed(before + found))  # each code where it changes last
             ends = {code: dict(before + found)[code] for code in reversed(list(ends))}
             for code, value in ends.items():
                 is_shown = value[:1] != b"r" and any(letter in value.decode() for letter in letters)
                 if is_shown and last.get(code) != value:
-                    lines += ["%s %s %s" % (dump.time(time), one.path, _body.value(value, one))
+                    lines += ["%s %s %s" % (dump.time(time), one.path, value_in(value, one.size))
                               for one in dump.signals if one.code.encode() == code]
                 last[code] = value if is_shown else None
         return lines
@@ -1250,8 +1249,8 @@ class Unknown(Case):
                 % head).encode()
         for seed in range(60):
             rnd = random.Random(seed)
-            body, _, last = random_dump(rnd, codes)
-            lines = body.split(b"\n")
+            text, _, last = random_dump(rnd, codes)
+            lines = text.split(b"\n")
             for _ in range(rnd.choice([0, 0, 1, 3, 300])):  # unknown values, and other lines
                 code, size = rnd.choice(list(codes.items()))
                 value = "".join(rnd.choice("01xxz") for _ in range(rnd.randint(1, size)))
@@ -1264,8 +1263,8 @@ class Unknown(Case):
             begin = rnd.choice([0, 0, rnd.randrange(last + 1)])
             end = rnd.choice([2**64 - 1, rnd.randrange(begin, last + 2)])
             for words, letters in ([], "x"), (["--z"], "xz"):
-                out, _unknown.BLOCK = io.StringIO(), rnd.choice([16, 300, 4000, 1 << 16])
-                _unknown.MAX_CODES = rnd.choice([0, 16])
+                out, body.BLOCK = io.StringIO(), rnd.choice([16, 300, 4000, 1 << 16])
+                unknown.MAX_CODES = rnd.choice([0, 16])
                 with self.subTest(seed=seed, words=words), contextlib.redirect_stdout(out):
                     self.assertIn(x.main([*words, "--from", str(begin), "--to", str(end), dump]),
                                   (0, 1))
@@ -1293,13 +1292,13 @@ class Toggles(unittest.TestCase):
         names = ["s%d" % at for at in range(len(sizes))]
         head = "".join("$var wire %d %s %s $end\n" % (size, code, name)
                        for name, (code, size) in zip(names, sizes.items()))
-        self.addCleanup(setattr, _toggles, "BATCH", _toggles.BATCH)
+        self.addCleanup(setattr, toggles, "BATCH", toggles.BATCH)
         for seed in range(30):
             rnd = random.Random(seed)
-            body, changes, last = random_dump(rnd, sizes)
-            dump = Dump((head + "$enddefinitions $end\n").encode() + body)
-            begin, _toggles.BATCH = rnd.choice([0, 7, last // 2]), rnd.choice([1, 3, 50, 2048])
-            rows = _toggles.rows_of(dump, names, begin, max(last, begin), True)
+            text, changes, last = random_dump(rnd, sizes)
+            dump = Dump((head + "$enddefinitions $end\n").encode() + text)
+            begin, toggles.BATCH = rnd.choice([0, 7, last // 2]), rnd.choice([1, 3, 50, 2048])
+            rows = toggles.counts_of(dump, names, Window(begin, max(last, begin) + 1), True)
             wanted = [counts for code, size in sizes.items()
                       for counts in self.wanted(changes[code], size, begin, max(last, begin))]
             self.assertEqual([row[2:] for row in rows], wanted, seed)
@@ -1314,8 +1313,8 @@ class Toggles(unittest.TestCase):
     def test_escaped_names_in_saif(self):
         dump = Dump(b"$scope module \\u/a $end $var wire 1 ! \\q-r[3] $end $upscope $end "
                     b"$enddefinitions $end #0 0! #5")
-        lines = "".join(_toggles.saif(dump, _toggles.rows_of(dump, ["\\u/a"], 0, 5, True),
-                                         5)).split("\n")
+        counts = toggles.counts_of(dump, ["\\u/a"], Window(0, 6), True)
+        lines = "".join(saif.texts_of(dump, counts, 5, "1")).split("\n")
         self.assertEqual(lines[11:14], ["(INSTANCE u\\/a", "  (NET", "    (q\\-r\\[3\\]"])
 
 
@@ -1359,19 +1358,14 @@ class Picks(Case):
     """vcdkit-find --pick of more names than a command line has room for."""
 
     def test_lines_of_some(self):
-        dump, out = Dump(NESTED), io.BytesIO()
-        stream, find.MAX_NAMES = io.TextIOWrapper(out), -1
+        dump, picked.MAX_NAMES = Dump(NESTED), -1
         rnd = random.Random(7)
         for _ in range(20):
             places = sorted(rnd.sample(range(len(dump.signals)), rnd.choice([1, 3, 9, 23])))
             paths = {dump.signals[at].path for at in places}
             places = [at for at, one in enumerate(dump.signals) if one.path in paths]
-            names = find.names_for(sorted(paths), dump.signals)
-            out.seek(0)
-            out.truncate()
-            with contextlib.redirect_stdout(stream):
-                find.write_picked(dump, places)
-            self.assertEqual(out.getvalue(), dump.pick(names).read(), names)
+            names = names_for(sorted(paths), dump.signals.columns()[0])
+            self.assertEqual(b"".join(picked.picked(dump, places)), dump.pick(names).read(), names)
 
 
 if __name__ == "__main__":

@@ -40,7 +40,7 @@ import vcdkit
 from vcdkit import (Dump, DumpFault, Edges, NoTimescale, RunFailed, Timescale, UnknownName,
                     UsageError, Value, VcdkitError, merge)
 
-PROGRAM = vcdkit._program.path()
+PROGRAM = vcdkit.reading.program.path()
 SAMPLES = os.path.join(TOP, "samples")
 NESTED = os.path.join(SAMPLES, "nested.vcd")
 SMALL = 1_000_000
@@ -102,7 +102,7 @@ class Questions:
         os.environ["VCDKIT_LIBRARY"] = LIBRARY
 
     def test_the_way(self):
-        self.assertEqual(vcdkit.dump.way().__name__, "vcdkit._" + self.WAY)
+        self.assertEqual(vcdkit.questions.dump.way().__name__, "vcdkit.reading." + self.WAY)
 
     def test_report_and_header(self):
         dump = Dump(NESTED)
@@ -664,11 +664,11 @@ class ByLibrary(Questions, unittest.TestCase):
         text = Dump(NESTED).read()
         whole = answered("cut", text, "--from", "0", "--to", "900")
         for room in 1, 2, len(whole) - 1, len(whole), len(whole) + 1:
-            self.assertEqual(vcdkit._library.run(["cut", "--from", "0", "--to", "900"], text, (),
+            self.assertEqual(vcdkit.reading.library.run(["cut", "--from", "0", "--to", "900"], text, (),
                                                  room), (0, whole, b""))
-        found = vcdkit._library.changes(Dump(NESTED)._text, b"1")
+        found = vcdkit.reading.library.changes(Dump(NESTED).text, b"1")
         for room in (1, 2, 5, len(found) // 3, len(found) // 3 + 1) if found else ():
-            self.assertEqual(vcdkit._library.changes(Dump(NESTED)._text, b"1", room), found)
+            self.assertEqual(vcdkit.reading.library.changes(Dump(NESTED).text, b"1", room), found)
 
 
 class Times(unittest.TestCase):
@@ -770,5 +770,5 @@ class Values(unittest.TestCase):
 
 if __name__ == "__main__":
     if not PROGRAM:
-        sys.exit("test_vcdkit.py: " + vcdkit._program.refusal())
+        sys.exit("test_vcdkit.py: " + vcdkit.reading.program.refusal())
     unittest.main()

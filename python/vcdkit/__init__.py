@@ -18,11 +18,11 @@ The library libvcdkit.so answers if it is beside this package, or if VCDKIT_LIBR
 Otherwise the program that VCDKIT names answers, or the vcdkit on the PATH. Library and program run
 the same code, whose core is proved. This package, which reads what they write, is only tested.
 """
-from ._body import Header
-from .dump import Dump, merge
 from .errors import (DumpFault, NoTimescale, RunFailed, UnknownName, UsageError, VcdkitError)
-from .times import Time, Timescale
-from .values import Cell, Edges, Report, Row, Scope, Signal, Value
+from .model.signals import Header, Scope, Signal
+from .model.times import Time, Timescale
+from .model.values import Cell, Edges, Report, Row, Value
+from .questions.dump import Dump, merge
 
 __version__ = "0.1.0"
 __all__ = ["Cell", "Dump", "DumpFault", "Edges", "Header", "NoTimescale", "Report", "Row",

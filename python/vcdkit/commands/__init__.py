@@ -2,21 +2,23 @@
 import argparse
 import functools
 import io
-import json
-import math
 import os
 import re
 import shlex
-import stat
 import sys
-from typing import Any, Callable, Dict, Iterable, List, Optional, TextIO, Tuple, Union
+from typing import Any, Callable, List, Optional, TextIO, Tuple
 
-from .. import Dump, Value, __version__, _program
-from .._progress import Progress
-from .._saved import names_of, text_of_file
+from .. import __version__
 from ..errors import DumpFault, RunFailed, UsageError, VcdkitError
-from ..times import UNITS
-from ..values import Cell
+from ..forms.terminal import Progress
+from ..forms.text import FORMS
+from ..model.times import LAST_TICK, UNITS, Window
+from ..questions.dump import Dump
+from ..questions.saved import names_of
+from ..reading import program
+from ..reading.files import text_of_file
+from ..reading.formats import ENDINGS
+from ..reading.source import Source
 
 STATUSES = """
 exit status:
@@ -36,13 +38,9 @@ exit status:
 FAULT = "a name selects nothing, or not a valid dump"
 TIMES = "A TIME is a number of ticks, or has a unit, such as 115ns or 1.5us.\n"
 MARK = "\0"  # which no argument has
+FIRST, LAST = "0", str(LAST_TICK)  # of --from and --to
 NEGATIVE = re.compile(r"-[.\d].*[<>=]")
 BROKEN_PIPE = 128 + 13  # the status that a shell shows of a program that SIGPIPE ended
-FORMS = {"hex": "in hexadecimal", "decimal": "in decimal",
-         "signed": "in decimal, as two's complement",
-         "ascii": "as text, one character for 8 bits", "binary": "in binary, with all digits"}
-
-
 class _Parser(argparse.ArgumentParser):
     """A parser that takes options and other arguments in any order."""
 
@@ -109,39 +107,21 @@ def add_four_state(to: argparse.ArgumentParser) -> None:
 
 def filter_of(name: str, text: str, words: List[str]) -> argparse.Namespace:
     """Reads the words of a filter."""
-    of = parser(name, text, failed="")
-    of.add_argument("file", metavar="FILE", nargs="?", default="-",
-                    help="the dump, which may be compressed [default: standard input, "
-                    "uncompressed]")
-    return of.parse_args(words)
+    options = parser(name, text, failed="")
+    options.add_argument("file", metavar="FILE", nargs="?", default="-", help="the dump, which may "
+                         "be compressed [default: standard input, uncompressed]")
+    return options.parse_args(words)
 
 
-def dump_of(asked: argparse.Namespace, file: Optional[str] = None, **options) -> Dump:
+def dump_of(asked: argparse.Namespace, file: Optional[str] = None,
+            token_limit: Optional[int] = None) -> Dump:
     """Returns the dump of FILE, or of another file that is asked for. Then `names` also has those
     of --names."""
-    dump = Dump(asked.file if file is None else file, four_state=asked.four_state, **options)
+    dump = Dump(asked.file if file is None else file, None, token_limit, asked.four_state)
     path, asked.names_of = getattr(asked, "names_of", None), None
     if path is not None:
         asked.names = [*asked.names, *names_of(path, dump)]
     return dump
-
-
-def check_outputs(outputs: Iterable[Optional[str]], inputs: Iterable[Optional[str]]) -> None:
-    """Refuses to write a file over one that is read."""
-    of_inputs = [status for status in map(_status, inputs) if status]
-    for path in outputs:
-        its = _status(path)
-        if its and stat.S_ISREG(its.st_mode) and any(
-                os.path.samestat(its, one) for one in of_inputs):
-            raise UsageError("%s: it is read, so nothing is written there" % path)
-
-
-def _status(path: Optional[str]) -> Optional[os.stat_result]:
-    """Returns what the system says of a file, `-` for standard input; `None` if there is none."""
-    try:
-        return None if path is None else os.stat(0 if path == "-" else path)
-    except (OSError, ValueError):
-        return None
 
 
 def add_at(to: argparse.ArgumentParser, what: str) -> None:
@@ -184,10 +164,25 @@ def add_clock(to: argparse._ActionsContainer, what: str) -> None:
 
 def add_window(to: argparse.ArgumentParser) -> None:
     """Adds --from and --to."""
-    to.add_argument("--from", dest="begin", default="0", metavar="TIME",
+    to.add_argument("--from", dest="begin", default=FIRST, metavar="TIME",
                     help="the first time [default: 0]")
-    to.add_argument("--to", dest="end", default=str(2**64 - 1), metavar="TIME",
+    to.add_argument("--to", dest="end", default=LAST, metavar="TIME",
                     help="the last time [default: the end of the dump]")
+
+
+def is_part(asked: argparse.Namespace) -> bool:
+    """Whether --from or --to asks for a part of the dump."""
+    return (asked.begin, asked.end) != (FIRST, LAST)
+
+
+def part_of(dump: Dump, asked: argparse.Namespace) -> Dump:
+    """Returns the dump from --from to --to."""
+    return dump.cut(asked.begin, asked.end) if is_part(asked) else dump
+
+
+def window_of(dump: Dump, asked: argparse.Namespace) -> Window:
+    """Returns the window from --from to --to."""
+    return Window(dump.ticks(asked.begin, is_up=True), dump.ticks(asked.end) + 1)
 
 
 def check_begin(dump: Dump, asked: argparse.Namespace) -> None:
@@ -215,34 +210,10 @@ def after_end(dump: Dump, time: str) -> str:
 
 def add_form(to: argparse.ArgumentParser) -> None:
     """Adds --hex and the other forms of a value, of which one may be taken."""
-    of = to.add_mutually_exclusive_group()
+    group = to.add_mutually_exclusive_group()
     for form, what in FORMS.items():
-        of.add_argument("--" + form, dest="form", action="store_const", const=form,
-                        help="values " + what)
-
-
-def shown(value, form: Optional[str]) -> str:
-    """Returns a value as a reader sees it: `-` if there is none, a real number as 1.5 or 3."""
-    if value is None:
-        return "-"
-    if isinstance(value, float):
-        return repr(value)[:-2] if repr(value).endswith(".0") else repr(value)
-    if form == "hex" and isinstance(value, Value):
-        return value.hex()
-    if form in (None, "binary") or len(value) == 1 or not isinstance(value, Value) or (
-            not value.is_known):
-        return value
-    if form == "ascii":
-        return text_of(int(value))
-    return str(int(value) - (form == "signed" and value[0] == "1") * 2**len(value))
-
-
-def text_of(number: int) -> str:
-    """Returns the letters that the bytes of a number are, the highest first: \\xNN for a byte that
-    is none."""
-    text = number.to_bytes(max((number.bit_length() + 7) // 8, 1), "big").decode("latin-1")
-    return "".join(one if " " <= one <= "~" and one != "\\" else "\\x%02x" % ord(one)
-                   for one in text)
+        group.add_argument("--" + form, dest="form", action="store_const", const=form,
+                           help="values " + what)
 
 
 def add_unit(to: argparse.ArgumentParser,
@@ -260,7 +231,7 @@ def _unit(text: str) -> str:
     return text
 
 
-def times_of(dump: Dump, asked: argparse.Namespace) -> Callable[[int], str]:
+def times_of(dump: Source, asked: argparse.Namespace) -> Callable[[int], str]:
     """Returns what shows ticks as a time, such as 115ns, or in the unit of --unit. A unit needs a
     time scale."""
     if asked.unit is None:
@@ -269,20 +240,6 @@ def times_of(dump: Dump, asked: argparse.Namespace) -> Callable[[int], str]:
         return str
     dump.ticks("0" + asked.unit)
     return lambda ticks: dump.time(ticks, asked.unit)
-
-
-def mean_text(dump: Dump, ticks: float, unit: Optional[str]) -> str:
-    """Returns a mean length of time to six digits: in a unit that is given, else in the largest one
-    of which it has one. 0 is in the unit of the time scale, as in other times."""
-    scale = dump.timescale
-    if scale is None or unit == "tick":
-        return "%.6g" % ticks
-    if not ticks:
-        return dump.time(0, unit or "")
-    lengths = [(scale.seconds(ticks) * 1000**power, its) for power, its in enumerate(UNITS)]
-    its = [pair for pair in lengths if pair[1] == unit] or [
-        pair for pair in lengths if pair[0] >= 1] or lengths[-1:]
-    return "%.6g%s" % its[0]
 
 
 def add_json(to: argparse._ActionsContainer,
@@ -298,22 +255,6 @@ def natural(text: str) -> int:
     return int(text)
 
 
-def write_json(row: Dict[str, Any]) -> None:
-    """Writes a row as JSON, on a line of its own. A byte that is no UTF-8 is written as \\xNN."""
-    text = json.dumps(row, ensure_ascii=False)
-    print(re.sub("[\udc80-\udcff]", lambda byte: "\\\\x%02x" % (ord(byte.group()) - 0xdc00), text))
-
-
-def in_json(value: Cell, form: Optional[str]) -> Union[int, float, str, None]:
-    """Returns a value as JSON has it: a real number and one in decimal as a number, digits as a
-    text, and null if there is none."""
-    if value is None or isinstance(value, float) and math.isfinite(value):
-        return value
-    text = shown(value, form)
-    is_number = form in ("decimal", "signed") and isinstance(value, Value) and value.is_known
-    return int(text) if is_number else text
-
-
 def command(function: Callable[[List[str]], int]) -> Callable[[Optional[List[str]]], int]:
     """Makes main() of what takes words and returns a status: errors become a line and a status. It
     ends without a line if the reader of its output has gone."""
@@ -325,7 +266,7 @@ def command(function: Callable[[List[str]], int]) -> Callable[[Optional[List[str
         if hasattr(sys, "set_int_max_str_digits"):
             sys.set_int_max_str_digits(0)  # vectors and times may be longer
         # Pipes to the program hold no output in memory, so they come first here.
-        if _program.path():
+        if program.path():
             os.environ.setdefault("VCDKIT_WAY", "program")
         sys.stderr = sys.stderr or open(os.devnull, "w")  # None where it was closed
         _write_bytes(sys.stderr)
@@ -359,11 +300,14 @@ def _remedy(error: VcdkitError, words: List[str]) -> str:
     """Returns what to add to a message: of a fault what helps, and of a name in place of a file
     what the first argument is."""
     if isinstance(error, RunFailed):
-        is_name = re.match(r"(?!.*\.(vcd|gz|xz|bz2|zst|fst):)[^/ ]+: No such file", str(error))
-        return " (the first argument is the dump; - is standard input)" if is_name else ""
+        name, _, said = str(error).partition(": ")
+        is_name = said.startswith("No such file") and not re.search("[/ ]", name)
+        is_file = name.endswith(tuple("." + one for one in ENDINGS))
+        return (" (the first argument is the dump; - is standard input)"
+                if is_name and not is_file else "")
     if not isinstance(error, DumpFault):
         return ""
-    from .._causes import NINE, STRING, look_at  # only a message needs it
+    from ..questions.causes import NINE, STRING, look_at  # only a message needs it
     if error.file == "(stdin)":
         return "\nsee: .. | vcdkit-explain -"
     if "--four-state" not in words and os.path.isfile(error.file):

@@ -37,17 +37,21 @@ import sys
 from concurrent.futures import ThreadPoolExecutor
 from typing import Any, Callable, Dict, Iterable, List, Optional, Sequence, Tuple
 
-from .. import RunFailed, UsageError, VcdkitError, _body, _page_of_two
-from .._compare import (Comparison, Difference, Pair, Side, Sides, choose, hint_among, in_common,
-                        kind, same_within)
-from .._junit import Test, write_tests
-from ..dump import write
-from ..times import word
-from ..values import Cell, Signal
+from ..errors import RunFailed, UsageError, VcdkitError
+from ..forms import page_of_two
+from ..forms.junit import Test, write_tests
+from ..forms.text import in_json, write_json
+from ..forms.text import shown as value_text
+from ..model.names import hint
+from ..model.signals import Signal
+from ..model.times import amount_of
+from ..model.values import Cell, value_in
+from ..questions.compare import (Comparison, Difference, Pair, Side, Sides, choose, in_common, kind,
+                                 same_within)
+from ..reading.files import check_outputs, write
 from . import (FAULT, add_clock, add_form, add_four_state, add_json, add_names, add_unit,
-               add_window, check_begin, check_outputs, command, dump_of, in_json, parser, question,
-               times_of, write_json)
-from . import shown as value_text
+               add_window, check_begin, command, dump_of, is_part, parser, part_of, question,
+               times_of)
 
 MAX_LINES = 20
 
@@ -59,7 +63,7 @@ FIELDS = {"timescale": ("a", "b"), "alone": ("dump", "path", "variables"),
 Line = Tuple[Any, ...]  # a kind, and its fields; a time is in ticks of A, an end in those of each
 
 
-class Report:
+class Lines:
     """The lines of each kind, which are written as they come, and go to a JUnit file."""
 
     def __init__(self, asked: argparse.Namespace):
@@ -70,46 +74,46 @@ class Report:
 
     def _text(self, line: Line) -> str:
         """Returns a line as a reader sees it."""
-        of, *fields = line
-        if of == "differs":
+        what, *fields = line
+        if what == "differs":
             fields[0] = self.times[0](fields[0])
             fields[2:] = [one if isinstance(one, str) and one in ("-", "triggered")
                           else value_text(one, self._asked.form) for one in fields[2:]]
-        if of == "ends":
+        if what == "ends":
             fields = [None if end is None else text(end) for text, end in zip(self.times, fields)]
-        return " ".join(map(str, [of, *("-" if one is None else one for one in fields)]))
+        return " ".join(map(str, [what, *("-" if one is None else one for one in fields)]))
 
-    def say(self, of: str, lines: Iterable[Line]) -> None:
+    def say(self, what: str, lines: Iterable[Line]) -> None:
         """Writes lines of a kind."""
-        kept = self.lines.setdefault(of, [])
+        kept = self.lines.setdefault(what, [])
         for line in lines:
             kept.append(self._text(line))
             if self._asked.json:
-                values = [in_json(one, self._asked.form) if of == "differs" and at > 2 else one
+                values = [in_json(one, self._asked.form) if what == "differs" and at > 2 else one
                           for at, one in enumerate(line)]
-                write_json(dict(zip(("kind", *FIELDS[of]), values)))
+                write_json(dict(zip(("kind", *FIELDS[what]), values)))
             else:
                 print(kept[-1])
         sys.stdout.flush()
 
-    def say_some(self, of: str, lines: List[Line]) -> None:
+    def say_some(self, what: str, lines: List[Line]) -> None:
         """Writes lines of a kind, the first ones if they are many and --every is not given."""
         rest = 0 if self._asked.every else len(lines) - MAX_LINES
-        self.say(of, lines if rest <= 0 else lines[:MAX_LINES])
+        self.say(what, lines if rest <= 0 else lines[:MAX_LINES])
         if rest > 0:
-            front = " ".join(map(str, lines[0][:1 + (of == "alone")]))
-            self.lines[of].append("%s .. %d more (--every)" % (front, rest))
+            front = " ".join(map(str, lines[0][:1 + (what == "alone")]))
+            self.lines[what].append("%s .. %d more (--every)" % (front, rest))
             if self._asked.json:
                 write_json({"kind": "more", "of": front, "lines": rest})
             else:
-                print(self.lines[of][-1])
+                print(self.lines[what][-1])
 
-    def say_file(self, of: str, path: str) -> None:
+    def say_file(self, what: str, path: str) -> None:
         """Says that a file was written."""
         if self._asked.json:
-            write_json({"kind": of, "file": path})
+            write_json({"kind": what, "file": path})
         else:
-            print(of, path)
+            print(what, path)
 
     def differs(self) -> bool:
         return any(self.lines.values())
@@ -117,8 +121,8 @@ class Report:
     def write(self, path: str) -> None:
         """Writes a JUnit file: a test for each kind of line that was looked for."""
         files = "%s %s" % (self._asked.one, self._asked.other)
-        tests = [Test(files, of, "failure" if lines else "", "".join(lines[:1]), "\n".join(lines))
-                 for of, lines in self.lines.items()]
+        tests = [Test(files, what, "failure" if lines else "", "".join(lines[:1]), "\n".join(lines))
+                 for what, lines in self.lines.items()]
         if self.fault:
             tests.append(Test(files, "fault", "error", self.fault, ""))
         write_tests(path, "vcdkit-diff", tests)
@@ -128,7 +132,7 @@ def shown(value: Optional[bytes], signal: Signal) -> Cell:
     """Returns a value of a line; of an event whether it is triggered."""
     if signal.type == "event":
         return "triggered" if value else "-"
-    return None if value is None else _body.value(value.lstrip(b"b"), signal)
+    return None if value is None else value_in(value, signal.size)
 
 
 def lines_of(differences: Iterable[Difference]) -> List[Line]:
@@ -142,10 +146,9 @@ def lines_of(differences: Iterable[Difference]) -> List[Line]:
 def sides_of(asked: argparse.Namespace) -> Sides:
     """Reads both dumps, and looks for all names that were given."""
     dumps = [dump_of(asked, file) for file in (asked.one, asked.other)]  # --names of the first
-    if asked.is_part:
-        for dump in dumps:
-            check_begin(dump, asked)
-        dumps = [dump.cut(asked.begin, asked.end) for dump in dumps]
+    for dump in dumps if is_part(asked) else ():
+        check_begin(dump, asked)
+    dumps = [part_of(dump, asked) for dump in dumps]
     with ThreadPoolExecutor(2) as pool:
         one, other = pool.map(lambda dump: Side(dump, asked.maps), dumps)
     choose((one, other), asked.names, asked.exceptions)
@@ -164,10 +167,10 @@ def sides_of(asked: argparse.Namespace) -> Sides:
 
 def neither(name: str, paths: Iterable[str]) -> UsageError:
     """Returns the exception for a name that is in no dump."""
-    return UsageError("neither dump has %s%s" % (name, hint_among(name, dict.fromkeys(paths))))
+    return UsageError("neither dump has %s%s" % (name, hint(name, [*dict.fromkeys(paths)])))
 
 
-def say_headers(report: Report, sides: Sides, apart: Sequence[Pair], is_common: bool) -> None:
+def say_headers(report: Lines, sides: Sides, apart: Sequence[Pair], is_common: bool) -> None:
     """Says what the headers do not have in common."""
     if not is_common:
         scales = [side.scale for side in sides]
@@ -178,7 +181,7 @@ def say_headers(report: Report, sides: Sides, apart: Sequence[Pair], is_common: 
     report.say("size", [("size", pair.name, *map(kind, pair.signals)) for pair in apart])
 
 
-def say_ends(report: Report, sides: Sides, comparison: Comparison, has_clock: bool) -> None:
+def say_ends(report: Lines, sides: Sides, comparison: Comparison, has_clock: bool) -> None:
     """Says whether one of them is longer."""
     if has_clock:
         report.say("edges", [("edges", *comparison.counts)]
@@ -195,7 +198,7 @@ def part_in(into: Optional[str], letter: str) -> str:
     return os.path.join(into or ".", "diff.%s.vcd" % letter)
 
 
-def write_parts(report: Report, sides: Sides, times: Sequence[int], spans: Sequence[int],
+def write_parts(report: Lines, sides: Sides, times: Sequence[int], spans: Sequence[int],
                 into: str) -> None:
     """Writes the cuts around a time of both, and says where they are."""
     try:
@@ -204,11 +207,11 @@ def write_parts(report: Report, sides: Sides, times: Sequence[int], spans: Seque
         raise RunFailed("%s: %s" % (into, error.strerror)) from error
     for letter, side, at, span in zip("ab", sides, times, spans):
         path = part_in(into, letter)
-        side.dump.around(at, span).save(path)
+        write(path, side.dump.around(at, span).blocks())
         report.say_file("window", path)
 
 
-def compare(asked: argparse.Namespace, report: Report) -> None:
+def compare(asked: argparse.Namespace, report: Lines) -> None:
     """Says all that differs."""
     sides = sides_of(asked)
     report.times = [times_of(side.dump, asked) for side in sides]
@@ -241,7 +244,7 @@ def compare(asked: argparse.Namespace, report: Report) -> None:
     if first and asked.context:
         write_parts(report, sides, first[0].times, spans, asked.into or ".")
     if first and asked.html is not None:
-        page = _page_of_two.texts_of(
+        page = page_of_two.texts_of(
             sides, comparison.factors, every, clocks, same,
             spans[0] * comparison.factors[0] if spans else None)
         write(asked.html, (text.encode("ascii") for text in page))
@@ -269,47 +272,46 @@ def tolerance(text: str) -> float:
 
 def words_of(words: List[str]) -> argparse.Namespace:
     """Reads the command line."""
-    of = parser("vcdkit-diff", __doc__, "no difference", "a difference", "usage error, " + FAULT)
-    of.add_argument("--map", dest="maps", metavar="OLD=NEW", type=map_of, action="append",
+    options = parser("vcdkit-diff", __doc__, "no difference", "a difference", "usage error, " + FAULT)
+    options.add_argument("--map", dest="maps", metavar="OLD=NEW", type=map_of, action="append",
                     default=[], help="treat the scope or signal OLD of either dump as NEW; OLD= "
                     "removes it from paths; if several fit, the longest OLD counts; may be "
                     "repeated")
-    of.add_argument("--common", action="store_true", help="compare only what both have, without "
+    options.add_argument("--common", action="store_true", help="compare only what both have, without "
                     "the lines timescale, alone, ends and edges")
-    of.add_argument("--except", dest="exceptions", metavar="NAME", action="append", default=[],
+    options.add_argument("--except", dest="exceptions", metavar="NAME", action="append", default=[],
                     help="leave out this signal or scope; may be repeated")
-    of.add_argument("--real-tolerance", dest="tolerance", metavar="T", type=tolerance, default=0.0,
+    options.add_argument("--real-tolerance", dest="tolerance", metavar="T", type=tolerance, default=0.0,
                     help="real numbers may differ by T, or by T times the larger one "
                     "[default: 0]")
-    of.add_argument("--x-matches", action="store_true",
+    options.add_argument("--x-matches", action="store_true",
                     help="a digit that is x or z in either dump matches any digit")
-    add_window(of)
-    add_clock(of.add_mutually_exclusive_group(), "compare at the %s edges of this signal")
-    of.add_argument("--every", action="store_true", help="show the first difference of each "
+    add_window(options)
+    add_clock(options.add_mutually_exclusive_group(), "compare at the %s edges of this signal")
+    options.add_argument("--every", action="store_true", help="show the first difference of each "
                     "signal, without the limit of %d lines of each kind" % MAX_LINES)
-    of.add_argument("--junit", metavar="FILE", help="also write a JUnit report, with a test for "
+    options.add_argument("--junit", metavar="FILE", help="also write a JUnit report, with a test for "
                     "each kind of line")
-    of.add_argument("--context", metavar="TIME", help="if values differ, write both dumps from "
+    options.add_argument("--context", metavar="TIME", help="if values differ, write both dumps from "
                     "TIME before to TIME after the difference, as diff.a.vcd and diff.b.vcd")
-    of.add_argument("--into", metavar="DIRECTORY",
+    options.add_argument("--into", metavar="DIRECTORY",
                     help="the directory of these files [default: .]")
-    of.add_argument("--html", metavar="FILE", help="if values differ, write an HTML page with the "
+    options.add_argument("--html", metavar="FILE", help="if values differ, write an HTML page with the "
                     "waveforms of both dumps, as vcdkit-wave --html does: the signals in the "
                     "lines, and the clock, within --context, or otherwise as much as fits")
-    add_form(of)
-    add_unit(of)
-    add_json(of)
-    add_four_state(of)
-    of.add_argument("one", metavar="A", help="the first dump")
-    of.add_argument("other", metavar="B", help="the second dump")
-    add_names(of, "*")
-    asked = of.parse_args(words)
+    add_form(options)
+    add_unit(options)
+    add_json(options)
+    add_four_state(options)
+    options.add_argument("one", metavar="A", help="the first dump")
+    options.add_argument("other", metavar="B", help="the second dump")
+    add_names(options, "*")
+    asked = options.parse_args(words)
     asked.maps.sort(key=lambda pair: -len(pair[0]))
     if asked.into is not None and not asked.context:
-        of.error("--into is for the files of --context")
+        options.error("--into is for the files of --context")
     if asked.context is not None:
-        word(asked.context)
-    asked.is_part = (asked.begin, asked.end) != (of.get_default("begin"), of.get_default("end"))
+        amount_of(asked.context)
     parts = [part_in(asked.into, letter) for letter in "ab" if asked.context]
     check_outputs([asked.html, asked.junit, *parts], [asked.one, asked.other, asked.names_of])
     return asked
@@ -319,7 +321,7 @@ def words_of(words: List[str]) -> argparse.Namespace:
 @question
 def main(words: List[str]) -> int:
     asked = words_of(words)
-    report = Report(asked)
+    report = Lines(asked)
     try:
         compare(asked, report)
     except VcdkitError as error:

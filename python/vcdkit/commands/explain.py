@@ -21,33 +21,30 @@ examples:
   vcdkit-explain --salvage good.vcd sim.vcd
   vcdkit-explain --reach 1ms --junit dumps.xml dumps/
   ssh lab cat sim.vcd.gz | vcdkit-explain -"""
+import argparse
 import contextlib
 import os
 import re
 import shlex
 import sys
+from typing import List, Optional, TextIO
 
-from .. import DumpFault, RunFailed, _body
-from .._causes import CUT_OFF, NO_HEADER, look_at
-from .._junit import write_tests
-from .._verdicts import files_of, summary, verdict_on, verdicts
-from ..dump import write
-from ..times import word
-from . import (add_four_state, add_json, add_unit, check_outputs, command, dump_of, natural, parser,
-               times_of, write_json)
+from ..errors import DumpFault, RunFailed
+from ..forms.junit import test_of, write_tests
+from ..forms.text import write_json
+from ..model.times import amount_of
+from ..questions.causes import CUT_OFF, NO_HEADER, look_at
+from ..questions.dump import Dump
+from ..questions.salvage import Good, has_header
+from ..questions.verdicts import Verdict, files_of, summary, verdict_on, verdicts
+from ..reading.files import check_outputs, write
+from . import (add_four_state, add_json, add_unit, command, dump_of, natural, parser, times_of)
 
 OUTPUT = ("-", "/dev/stdout")
+Unpacker = Optional[List[str]]
 
 
-def has_header(dump):
-    """Whether the header of a dump has no fault, so that values before a fault can be kept."""
-    try:
-        return dump.signals is not None
-    except DumpFault:
-        return False
-
-
-def with_file(remedy, name, unpacker):
+def with_file(remedy: str, name: str, unpacker: Unpacker) -> str:
     """Returns a remedy with the file in it, or with what unpacks it, or with a pipe."""
     file = shlex.quote(name)
     is_pipe = name.startswith(("(stdin)", "/dev/"))
@@ -64,7 +61,7 @@ def with_file(remedy, name, unpacker):
     return remedy.replace("FILE", file)
 
 
-def explain(dump, fault, unpacker):
+def explain(dump: Dump, fault: DumpFault, unpacker: Unpacker) -> bytes:
     """Shows the lines around a fault, its cause and what helps; returns what is before its
     line."""
     before, found = look_at(dump, fault, print)
@@ -77,52 +74,8 @@ def explain(dump, fault, unpacker):
     return before
 
 
-class Good:
-    """The text of a faulty dump up to the fault, in pieces; then `last` is its last timestamp,
-    `None` if there is none."""
-
-    def __init__(self, dump, before):
-        self.dump, self.before, self.last, self.is_empty = dump, before, None, True
-
-    def __iter__(self):
-        tail, is_open = b"", False
-        try:
-            for block in self.dump.cut()._blocks():
-                text = tail + block
-                self.is_empty = self.is_empty and not re.search(rb"\n[01xzbr]", text)
-                last, section = _body.last_time(text), text.rfind(b"\n$")
-                self.last = self.last if last is None else last
-                is_open = is_open if section < 0 else text.startswith(b"\n$dump", section)
-                tail = text[-32:]  # longer than a timestamp
-                yield block
-        except DumpFault:
-            pass
-        if is_open:
-            yield b"$end\n"
-        time = self.time_without_change()
-        if time is not None:
-            self.last = time
-            yield b"#%d\n" % time
-        elif self.is_empty and self.has_no_time():
-            self.last = None  # `cut` wrote the time 0
-
-    def has_no_time(self):
-        """Whether no timestamp is before the fault."""
-        with self.dump.open() as text:
-            return _body.first_time(text) is None
-
-    def time_without_change(self):
-        """Returns the timestamp right before the fault, which `cut` does not write as no change is
-        between them; `None` if there is none."""
-        found = re.findall(rb"(?<!\S)#(\d+)\s", self.before)
-        time = int(found[-1]) if found else 0
-        if time <= (self.last or 0):
-            return None
-        # If not, what was found is in a comment.
-        return time if self.dump.goes_beyond(time - 1) else None
-
-
-def salvage(dump, fault, before, path, out, time):
+def salvage(dump: Dump, fault: DumpFault, before: bytes, asked: argparse.Namespace,
+            out: Optional[TextIO]) -> None:
     """Writes what is before the fault of a dump, to `out` if that is given, and says until which
     time it has all values."""
     if not has_header(dump):
@@ -132,46 +85,46 @@ def salvage(dump, fault, before, path, out, time):
     if out:
         out.buffer.writelines(good)
     else:
-        write(path, good)
-    last = -1 if good.last is None else good.last - (not dump.is_finished(good.last, fault))
-    print("wrote: %s, %s" % (path, "good until " + time(last) if last >= 0 else
-                             "but it has all values of no time"))
+        write(asked.salvage, good)
+    last = good.good_until(fault)
+    print("wrote: %s, %s" % (asked.salvage, "good until " + times_of(dump, asked)(last)
+                             if last >= 0 else "but it has all values of no time"))
 
 
-def words_of(words):
+def words_of(words: List[str]) -> argparse.Namespace:
     """Reads the command line."""
-    of = parser("vcdkit-explain", __doc__, "valid dumps, as far as they go", "not a valid dump")
-    of.add_argument("--salvage", metavar="OUT",
+    options = parser("vcdkit-explain", __doc__, "valid dumps, as far as they go", "not a valid dump")
+    options.add_argument("--salvage", metavar="OUT",
                     help="write everything before the fault to a file (-: standard output)")
-    of.add_argument("--token-limit", type=int, metavar="N",
+    options.add_argument("--token-limit", type=int, metavar="N",
                     help="maximum token length: 64 to 16777216 bytes [default: 1048576]")
-    of.add_argument("--reach", metavar="TIME", help="treat a dump that ends before TIME as faulty")
-    of.add_argument("--jobs", type=natural, default=os.cpu_count() or 1, metavar="N",
+    options.add_argument("--reach", metavar="TIME", help="treat a dump that ends before TIME as faulty")
+    options.add_argument("--jobs", type=natural, default=os.cpu_count() or 1, metavar="N",
                     help="how many dumps to check at a time "
                     "[default: the number of processors]")
-    of.add_argument("--junit", metavar="FILE",
+    options.add_argument("--junit", metavar="FILE",
                     help="write a JUnit report, with a test for each dump")
-    add_unit(of)
-    add_json(of)
-    add_four_state(of)
-    of.add_argument("files", metavar="FILE", nargs="+", help="a dump, or a directory of dumps")
-    asked = of.parse_args(words)
+    add_unit(options)
+    add_json(options)
+    add_four_state(options)
+    options.add_argument("files", metavar="FILE", nargs="+", help="a dump, or a directory of dumps")
+    asked = options.parse_args(words)
     if asked.reach is not None:
-        word(asked.reach)
+        amount_of(asked.reach)
     asked.is_many = (len(asked.files) > 1 or asked.json or asked.junit is not None
                      or asked.reach is not None or os.path.isdir(asked.files[0]))
     if asked.is_many and asked.salvage is not None:
-        of.error("--salvage is for one dump, without --reach, --json and --junit")
+        options.error("--salvage is for one dump, without --reach, --json and --junit")
     return asked
 
 
-def explain_all(asked):
+def explain_all(asked: argparse.Namespace) -> int:
     """Writes a line for each dump, and how many have a fault; returns the highest status."""
     files = files_of(asked.files)
     check_outputs([asked.junit], files)
 
-    def verdict(file):
-        return verdict_on(dump_of(asked, file, token_limit=asked.token_limit), file, asked.reach,
+    def verdict(file: str) -> Verdict:
+        return verdict_on(dump_of(asked, file, asked.token_limit), file, asked.reach,
                           lambda dump, ticks: times_of(dump, asked)(ticks))
 
     found = []
@@ -184,12 +137,12 @@ def explain_all(asked):
     if not asked.json and len(found) > 1:
         print(summary([one.kind for one in found]))
     if asked.junit is not None:
-        write_tests(asked.junit, "vcdkit-explain", [one.test for one in found])
+        write_tests(asked.junit, "vcdkit-explain", list(map(test_of, found)))
     return max(one.status for one in found)
 
 
 @command
-def main(words):
+def main(words: List[str]) -> int:
     asked = words_of(words)
     if asked.is_many:
         return explain_all(asked)
@@ -201,9 +154,9 @@ def main(words):
         return answer(asked, out)
 
 
-def answer(asked, out):
+def answer(asked: argparse.Namespace, out: Optional[TextIO]) -> int:
     """Says what is asked; returns the status. `out` gets what is salvaged if it is given."""
-    dump = dump_of(asked, asked.files[0], token_limit=asked.token_limit)
+    dump = dump_of(asked, asked.files[0], asked.token_limit)
     unpacker = dump.unpacker()
     if unpacker:
         print("packed: " + with_file("vcdkit check < FILE", dump.name, unpacker), flush=True)
@@ -218,10 +171,10 @@ def answer(asked, out):
         print("vcdkit: %s" % fault, file=sys.stderr, flush=True)
         before = explain(dump, fault, unpacker)
         if asked.salvage is not None:
-            salvage(dump, fault, before, asked.salvage, out, times_of(dump, asked))
+            salvage(dump, fault, before, asked, out)
         return fault.status
     if out:
-        out.buffer.writelines(dump._blocks())
+        out.buffer.writelines(dump.blocks())
     elif asked.salvage is not None:
         print("no fault: nothing written to " + asked.salvage, file=sys.stderr)
     for key, value in report._asdict().items():

@@ -9,35 +9,33 @@ standard error.
 examples:
   vcdkit-info sim.vcd.xz
   vcdkit-info --json sim.vcd | jq .last"""
-from collections import Counter
+import collections
+from typing import Any, Counter, Dict, Iterator, List, Tuple
 
-from .. import _body
-from . import add_file, add_json, add_unit, command, dump_of, parser, times_of, write_json
-
-
-def first_tick(dump):
-    """Returns the first timestamp; `None` if there is none."""
-    with dump.open() as text:
-        return _body.first_time(text)
+from ..forms.text import write_json
+from ..questions.dump import Dump
+from ..reading.body import first_time
+from . import add_file, add_json, add_unit, command, dump_of, parser, times_of
 
 
-def of_header(dump, most):
-    """Returns what the header says, as pairs; without the file's name."""
+def of_header(dump: Dump, count: int) -> Iterator[Tuple[str, Any]]:
+    """Returns what the header says, as pairs, with so many of the largest scopes; without the
+    file's name."""
     date, version, scale = dump.header
-    types = Counter(one.type for one in dump.signals)
-    scopes = Counter()
+    types = collections.Counter(one.type for one in dump.signals)
+    scopes: Counter[str] = collections.Counter()
     for scope in dump.tree.walk():
         scopes.update({scope.path: len(scope.signals)} if scope.signals else {})
     sizes = {one.code: one.size for one in dump.signals}
     yield "date", date
     yield "version", version
     yield "timescale", str(scale) if scale else None
-    yield "types", {kind: count for kind, count in types.most_common()}
+    yield "types", dict(types.most_common())
     yield "bits", sum(sizes.values())
-    yield "largest", {scope: count for scope, count in scopes.most_common(most)}
+    yield "largest", dict(scopes.most_common(count))
 
 
-def shown(key, value):
+def lines_of(key: str, value: Any) -> List[str]:
     """Returns the lines of a value, for a reader."""
     if isinstance(value, dict) and key == "largest":
         return ["largest %s %d" % (scope or "(top)", count) for scope, count in value.items()]
@@ -47,31 +45,30 @@ def shown(key, value):
 
 
 @command
-def main(words):
-    of = parser("vcdkit-info", __doc__, failed="not a valid dump")
-    of.add_argument("--scopes", type=int, default=5, metavar="N",
-                    help="how many of the largest scopes to list [default: 5]")
-    add_unit(of)
-    add_json(of, "write one JSON object; first_tick and last_tick are ticks")
-    add_file(of)
-    asked = of.parse_args(words)
+def main(words: List[str]) -> int:
+    options = parser("vcdkit-info", __doc__, failed="not a valid dump")
+    options.add_argument("--scopes", type=int, default=5, metavar="N",
+                         help="how many of the largest scopes to list [default: 5]")
+    add_unit(options)
+    add_json(options, "write one JSON object; first_tick and last_tick are ticks")
+    add_file(options)
+    asked = options.parse_args(words)
     dump = dump_of(asked)
     time_text = times_of(dump, asked)
-    facts = {"file": dump.name, **dict(of_header(dump, asked.scopes))}
+    facts: Dict[str, Any] = {"file": dump.name, **dict(of_header(dump, asked.scopes))}
     if not asked.json:
         for key, value in facts.items():
-            for line in shown(key, value):
+            for line in lines_of(key, value):
                 print(line, flush=True)
     report = dump.check()
-    counts = {key: value for key, value in report._asdict().items() if key != "last"}
-    for key, tick in ("first", first_tick(dump)), ("last", report.last):
+    counts: Dict[str, Any] = report._asdict()
+    del counts["last"]
+    for key, tick in ("first", first_time(dump)), ("last", report.last):
         text = None if tick is None else time_text(tick)
         counts[key] = text
         counts[key + "_tick"] = tick
-        if not asked.json and text not in (None, str(tick)):
-            text += " (tick %d)" % tick
         if not asked.json:
-            print(key, text or "-")
+            print(key, text or "-", *[] if text in (None, str(tick)) else ["(tick %s)" % tick])
     if asked.json:
         write_json({**facts, **counts})
     else:

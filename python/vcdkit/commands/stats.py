@@ -29,188 +29,56 @@ examples:
   vcdkit-stats --json sim.vcd tb.clk | jq .period
   vcdkit-stats --toggle --from 1us sim.vcd tb.cpu | head
   vcdkit-stats --saif power.saif --from 1us --to 2us sim.vcd tb.cpu"""
-import math
+import argparse
 import sys
-from fractions import Fraction
+from typing import Any, Dict, Iterator, List, Optional, Sequence
 
-from .. import _body, _toggles
-from ..dump import write
-from . import (add_file, add_form, add_json, add_unit, add_window, check_begin, check_outputs,
-               command, dump_of, mean_text, natural, parser, shown, times_of, write_json)
-
-MAX_VALUES = 1 << 16  # of one signal; further ones count as one
-OTHERS = b"others"
-
-
-class Lengths:
-    """How many lengths of time there are, the shortest, the longest and their sum, in ticks."""
-
-    __slots__ = ("count", "shortest", "longest", "sum")
-
-    def __init__(self):
-        self.count, self.shortest, self.longest, self.sum = 0, None, None, 0
-
-    def add(self, length):
-        """Counts a length."""
-        self.count += 1
-        self.sum += length
-        if self.count == 1:
-            self.shortest = self.longest = length
-        elif length < self.shortest:
-            self.shortest = length
-        elif length > self.longest:
-            self.longest = length
+from .. import __version__
+from ..forms import saif
+from ..forms.text import mean_text, shown, write_json
+from ..model.signals import Signal
+from ..model.times import Window
+from ..questions.dump import Dump
+from ..questions.statistics import Statistics, shares_of, statistics_of
+from ..questions.toggles import BitCounts, counts_of
+from ..reading.files import check_outputs, write
+from . import (add_file, add_form, add_json, add_unit, add_window, check_begin, command, dump_of,
+               natural, parser, times_of, window_of)
 
 
-class Value:
-    """A value of a signal: its time in ticks, how often the signal takes it, and its pulses."""
-
-    __slots__ = ("text", "ticks", "times", "pulses")
-
-    def __init__(self, text):
-        self.text, self.ticks, self.times, self.pulses = text, 0, 0, Lengths()
-
-
-class Statistics:
-    """What is counted of the values of one code, as they come."""
-
-    def __init__(self, signal):
-        self.signal, self.values = signal, {}
-        self.changes, self.periods = 0, Lengths()
-        # The value now, since when, and whether a change in the window began it.
-        self.text, self.begin, self.is_whole = None, 0, False
-        # The last rise or trigger, the ticks of 1 since then, and those of all whole periods.
-        self.edge, self.high, self.high_of_periods = None, 0, 0
-
-    def value(self, text):
-        """Returns what is counted of a value."""
-        if text not in self.values and len(self.values) >= MAX_VALUES:
-            text = OTHERS
-        return self.values.setdefault(text, Value(text))
-
-    def leave(self, time, is_whole):
-        """Counts the value that ends at a time, or with the window."""
-        length = time - self.begin
-        if not length:
-            return
-        value = self.values.get(self.text) or self.value(self.text)
-        value.ticks += length
-        value.times += 1
-        if is_whole:
-            value.pulses.add(length)
-        if self.text == b"1":
-            self.high += length
-
-    def note_edge(self, time):
-        """Counts a rise or a trigger."""
-        if self.edge is not None:
-            self.periods.add(time - self.edge)
-            self.high_of_periods += self.high
-        self.edge, self.high = time, 0
-
-    def start(self, time, text):
-        """Takes a value from before the window, or the first one."""
-        self.text, self.begin = _body.same(text), time
-
-    def change(self, time, text):
-        """Takes the value at the end of a time."""
-        text = _body.same(text) if text[:1] == b"r" else text
-        if self.signal.type == "event":
-            self.changes += 1
-            self.note_edge(time)
-        elif self.text is None:
-            self.start(time, text)
-        elif text != self.text:
-            self.changes += 1
-            self.leave(time, self.is_whole)
-            if self.signal.size == 1 and (self.text, text) == (b"0", b"1"):
-                self.note_edge(time)
-            elif text not in (b"0", b"1"):
-                self.edge = None  # a period with an x or a z is none
-            self.text, self.begin, self.is_whole = text, time, True
-
-    def end(self, time):
-        """Takes the end of the window."""
-        if self.text is not None:
-            self.leave(time, False)
-
-
-def statistics_of(dump, asked):
-    """Returns the signals, and of each code what is counted."""
-    signals = dump.select(asked.names)
-    found = {one.code.encode(): Statistics(one) for one in signals}
-    for time, before, changes in _body.steps(
-            dump.cut(asked.begin, asked.end)._part(asked.names), found, is_cut=True):
-        for code, text in before:
-            found[code].start(time, text)
-        for code, text in changes if len(changes) < 2 else dict(changes).items():
-            found[code].change(time, text)
-    last = end_of(dump, asked)
-    for one in found.values():
-        one.end(last)
-    return [(one, found[one.code.encode()]) for one in signals]
-
-
-def of_lengths(lengths):
-    """Returns the facts of lengths of time."""
-    return {"times": lengths.count, "shortest": lengths.shortest, "longest": lengths.longest,
-            "mean": lengths.sum / lengths.count}
-
-
-def of_reals(signal, of):
-    """Returns the facts of the numbers of a real signal; `None` if there is none."""
-    if not signal.is_real:
-        return None
-    numbers = [(_body.value(text, of.signal), value.ticks) for text, value in of.values.items()]
-    numbers = [pair for pair in numbers if isinstance(pair[0], float) and math.isfinite(pair[0])]
-    span = sum(ticks for _, ticks in numbers)
-    if not span:
-        return None
-    return {"least": min(numbers)[0], "largest": max(numbers)[0],
-            "mean": float(sum(Fraction(number) * ticks for number, ticks in numbers) / span)}
-
-
-def of_values(of, form, most):
-    """Returns the facts of values, those with most time first, at most so many if `most` is one."""
-    every = sorted(of.values.values(), key=lambda value: -value.ticks)
-    span = sum(value.ticks for value in every)
-    return [{"value": "others" if value.text == OTHERS
-             else shown(_body.value(value.text, of.signal), form),
-             "ticks": value.ticks, "share": value.ticks / span, "times": value.times,
-             "shortest": value.pulses.shortest, "longest": value.pulses.longest}
-            for value in every[:most]]
-
-
-def facts_of(signal, of, form, most):
+def facts_of(signal: Signal, counted: Statistics, form: Optional[str], count: Optional[int]
+             ) -> Dict[str, Any]:
     """Returns what is counted of a signal, with times in ticks; what it does not have is `None`."""
-    is_event = signal.type == "event"
-    periods = of.periods
-    duty = of.high_of_periods / periods.sum if periods.count and not is_event else None
-    return {"path": signal.path, "type": signal.type, "size": signal.size, "changes": of.changes,
-            "period": of_lengths(periods) if periods.count else None, "duty": duty,
-            "range": of_reals(signal, of), "values": of_values(of, form, most)}
+    return {"path": signal.path, "type": signal.type, "size": signal.size,
+            "changes": counted.changes,
+            "period": counted.periods.facts() if counted.periods.count else None,
+            "duty": None if signal.type == "event" else counted.duty(),
+            "range": counted.range() if signal.is_real else None,
+            "values": [{**one._asdict(), "value": shown(one.value, form)}
+                       for one in shares_of(counted, count)]}
 
 
-def times(count):
+def times(count: int) -> str:
     """Returns how often, in words."""
     return "%d time%s" % (count, "s" * (count != 1))
 
 
-def lines_of(dump, facts, rest, asked):
+def lines_of(dump: Dump, facts: Dict[str, Any], rest: int, asked: argparse.Namespace
+             ) -> Iterator[str]:
     """Returns the lines of a signal, which has more values than its facts, if `rest` is above 0."""
     time = times_of(dump, asked)
     yield "%(path)s %(type)s %(size)d" % facts
     yield "  changes %d" % facts["changes"]
-    period, of = facts["period"], facts["range"]
+    period, span = facts["period"], facts["range"]
     if period:
         yield "  period %s to %s, mean %s, %s" % (
             time(period["shortest"]), time(period["longest"]),
             mean_text(dump, period["mean"], asked.unit), times(period["times"]))
     if facts["duty"] is not None:
         yield "  duty %.4g%%" % (100 * facts["duty"])
-    if of:
-        yield "  range %s to %s, mean %.6g" % (shown(of["least"], None), shown(of["largest"], None),
-                                               of["mean"])
+    if span:
+        yield "  range %s to %s, mean %.6g" % (shown(span["least"]), shown(span["largest"]),
+                                               span["mean"])
     for value in facts["values"]:
         pulses = "" if value["shortest"] is None else ", %s to %s" % (
             time(value["shortest"]), time(value["longest"]))
@@ -221,34 +89,28 @@ def lines_of(dump, facts, rest, asked):
         yield "  and %d other value%s" % (rest, "s" * (rest != 1))
 
 
-def end_of(dump, asked):
-    """Returns the end of the window, which ends with the dump if that is earlier."""
-    last = dump.cut(asked.begin, asked.end).check().last or 0
-    return max(last, dump.ticks(asked.begin, is_up=True))
-
-
-def write_toggles(rows, asked):
+def write_toggles(bits: Sequence[BitCounts], asked: argparse.Namespace) -> None:
     """Writes a line for each bit, those that toggle most first, and how many did."""
-    ordered = sorted(rows, key=lambda row: -(row.rises + row.falls))
-    for row in ordered if asked.json else ():
-        write_json({"path": row.signal.path, "bit": row.place, "rises": row.rises,
-                    "falls": row.falls, "x": row.unknowns})
+    ordered = sorted(bits, key=lambda bit: -(bit.rises + bit.falls))
+    for bit in ordered if asked.json else ():
+        write_json({"path": bit.of.signal.path, "bit": bit.number if bit.of.has_numbers else None,
+                    "rises": bit.rises, "falls": bit.falls, "x": bit.unknowns})
     if not asked.json:
-        sys.stdout.writelines("%s %d %d %d\n" % (row.name, row.rises, row.falls, row.unknowns)
-                              for row in ordered)
-        both = sum(bool(row.rises and row.falls) for row in rows)
-        never = sum(not row.rises and not row.falls for row in rows)
+        sys.stdout.writelines("%s %d %d %d\n" % (bit.path, bit.rises, bit.falls, bit.unknowns)
+                              for bit in ordered)
+        both = sum(bool(bit.rises and bit.falls) for bit in bits)
+        never = sum(not bit.rises and not bit.falls for bit in bits)
         print("%d bit%s: %d rise and fall, %d do one of these, %d do neither" % (
-            len(rows), "s" * (len(rows) != 1), both, len(rows) - both - never, never))
+            len(bits), "s" * (len(bits) != 1), both, len(bits) - both - never, never))
 
 
-def write_bits(dump, asked):
+def write_bits(dump: Dump, window: Window, asked: argparse.Namespace) -> None:
     """Writes what each bit does."""
-    begin, end = dump.ticks(asked.begin, is_up=True), end_of(dump, asked)
-    rows = _toggles.rows_of(dump, asked.names, begin, end, asked.saif is not None)
+    window = dump.window_to_end(window)
+    bits = counts_of(dump, asked.names, window, asked.saif is not None)
     if asked.toggle:
-        write_toggles(rows, asked)
-    texts = _toggles.saif(dump, rows, end - begin)
+        write_toggles(bits, asked)
+    texts = saif.texts_of(dump, bits, window.last - window.begin, __version__)
     if asked.saif == "-":
         sys.stdout.writelines(texts)
     elif asked.saif is not None:
@@ -256,27 +118,28 @@ def write_bits(dump, asked):
 
 
 @command
-def main(words):
-    of = parser("vcdkit-stats", __doc__)
-    of.add_argument("--values", type=natural, default=10, metavar="N",
-                    help="how many values to list for a signal; --json lists all [default: 10]")
-    of.add_argument("--toggle", action="store_true", help="list how often each bit toggles")
-    of.add_argument("--saif", metavar="FILE", help="write a SAIF file (-: standard output)")
-    add_window(of)
-    add_form(of)
-    add_unit(of)
-    add_json(of)
-    add_file(of, "+")
-    asked = of.parse_args(words)
+def main(words: List[str]) -> int:
+    options = parser("vcdkit-stats", __doc__)
+    options.add_argument("--values", type=natural, default=10, metavar="N", help="how many values "
+                         "to list for a signal; --json lists all [default: 10]")
+    options.add_argument("--toggle", action="store_true", help="list how often each bit toggles")
+    options.add_argument("--saif", metavar="FILE", help="write a SAIF file (-: standard output)")
+    add_window(options)
+    add_form(options)
+    add_unit(options)
+    add_json(options)
+    add_file(options, "+")
+    asked = options.parse_args(words)
     check_outputs([asked.saif], [asked.file, asked.names_of])
     dump = dump_of(asked)
     times_of(dump, asked)  # a unit needs a time scale
     dump.select(asked.names)
     check_begin(dump, asked)
+    window = window_of(dump, asked)
     if asked.toggle or asked.saif is not None:
-        write_bits(dump, asked)
+        write_bits(dump, window, asked)
         return 0
-    for signal, counted in statistics_of(dump, asked):
+    for signal, counted in statistics_of(dump, asked.names, window):
         facts = facts_of(signal, counted, asked.form, None if asked.json else asked.values)
         if asked.json:
             write_json(facts)

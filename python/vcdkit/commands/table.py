@@ -32,27 +32,28 @@ import os
 import sys
 from typing import List
 
-from .. import Value, _rows
+from ..forms.text import in_json, shown, write_json
+from ..model.signals import keys_of
+from ..model.values import Value
 from . import (add_at, add_clock, add_file, add_form, add_json, add_unit, add_window, check_begin,
-               command, dump_of, in_json, parser, shown, times_at, write_json)
+               command, dump_of, is_part, parser, part_of, times_at)
 
 
 @command
 def main(words: List[str]) -> int:
-    of = parser("vcdkit-table", __doc__)
-    add_form(of)
-    add_clock(of, "write a row for each %s edge of this signal")
-    add_at(of, "write a row for each of these times%s")
-    of.add_argument("--if", dest="condition", metavar="CONDITION",
+    options = parser("vcdkit-table", __doc__)
+    add_form(options)
+    add_clock(options, "write a row for each %s edge of this signal")
+    add_at(options, "write a row for each of these times%s")
+    options.add_argument("--if", dest="condition", metavar="CONDITION",
                     help="write only the rows at which this holds")
-    add_window(of)
-    add_unit(of, "that of the time scale")
-    add_json(of)
-    add_file(of, "+")
-    asked = of.parse_args(words)
-    is_part = (asked.begin, asked.end) != (of.get_default("begin"), of.get_default("end"))
-    if asked.at is not None and (is_part or asked.rise is not None or asked.fall is not None):
-        of.error("--at goes with none of --rise, --fall, --from and --to")
+    add_window(options)
+    add_unit(options, "that of the time scale")
+    add_json(options)
+    add_file(options, "+")
+    asked = options.parse_args(words)
+    if asked.at is not None and (is_part(asked) or asked.rise is not None or asked.fall is not None):
+        options.error("--at goes with none of --rise, --fall, --from and --to")
     times, whole = times_at(asked), dump_of(asked)
     columns = [one for one in whole.select(asked.names) if one.type != "event"]
     scale = whole.timescale
@@ -60,13 +61,13 @@ def main(words: List[str]) -> int:
     whole.ticks("0" if in_unit == "tick" else "0" + in_unit)  # a unit needs a time scale
     check_begin(whole, asked)
     # Values at the begin of a cut are a section, and none that changed.
-    dump = whole.cut(asked.begin, asked.end) if is_part else whole
+    dump = part_of(whole, asked)
     rows = dump.rows(asked.names, times, asked.rise, asked.fall, asked.condition)
     _ = dump.header  # so that a bad window is refused before anything is written
     is_file = os.path.isfile("/dev/stdin" if asked.file == "-" else asked.file)
     if not is_file and isinstance(sys.stdout, io.TextIOWrapper):
         sys.stdout.reconfigure(line_buffering=True)  # the rows of a pipe are seen as they come
-    keys = _rows.keys_of(columns, ["time"])
+    keys = keys_of(columns, ["time"])
     if asked.json:
         for time, values in rows:
             write_json({"time": time, **dict(zip(keys, (

@@ -12,30 +12,33 @@ examples:
   vcdkit-values --at 1us,2us,3us --names view.gtkw sim.vcd
   vcdkit-values --signed sim.vcd.gz tb.dut.sum"""
 import sys
+from typing import List
 
-from . import (add_at, add_file, add_form, add_json, add_unit, after_end, command, dump_of,
-               in_json, parser, shown, times_at, times_of, write_json)
+from ..forms.text import in_json, shown, write_json
+from ..questions.rows import at_times, states
+from . import (add_at, add_file, add_form, add_json, add_unit, after_end, command, dump_of, parser,
+               times_at, times_of)
 
 
 @command
-def main(words):
-    of = parser("vcdkit-values", __doc__)
-    add_at(of, "the times%s [default: the end of the dump]")
-    add_form(of)
-    add_unit(of)
-    add_json(of)
-    add_file(of, "*")
-    asked = of.parse_args(words)
+def main(words: List[str]) -> int:
+    options = parser("vcdkit-values", __doc__)
+    add_at(options, "the times%s [default: the end of the dump]")
+    add_form(options)
+    add_unit(options)
+    add_json(options)
+    add_file(options, "*")
+    asked = options.parse_args(words)
     given, dump = times_at(asked), dump_of(asked)
     text = times_of(dump, asked)
     times = [str(dump.check().last or 0)] if given is None else given
-    names = dump._full(asked.names)
-    signals = {place: one for place, one in dump._places(names).items() if one.type != "event"}
+    names = dump.full(asked.names)
+    signals = states(dump.places(names))
     is_late = after_end(dump, max(given, key=dump.ticks)) if given else ""
     if is_late:
         print("vcdkit-values: warning: --at: %s; its values are the last ones" % is_late,
               file=sys.stderr)
-    for time, values in dump._rows_at(signals, list(map(dump.ticks, times)), names):
+    for time, values in at_times(dump, signals, list(map(dump.ticks, times)), names):
         for one, value in zip(signals.values(), values):
             if asked.json:
                 write_json({"time": time, "path": one.path, "value": in_json(value, asked.form)})

@@ -59,52 +59,53 @@ import argparse
 import sys
 from typing import Callable, Iterable, List, Tuple
 
-from .. import Dump, UsageError, VcdkitError
-from .._junit import Test, write_tests
-from .._saved import text_of_file
-from .._when import Questions
-from . import (FAULT, add_clock, add_file, add_json, add_unit, add_window, check_begin,
-               check_outputs, command, dump_of, mean_text, parser, question, times_of, write_json)
+from ..errors import UsageError, VcdkitError
+from ..forms.junit import Test, write_tests
+from ..forms.text import mean_text, write_json
+from ..questions.dump import Dump
+from ..questions.when import Questions
+from ..reading.files import check_outputs, text_of_file
+from . import (FAULT, add_clock, add_file, add_json, add_unit, add_window, check_begin, command,
+               dump_of, parser, part_of, question, times_of)
 
 Rule = Tuple[str, str]  # its name, and its condition
 
 
 def words_of(words: List[str]) -> argparse.Namespace:
     """Reads the command line."""
-    of = parser("vcdkit-when", __doc__, "it held at some time", "it never held",
+    options = parser("vcdkit-when", __doc__, "it held at some time", "it never held",
                 "usage error, a bad condition, %s" % FAULT)
-    form = of.add_mutually_exclusive_group()
+    form = options.add_mutually_exclusive_group()
     form.add_argument("--first", action="store_true", help="list only the first time")
     form.add_argument("--count", action="store_true", help="write only the number of times")
     form.add_argument("--latency", action="store_true",
                       help="for req -> ack within N, also list when ack follows and after how long")
     form.add_argument("--rules", metavar="FILE", help="evaluate the conditions in this file, each "
                       "on a line `name: condition`, and write a line for each that holds")
-    of.add_argument("--in-order", action="store_true", help="with --latency: each edge at which "
+    options.add_argument("--in-order", action="store_true", help="with --latency: each edge at which "
                     "req holds is a request, each edge at which ack holds is an answer, and the "
                     "n-th answer belongs to the n-th request")
-    of.add_argument("--junit", metavar="FILE", help="with --rules: also write a JUnit report, with "
+    options.add_argument("--junit", metavar="FILE", help="with --rules: also write a JUnit report, with "
                     "a test for each rule")
-    add_clock(of, "evaluate at the %s edges of this signal")
-    of.add_argument("--every", action="store_true",
+    add_clock(options, "evaluate at the %s edges of this signal")
+    options.add_argument("--every", action="store_true",
                     help="list each edge at which it holds, not only those at which it begins to")
-    of.add_argument("--never", action="store_true",
+    options.add_argument("--never", action="store_true",
                     help="for a CI job: exit with 0 if it never held and with 1 if it did")
-    add_window(of)
-    add_unit(of)
-    add_json(of)
-    add_file(of)
-    of.add_argument("condition", metavar="CONDITION", nargs="?",
+    add_window(options)
+    add_unit(options)
+    add_json(options)
+    add_file(options)
+    options.add_argument("condition", metavar="CONDITION", nargs="?",
                     help="a condition (see below); not with --rules")
-    asked, rest = of.parsed(words)
+    asked, rest = options.parsed(words)
     if rest:
-        of.error("put the condition into quotes" if rest[0][:1] != "-" else
+        options.error("put the condition into quotes" if rest[0][:1] != "-" else
                  "unrecognized arguments: " + " ".join(rest))
     if (asked.condition is None) == (asked.rules is None):
-        of.error("give a CONDITION, or --rules FILE")
+        options.error("give a CONDITION, or --rules FILE")
     if asked.in_order and not asked.latency or asked.junit is not None and asked.rules is None:
-        of.error("--in-order goes with --latency, and --junit with --rules")
-    asked.is_part = (asked.begin, asked.end) != (of.get_default("begin"), of.get_default("end"))
+        options.error("--in-order goes with --latency, and --junit with --rules")
     return asked
 
 
@@ -205,8 +206,8 @@ def main(words: List[str]) -> int:
     rules = rules_of(asked.rules) if asked.rules is not None else [("", asked.condition)]
     dump = dump_of(asked)
     text = times_of(dump, asked)
-    asking = Questions(dump.cut(asked.begin, asked.end) if asked.is_part else dump, rules,
-                       asked.rise, asked.fall, asked.every, asked.in_order)
+    asking = Questions(part_of(dump, asked), rules, asked.rise, asked.fall, asked.every,
+                       asked.in_order)
     if asked.latency and not asking.each[0].has_latency:
         raise UsageError("latencies are those of a condition such as req -> ack within 50")
     check_begin(dump, asked)

@@ -14,46 +14,30 @@ examples:
   vcdkit-x --from 100ns sim.vcd tb.cpu
   vcdkit-x --trace --from 100ns sim.vcd | head
   vcdkit-x --z --from 1us --to 2us sim.vcd | head"""
-from typing import Dict, Iterator, List, Optional, Set, Tuple
+from typing import List, Set
 
-from .. import Dump, Signal, _body
-from .._unknown import Lines
+from ..forms.text import in_json, shown, write_json
+from ..model.values import value_in
+from ..questions.unknown import Signals, values_of
 from . import (FAULT, add_file, add_form, add_json, add_unit, add_window, check_begin, command,
-               dump_of, in_json, parser, question, shown, times_of, write_json)
-
-Signals = Dict[bytes, List[Signal]]
-
-
-def unknown(part: Dump, signals: Signals, lines: Lines) -> Iterator[Tuple[int, bytes, bytes]]:
-    """Returns the time, the code and the text of each value that is listed."""
-    last: Dict[bytes, Optional[bytes]] = {}  # the last value of each code, if it is shown
-    for time, before, found in _body.steps(part, signals, is_cut=True, some=lines):
-        ends: Dict[bytes, bytes] = {}  # the last value of each code, in the order of these
-        for code, text in before + found:
-            ends.pop(code, None)
-            ends[code] = text
-        for code, text in ends.items():
-            is_shown = lines.has_letter(text)
-            if is_shown and last.get(code) != text:
-                yield time, code, text
-            last[code] = text if is_shown else None
+               dump_of, parser, question, times_of)
 
 
 @command
 @question
 def main(words: List[str]) -> int:
-    of = parser("vcdkit-x", __doc__, "no such value", "there is one", "usage error, " + FAULT)
-    form = of.add_mutually_exclusive_group()
+    options = parser("vcdkit-x", __doc__, "no such value", "there is one", "usage error, " + FAULT)
+    form = options.add_mutually_exclusive_group()
     form.add_argument("--first", action="store_true", help="list only the first one")
     form.add_argument("--count", action="store_true", help="write only the number of values")
-    of.add_argument("--trace", action="store_true", help="list only the first one of each path")
-    of.add_argument("--z", action="store_true", help="list values with a z too")
-    add_window(of)
-    add_form(of)
-    add_unit(of)
-    add_json(of)
-    add_file(of, "*")
-    asked = of.parse_args(words)
+    options.add_argument("--trace", action="store_true", help="list only the first one of each path")
+    options.add_argument("--z", action="store_true", help="list values with a z too")
+    add_window(options)
+    add_form(options)
+    add_unit(options)
+    add_json(options)
+    add_file(options, "*")
+    asked = options.parse_args(words)
     dump = dump_of(asked)
     text_of = times_of(dump, asked)
     signals: Signals = {}
@@ -61,16 +45,16 @@ def main(words: List[str]) -> int:
         if not one.is_real and one.type != "event":
             signals.setdefault(one.code.encode(), []).append(one)
     check_begin(dump, asked)
-    part = dump.cut(asked.begin, asked.end)._part(asked.names)
+    part = dump.cut(asked.begin, asked.end).part(asked.names)
     count = 0
     traced: Set[str] = set()  # paths
-    for time, code, text in unknown(part, signals, Lines((b"x", b"z") if asked.z else (b"x",))):
+    for time, code, text in values_of(part, signals, b"xz" if asked.z else b"x"):
         for one in signals[code][:1 if asked.first else None]:
             if one.path in traced:
                 continue
             traced.update([one.path] if asked.trace else ())
             count += 1
-            value = _body.value(text, one)
+            value = value_in(text, one.size)
             if asked.json and not asked.count:
                 write_json({"time": time, "path": one.path, "value": in_json(value, asked.form)})
             elif not asked.count:

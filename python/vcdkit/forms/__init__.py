@@ -1,0 +1,1 @@
+"""Forms of answers: texts, JSON, SAIF, JUnit, pictures and pages."""

@@ -1,0 +1,45 @@
+"""JUnit files, which CI servers show as tests."""
+import re
+import xml.etree.ElementTree as xml
+from typing import NamedTuple, Sequence
+
+from ..questions.verdicts import Verdict
+from ..reading.files import write
+
+NOT_OF_XML = re.compile("[^\t\n\r -\ud7ff\ue000-\ufffd\U00010000-\U0010ffff]")
+
+
+class Test(NamedTuple):
+    """A test: the class and the name that a server shows, `failure`, `error` or an empty text, a
+    message in one line, and all that there is to say."""
+
+    of: str
+    name: str
+    kind: str
+    message: str
+    text: str
+
+
+def clean(text: str) -> str:
+    """Returns a text as XML can have it."""
+    return NOT_OF_XML.sub("\ufffd", text)
+
+
+def write_tests(path: str, name: str, tests: Sequence[Test]) -> None:
+    """Writes the file of a suite of tests."""
+    kinds = [test.kind for test in tests]
+    suite = xml.Element("testsuite", name=name, tests=str(len(tests)),
+                        failures=str(kinds.count("failure")), errors=str(kinds.count("error")))
+    for test in tests:
+        case = xml.SubElement(suite, "testcase", classname=clean(test.of), name=clean(test.name))
+        if test.kind:
+            found = xml.SubElement(case, test.kind, message=clean(test.message))
+            found.text = clean(test.text)
+    write(path, [b"<?xml version='1.0' encoding='utf-8'?>\n", xml.tostring(suite, "utf-8")])
+
+
+def test_of(verdict: Verdict) -> Test:
+    """Returns the test of a verdict on a dump."""
+    kind = {"valid": "", "unread": "error"}.get(verdict.kind, "failure")
+    return Test("vcdkit-explain", verdict.file, kind, verdict.text,
+                "\n".join([verdict.text, *verdict.around]))

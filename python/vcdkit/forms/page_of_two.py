@@ -1,0 +1,96 @@
+"""A page with the signals that differ between two dumps, for vcdkit-diff: each of A above that of
+B, in a window around the first difference."""
+import os
+from functools import partial
+from typing import List, Optional, Sequence, Tuple
+
+from ..model.signals import Signal
+from ..model.times import Window
+from ..questions.compare import Difference, Same, Sides, kind
+from ..questions.streams import Reader, TooMuch, differences
+from . import page
+from .page import Page, PageRow
+
+NEAR = 10  # changes before and after the first difference that are shown first
+Named = Tuple[str, Tuple[Signal, Signal]]
+
+
+class Surroundings:
+    """The time that a page has, in ticks of both dumps: `span` of them before and after the first
+    difference. B is moved, so that the first difference is at one time in both."""
+
+    def __init__(self, sides: Sides, factors: Tuple[int, int], first: Difference, span: int):
+        self.mark, other = (time * factor for time, factor in zip(first.times, factors))
+        self.later, self.factors = (0, self.mark - other), factors
+        self.begin = max(self.mark - span, 0)
+        # Of each dump, in its own ticks.
+        self.parts = [Window(max(self.begin - later, 0) // factor, 1 + min(
+            (self.mark + span - later) // factor, side.report.last or 0))
+            for side, factor, later in zip(sides, factors, self.later)]
+        self.ends = [self.time(at, part.last) for at, part in enumerate(self.parts)]
+
+    def time(self, at: int, ticks: int) -> int:
+        """Returns a time of a dump as the page has it, from its begin. Values from before it are
+        those at its begin."""
+        return max(ticks * self.factors[at] + self.later[at] - self.begin, 0)
+
+    def near(self, rows: Sequence[PageRow]) -> Tuple[int, int]:
+        """Returns a window with some changes of the two rows around the mark."""
+        at = self.mark - self.begin
+        times = sorted({time for row in rows for time in row.stream.times})
+        before = [time for time in times if time < at][-NEAR:]
+        after = [time for time in times if time > at][:NEAR]
+        return self.begin + (before or [0])[0], self.begin + (after or [max(self.ends)])[-1]
+
+
+def rows_of(window: Surroundings, sides: Sides, pairs: Sequence[Named], same: Same) -> List[PageRow]:
+    """Returns the rows of pairs of signals. Fails if they have too much for a page."""
+    reader, streams = Reader(keeps_texts=True), []
+    for at, side in enumerate(sides):
+        signals = [its[at] for _, its in pairs]
+        part = side.picked([one.path for one in signals]) or side.dump
+        streams.append(reader.read(part, signals, window.parts[at], partial(window.time, at)))
+    rows = []
+    for (name, both), *its in zip(pairs, *streams):
+        is_event = kind(both[0]) == "event"
+        differs = differences(its, is_event, min(window.ends), same)
+        rows += [PageRow(signal._replace(path=name), stream, letter, differs)
+                 for letter, signal, stream in zip("AB", both, its)]
+    return rows
+
+
+def page_of(window: Surroundings, sides: Sides, rows: Sequence[PageRow], row: int) -> Page:
+    """Returns what a page says of two dumps. It begins with a row, that of A of a pair."""
+    scales = [side.scale for side in sides if side.scale]
+    scale = min(scales, key=lambda one: one.femtoseconds) if len(scales) == 2 else None
+    about = [line for letter, side in zip("AB", sides)
+             for line in page.about(side.dump, letter + ": ")]
+    by = window.later[1]
+    if by:
+        text = scale.text(abs(by)) if scale else "%d ticks" % abs(by)
+        about.append("B is shown %s %s" % (text, "later" if by > 0 else "earlier"))
+    return Page(" and ".join(os.path.basename(side.dump.name) for side in sides), about,
+                      scale, window.begin, window.begin + max(window.ends), window.mark,
+                      window.near(rows[row:row + 2]), row=row,
+                      ends=[(letter, window.begin + end) for letter, end in zip("AB", window.ends)])
+
+
+def texts_of(sides: Sides, factors: Tuple[int, int], found: Sequence[Difference],
+             clocks: Sequence[Signal], same: Same, span: Optional[int]) -> List[str]:
+    """Returns the text of a page with the signals that differ, and the clocks, in parts. Without a
+    span, it has as much time as there is room for."""
+    pairs: List[Named] = [(clocks[0].path, (clocks[0], clocks[1]))] if clocks else []
+    pairs += sorted((one.pair.name, one.pair.signals) for one in found)
+    # That of the first line: the first name of those that differ at the first time.
+    row = 2 * pairs.index(min((one.pair.name, one.pair.signals) for one in found
+                              if one.times == found[0].times))
+    tried = max((side.report.last or 0) * factor for side, factor in zip(sides, factors))
+    while True:
+        window = Surroundings(sides, factors, found[0], tried if span is None else span)
+        try:
+            rows = rows_of(window, sides, pairs, same)
+            return page.texts_of(page_of(window, sides, rows, row), rows)
+        except TooMuch:
+            if span is not None or tried < 2:
+                raise
+            tried //= 8

@@ -1,0 +1,67 @@
+"""Values and times as a reader sees them, or as JSON has them."""
+import json
+import math
+import re
+from typing import Any, Dict, Optional, Union
+
+from ..model.times import UNITS
+from ..model.values import Cell, Value
+from ..reading.source import Source
+
+FORMS = {"hex": "in hexadecimal", "decimal": "in decimal",
+         "signed": "in decimal, as two's complement",
+         "ascii": "as text, one character for 8 bits", "binary": "in binary, with all digits"}
+
+
+def shown(value: Cell, form: Optional[str] = None) -> str:
+    """Returns a value as a reader sees it: `-` if there is none, a real number as 1.5 or 3."""
+    if value is None:
+        return "-"
+    if isinstance(value, float):
+        return repr(value)[:-2] if repr(value).endswith(".0") else repr(value)
+    if form == "hex" and isinstance(value, Value):
+        return value.hex()
+    if form in (None, "binary") or len(value) == 1 or not isinstance(value, Value) or (
+            not value.is_known):
+        return value
+    if form == "ascii":
+        return _letters_of(int(value))
+    return str(value.signed() if form == "signed" else int(value))
+
+
+def _letters_of(number: int) -> str:
+    """Returns the letters that the bytes of a number are, the highest first: \\xNN for a byte that
+    is none."""
+    text = number.to_bytes(max((number.bit_length() + 7) // 8, 1), "big").decode("latin-1")
+    return "".join(one if " " <= one <= "~" and one != "\\" else "\\x%02x" % ord(one)
+                   for one in text)
+
+
+def mean_text(dump: Source, ticks: float, unit: Optional[str]) -> str:
+    """Returns a mean length of time to six digits: in a unit that is given, else in the largest one
+    of which it has one. 0 is in the unit of the time scale, as in other times."""
+    scale = dump.timescale
+    if scale is None or unit == "tick":
+        return "%.6g" % ticks
+    if not ticks:
+        return dump.time(0, unit or "")
+    lengths = [(scale.seconds(ticks) * 1000**power, its) for power, its in enumerate(UNITS)]
+    its = [pair for pair in lengths if pair[1] == unit] or [
+        pair for pair in lengths if pair[0] >= 1] or lengths[-1:]
+    return "%.6g%s" % its[0]
+
+
+def write_json(row: Dict[str, Any]) -> None:
+    """Writes a row as JSON, on a line of its own. A byte that is no UTF-8 is written as \\xNN."""
+    text = json.dumps(row, ensure_ascii=False)
+    print(re.sub("[\udc80-\udcff]", lambda byte: "\\\\x%02x" % (ord(byte.group()) - 0xdc00), text))
+
+
+def in_json(value: Cell, form: Optional[str]) -> Union[int, float, str, None]:
+    """Returns a value as JSON has it: a real number and one in decimal as a number, digits as a
+    text, and null if there is none."""
+    if value is None or isinstance(value, float) and math.isfinite(value):
+        return value
+    text = shown(value, form)
+    is_number = form in ("decimal", "signed") and isinstance(value, Value) and value.is_known
+    return int(text) if is_number else text

@@ -1,0 +1,1 @@
+"""What dumps are made of: times, values, variables and their names. It reads nothing."""

@@ -1,0 +1,109 @@
+"""Names, and which variables they select: the rule of all commands and of the package.
+
+A name selects the variable that has this path, and all whose path goes on behind it with a dot, as
+the path of what is in a scope does. If there is neither, it selects the variable that has this path
+with a range after it, as `tb.q` selects `tb.q[3:0]`, but only if no other path is the name with a
+range. A name with a range selects only what has this very path."""
+import re
+from typing import Collection, Container, Dict, Iterable, Iterator, List, Sequence, Set, Tuple
+
+RANGE = re.compile(r"\[(-?\d+):(-?\d+)\]\Z")
+FIELD = re.compile(r"\s*\[(-?\d+)(?::(-?\d+))?\]\Z")  # a range, or one bit
+
+
+def bare(path: str) -> str:
+    """Returns a path without the range, as tb.q of tb.q[3:0]."""
+    return RANGE.sub("", path) if path[-1:] == "]" else path
+
+
+def field_of(name: str) -> Tuple[int, ...]:
+    """Returns the range with which a name ends, of one bit its number twice; nothing if there is
+    none."""
+    found = FIELD.search(name)
+    return (int(found.group(1)), int(found.group(2) or found.group(1))) if found else ()
+
+
+def fronts(path: str) -> Iterator[str]:
+    """Returns the names that select a path, itself first: all that a dot or its end comes
+    after."""
+    while path:
+        yield path
+        path = path.rpartition(".")[0]
+
+
+def full_names(names: Collection[str], paths: Sequence[str], known: Container[str],
+               is_signal: bool = False) -> Dict[str, str]:
+    """Returns for each name the name in full: tb.q[3:0] for tb.q if that is only a path with a
+    range, else the name. `known` contains the paths. If a name can only be that of a signal, as in
+    a condition, it does not matter whether there is such a scope."""
+    left = {name for name in names if name and name not in known}
+    found: Dict[str, Set[str]] = {}
+    for path in paths if left else ():
+        if path[-1:] == "]" and bare(path) in left:
+            found.setdefault(bare(path), set()).add(path)
+    scopes = set() if is_signal else {
+        name for name in found if any(path.startswith(name + ".") for path in paths)}
+    full = {name: next(iter(its)) for name, its in found.items()
+            if len(its) == 1 and name not in scopes}
+    return {name: full.get(name, name) for name in names}
+
+
+def places_of(names: Collection[str], paths: Sequence[str]) -> Dict[str, List[int]]:
+    """Returns of each name the places of the paths that it selects."""
+    found: Dict[str, List[int]] = {name: [] for name in names}
+    for at, path in enumerate(paths):
+        while path:
+            if path in found:
+                found[path].append(at)
+            path = path.rpartition(".")[0]
+    return found
+
+
+def names_for(chosen: Sequence[str], paths: Iterable[str]) -> List[str]:
+    """Returns as few names as select these paths and no other ones."""
+    mixed = {name for path in set(paths).difference(chosen) for name in fronts(path)}
+    names: Dict[str, bool] = {}
+    for path in chosen:
+        names[[path, *(one for one in fronts(path) if one not in mixed)][-1]] = True
+    return list(names)
+
+
+def utf8_names(names: Sequence[str]) -> List[str]:
+    """Returns names that select all that some names do, and that are UTF-8, as only such words can
+    be given to vcdkit: scopes for others, or no names, which means all."""
+    words = []
+    for name in names:
+        scope = next((one for one in fronts(name) if not re.search("[\udc80-\udcff]", one)), "")
+        if name and not scope:
+            return []
+        words.append(scope)
+    return words
+
+
+def hint(name: str, paths: Sequence[str]) -> str:
+    """Returns what to write instead of a name that selects nothing."""
+    base = FIELD.sub("", name)
+    is_pattern = re.search(r"[*?]", name)
+    near = ([path for path in paths if path == base]
+            or [path for path in paths if path.startswith(base + "[")]
+            or [path for path in paths if path.endswith("." + name) or path.endswith("." + base)]
+            or [path for path in paths if path.lower() in (name.lower(), base.lower())]
+            or ([] if is_pattern else _like(base, paths)))
+    if near:
+        return "; there is " + ", ".join(near[:3]) + ", .." * (len(near) > 3)
+    if is_pattern:
+        return "; names are no patterns: vcdkit-find and find() take regular expressions"
+    return "; names are the paths that `list` writes, and the scopes in them"
+
+
+def _like(name: str, paths: Sequence[str]) -> List[str]:
+    """Returns up to three names that differ from one that selects nothing in the first of its words
+    that no path has there, and are like it: a path, or a scope if there is no such path."""
+    import difflib  # only a message needs it
+    front, word, rest = "", *name.partition(".")[::2]
+    its = {path.partition(".")[0] for path in paths}
+    while word in its:
+        front, (word, rest) = front + word + ".", rest.partition(".")[::2]
+        its = {path[len(front):].partition(".")[0] for path in paths if path.startswith(front)}
+    near = [front + one for one in difflib.get_close_matches(word, sorted(its))]
+    return [one + "." + rest if one + "." + rest in paths else one for one in near]

@@ -1,0 +1,155 @@
+"""The variables and scopes of a header."""
+import gc
+import itertools
+from typing import (Any, Dict, FrozenSet, Iterable, Iterator, List, NamedTuple, Optional, Sequence,
+                    Set, Tuple, Type, TypeVar, Union, overload)
+
+from .times import Timescale
+
+Tuples = TypeVar("Tuples", bound=Tuple[Any, ...])
+
+
+class Signal(NamedTuple):
+    """A variable of a header: its path, its type (`wire`, `reg`, `real`, ..), its size in bits and
+    its identifier code. Two signals with the same code are two names of one value."""
+
+    path: str
+    type: str
+    size: int
+    code: str
+
+    @property
+    def is_real(self) -> bool:
+        """Whether its values are real numbers. `vcdkit` takes a real number for any variable, so
+        this goes by the type: `real`, `realtime`, `real_parameter` of Verilator, `shortreal`."""
+        return self.type.startswith("real") or self.type == "shortreal"
+
+
+class Scope(NamedTuple):
+    """A scope of a header with signals in it, or in scopes below it: its name, its path, its type
+    (`module`, `task`, ..), and its scopes and signals in the order of declaration. At the top of
+    the tree is a scope without a name."""
+
+    name: str
+    path: str
+    type: str
+    scopes: List["Scope"]
+    signals: List[Signal]
+
+    def walk(self) -> Iterator["Scope"]:
+        """Returns this scope and all scopes below it. Each one comes before those in it."""
+        waiting = [self]
+        while waiting:
+            scope = waiting.pop()
+            yield scope
+            waiting += reversed(scope.scopes)
+
+
+class Header(NamedTuple):
+    """What a header says of the dump as a whole: `None` if it says nothing."""
+
+    date: Optional[str]
+    version: Optional[str]
+    timescale: Optional[Timescale]
+
+
+class Declaration(NamedTuple):
+    """How a variable is declared: in which scopes, the outermost first, and with which range: two
+    numbers, of one index twice the same, and nothing if it has neither."""
+
+    signal: Signal
+    scopes: Tuple[Scope, ...]
+    declared: Tuple[int, ...]
+
+    @property
+    def bits(self) -> range:
+        """The numbers of its bits, from the left: those of its range if that fits the size, else
+        size - 1 down to 0."""
+        left, right = self.declared or (self.signal.size - 1, 0)
+        if abs(left - right) + 1 != self.signal.size:
+            left, right = self.signal.size - 1, 0
+        return range(left, right + 1) if left <= right else range(left, right - 1, -1)
+
+    @property
+    def has_numbers(self) -> bool:
+        """Whether its bits have numbers: it is a vector, or declared with an index."""
+        return bool(self.declared) or self.signal.size > 1
+
+
+def each(kind: Type[Tuples], *columns: Iterable[Any]) -> Iterator[Tuples]:
+    """Makes a NamedTuple of this kind of each row of columns."""
+    return map(tuple.__new__, itertools.repeat(kind), zip(*columns))
+
+
+def tuples(kind: Type[Tuples], *columns: Iterable[Any]) -> List[Tuples]:
+    """Returns a NamedTuple of this kind for each row of columns."""
+    was_enabled = gc.isenabled()
+    gc.disable()  # else it looks through all of them many times
+    try:
+        return list(each(kind, *columns))
+    finally:
+        if was_enabled:
+            gc.enable()
+
+
+class Signals(Sequence[Any]):  # of Signals, but mypy is to take a path as what may be in it
+    """The variables of a header, in the order of declaration. The rows of `list` are taken apart
+    when the first one is asked for; a Signal is made each time it is asked for."""
+
+    def __init__(self, rows: str):
+        self._rows, self._count = rows, rows.count("\n")
+        self._columns: Optional[Tuple[List[str], List[str], List[int], List[str]]] = None
+        self._paths: FrozenSet[str] = frozenset()
+
+    def columns(self) -> Tuple[List[str], List[str], List[int], List[str]]:
+        """Returns the paths, the types, the sizes and the codes, a list of each."""
+        if self._columns is None:
+            words = words_of(self._rows)
+            self._columns = words[0::4], words[1::4], list(map(int, words[2::4])), words[3::4]
+            self._rows = ""
+        return self._columns
+
+    def __len__(self) -> int:
+        return self._count
+
+    @overload
+    def __getitem__(self, at: int) -> Signal: ...
+
+    @overload
+    def __getitem__(self, at: slice) -> List[Signal]: ...
+
+    def __getitem__(self, at: Union[int, slice]) -> Union[Signal, List[Signal]]:
+        paths, types, sizes, codes = self.columns()
+        if isinstance(at, slice):
+            return tuples(Signal, paths[at], types[at], sizes[at], codes[at])
+        return Signal(paths[at], types[at], sizes[at], codes[at])
+
+    def __contains__(self, one: object) -> bool:
+        """Whether there is a signal, or one of a path."""
+        if isinstance(one, str):
+            self._paths = self._paths or frozenset(self.columns()[0])
+            return one in self._paths
+        return any(one == its for its in self)
+
+    def __iter__(self) -> Iterator[Signal]:
+        return each(Signal, *self.columns())
+
+    def __repr__(self) -> str:
+        return "<%d signals>" % self._count
+
+
+def keys_of(signals: Iterable[Signal], others: Iterable[str] = ()) -> List[str]:
+    """Returns what to call each signal: its path; if variables that are not one value have that
+    path, or others have that name, the path, a blank and the code."""
+    chosen = list(signals)
+    codes: Dict[str, Set[str]] = {name: {""} for name in others}
+    for one in chosen:
+        codes.setdefault(one.path, set()).add(one.code)
+    return [one.path if len(codes[one.path]) == 1 else one.path + " " + one.code for one in chosen]
+
+
+def words_of(rows: str) -> List[str]:
+    """Returns the words of rows; no word has white space."""
+    words = rows.replace("\n", " ").split(" ")
+    words.pop()
+    return words

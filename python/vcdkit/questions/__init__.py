@@ -1,0 +1,1 @@
+"""What is asked of dumps, and what answers: values, rows, times, counts and differences."""

@@ -1,0 +1,245 @@
+"""Dump: questions about one dump."""
+import importlib
+import os
+import re
+import warnings
+from typing import (IO, Any, Dict, Iterable, Iterator, List, Optional, Tuple, Union)
+
+from ..errors import RunFailed, UsageError
+from ..model.names import utf8_names
+from ..model.signals import Signal, keys_of
+from ..model.times import Time
+from ..model.values import Cell, Edges, Row, Value, value_in
+from ..reading import arrays, body, library
+from ..reading.files import write
+from ..reading.source import Names, Source, merge, way
+from ..reading.texts import Bytes, File, Text
+from . import when
+from .rows import as_they_come, at_times, edges_of, sampled, states
+
+__all__ = ["Dump", "merge", "way"]
+
+
+class Dump(Source):
+    """A dump: a file, an open file, its bytes, or what pick(), cut() and merge() make of others.
+
+    A file may be compressed (gzip, xz, bzip2, zstd, or FST if fst2vcd is on the PATH), or a pipe;
+    "-" is standard input. Nothing is read before the first question. Each question reads the dump
+    again, except for the header. So a fault or an unknown name is raised by a question: DumpFault,
+    UnknownName, NoTimescale, UsageError or RunFailed, which are all VcdkitErrors.
+
+    A time is a number of ticks, or a text with a unit, such as "115ns" or "1.5us". A name is a path
+    of `signals`, or a scope, which stands for everything in it. Except for pick(), "q" stands for
+    "q[3:0]" if there is no other such path. Dictionaries have paths as keys. If
+    variables with different values have the same path, a blank and the code follow the path."""
+
+    def __init__(self, source: Union[str, "os.PathLike[str]", bytes, IO[Any]],
+                 name: Optional[str] = None, token_limit: Optional[int] = None,
+                 four_state: bool = False):
+        """An open file is read to its end and kept in memory. `name` is what faults call the bytes.
+        `token_limit` is the maximum length of a token in bytes (by default 1,048,576). With
+        `four_state`, a file is read through vcdkit-four-state, which converts the nine states of
+        VHDL."""
+        if hasattr(source, "read"):
+            source, name = _bytes_of(source), name or str(getattr(source, "name", "(file)"))
+        text: Text = (
+            Bytes(bytes(source), name or "(bytes)")
+            if isinstance(source, (bytes, bytearray, memoryview)) else File(source, four_state))
+        super().__init__(text, () if token_limit is None else ("--token-limit", str(token_limit)))
+
+    def save(self, path: Union[str, "os.PathLike[str]"]) -> "Dump":
+        """Writes the text to a file, and returns the Dump of that. If this fails, the file is as
+        it was. It keeps its mode. Through a link its target is written, and a FIFO or a device is
+        written as it is."""
+        write(path, self.blocks())
+        return Dump(path)
+
+    def find(self, pattern: str, flags: int = 0) -> List[Signal]:
+        """Returns the signals whose paths match a regular expression anywhere (re.search).
+        UsageError if it is none."""
+        search = compiled(pattern, flags).search
+        paths = self.signals.columns()[0]
+        return [self.signals[at] for at, path in enumerate(paths) if search(path)]
+
+    def value(self, name: str, time: Time) -> Cell:
+        """Returns the value of one signal at the end of a time. `None` if it has no value yet, or
+        is an event."""
+        signal, ticks = self[name], self.ticks(time)
+        its = self.full(name)
+        found = sampled(self, [ticks], its)[ticks]
+        return next((found[place] for place, one in self.places(its).items()
+                     if place in found and one.code == signal.code), None)
+
+    def sample(self, times: Union[Time, Iterable[Time]], names: Names = ()
+               ) -> Dict[Time, Dict[str, Cell]]:
+        """Returns for each time, as it was given, the value of each path at the end of that time.
+
+        A value is a Value for digits, a float for a real number (or its text, if that is not a
+        number), and `None` if there is no value yet. Times may come in any order. Without names,
+        all signals are sampled, except events, which have no value."""
+        asked, its = _ticks_of(self, times), self.full(names)
+        chosen = states(self.places(its))
+        keys = dict(zip(chosen, keys_of(chosen.values())))
+        found = sampled(self, asked.values(), its)
+        return {time: {keys[place]: value for place, value in found[ticks].items() if place in keys}
+                for time, ticks in asked.items()}
+
+    def edges(self, names: Names = ()) -> Dict[str, Edges]:
+        """Returns for each path how often its value changes, and how often its least significant
+        bit rises and falls. For an event it counts triggers. Without names, all signals count."""
+        its = self.full(names)
+        words = utf8_names(its)
+        counts = dict(zip(sorted(self.places(words)),
+                          _counts_of(self.answer("edges", ["--", *words]))))
+        chosen = dict(sorted(self.places(its).items()))
+        return dict(zip(keys_of(chosen.values()), map(counts.__getitem__, chosen)))
+
+    def changes(self, name: str) -> Iterator[Tuple[int, Cell]]:
+        """Returns the times, in ticks, and the values of one signal, as they come: one for each
+        value that the dump writes, even if it is the same again. Each trigger of an event is a 1.
+        At a fault, those of the last time may not be all. Raises UnknownName if the name selects
+        nothing, and UsageError if it selects several."""
+        return self._changes(name, self[name])
+
+    def _changes(self, name: str, signal: Signal) -> Iterator[Tuple[int, Cell]]:
+        known = body.Known([signal.code.encode()])
+        for time, text in body.timed(self.part([name]), is_all=True):
+            for _, value in known[text]:
+                yield time, value_in(value, signal.size)
+
+    def arrays(self, name: str) -> Tuple[Any, Any]:
+        """Returns the changes of one signal as arrays of numpy: the times as uint64, and the values
+        as a masked array of uint64, in which a value with an x or a z is masked. The values of a
+        real number are floats, and those of more than 64 bits are Values."""
+        try:
+            numpy = importlib.import_module("numpy")
+        except ImportError as error:
+            raise RunFailed("arrays() needs numpy: %s" % error) from error
+        signal = self[name]
+        is_short = signal.size <= 64 and not signal.is_real
+        if is_short and way() is library and signal.type != "event":
+            found = library.changes(self.text, signal.code.encode())
+            if found is not None:
+                return _columns(found, numpy)
+        if is_short and utf8_names([name]) == [name]:  # it is alone in the part
+            with self.part([name]).body() as out:
+                return arrays.of_digits(out, signal, numpy)
+        pairs = list(self.changes(name))
+        times = numpy.array([time for time, _ in pairs], dtype=numpy.uint64)
+        numbers = [_number(one) for _, one in pairs]
+        if signal.is_real:
+            return times, numpy.array([one if isinstance(one, (int, float)) else float("nan")
+                                       for one in numbers], dtype=float)
+        is_masked = [not isinstance(one, int) for one in numbers]
+        values = (numpy.array([0 if one is None else one for one in numbers], dtype=numpy.uint64)
+                  if is_short else numpy.array([one for _, one in pairs], dtype=object))
+        return times, numpy.ma.masked_array(values, mask=is_masked)
+
+    def rows(self, names: Names, at: Optional[Iterable[Time]] = None, rise: Optional[str] = None,
+             fall: Optional[str] = None, condition: Optional[str] = None) -> Iterator[Row]:
+        """Returns rows of a table, as they come: a time in ticks, and the value of each signal that
+        the names select, as sample() returns it. Events are left out.
+
+        Without options there is a row for each time at which one of the signals changes, with the
+        values at the end of that time, and for the beginning of a cut. Values that are written
+        again, or that come and go within one time, are not changes. A time that a fault leaves
+        unfinished has no row. `rise` and `fall` are paths of clocks of one bit: then there is a row
+        for each such edge, with the values just before its time, which are those that a flip-flop
+        takes. With both there is a row for every edge, of one clock or of two. An edge counts
+        even if the clock comes back within its time. The first value of a signal is from before its
+        time if it is in a `$dumpvars`, as at the beginning of a dump or a cut. Raises UsageError if
+        a path is not such a clock. With `at` there is a row for each of these times, in this order,
+        also if one is there twice. With `condition`, as when() takes it, there are only those of
+        these rows at which it holds, by the values that the row has."""
+        its = self.full(names)
+        if not its:
+            raise UsageError("rows() needs a name")
+        columns = states(self.places(its))
+        edges = edges_of(self, rise, fall)
+        if at is not None and edges:
+            raise UsageError("rows are at times or at edges: give `at`, or `rise` and `fall`")
+        only = None if condition is None else when.state(self, condition)
+        if at is not None:
+            return at_times(self, columns, [self.ticks(time) for time in _each(at)], its, only)
+        every = [*its, *(name for name in (rise, fall) if name is not None),
+                 *(only.paths if only else ())]
+        return as_they_come(self, every, list(columns.values()), edges, only)
+
+    def table(self, names: Names, at: Optional[Iterable[Time]] = None, rise: Optional[str] = None,
+              fall: Optional[str] = None, condition: Optional[str] = None
+              ) -> Dict[str, List[Any]]:
+        """Returns the rows() as columns of numbers: "time", in ticks, and one for each path. A
+        value with an x or a z is `None`. pandas.DataFrame() accepts the result."""
+        its = self.full(names)
+        rows = list(self.rows(its, at, rise, fall, condition))
+        keys = keys_of(states(self.places(its)).values(), ["time"])
+        columns = zip(*(row.values for row in rows)) if rows else ([] for _ in keys)
+        return {"time": [row.time for row in rows],
+                **{key: [_number(one) for one in column] for key, column in zip(keys, columns)}}
+
+    def when(self, condition: str, rise: Optional[str] = None, fall: Optional[str] = None,
+             every: bool = False) -> Iterator[int]:
+        """Returns the times, in ticks, at which a condition begins to hold, as `vcdkit-when` takes
+        it: "tb.bus == 0xff & !tb.reset".
+
+        It is looked at at the end of each time; of a cut, one that holds at its begin begins there.
+        With `rise` or `fall`, the path of a clock of one bit, it is looked at where that rises or
+        falls, with the values just before that time, with both at each of these edges; with
+        `every`, each such time counts at which it holds. UsageError if it is no condition,
+        UnknownName if a name of it selects nothing."""
+        return when.when(self, condition, rise, fall, every)
+
+
+def compiled(pattern: str, flags: int = 0) -> "re.Pattern[str]":
+    """Returns a regular expression. UsageError if it is none."""
+    try:
+        with warnings.catch_warnings():
+            warnings.simplefilter("ignore", FutureWarning)  # of [[ in an expression
+            return re.compile(pattern, flags)
+    except (re.error, RecursionError, OverflowError, TypeError, ValueError) as error:
+        raise UsageError("bad expression: %s: %s" % (str(pattern)[:100], error)) from None
+
+
+def _bytes_of(file: Any) -> bytes:
+    """Returns what is left of an open file."""
+    data = file.read()
+    return data.encode("utf-8", "surrogateescape") if isinstance(data, str) else bytes(data)
+
+
+def _ticks_of(dump: Dump, times: Union[Time, Iterable[Time]]) -> Dict[Time, int]:
+    """Returns the ticks of each time, as it was given."""
+    return {time: dump.ticks(time) for time in _each(times)}
+
+
+def _each(times: Union[Time, Iterable[Time]]) -> Iterable[Time]:
+    """Returns one time or several as some."""
+    return [times] if isinstance(times, str) or not isinstance(times, Iterable) else times
+
+
+def _number(one: Cell) -> Union[int, float, str, None]:
+    """Returns a Value as an int, `None` if it has x or z; other values as they are."""
+    if isinstance(one, Value):
+        return int(one) if one.is_known else None
+    return one
+
+
+def _columns(found: Any, numpy: Any) -> Tuple[Any, Any]:
+    """Returns the changes of the library as arrays() gives them."""
+    times, values, known = numpy.array(found, dtype=numpy.uint64).reshape(-1, 3).T.copy()
+    unknown = known != numpy.uint64(2**64 - 1)
+    values[unknown] = 0
+    return times, numpy.ma.masked_array(values, mask=unknown)
+
+
+def _counts_of(rows: str) -> List[Edges]:
+    """Returns the Edges of the rows of `edges`. Those with the same counts, as most have, are
+    one."""
+    made: Dict[str, Edges] = {}
+    found = []
+    for row in rows.split("\n")[:-1]:
+        counts = row[row.index(" ") + 1:]
+        one = made.get(counts)
+        if one is None:
+            one = made[counts] = Edges(*map(int, counts.split(" ")))
+        found.append(one)
+    return found

@@ -1,0 +1,201 @@
+"""What a picture has room for: of each signal its changes in a window, which is parted into bins as
+wide as a pixel. Of a bin with several changes of a signal only that is kept, and not each of them,
+so the work for a long dump is that of its text, and not that of its changes."""
+import io
+from typing import BinaryIO, Dict, FrozenSet, Iterator, List, NamedTuple, Optional, Tuple
+
+from ..model.signals import Signal
+from ..model.times import Window
+from ..model.values import Value, value_in
+from ..reading import body
+from ..reading.source import Source
+
+BLOCK = 1 << 20
+UNKNOWN = body.letters_in(b"x")
+MAX_DIGITS = 1000  # of a number that is a float
+SMALL = 1 << 9  # bytes of the begin of a bin, in which most signals change
+Point = Tuple[int, object]
+
+
+class Several(NamedTuple):
+    """What a bin has in place of a value if the signal changes several times in it: of a real
+    signal its least and largest number, and whether it is x at some time in the bin."""
+
+    least: float
+    largest: float
+    has_x: bool
+
+    @property
+    def kind(self) -> str:
+        """The class of its shape."""
+        return "x" if self.has_x else "several"
+
+
+class Lane:
+    """The points of a signal: pairs of a time, and the value from then on or Several."""
+
+    def __init__(self, signal: Signal):
+        self.signal = signal
+        self.points: List[Point] = []
+        self.text: Optional[bytes] = None  # the value now
+        self.is_event, self.is_real = signal.type == "event", signal.is_real
+        # Of the bin: its first changes, and all numbers of a real signal.
+        self.first: List[Tuple[int, bytes]] = []
+        # Whether further changes in the bin say nothing new, but for the last value.
+        self.is_full = False
+        self.numbers: List[float] = []
+        self.has_x, self.time = False, 0
+        self.before: Optional[bytes] = None  # the value at the begin of the bin
+
+    def note(self, time: int, text: bytes) -> None:
+        """Takes a value from a time on."""
+        if text == self.text and not self.is_event:
+            return
+        if self.first and self.time < time:  # else the last value was there for no time
+            self.has_x = self.has_x or _is_x(self.text)
+        self.text, self.time = text, time
+        if self.first and self.first[-1][0] == time:
+            self.first[-1] = time, text
+        elif len(self.first) < 2:
+            self.first.append((time, text))
+            self.is_full = len(self.first) == 2 and not self.is_real
+        if self.is_real:
+            number = self.value(text)
+            if isinstance(number, float):
+                self.numbers.append(number)
+
+    def value(self, text: bytes) -> object:
+        """Returns the value that a text of the body has; of a real signal also digits as a
+        number."""
+        value = value_in(text, self.signal.size)
+        if self.is_real and isinstance(value, Value):
+            return float(int(value)) if value.is_known and len(value) <= MAX_DIGITS else value
+        return value
+
+    def close(self, begin: int, end: int) -> None:
+        """Ends a bin, which goes from one time to just before another."""
+        if self.text is not None and len(self.first) > 1:
+            self.has_x = (self.has_x or _is_x(self.text)
+                          or self.first[0][0] > begin and _is_x(self.before))
+            self.points.append((begin, Several(min(self.numbers, default=0.0),
+                                               max(self.numbers, default=0.0), self.has_x)))
+            self.points.append((end, self.value(self.text)))
+        else:
+            self.points += [(time, self.value(text)) for time, text in self.first]
+        self.first, self.numbers, self.is_full, self.has_x = [], [], False, False
+        self.before = self.text
+
+
+def _is_x(text: Optional[bytes]) -> bool:
+    """Whether a value has an x."""
+    return text is not None and b"x" in text and text[:1] != b"r"
+
+
+class Lanes:
+    """The lanes of some signals in a window, with at most so many bins."""
+
+    def __init__(self, signals: List[Signal], window: Window, count: int):
+        self.window, self.span = window, window.stop - window.begin
+        self.count = min(count, self.span)
+        self.of_code: Dict[bytes, Lane] = {one.code.encode(): Lane(one) for one in signals}
+        self.time, self.bin = window.begin, 0
+
+    def read(self, out: BinaryIO) -> None:
+        """Takes the text of a body, which begins with a timestamp."""
+        for block in iter(lambda: out.read(BLOCK) + out.readline(), b""):
+            text, begin = b"\n" + block, 0
+            while begin < len(text) - 1:
+                end = body.time_after(text, begin, self.edge(self.bin + 1) - 1)
+                if begin < end:
+                    self.take(text, begin, end)
+                else:
+                    self.go_to(body.time_at(text, begin))
+                begin = end
+        self.close()
+
+    def edge(self, number: int) -> int:
+        """Returns the first time of a bin."""
+        return self.window.begin - (-number * self.span // self.count)
+
+    def go_to(self, time: int) -> None:
+        """Ends the bin, and goes to that of a time."""
+        self.close()
+        self.bin = (time - self.window.begin) * self.count // self.span
+
+    def close(self) -> None:
+        """Ends the bin."""
+        begin, end = self.edge(self.bin), min(self.edge(self.bin + 1), self.window.last)
+        for lane in self.of_code.values():
+            if lane.first:
+                lane.close(begin, end)
+
+    # Of a part of a text, its begin and its end are line feeds.
+
+    def take(self, text: bytes, begin: int, end: int) -> None:
+        """Takes a part of the bin: each line of its begin, and then only the changes of signals
+        that say something new, and the last values of the others."""
+        middle = body.next_time(text, begin + SMALL, end)
+        if end - begin <= 8 * SMALL or middle < 0:
+            self.take_lines(text[begin + 1:end + 1])
+            return
+        self.take_lines(text[begin + 1:middle + 1])
+        for piece in _pieces(text, middle, end):
+            codes = self.codes(False)
+            if not codes:
+                break
+            for code, value, at in body.changes_in(text, *piece, codes):
+                self.of_code[code].note(body.time_at(text, body.time_before(text, 0, at + 1)), value)
+        self.note_unknown(text, middle, end)
+        self.take_last(text, middle, end)
+
+    def note_unknown(self, text: bytes, begin: int, end: int) -> None:
+        """Notes which signals are x at the end of a time."""
+        for found in UNKNOWN.finditer(text, begin, end):
+            lane = self.of_code.get(found.group(1))
+            if lane and not lane.has_x:
+                to = body.next_time(text, found.end(), end + 1)
+                lane.has_x = not 0 <= body.next_change(text, found.group(1), found.end()) < (
+                    to if to >= 0 else end)
+
+    def take_last(self, text: bytes, begin: int, end: int) -> None:
+        """Takes the last values of the signals whose lanes are full, and the last time."""
+        codes, size = self.codes(True), SMALL
+        self.time = body.time_at(text, body.time_before(text, begin, end))
+        while codes and end > begin:
+            middle = max(body.time_before(text, begin, max(end - size, begin)), begin)
+            last = {code: value for code, value, _ in body.changes_in(text, middle, end, codes)}
+            for code, value in last.items():
+                lane = self.of_code[code]
+                lane.has_x, lane.text = lane.has_x or _is_x(lane.text), value
+            codes, end, size = codes.difference(last), middle, 4 * size
+
+    def codes(self, is_full: bool) -> FrozenSet[bytes]:
+        """Returns the codes whose lanes are full in this bin, or those that are not."""
+        return frozenset(code for code, lane in self.of_code.items() if lane.is_full == is_full)
+
+    def take_lines(self, text: bytes) -> None:
+        """Takes each line of a text."""
+        for line in io.BytesIO(text):
+            if line[:1] == b"#":
+                self.time = int(line[1:])
+            elif line[:1] != b"$":
+                code, value = body.change(line)
+                self.of_code[code].note(self.time, value)
+
+
+def _pieces(text: bytes, begin: int, end: int) -> Iterator[Tuple[int, int]]:
+    """Returns the ends of pieces of a text, each longer than the one before."""
+    size = SMALL
+    while begin < end:
+        size *= 4
+        to = body.next_time(text, begin + size, end)
+        yield begin, to if to > 0 else end
+        begin = to if to > 0 else end
+
+
+def lanes_of(dump: Source, names: List[str], window: Window, count: int) -> Lanes:
+    """Returns the lanes of the signals that names select, in a window with at most so many bins."""
+    lanes = Lanes(dump.select(names), window, count)
+    with dump.cut(window.begin, window.last).part(names).body() as out:
+        lanes.read(out)
+    return lanes

@@ -1,0 +1,150 @@
+"""The rows of a table: values at times, at changes and at the edges of clocks."""
+import itertools
+from typing import Collection, Dict, Iterable, Iterator, List, Optional, Sequence, Set, Tuple
+
+from ..errors import UsageError
+from ..model.names import utf8_names
+from ..model.signals import Signal
+from ..model.values import Cell, Row, same, value_in, value_of
+from ..reading import body
+from ..reading.source import Source
+from .condition import Condition
+
+TIMES_OF_A_CALL = 5000  # a word of Linux has at most 131,071 bytes
+RISE, FALL = (b"0", b"1"), (b"1", b"0")
+Pair = Tuple[int, List[Cell]]  # a time and the values of a row
+
+
+def states(places: Dict[int, Signal]) -> Dict[int, Signal]:
+    """Returns the signals that are no events, by their places."""
+    return {place: one for place, one in places.items() if one.type != "event"}
+
+
+def sampled(source: Source, times: Iterable[int], names: List[str]) -> Dict[int, Dict[int, Cell]]:
+    """Returns of each time, in ticks, the values of the signals that full names select, and maybe
+    of others, by their places."""
+    words = utf8_names(names)
+    places = sorted(states(source.places(words)))
+    every = sorted(set(times))
+    found: Dict[int, Dict[int, Cell]] = {}
+    for begin in range(0, len(every), TIMES_OF_A_CALL):
+        some = every[begin:begin + TIMES_OF_A_CALL]
+        values = map(value_of, source.answer_words(
+            "sample", ["--at", ",".join(map(str, some)), "--", *words])[2::3])
+        found.update((time, {place: next(values) for place in places}) for time in some)
+    return found
+
+
+def at_times(source: Source, columns: Collection[int], times: List[int], names: List[str],
+             only: Optional[Condition] = None) -> Iterator[Row]:
+    """Returns a row for each of some times, with the values of the signals at some places, which
+    full names select; only those at which a condition holds, if there is one."""
+    if only:
+        holding = _holding(source, only, times)
+        times = [time for time in times if time in holding]
+    found = sampled(source, times, names) if columns else {}
+    for time in times:
+        yield Row(time, [found[time][place] for place in columns])
+
+
+def _holding(source: Source, condition: Condition, times: Iterable[int]) -> Set[int]:
+    """Returns those of some times at whose end a condition holds."""
+    waiting, found = sorted(set(times), reverse=True), set()
+    held = condition.holds()
+    part = source.cut(0, max(waiting, default=0)).part(condition.paths)
+    for time, before, changes in body.steps(part, condition.codes):
+        condition.take(before + changes)
+        while waiting and waiting[-1] <= time:
+            if waiting[-1] == time:
+                held = condition.holds()
+            one = waiting.pop()
+            if held:
+                found.add(one)
+        condition.end_events()
+        held = condition.holds()
+    return found.union(waiting if held else ())
+
+
+def edges_of(source: Source, rise: Optional[str], fall: Optional[str]) -> Set[body.Edge]:
+    """Returns the edges of the clocks that are named."""
+    return {(_clock(source, name).code.encode(), *edge)
+            for name, edge in ((rise, RISE), (fall, FALL)) if name is not None}
+
+
+def _clock(source: Source, name: str) -> Signal:
+    """Returns the signal of one bit that a name selects; UsageError if it is none."""
+    clock = source[name]
+    is_what = ("it is an event" if clock.type == "event"
+               else "it is a real number" if clock.is_real
+               else "it has %d bits" % clock.size if clock.size != 1 else "")
+    if is_what:
+        raise UsageError("%s: is no clock of one bit: %s" % (name, is_what))
+    return clock
+
+
+class _Cells:
+    """The last value of each signal of a table; `row` has them in order, None for none."""
+
+    def __init__(self, columns: Sequence[Signal]):
+        self.row: List[Cell] = [None] * len(columns)
+        self._texts: Dict[bytes, bytes] = {}  # as the body has them; empty for none
+        self._columns: Dict[bytes, Tuple[int, List[int]]] = {}  # of a code the size, and places
+        for at, one in enumerate(columns):
+            code = one.code.encode()
+            self._texts[code] = b""
+            self._columns.setdefault(code, (one.size, []))[1].append(at)
+
+    def take(self, changes: body.Changes) -> bool:
+        """Takes changes, of which some may be of other signals; whether one of the values is
+        another one after them."""
+        is_other = False
+        for code, text in changes if len(changes) < 2 else dict(changes).items():
+            was = self._texts.get(code)
+            if was is not None and was != text:
+                self._texts[code] = text
+                size, places = self._columns[code]
+                value = value_in(text, size)
+                for place in places:
+                    self.row[place] = value
+                is_other = is_other or text[:1] != b"r" or same(text) != same(was)
+        return is_other
+
+
+def as_they_come(source: Source, names: List[str], columns: Sequence[Signal],
+                 edges: Set[body.Edge], only: Optional[Condition]) -> Iterator[Row]:
+    """Returns a row for each time that has one of some edges, with the values just before it; if
+    there is no edge, for each time at whose end a value of a column is another one than before it,
+    with the values at its end. With a condition, it returns only the rows at which that holds. The
+    names select all these signals."""
+    codes = {one.code.encode() for one in columns}.union(only.codes if only else ())
+    pairs = (_at_edges(body.at_edges(source, names, codes, edges), columns, only) if edges
+             else _at_changes(body.steps(source.part(names), codes), columns, only))
+    # Row() takes longer than all that makes a pair.
+    return map(tuple.__new__, itertools.repeat(Row), pairs)
+
+
+def _at_changes(steps: Iterable[body.Step], columns: Sequence[Signal], only: Optional[Condition]
+                ) -> Iterator[Pair]:
+    cells = _Cells(columns)
+    for time, before, changes in steps:
+        its = before + changes if before else changes
+        is_other = cells.take(its)
+        if only:
+            only.take(its)
+        if is_other and (only is None or only.holds()):
+            yield time, cells.row[:]
+        if only:
+            only.end_events()
+
+
+def _at_edges(edges: Iterable[Tuple[int, body.Changes]], columns: Sequence[Signal],
+              only: Optional[Condition]) -> Iterator[Pair]:
+    cells = _Cells(columns)
+    for time, changes in edges:
+        cells.take(changes)
+        if only:
+            only.take(changes)
+        if only is None or only.holds():
+            yield time, cells.row[:]
+        if only:
+            only.end_events()

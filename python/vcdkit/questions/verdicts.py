@@ -1,0 +1,84 @@
+"""Verdicts on many dumps, which are checked side by side."""
+import collections
+import os
+from concurrent.futures import ThreadPoolExecutor
+from typing import Any, Callable, Dict, Iterator, List, NamedTuple, Optional, Sequence
+
+from ..errors import DumpFault, UsageError, VcdkitError
+from ..reading import progress
+from ..reading.formats import is_dump_name
+from ..reading.source import Source
+from .causes import look_at
+
+
+class Verdict(NamedTuple):
+    """What there is to say of a dump: the exit status of it alone, what it is by that (`valid`,
+    `fault`, `short` or `unread`), a line for a reader, the lines around a fault, and facts."""
+
+    file: str
+    status: int
+    kind: str
+    text: str
+    around: List[str]
+    facts: Dict[str, Any]
+
+
+def files_of(words: Sequence[str]) -> List[str]:
+    """Returns the dumps that words name: of a directory those in it and below it."""
+    files: List[str] = []
+    for word in words:
+        if not os.path.isdir(word):
+            files.append(word)
+            continue
+        found = sorted(os.path.join(folder, name) for folder, _, names in os.walk(word)
+                       for name in names if is_dump_name(name))
+        if not found:
+            raise UsageError("%s: there is no dump in this directory" % word)
+        files += found
+    return files
+
+
+def verdict_on(dump: Source, file: str, reach: Optional[str],
+               time: Callable[[Source, int], str]) -> Verdict:
+    """Returns the verdict on a dump. If it has to reach a time, one that ends earlier is short."""
+    around: List[str] = []
+    try:
+        last = dump.check().last
+        end = "ends " + time(dump, last) if last is not None else "has no timestamp"
+        facts = {"last": last}
+        if reach is not None and (-1 if last is None else last) < dump.span(reach, is_up=True):
+            return Verdict(file, 1, "short", "%s: %s, before %s" % (file, end, reach), [], facts)
+        return Verdict(file, 0, "valid", "%s: %s" % (file, end), [], facts)
+    except DumpFault as fault:
+        _, found = look_at(dump, fault, around.append)
+        cause = found[0] if found else None
+        return Verdict(file, fault.status, "fault", str(fault) + (": " + cause if cause else ""),
+                       around, {"line": fault.line, "fault": fault.fault, "cause": cause})
+    except VcdkitError as error:
+        return Verdict(file, error.status, "unread", str(error), [], {"message": str(error)})
+
+
+def verdicts(files: Sequence[str], one: Callable[[str], Verdict], jobs: int) -> Iterator[Verdict]:
+    """Returns the verdicts on files, in their order, so many of them at a time."""
+    ended: List[bool] = []
+
+    def of(file: str) -> Optional[Verdict]:
+        return None if ended else one(file)
+
+    with ThreadPoolExecutor(max(jobs, 1)) as pool:
+        try:
+            for count, verdict in enumerate(pool.map(of, files), 1):
+                progress.stage = "%d of %d" % (count, len(files))
+                if verdict:
+                    yield verdict
+        finally:
+            ended.append(True)  # those that wait are not begun
+
+
+def summary(kinds: Sequence[str]) -> str:
+    """Returns how many dumps there are of each kind."""
+    counts = collections.Counter(kinds)
+    texts = {"valid": "%d valid", "fault": "%d with a fault", "short": "%d too short",
+             "unread": "%d cannot be read"}
+    return "%d dumps: %s" % (len(kinds), ", ".join(
+        text % counts[kind] for kind, text in texts.items() if counts[kind] or kind == "valid"))

@@ -1,0 +1,1 @@
+"""Texts of dumps: files and parts of them, the header, and the lines of a body."""

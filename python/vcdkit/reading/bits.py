@@ -1,0 +1,136 @@
+"""Bits that are declared one by one, which become vectors."""
+import io
+import itertools
+from collections import Counter
+from typing import Dict, Iterable, Iterator, List, NamedTuple, Optional, Set, Tuple
+
+from ..model.names import FIELD, field_of
+from . import header
+from .body import BIT
+
+Name = Tuple[Tuple[bytes, ...], bytes]  # the scopes around it, and the name
+NO_BITS = (b"real", b"shortreal", b"event", b"string")
+
+
+class Bit(NamedTuple):
+    """A line that declares a bit: its command in the header, type, code, name and number."""
+
+    command: header.Command
+    kind: bytes
+    code: bytes
+    name: bytes
+    number: int
+
+
+def joined(blocks: Iterator[bytes]) -> Iterator[bytes]:
+    """Returns a dump, which comes in blocks of whole lines, with its bits in vectors, in pieces."""
+    text, rest = header.parted(blocks)
+    vectors = _Vectors()
+    yield from _of_header(text, vectors)
+    body = itertools.chain([rest], blocks)
+    yield from vectors.of_blocks(body) if vectors.places else body
+
+
+def _of_header(text: bytes, vectors: "_Vectors") -> Iterator[bytes]:
+    """Returns a header with vectors."""
+    made: Dict[int, bytes] = {}  # of the begin of a command what is there instead
+    for bits in _vectors_in(text):
+        made.update((bit.command.begin, b"") for bit in bits)
+        made[bits[0].command.begin] = vectors.declare(sorted(bits, key=lambda bit: -bit.number))
+    at = 0
+    for begin, line in sorted(made.items()):
+        yield text[at:text.rfind(b"\n", 0, begin) + 1]
+        yield line
+        at = text.index(b"\n", begin) + 1
+    yield text[at:]
+
+
+def _vectors_in(text: bytes) -> Iterator[List[Bit]]:
+    """Returns the bits that make a vector, for each one in the order of declaration."""
+    scopes: List[bytes] = []
+    uses: Dict[bytes, int] = Counter()  # of each code
+    found: Dict[Name, List[Bit]] = {}
+    others: Set[Name] = set()  # that no bits have
+    for one in header.commands(text):
+        words = one.words
+        if one.keyword == b"$scope":
+            scopes.append(b"".join(words[1:2]) or b"$%d" % one.begin)
+        elif one.keyword == b"$upscope":
+            del scopes[-1:]
+        elif one.keyword == b"$var" and len(words) > 3:
+            uses[words[2]] += 1
+            bit = _bit_of(text, one)
+            if bit:
+                found.setdefault((tuple(scopes), bit.name), []).append(bit)
+            else:
+                others.add((tuple(scopes), words[3]))
+    for name, bits in found.items():
+        numbers = {bit.number for bit in bits}
+        if (name not in others and len({bit.kind for bit in bits}) == 1 < len(bits)
+                and max(numbers) - min(numbers) + 1 == len(numbers) == len(bits)
+                and all(uses[bit.code] == 1 for bit in bits)):
+            yield bits
+
+
+def _bit_of(text: bytes, one: header.Command) -> Optional[Bit]:
+    """Returns the bit that a line declares; `None` if it is none."""
+    kind, size, code, *rest = one.words
+    name = b"".join(rest).decode("utf-8", "surrogateescape")
+    field, base = field_of(name), FIELD.sub("", name)
+    is_bit = (size == b"1" and len(rest) < 3 and len(field) == 2 and not name.endswith(
+        ":%d]" % field[1]) and base and kind not in NO_BITS and not kind.startswith(b"real"))
+    if not is_bit or not header.is_alone(text, one):
+        return None
+    return Bit(one, kind, code, base.encode("utf-8", "surrogateescape"), field[0])
+
+
+class _Vectors:
+    """The vectors that were made: of each code of a bit the first code of its vector and its
+    place, and of each vector its digits."""
+
+    def __init__(self) -> None:
+        self.places: Dict[bytes, Tuple[bytes, int]] = {}
+        self._digits: Dict[bytes, List[bytes]] = {}
+        self._changed: Dict[bytes, bool] = {}
+        # Of each line that changes a bit of a vector, the vector, the place and the digit.
+        self._lines: Dict[bytes, Tuple[bytes, int, bytes]] = {}
+
+    def declare(self, bits: List[Bit]) -> bytes:
+        """Returns the line of a vector of bits, the first of which is the leftmost."""
+        first = bits[0].code
+        self._digits[first] = [b"x"] * len(bits)
+        self.places.update((bit.code, (first, place)) for place, bit in enumerate(bits))
+        self._lines.update((digit + bit.code + b"\n", (first, place, digit)) for place, bit in
+                           enumerate(bits) for digit in (b"0", b"1", b"x", b"z", b"X", b"Z"))
+        return b"$var %s %d %s %s [%d:%d] $end\n" % (
+            bits[0].kind, len(bits), first, bits[0].name, bits[0].number, bits[-1].number)
+
+    def of_blocks(self, blocks: Iterable[bytes]) -> Iterator[bytes]:
+        """Returns the lines of a body."""
+        get, digits, changed = self._lines.get, self._digits, self._changed
+        for block in blocks:
+            out = []
+            for line in io.BytesIO(block):
+                found = get(line) or self._odd(line)
+                if found:
+                    first, place, digit = found
+                    digits[first][place] = digit
+                    changed[first] = True
+                else:
+                    if changed and line.lstrip()[:1] in (b"#", b"$"):
+                        out += self._due()
+                    out.append(line)
+            yield b"".join(out)
+        yield b"".join(self._due())
+
+    def _odd(self, line: bytes) -> Optional[Tuple[bytes, int, bytes]]:
+        """Returns what a line changes that is not as most are; `None` if that is no such bit."""
+        change = None if line[:1] in b"#$" else BIT.match(line)
+        found = self.places.get(change.group(2)) if change else None
+        return (*found, change.group(1)) if found and change else None
+
+    def _due(self) -> List[bytes]:
+        """Returns the lines of the vectors that changed."""
+        lines = [b"b%s %s\n" % (b"".join(self._digits[code]), code) for code in self._changed]
+        self._changed.clear()
+        return lines

@@ -1,0 +1,344 @@
+"""The lines of a body: what knows them is here.
+
+vcdkit writes on each line a timestamp, a command of a section, or a value: `0!`, `b101 !`,
+`r1.5 !`. The filters read what other programs write, and find its lines by the expressions at the
+end."""
+import io
+import re
+from typing import (BinaryIO, Callable, Collection, Dict, FrozenSet, Iterable, Iterator, List,
+                    Optional, Set, Tuple, cast)
+
+from ..errors import DumpFault
+from .source import Source
+from .texts import Made
+
+MAX_SEEN = 1 << 14  # texts of which the changes are kept
+MAX_KEPT = 64  # bytes of a text that is kept
+BLOCK = 1 << 16
+Changes = List[Tuple[bytes, bytes]]  # a code and a value each
+Step = Tuple[int, Changes, Changes]  # a time, the values from before it, and the others
+Blocks = Callable[[BinaryIO], Iterable[bytes]]
+Edge = Tuple[bytes, bytes, bytes]  # the code of a clock, a digit and the digit after it
+
+
+def change(line: bytes) -> Tuple[bytes, bytes]:
+    """Returns the code and the value of a line, without the `b` of digits."""
+    first = line[:1]
+    if first == b"b" or first == b"r":
+        text, code = line.split()
+        return code, text[1:] if first == b"b" else text
+    return line[1:-1], first
+
+
+def blocks(text: BinaryIO) -> Iterator[bytes]:
+    """Returns a text in blocks of whole lines, as they come."""
+    read = cast(io.BufferedReader, text).read1
+    for block in iter(lambda: read(BLOCK), b""):
+        yield block if block.endswith(b"\n") else block + text.readline()
+
+
+def timed(part: Source, some: Optional[Blocks] = None, is_all: bool = False
+          ) -> Iterator[Tuple[int, bytes]]:
+    """Returns each timestamp of a part of a dump with the lines up to the next one, as soon as that
+    comes: a text that does not end with a line feed. What comes before the first timestamp has time
+    0. A timestamp that is there twice is one, and one without lines is left out, as is a time that
+    a fault leaves unfinished, unless all are asked for. `some` may leave out lines of the body that
+    do not matter."""
+    now, texts = 0, []
+    fault: Optional[DumpFault] = None
+    try:
+        with part.body() as out:
+            for block in (some or blocks)(out):
+                first, *pieces = (b"\n" + block[:-1]).split(b"\n#")
+                if first:
+                    texts.append(first[1:])
+                for piece in pieces:
+                    head, _, text = piece.partition(b"\n")
+                    time = int(head)
+                    if time != now:
+                        if texts:
+                            yield now, b"\n".join(texts) if len(texts) > 1 else texts[0]
+                        now, texts = time, [text] if text else []
+                    elif text:
+                        texts.append(text)
+    except DumpFault as error:
+        fault = error
+    if texts and (fault is None or is_all or part.is_finished(now, fault)):
+        yield now, b"\n".join(texts)
+    if fault:
+        raise fault
+
+
+def steps(part: Source, codes: Collection[bytes], lead: Collection[bytes] = (),
+          is_cut: bool = False, some: Optional[Blocks] = None) -> Iterator[Step]:
+    """Returns of each timestamp of a part of a dump the changes of some codes: those that are
+    values from before it, and the others. What comes before the first timestamp has time 0. No two
+    steps that follow each other have one time. A time that a fault leaves unfinished has no step.
+
+    The first value of a code is from before its time if it is in a `$dumpvars`, or if the code is
+    in `lead`: `cut` begins with the values just before its first time, and goes on with what
+    changes at it. With `is_cut`, only the section with which `cut` begins has such values. `some`
+    is that of timed."""
+    known, first = Known(codes), _First(codes, lead, is_cut)
+    changes_of, waiting = known.__getitem__, first.waiting  # faster than known[..]
+    none: Changes = []
+    for time, text in timed(part, some):
+        before, changes = none, changes_of(text)
+        if waiting:
+            before, changes = first.parted(text, changes, known)
+        if changes or before:
+            yield time, before, changes
+
+
+class Known(Dict[bytes, Changes]):
+    """Of each text of lines the changes of some codes in it, which nobody may alter. Those of short
+    texts are kept to be given again, as most dumps have few of these."""
+
+    def __init__(self, codes: Collection[bytes]):
+        super().__init__()
+        self._codes = codes
+
+    def __missing__(self, text: bytes) -> Changes:
+        if b"\n" in text:
+            its = [one for line in text.split(b"\n") for one in self[line]]
+        elif text[:1] in b"$":  # of a section, or empty
+            its = []
+        else:
+            one = change(text + b"\n")
+            its = [one] if one[0] in self._codes else []
+        if len(text) <= MAX_KEPT:
+            if len(self) >= MAX_SEEN:
+                self.clear()
+            self[text] = its
+        return its
+
+
+class _First:
+    """Which values are from before their time: `waiting` are the codes that have no value yet."""
+
+    def __init__(self, codes: Iterable[bytes], lead: Collection[bytes], is_cut: bool = False):
+        self.waiting, self._lead, self._is_cut = set(codes), lead, is_cut
+        self._is_begin = self._has_section = False
+
+    def parted(self, text: bytes, changes: Changes, known: Known) -> Tuple[Changes, Changes]:
+        """Returns of the changes of a text those that are from before its time, and the others."""
+        if b"$" not in text and self.waiting.isdisjoint(dict(changes)):
+            return [], changes
+        before: Changes = []
+        others: Changes = []
+        for line in text.split(b"\n"):
+            if line[:1] == b"$":
+                self._note(line)
+            for one in known[line]:
+                (before if self._is_before(one[0]) else others).append(one)
+        return before, others
+
+    def _note(self, line: bytes) -> None:
+        """Takes the line of a section."""
+        self._is_begin = line == b"$dumpvars" and not (self._is_cut and self._has_section)
+        self._has_section = True
+
+    def _is_before(self, code: bytes) -> bool:
+        """Whether the value of a code is from before its time."""
+        if code not in self.waiting:
+            return False
+        self.waiting.discard(code)
+        return self._is_begin or code in self._lead
+
+
+def at_edges(source: Source, names: List[str], codes: Collection[bytes], edges: Collection[Edge]
+             ) -> Iterator[Tuple[int, Changes]]:
+    """Returns each time that has one of some edges, with the changes of some codes, and of the
+    clocks, since the last such time, up to just before this one: those at the last one are among
+    them, and so are values from before this one. The names select all these signals."""
+    last = {code: b"" for code, _, _ in edges}
+    found: Changes = []
+    its = {*codes, *last}
+    for time, before, changes in steps(source.part(names), its, _led(source, its)):
+        is_edge = False
+        for code, digit in before + changes if before else changes:
+            if code in last:
+                is_edge = is_edge or (code, last[code], digit) in edges
+                last[code] = digit
+        found += before
+        if is_edge:
+            yield time, found
+            found = []
+        elif len(found) > MAX_SEEN:
+            found = list(dict(found).items())
+        found += changes
+
+
+def _led(source: Source, codes: Collection[bytes]) -> Set[bytes]:
+    """Returns those of some codes of a merge whose values begin with a `$dumpvars`, as a merge
+    writes no sections; its codes are those of its dumps, anew, in the order of declaration."""
+    text, found = source.whole("pick", "cut"), set()
+    if not codes or not isinstance(text, Made) or text.command != "merge":
+        return set()
+    made = iter(dict.fromkeys(source.like(text).signals.columns()[3]))
+    for dump in map(source.like, text.of):
+        its = {code.encode(): new.encode()
+               for code, new in zip(dict.fromkeys(dump.signals.columns()[3]), made)
+               if new.encode() in codes}
+        names = [one.path for one in dump.signals if one.code.encode() in its]
+        if names:
+            found |= {its[code] for code in _begun(dump.part(names), its) | _led(dump, its)}
+    return found
+
+
+def _begun(part: Source, codes: Collection[bytes]) -> Set[bytes]:
+    """Returns those of some codes whose first value is in a `$dumpvars`."""
+    is_begin, left = False, set(codes)
+    found: Set[bytes] = set()
+    with part.body() as out:
+        for line in out:
+            if line[:1] == b"$":
+                is_begin = line == b"$dumpvars\n"
+            elif line[:1] != b"#":
+                code = change(line)[0]
+                if is_begin and code in left:
+                    found.add(code)
+                left.discard(code)
+                if not left:
+                    break
+    return found
+
+
+def last_time(text: bytes) -> Optional[int]:
+    """Returns the last timestamp of a text that has its whole line; `None` if
+    there is none."""
+    at = text.rfind(b"\n#", 0, max(text.rfind(b"\n"), 0))
+    return int(text[at + 2:text.index(b"\n", at + 1)]) if at >= 0 else None
+
+
+def last_command(text: bytes) -> Optional[bytes]:
+    """Returns the last command of a section in a text, and what comes after it; `None` if there is
+    none."""
+    at = text.rfind(b"\n$")
+    return text[at + 1:] if at >= 0 else None
+
+
+def first_time(dump: Source) -> Optional[int]:
+    """Returns the first timestamp of any dump, also if no change follows, which vcdkit leaves out;
+    `None` if there is none before the end or a fault."""
+    with dump.open() as text:
+        return _first_time(text)
+
+
+def _first_time(text: BinaryIO) -> Optional[int]:
+    words, section = _words(text), b""
+    for word in words:
+        first = word[:1]
+        if first == b"#":
+            return int(word[1:]) if word[1:].isdigit() and not section else None
+        if first in b"bBrR":
+            next(words, b"")  # its code
+        elif word in (b"$dumpvars", b"$dumpall", b"$dumpon", b"$dumpoff"):
+            section = word
+        elif word == b"$end":
+            section = b""
+        elif first == b"$":
+            for word in words:
+                if word == b"$end":
+                    break
+    return None
+
+
+def _words(text: BinaryIO) -> Iterator[bytes]:
+    """Returns the words of a text."""
+    rest = b""
+    for block in iter(lambda: text.read(BLOCK), b""):
+        words = (rest + block).split()
+        rest = words.pop() if words and not block[-1:].isspace() else b""
+        yield from words
+    if rest:
+        yield rest
+
+
+# Lines in a block of whole lines, which begins with a line feed: most lines are never looked at. A
+# place is that of the line feed before a line.
+
+CODES = re.compile(rb"\n(?:[01xz]|[br]\S* )(.*)")  # of the lines that have a value
+
+
+def letters_in(letters: bytes) -> "re.Pattern[bytes]":
+    """Returns what finds the lines whose values have a digit that is one of some letters; the group
+    is the code."""
+    return re.compile(rb"\n(?:[%b]|b[01xz]*?[%b][01xz]* )(.*)" % (letters, letters))
+
+
+def line_at(text: bytes, at: int) -> bytes:
+    """Returns the line at a place."""
+    return text[at + 1:text.index(b"\n", at + 1) + 1]
+
+
+def time_at(text: bytes, at: int) -> int:
+    """Returns the time of a timestamp at a place."""
+    return int(text[at + 2:text.index(b"\n", at + 1)])
+
+
+def time_before(text: bytes, begin: int, end: int) -> int:
+    """Returns the place of the last timestamp of a part of a text; -1 if there is none."""
+    return text.rfind(b"\n#", begin, end)
+
+
+def next_time(text: bytes, begin: int, end: int) -> int:
+    """Returns the place of the first timestamp of a part of a text; -1 if there is none."""
+    return text.find(b"\n#", begin, end)
+
+
+def time_after(text: bytes, begin: int, time: int) -> int:
+    """Returns the place of the first timestamp above a time; that of the end if there is none."""
+    found = high = len(text) - 1
+    low = begin
+    while low < high:
+        middle = (low + high) // 2
+        at = next_time(text, middle, high + 1)
+        if at >= 0 and time_at(text, at) <= time:
+            low = at + 1
+        else:
+            found, high = at if at >= 0 else found, middle
+    return found
+
+
+def next_change(text: bytes, code: bytes, begin: int) -> int:
+    """Returns the place of the first line from a place on that has a value of a code; -1 if there
+    is none."""
+    at = text.find(code + b"\n", begin)
+    while at >= 0:
+        line = text.rfind(b"\n", 0, at)
+        if text[line + 1] not in b"#$" and change(line_at(text, line))[0] == code:
+            return line
+        at = text.find(code + b"\n", at + 1)
+    return -1
+
+
+def changes_in(text: bytes, begin: int, end: int, codes: FrozenSet[bytes]
+               ) -> Iterator[Tuple[bytes, bytes, int]]:
+    """Returns the changes of some codes between two places: code, value and place. It looks only at
+    lines that end as one of the codes does."""
+    table = bytearray(256)
+    table[10] = 10
+    for code in codes:
+        table[code[-1]] = 1
+    marks = text[begin:end + 1].translate(table)
+    at = marks.find(b"\1\n")
+    while at >= 0:
+        line = text.rfind(b"\n", 0, begin + at)
+        if text[line + 1] not in b"#$":
+            code, value = change(text[line + 1:begin + at + 2])
+            if code in codes:
+                yield code, value, line
+        at = marks.find(b"\1\n", at + 1)
+
+
+# Lines as other programs write them, each with the line feed before it. The group has a value.
+
+BIT = re.compile(rb"\s*(?:[bB](?=\S\s))?([01xXzZ])\s*(\S+)\s*$")  # a change of one bit, also b1 !
+_CHANGE = rb"(?:[01xXzZ]\S*|[bBrR]\S*[ \t]+\S+)[ \t]*\r?\n"
+_TIME = rb"#\S*[ \t]*\r?\n"
+# The line feed before a line that is not only a change, and not only a change or a timestamp.
+NO_CHANGE = re.compile(rb"\n(?!%s)" % _CHANGE)
+NO_CHANGE_OR_TIME = re.compile(rb"\n(?!%s|%s)" % (_CHANGE, _TIME))
+# A value that is none of VCD: up to the end of its digits; a string as a whole.
+NINE_STATES = re.compile(rb"\n(?:[UuWwLlHh-]|s[^\n]*|[bB][01xXzZ]*[UuWwLlHh-][^ \t\n]*)")

@@ -1,0 +1,109 @@
+"""The header of a dump: its commands, one after the other, and what they declare. Filters read
+headers here too, so that a command may be on several lines, and several commands on one."""
+import re
+from typing import Collection, Dict, Iterable, Iterator, List, NamedTuple, Optional, Tuple
+
+from ..model.names import RANGE, field_of
+from ..model.signals import Declaration, Header, Scope, Signal
+from ..model.times import Timescale, amount_in
+
+# A command, from its keyword to its $end.
+COMMAND = re.compile(rb"(?<!\S)(\$\S*)(.*?)(?<!\S)\$end(?!\S)", re.DOTALL)
+LAST = b"$enddefinitions"
+BODY = LAST + b" $end\n"  # the last line of a header that vcdkit writes
+
+
+class Command(NamedTuple):
+    """A command of a header: its keyword, the words up to its $end, and where it is in the text."""
+
+    keyword: bytes
+    words: List[bytes]
+    begin: int
+    end: int
+
+
+def commands(text: bytes) -> Iterator[Command]:
+    """Returns the commands of a header."""
+    for found in COMMAND.finditer(text):
+        yield Command(found.group(1), found.group(2).split(), *found.span())
+        if found.group(1) == LAST:
+            break
+
+
+def parted(blocks: Iterable[bytes]) -> Tuple[bytes, bytes]:
+    """Reads up to the end of a header. Returns the header, and what was read behind it. A header
+    without an end has all that there is."""
+    text, is_near = bytearray(), False
+    for block in blocks:
+        begin = max(len(text) - len(LAST), 0)
+        text += block
+        is_near = is_near or text.find(LAST, begin) >= 0
+        for one in commands(bytes(text)) if is_near else ():
+            if one.keyword == LAST:
+                return bytes(text[:one.end]), bytes(text[one.end:])
+    return bytes(text), b""
+
+
+def facts(text: bytes) -> Header:
+    """Returns what a header says before its first scope or variable."""
+    texts: Dict[bytes, str] = {}
+    for keyword, words, *_ in commands(text):
+        if keyword in (b"$scope", b"$var"):
+            break
+        texts[keyword] = b" ".join(words).decode(errors="backslashreplace")
+    scale = amount_in(texts.get(b"$timescale", ""))
+    return Header(texts.get(b"$date"), texts.get(b"$version"), Timescale(*scale) if scale else None)
+
+
+def declarations(text: bytes) -> Tuple[Scope, List[Declaration]]:
+    """Returns the scopes of a header in one without a name, and the variables. A scope that is
+    there twice is one."""
+    top = Scope("", "", "", [], [])
+    opened: List[Tuple[Scope, ...]] = [()]  # the scopes around a place, and around those
+    found = []
+    for keyword, raw, *_ in commands(text):
+        words = [word.decode("utf-8", "surrogateescape") for word in raw]
+        outer = opened[-1][-1] if opened[-1] else top
+        before = outer.path + "." if outer.path else ""
+        if keyword == b"$scope":
+            inner = next((one for one in outer.scopes if one.name == words[1]), None)
+            if inner is None:
+                inner = Scope(words[1], before + words[1], words[0], [], [])
+                outer.scopes.append(inner)
+            opened.append((*opened[-1], inner))
+        elif keyword == b"$upscope":
+            opened.pop()
+        elif keyword == b"$var":
+            signal = Signal(before + words[3], words[0], int(words[1]), words[2])
+            outer.signals.append(signal)
+            declared = field_of("".join(words[4:]))
+            if not declared and RANGE.search(words[3]):
+                declared = field_of(words[3])
+            found.append(Declaration(signal, opened[-1], declared))
+    return top, found
+
+
+def with_variables(text: bytes, places: Collection[int]) -> Iterator[bytes]:
+    """Returns the lines of a header that vcdkit writes, of its variables only those at some places,
+    and of its scopes only those around them."""
+    opened: List[Optional[bytes]] = []  # the lines of scopes, `None` for those that are written
+    at = 0
+    for one in commands(text):
+        line = text[one.begin:one.end] + b"\n"
+        if one.keyword == b"$scope":
+            opened.append(line)
+        elif one.keyword == b"$var":
+            if at in places:
+                yield from filter(None, opened)
+                opened = [None] * len(opened)
+                yield line
+            at += 1
+        elif one.keyword != b"$upscope" or opened.pop() is None:
+            yield line
+
+
+def is_alone(text: bytes, one: Command) -> bool:
+    """Whether a command is all that a line has."""
+    front = text[text.rfind(b"\n", 0, one.begin) + 1:one.begin]
+    back = text[one.end:].split(b"\n", 1)[0]
+    return not front.strip() and not back.strip() and b"\n" not in text[one.begin:one.end]

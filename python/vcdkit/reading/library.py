@@ -1,0 +1,260 @@
+"""Answers by libvcdkit, in this process, by ctypes, which lets other threads run meanwhile.
+
+What the library is, extras/c/vcdkit.h says: this file alone knows how it is called."""
+import contextlib
+import ctypes
+import io
+import mmap
+import os
+import subprocess
+from array import array
+from typing import Any, BinaryIO, Dict, Iterator, List, Optional, Sequence, Tuple, Union, cast
+
+from ..errors import RunFailed, UnknownName, VcdkitError, error_of
+from .program import FAULT, not_started
+from .texts import PACKAGE, Bytes, File, Made, Text
+
+Data = Union[bytes, mmap.mmap]
+OUT_OF_MEMORY = 4  # of vcdkit_run
+FULL = 4  # of vcdkit_changes
+
+
+class _Lent(ctypes.Structure):
+    _fields_ = [("at", ctypes.c_void_p), ("length", ctypes.c_size_t)]
+
+
+class _File(ctypes.Structure):
+    _fields_ = [("name", _Lent), ("bytes", _Lent)]
+
+
+class _Place(ctypes.Structure):
+    _fields_ = [("place", ctypes.c_uint64 * 8), ("count", ctypes.c_uint64),
+                ("fault", ctypes.c_uint64), ("line", ctypes.c_uint64)]
+
+
+class _Buffer(ctypes.Structure):
+    """Py_buffer."""
+
+    _fields_ = [("buf", ctypes.c_void_p), ("obj", ctypes.py_object), ("len", ctypes.c_ssize_t),
+                ("itemsize", ctypes.c_ssize_t), ("readonly", ctypes.c_int), ("ndim", ctypes.c_int),
+                ("format", ctypes.c_char_p), ("shape", ctypes.c_void_p),
+                ("strides", ctypes.c_void_p), ("suboffsets", ctypes.c_void_p),
+                ("internal", ctypes.c_void_p)]
+
+
+_python = ctypes.pythonapi
+_python.PyObject_GetBuffer.argtypes = [ctypes.py_object, ctypes.c_void_p, ctypes.c_int]
+_python.PyBuffer_Release.argtypes, _python.PyBuffer_Release.restype = [ctypes.c_void_p], None
+_python.PyBytes_FromStringAndSize.argtypes = [ctypes.c_char_p, ctypes.c_ssize_t]
+_python.PyBytes_FromStringAndSize.restype = ctypes.c_void_p
+_python.PyBytes_AsString.argtypes = [ctypes.c_void_p]
+_python.PyBytes_AsString.restype = ctypes.c_void_p
+_python._PyBytes_Resize.argtypes = [ctypes.c_void_p, ctypes.c_ssize_t]
+_python.Py_DecRef.argtypes, _python.Py_DecRef.restype = [ctypes.c_void_p], None
+
+_loaded: Dict[str, ctypes.CDLL] = {}
+
+
+def path() -> Optional[str]:
+    """Returns the library that VCDKIT_LIBRARY names (none where it is empty), else the one beside
+    the package; None where there is none."""
+    named = os.environ.get("VCDKIT_LIBRARY")
+    if named is not None:
+        return os.path.abspath(named) if named else None
+    beside = os.path.join(PACKAGE, "libvcdkit.so")
+    return beside if os.path.exists(beside) else None
+
+
+def _library() -> ctypes.CDLL:
+    """Returns the library, which is loaded at the first call."""
+    name = path() or ""
+    if name not in _loaded:
+        try:
+            library = ctypes.CDLL(name)
+            number, size, at = ctypes.POINTER(ctypes.c_uint64), ctypes.c_size_t, ctypes.c_void_p
+            library.vcdkit_run.restype = ctypes.c_uint8
+            library.vcdkit_run.argtypes = [
+                ctypes.POINTER(_Lent), size, at, size, ctypes.POINTER(_File), size, ctypes.c_uint64,
+                at, size, number, at, size, number]
+            if hasattr(library, "vcdkit_changes"):
+                library.vcdkit_changes.restype = ctypes.c_uint8
+                library.vcdkit_changes.argtypes = [at, size, at, size, ctypes.c_uint64,
+                                                   ctypes.POINTER(_Place), at, size]
+        except (OSError, AttributeError) as error:
+            raise RunFailed("%s: %s" % (name, error)) from error
+        _loaded[name] = library
+    return _loaded[name]
+
+
+class _Lender:
+    """Keeps lent bytes alive until the call is over."""
+
+    def __init__(self) -> None:
+        self.kept: List[object] = []
+        self.buffers: List[_Buffer] = []
+
+    def lend(self, data: Data) -> Tuple[int, int]:
+        """Returns where the bytes are and how many, without a copy."""
+        self.kept.append(data)
+        if isinstance(data, bytes):
+            # The object's own bytes, which a NUL ends, so that the pointer is never null.
+            return ctypes.cast(ctypes.c_char_p(data), ctypes.c_void_p).value or 0, len(data)
+        buffer = _Buffer()
+        _python.PyObject_GetBuffer(data, ctypes.byref(buffer), 0)
+        self.buffers.append(buffer)
+        return buffer.buf, len(data)
+
+    def __enter__(self) -> "_Lender":
+        return self
+
+    def __exit__(self, *_: object) -> None:
+        for buffer in self.buffers:
+            _python.PyBuffer_Release(ctypes.byref(buffer))
+
+
+class _Filled:
+    """Bytes that the library fills: a new `bytes` object, of which a page is taken once it is
+    written. Nobody else has it yet, so it can be shortened as it lies, without a copy."""
+
+    def __init__(self, room: int):
+        self.owned = ctypes.c_void_p()
+        self.owned.value = _python.PyBytes_FromStringAndSize(None, room)
+        self.at = _python.PyBytes_AsString(self.owned)
+
+    def first(self, length: int) -> bytes:
+        """Returns the first bytes; to be called once."""
+        _python._PyBytes_Resize(ctypes.byref(self.owned), length)
+        return cast(bytes, ctypes.cast(self.owned, ctypes.py_object).value)
+
+    def __del__(self) -> None:
+        _python.Py_DecRef(self.owned)
+
+
+def run(words: Sequence[str], given: Data = b"", files: Sequence[Tuple[bytes, Data]] = (),
+        room: int = 1 << 16) -> Tuple[int, bytes, bytes]:
+    """Returns the status, the output and the message of these words over standard input and files.
+    The output is the object that the library wrote to, with no copy.
+
+    `room` is how long the output may be; where it is longer, the command runs a second time."""
+    with _Lender() as lender:
+        lent = [lender.lend(word.encode("utf-8", "surrogateescape")) for word in words]
+        named = [(lender.lend(name), lender.lend(data)) for name, data in files]
+        seed = int.from_bytes(os.urandom(8), "little")  # of the hash of codes
+        asked = ((_Lent * max(len(lent), 1))(*[_Lent(*one) for one in lent]), len(lent),
+                 *lender.lend(given),
+                 (_File * max(len(named), 1))(*[_File(_Lent(*a), _Lent(*b)) for a, b in named]),
+                 len(named), seed)
+        used, said_used, said_room = ctypes.c_uint64(0), ctypes.c_uint64(0), 1 << 16
+        while True:
+            out, said = _Filled(room), ctypes.create_string_buffer(said_room)
+            status = _library().vcdkit_run(
+                *asked, out.at, room, ctypes.byref(used), ctypes.addressof(said), said_room,
+                ctypes.byref(said_used))
+            if status == OUT_OF_MEMORY:
+                raise RunFailed("out of memory")
+            if used.value <= room and said_used.value <= said_room:
+                return status, out.first(used.value), said.raw[:said_used.value]
+            room, said_room = max(room, used.value), max(said_room, said_used.value)
+
+
+def changes(text: Text, code: bytes, room: int = 1 << 18) -> Optional["array[int]"]:
+    """Returns the changes of a code, three uint64 each: a time, a value, and ones where its digits
+    are 0 or 1. None where the dump has a fault or no such code, or the library cannot say."""
+    if not hasattr(_library(), "vcdkit_changes"):
+        return None
+    found, reading, seed = array("Q"), _Place(), int.from_bytes(os.urandom(8), "little")
+    with _Lender() as lender:
+        data, name = lender.lend(_data(text)), lender.lend(code)
+        some = array("Q", bytes(3 * 8 * room))
+        status = FULL
+        while status == FULL:
+            status = _library().vcdkit_changes(*data, *name, seed, ctypes.byref(reading),
+                                               some.buffer_info()[0], room)
+            found += some if reading.count == room else some[:3 * reading.count]
+    return None if status else found
+
+
+def _data(text: Text) -> Data:
+    """Returns the bytes of a text, those of a plain file as a map."""
+    out, error = _read(text)
+    if error:
+        raise error
+    return out
+
+
+def _read(text: Text) -> Tuple[Data, Optional[VcdkitError]]:
+    """Returns the bytes of a text up to its end, or up to the error with which it ends."""
+    if isinstance(text, Bytes):
+        return text.data, None
+    return _made(text) if isinstance(text, Made) else (_bytes_of(text), None)
+
+
+def _made(text: Made) -> Tuple[bytes, Optional[VcdkitError]]:
+    """Returns what a command writes, and its error. As in a pipe, it gets what its input has before
+    an error, and that error comes first. A merge gets a fault there too, since it would go on with
+    the other dumps."""
+    read = [_read(one) for one in text.of]
+    if text.command == "merge":
+        read = [(bytes(data) + FAULT if error else data, error) for data, error in read]
+    inputs, errors = [data for data, _ in read], [error for _, error in read if error]
+    # Twice the dump is mostly enough; room that is not written costs nothing.
+    room = 2 * sum(map(len, inputs)) + (1 << 16)
+    if text.command == "merge":
+        files = [(b"%d" % at, data) for at, data in enumerate(inputs)]
+        names = {"%d" % at: one.name for at, one in enumerate(text.of)}
+        status, out, said = run(["merge", *text.words, "--", *names], b"", files, room)
+    else:
+        names = {"(stdin)": text.of[0].name}
+        status, out, said = run([text.command, *text.words], inputs[0], (), room)
+    error = error_of(said.decode(errors="backslashreplace"), status, names) if status else None
+    if isinstance(error, UnknownName):
+        error.of = text.of[0]
+    return out, errors[0] if errors else error
+
+
+def _bytes_of(file: File) -> Data:
+    """Returns the bytes of a file: a map of it, or what its filters make of it."""
+    filters = file.filters()
+    with file.open() as source:
+        if not filters:
+            try:
+                return mmap.mmap(source.fileno(), 0, access=mmap.ACCESS_READ)
+            except (ValueError, OSError):  # it is empty, or cannot be mapped
+                return source.read()
+        data = _filtered(file, filters[0], stdin=source)
+    for words in filters[1:]:
+        data = _filtered(file, words, input=data)
+    return data
+
+
+def _filtered(file: File, words: List[str], **given: Any) -> bytes:
+    """Returns what a filter writes."""
+    try:
+        done = subprocess.run(words, stdout=subprocess.PIPE, stderr=subprocess.PIPE, **given)
+    except OSError as error:
+        raise not_started(words[0], error) from error
+    if done.returncode:
+        said = done.stderr.decode(errors="backslashreplace").strip()
+        raise RunFailed("%s: %s" % (file.name, said or "%s: status %d" % (
+            words[0], done.returncode)))
+    return bytes(done.stdout)
+
+
+@contextlib.contextmanager
+def opened(text: Text) -> Iterator[BinaryIO]:
+    """Opens a text to be read once. As with a pipe, an error comes after what was written before
+    it, unless the reader ends early."""
+    error = None
+    file: BinaryIO
+    if isinstance(text, File) and not text.filters():
+        file = text.open()
+    elif isinstance(text, Made):
+        out, error = _made(text)
+        file = io.BytesIO(out)
+    else:
+        file = io.BytesIO(_data(text))
+    with file:
+        yield file
+        was_read = not file.closed and not file.read(1)
+    if error and was_read:
+        raise error

@@ -1,0 +1,210 @@
+"""Answers by the program vcdkit, over pipes."""
+import contextlib
+import errno
+import functools
+import os
+import shutil
+import signal
+import subprocess
+import tempfile
+import threading
+from typing import BinaryIO, Dict, Iterator, List, Optional, Sequence, Union, cast
+
+from ..errors import RunFailed, UnknownName, VcdkitError, error_of
+from . import progress
+from .texts import Bytes, File, Text, installed
+
+
+def path() -> Optional[str]:
+    """Returns the program that VCDKIT names, else the vcdkit that comes with the running command
+    or is on the PATH; `None` if there is none."""
+    named = os.environ.get("VCDKIT")
+    return shutil.which(named) if named else installed("vcdkit")
+
+
+def refusal() -> str:
+    """Returns what to do where there is no program."""
+    named = os.environ.get("VCDKIT")
+    return ("there is no program %s, which VCDKIT names" % named if named else
+            "there is no program vcdkit on the PATH: install it, or name it by VCDKIT=FILE")
+
+
+def not_started(program: str, error: OSError) -> RunFailed:
+    """Returns the exception where a program cannot be started."""
+    if error.errno == errno.ENOENT:
+        return RunFailed("there is no program %s on the PATH to read it with" % program)
+    if error.errno == errno.E2BIG:
+        return RunFailed("too many names for a command line: name scopes")
+    return RunFailed("%s: %s" % (program, error.strerror))
+
+
+@functools.lru_cache(maxsize=None)
+def is_vcdkit(program: str) -> bool:
+    """Whether a program says that it is vcdkit; it is asked once."""
+    try:
+        said = subprocess.run([program, "--version"], stdin=subprocess.DEVNULL,
+                              stdout=subprocess.PIPE, stderr=subprocess.DEVNULL).stdout
+    except OSError:
+        return True  # what cannot be started is refused as such
+    return said.startswith(b"vcdkit ")
+
+
+# What is no token of a dump, on a line of its own.
+FAULT = b"\n?\n"
+
+
+class _Part:
+    """A running program, and what it calls its inputs. If it fails and a merge reads what it
+    writes, a fault comes after that: at an end, the merge would go on with the other dumps."""
+
+    def __init__(self, words: Sequence[str], stdin: Union[BinaryIO, int], names: Dict[str, str],
+                 of: Optional[Text], pass_fds: Sequence[int] = (), is_merged: bool = False):
+        self.words, self.names, self.of = words, names, of
+        # A file, as a pipe holds only some of a message that nobody reads before the output.
+        self.messages = tempfile.TemporaryFile()
+        reader, writer = os.pipe()
+        try:
+            self.process = subprocess.Popen(words, stdin=stdin, stdout=writer,
+                                            stderr=self.messages, pass_fds=pass_fds)
+        except OSError as error:
+            os.close(reader)
+            os.close(writer)
+            raise not_started(words[0], error) from error
+        self.out = cast(BinaryIO, os.fdopen(reader, "rb"))
+        if is_merged:
+            threading.Thread(target=self._mark_failure, args=[writer], daemon=True).start()
+        else:
+            os.close(writer)
+
+    def _mark_failure(self, writer: int) -> None:
+        """Writes a fault if it fails, and closes the pipe."""
+        with contextlib.suppress(OSError):  # nobody may read on
+            if self.process.wait():
+                os.write(writer, FAULT)
+        os.close(writer)
+
+    def finish(self) -> None:
+        """Waits for it, and keeps what it says."""
+        self.status = self.process.wait()
+        with self.messages as said:
+            said.seek(0)
+            self.said = said.read().decode(errors="backslashreplace").strip()
+
+    def ended_early(self) -> bool:
+        """Whether the next program did not read on: a script says so as a shell does."""
+        return (self.status in (-signal.SIGPIPE, 128 + signal.SIGPIPE)
+                or self.said == "vcdkit: write failed")
+
+    def error(self) -> VcdkitError:
+        """Returns the exception of its status and message."""
+        if self.of is None:
+            return RunFailed("%s: %s" % (self.names["(stdin)"], self.said or "%s: status %d" % (
+                self.words[0], self.status)))
+        error = error_of(self.said or "vcdkit: status %d" % self.status, self.status, self.names)
+        if isinstance(error, UnknownName):
+            error.of = self.of
+        return error
+
+
+class _Pipe:
+    """The programs of one pipe, the nearest to the files first."""
+
+    def __init__(self) -> None:
+        self.files: List[File] = []
+        self.parts: List[_Part] = []
+        progress.running.append(self.part_read)
+
+    def start(self, words: Sequence[str], stdin: Optional[BinaryIO], names: Dict[str, str],
+              of: Optional[Text], pass_fds: Sequence[int] = (), is_merged: bool = False
+              ) -> BinaryIO:
+        """Starts a program, and returns what it writes."""
+        try:
+            self.parts.append(
+                _Part(words, stdin or subprocess.DEVNULL, names, of, pass_fds, is_merged))
+        finally:
+            if stdin:
+                stdin.close()
+        return self.parts[-1].out
+
+    def feed(self, text: Text, is_merged: bool = False) -> BinaryIO:
+        """Returns a file from which the text can be read, by a merge if `is_merged`."""
+        if isinstance(text, File):
+            self.files.append(text)
+            filters = text.filters()
+            file = text.open()
+            for words in filters:
+                file = self.start(words, file, {"(stdin)": text.name}, None, (), is_merged)
+            return file
+        if isinstance(text, Bytes):
+            kept = cast(BinaryIO, tempfile.TemporaryFile())
+            kept.write(text.data)
+            kept.seek(0)
+            return kept
+        program = path()
+        if not program:
+            raise RunFailed(refusal())
+        if os.environ.get("VCDKIT") and not is_vcdkit(program):
+            raise RunFailed("%s, which VCDKIT names, is no vcdkit" % program)
+        files = [self.feed(one, is_merged or text.command == "merge") for one in text.of]
+        if text.command != "merge":
+            return self.start([program, text.command, *text.words], files[0],
+                              {"(stdin)": text.of[0].name}, text.of[0], (), is_merged)
+        # The first one is standard input: a system without /proc has no /dev/fd.
+        names = ["/dev/fd/%d" % file.fileno() for file in files[1:]]
+        try:
+            return self.start([program, "merge", *text.words, "--", "-", *names], files[0],
+                              dict(zip(["(stdin)", *names], (one.name for one in text.of))),
+                              text.of[0], [file.fileno() for file in files[1:]], is_merged)
+        finally:
+            for file in files[1:]:
+                file.close()
+
+    def part_read(self) -> Optional[float]:
+        """Returns how much of its first file is read, as a part of 1; `None` if that cannot be
+        known, as of a pipe."""
+        process = self.parts[0].process.pid if self.parts else 0
+        try:
+            size = os.stat("/proc/%d/fd/0" % process).st_size
+            with open("/proc/%d/fdinfo/0" % process, encoding="ascii") as info:
+                return min(int(info.readline().split()[1]) / size, 1.0) if size else None
+        except (OSError, ValueError, IndexError):
+            return None
+
+    def finish(self) -> None:
+        """Waits for all; raises the error of the one nearest to the files."""
+        progress.running.remove(self.part_read)
+        for part in self.parts:
+            part.finish()
+        for file in self.files:
+            file.check()
+        for at, part in enumerate(self.parts):
+            is_last = at == len(self.parts) - 1
+            if part.status and (is_last or not part.ended_early()):
+                raise part.error()
+
+    def stop(self) -> None:
+        """Ends all that still run."""
+        progress.running.remove(self.part_read)
+        for part in self.parts:
+            part.process.terminate()
+            part.out.close()
+            part.finish()
+
+
+@contextlib.contextmanager
+def opened(text: Text) -> Iterator[BinaryIO]:
+    """Opens a text to be read once. If the reader ends early, or closes it, so do the programs, and
+    there is no error."""
+    pipe = _Pipe()
+    try:
+        out = pipe.feed(text)
+        with out:
+            yield out
+            was_read = not out.closed and not out.read(1)
+    except BaseException:
+        pipe.stop()
+        raise
+    if was_read:
+        pipe.finish()
+    else:
+        pipe.stop()

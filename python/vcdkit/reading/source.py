@@ -1,0 +1,349 @@
+"""Sources: texts of dumps that questions are asked of, with their headers, names and parts."""
+import contextlib
+import os
+from types import ModuleType
+from typing import (BinaryIO, Dict, Iterable, Iterator, List, Optional, Sequence, Tuple, TypeVar,
+                    Union)
+
+from ..errors import (AT_A_TIMESTAMP, DumpFault, NoTimescale, RunFailed, UnknownName, UsageError,
+                      VcdkitError)
+from ..model.names import full_names, hint, places_of, utf8_names
+from ..model.signals import Declaration, Header, Scope, Signal, Signals, words_of
+from ..model.times import LAST_TICK, Amount, Time, Timescale, Window, amount_of
+from ..model.values import Report
+from . import header, library, program
+from .texts import Bytes, File, Made, Text
+
+Names = Union[str, Iterable[str]]
+Its = TypeVar("Its", bound="Source")
+
+
+def way() -> ModuleType:
+    """Returns what answers: the library if there is one, else the program. VCDKIT_WAY=program or
+    VCDKIT_WAY=library takes only one of them."""
+    asked = os.environ.get("VCDKIT_WAY", "")
+    if asked not in ("", "library", "program"):
+        raise UsageError("VCDKIT_WAY is %s: it may be library or program" % asked)
+    if asked != "program" and library.path():
+        return library
+    if asked == "library":
+        raise RunFailed("there is no libvcdkit.so beside the package: name it by "
+                        "VCDKIT_LIBRARY=FILE")
+    return program
+
+
+class Source:
+    """What can be read of a dump, and of parts of it."""
+
+    def __init__(self, text: Text, options: Tuple[str, ...] = ()):
+        """`options` are those of the program with which it is read."""
+        self.text, self.options = text, options
+        self._signals: Optional[Signals] = None
+        self._header: Optional[Header] = None
+        self._header_text = b""
+        self._declared: Optional[Tuple[Scope, List[Declaration]]] = None
+        self._last: Tuple[List[str], Dict[int, Signal]] = [], {}  # names, and what they select
+
+    def like(self: Its, text: Text) -> Its:
+        """Returns what can be read of another text, with the same options."""
+        made = self.__class__.__new__(self.__class__)
+        Source.__init__(made, text, self.options)
+        return made
+
+    def made(self: Its, command: str, words: Sequence[str], of: Tuple[Text, ...] = ()) -> Its:
+        """Returns what a command makes of it, or of other texts."""
+        return self.like(Made(command, (*self.options, *words), of or (self.text,)))
+
+    @property
+    def name(self) -> str:
+        """What messages call it."""
+        return self.text.name
+
+    def __repr__(self) -> str:
+        command = self.text.command if isinstance(self.text, Made) else "merge"
+        return "<Dump %s%s>" % ("" if command == "merge" else command + " of ", self.name)
+
+    def unpacker(self) -> Optional[List[str]]:
+        """Returns the words of the program that unpacks the file; `None` if it is plain text."""
+        return self.text.unpacker() if isinstance(self.text, File) else None
+
+    # Reading.
+
+    @contextlib.contextmanager
+    def open(self) -> Iterator[BinaryIO]:
+        """Opens the text of the dump, to be read as a binary file."""
+        try:
+            with way().opened(self.text) as file:
+                yield file
+        except UnknownName as error:
+            if error.of is None:
+                raise
+            paths = Source(error.of).signals.columns()[0]
+            raise UnknownName(error.name, hint(error.name, paths)) from None
+
+    @contextlib.contextmanager
+    def body(self) -> Iterator[BinaryIO]:
+        """Opens the text of the dump, behind the header."""
+        with self.open() as file:
+            for line in file:
+                if line == header.BODY:
+                    break
+            yield file
+
+    def blocks(self) -> Iterator[bytes]:
+        """Returns the text in pieces."""
+        with self.open() as text:
+            yield from iter(lambda: text.read(1 << 18), b"")
+
+    def read(self) -> bytes:
+        """Returns the text of the dump. Dump(dump.read()) keeps a part in memory for many
+        questions."""
+        return b"".join(self.blocks())
+
+    def answer(self, command: str, words: Sequence[str] = ()) -> str:
+        """Returns what a command writes of it."""
+        return self.made(command, words).read().decode("utf-8", "surrogateescape")
+
+    def answer_words(self, command: str, words: Sequence[str] = ()) -> List[str]:
+        """Returns the words of all rows that a command writes."""
+        return words_of(self.answer(command, words))
+
+    def check(self) -> Report:
+        """Reads the whole dump, and returns its counts. Raises DumpFault if it has a fault."""
+        return Report._make(None if number == "-" else int(number)
+                            for number in self.answer_words("check")[1::2])
+
+    # The header.
+
+    @property
+    def signals(self) -> Signals:
+        """The variables of the header, in the order of declaration: a sequence. Its columns() are
+        lists of the paths, types, sizes and codes."""
+        if self._signals is None:
+            self._signals = Signals(self.like(self._front(self.text)).answer("list"))
+        return self._signals
+
+    def _front(self, text: Text) -> Text:
+        """Returns a text with the header of another one. If that is a part, no fault of a body is
+        in it, so that the variables of a part of a faulty dump are known."""
+        while isinstance(text, Made) and text.command == "cut":
+            text = text.of[0]
+        return text if not isinstance(text, Made) else text._replace(of=tuple(
+            Bytes(self.like(self._front(one)).header_text(), one.name) for one in text.of))
+
+    def header_text(self) -> bytes:
+        """Returns the text of the header, as vcdkit writes it, to the end of its last line."""
+        if not self._header_text:
+            lines = []
+            with self.made("cut", ["--from", "0", "--to", "0"]).open() as out:
+                for line in out:
+                    lines.append(line)
+                    if line == header.BODY:
+                        out.close()  # a fault of the body comes after it
+                        break
+            self._header_text = b"".join(lines)
+        return self._header_text
+
+    @property
+    def header(self) -> Header:
+        """The header's date, version and time scale."""
+        if self._header is None:
+            self._header = header.facts(self.header_text())
+        return self._header
+
+    @property
+    def timescale(self) -> Optional[Timescale]:
+        """How long a tick is, as str() shows it: `100ps`. `None` if the header does not say."""
+        return self.header.timescale
+
+    def _declarations(self) -> Tuple[Scope, List[Declaration]]:
+        if self._declared is None:
+            self._declared = header.declarations(self.header_text())
+        return self._declared
+
+    @property
+    def tree(self) -> Scope:
+        """The scopes of the header, in a scope without a name: dump.tree.scopes[0].signals, or
+        [scope.path for scope in dump.tree.walk()], for example."""
+        return self._declarations()[0]
+
+    @property
+    def declarations(self) -> List[Declaration]:
+        """How each of the signals is declared."""
+        return self._declarations()[1]
+
+    # Names.
+
+    def __getitem__(self, name: str) -> Signal:
+        """Returns the one signal that a name selects. UnknownName if it selects nothing, UsageError
+        if it selects several."""
+        chosen = self.select(name)
+        if len({one.code for one in chosen}) > 1:
+            raise UsageError("%s: selects %d signals, where one is asked for: %s, .."
+                             % (name, len(chosen), chosen[0].path))
+        return chosen[0]
+
+    __iter__ = None  # else Python would look for [0], [1], ..
+
+    def select(self, names: Names) -> List[Signal]:
+        """Returns the signals that names select, each once, in the order of the names. UnknownName
+        if one selects nothing."""
+        its = self.full(names)
+        return list(self.places(its).values()) if its else []
+
+    def full(self, names: Names) -> List[str]:
+        """Returns names; one for which a path with a range stands is replaced by that."""
+        its = texts_of(names)
+        full = full_names(its, self.signals.columns()[0], self.signals)
+        return [full[name] for name in its]
+
+    def places(self, names: List[str]) -> Dict[int, Signal]:
+        """Returns the signals that full names select, by their places among all; all without
+        names."""
+        if not names:
+            return dict(enumerate(self.signals))
+        last_names, last = self._last
+        if names == last_names:
+            return last
+        chosen: Dict[int, Signal] = {}
+        for name, places in places_of(names, self.signals.columns()[0]).items():
+            if not places:
+                raise UnknownName(name, hint(name, self.signals.columns()[0]))
+            chosen.update((place, self.signals[place]) for place in places)
+        self._last = names, chosen
+        return chosen
+
+    # Times.
+
+    def ticks(self, time: Time, is_up: bool = False) -> int:
+        """Returns a time in ticks, rounded down, or up. Raises NoTimescale if the time has a unit
+        and the dump has no time scale."""
+        ticks = self.span(time, is_up)
+        if ticks > LAST_TICK:
+            raise UsageError("bad time: %s: ticks are from 0 to 2^64 - 1" % time)
+        return ticks
+
+    def span(self, time: Time, is_up: bool = False) -> int:
+        """Returns as ticks() how long a time is, which may be longer than any dump."""
+        amount = amount_of(time)
+        return self._scale_of(amount).ticks(str(amount), is_up)
+
+    def _scale_of(self, amount: Amount) -> Timescale:
+        """Returns the time scale; of an amount of ticks any will do."""
+        if amount.unit and self.timescale is None:
+            raise NoTimescale("%s: no timescale: give times in ticks" % self.name)
+        return self.timescale if amount.unit and self.timescale else Timescale(1, "fs")
+
+    def time(self, ticks: int, unit: str = "") -> str:
+        """Returns ticks with a unit, such as `115ns`: the largest unit in which they are a whole
+        number, or the unit that is given. If there is no time scale, or the unit is `tick`, returns
+        only the number."""
+        scale = None if unit == "tick" else self.timescale
+        return scale.text(ticks, unit) if scale else str(ticks)
+
+    def window(self, time: Time, before: Time, after: Optional[Time] = None) -> Tuple[int, int]:
+        """Returns the first and the last tick from `before` before a time to `after` after it, as
+        far as there are ticks. That of the time itself, rounded down, is always in the window."""
+        amounts = [amount_of(one) for one in (time, before, before if after is None else after)]
+        scale = self._scale_of(max(amounts, key=lambda one: bool(one.unit)))
+        (at, early, late), tick = (scale.span(str(one)) for one in amounts), scale.femtoseconds
+        first, here, last = -(-(at - early) // tick), at // tick, (at + late) // tick
+        return max(min(first, here), 0), min(max(last, here), LAST_TICK)
+
+    def window_to_end(self, window: Window) -> Window:
+        """Returns a window that ends with the dump if that is earlier; it has its first tick."""
+        last = self.within(window).check().last or 0
+        return window._replace(stop=max(last, window.begin) + 1)
+
+    # Parts.
+
+    def pick(self: Its, names: Names) -> Its:
+        """Returns the dump of some signals, or scopes."""
+        chosen = texts_of(names)
+        if not chosen:
+            raise UsageError("pick() needs a name")
+        if utf8_names(chosen) != chosen:
+            raise UsageError("pick() takes names of UTF-8: name a scope around others")
+        return self.made("pick", ["--", *chosen])
+
+    def part(self: Its, names: List[str]) -> Its:
+        """Returns a dump that has all that some names select, all without names. It has more if a
+        name is not UTF-8."""
+        words = utf8_names(self.full(names))
+        return self.pick(words) if words else self.cut()
+
+    def cut(self: Its, begin: Time = 0, end: Time = LAST_TICK) -> Its:
+        """Returns the dump from one time to another: the values just before `begin`, and what
+        changes from there to `end`."""
+        return self.made("cut", ["--from", self._word(begin, True), "--to", self._word(end)])
+
+    def within(self: Its, window: Window) -> Its:
+        """Returns the dump in a window; the same one if that has all ticks."""
+        is_whole = window == (0, LAST_TICK + 1)
+        return self if is_whole else self.cut(window.begin, window.last)
+
+    def _word(self, time: Time, is_up: bool = False) -> str:
+        """Returns a time as vcdkit accepts it: one of a unit whose number would be too large, as in
+        18446744073709551700fs, is one of ticks."""
+        amount = amount_of(time)
+        return str(amount if amount.number <= LAST_TICK else self.ticks(time, is_up))
+
+    def around(self: Its, time: Time, before: Time, after: Optional[Time] = None) -> Its:
+        """Returns the dump from `before` before a time to `after` after it. Without `after`, it is
+        the same on both sides."""
+        return self.cut(*self.window(time, before, after))
+
+    def whole(self, *commands: str) -> Text:
+        """Returns the text of which some commands made this one."""
+        text = self.text
+        while isinstance(text, Made) and text.command in commands:
+            text = text.of[0]
+        return text
+
+    def begin(self) -> int:
+        """Returns the tick with which it begins: 0, unless it is a cut."""
+        text, begins = self.text, [0]
+        while isinstance(text, Made) and text.command in ("pick", "cut"):
+            if text.command == "cut":
+                begins.append(self.ticks(text.words[text.words.index("--from") + 1], is_up=True))
+            text = text.of[0]
+        return max(begins)
+
+    # Faults.
+
+    def is_finished(self, time: int, fault: DumpFault) -> bool:
+        """Whether a fault comes after all changes of a time: a later timestamp comes before the
+        fault, or the time is a timestamp, and the fault is in the place of the next one."""
+        text = self.whole("pick", "cut")  # they leave times out
+        # One of the dumps of a merge has the fault; the others may change at that time.
+        is_in_place = not isinstance(text, Made) and fault.fault in AT_A_TIMESTAMP
+        return is_in_place and not time or self.like(text).goes_beyond(time - is_in_place)
+
+    def goes_beyond(self, time: int) -> bool:
+        """Whether there is no fault before the first timestamp after a time."""
+        try:  # `cut` ends there
+            self.cut(time, time).read()
+        except VcdkitError:
+            return False
+        return True
+
+
+def merge(*dumps: Its) -> Its:
+    """Returns one dump of up to 64: the signals of the first are in the scope in1, and so on. Its
+    tick is the shortest of theirs; a dump without a time scale counts as one of 1s."""
+    if not dumps:
+        raise UsageError("merge() needs a dump")
+    for one in dumps:
+        if not isinstance(one, Source):
+            raise UsageError("merge() takes Dumps, and %r is none: write Dump(..)" % (one,))
+    return dumps[0].made("merge", [], tuple(one.text for one in dumps))
+
+
+def texts_of(names: Names) -> List[str]:
+    """Returns one name or several as a list."""
+    its = [names] if isinstance(names, (str, bytes)) or not isinstance(names, Iterable) else names
+    chosen = list(its)
+    for name in chosen:
+        if not isinstance(name, str):
+            raise UsageError("%r is no name: names are texts" % (name,))
+    return chosen
