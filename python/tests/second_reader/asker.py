@@ -1,0 +1,221 @@
+"""Asks the scripts, in this process, and keeps what differs from the answers."""
+import importlib
+import io
+import os
+import random
+import sys
+from typing import Any, Callable, List, NamedTuple, Optional, Sequence, Tuple
+
+from conditions import Conditions
+from dumps import LAST, UNITS, Dump, Variable, bare
+from looks import Edges
+from shown import FORMS
+
+HERE = os.path.dirname(os.path.abspath(__file__))
+PYTHON = os.path.dirname(os.path.dirname(HERE))
+sys.path.insert(0, PYTHON)
+VALUED = {"--from", "--to", "--at", "--rise", "--fall", "--unit", "--if", "--values", "--names",
+          "--map", "--except", "--real-tolerance", "--junit", "--context", "--into", "--saif",
+          "--scopes", "--mark", "--around", "--width", "--rules", "--reach", "--salvage"}
+
+
+class Skip(Exception):
+    """The dump does not suit the question, or the pages leave the answer open."""
+
+
+class Said(NamedTuple):
+    """What a script says."""
+
+    status: int
+    output: bytes
+    message: str
+
+    @property
+    def text(self) -> str:
+        """The output as a text."""
+        return self.output.decode("utf-8", "surrogateescape")
+
+    @property
+    def lines(self) -> List[str]:
+        """The lines of the output."""
+        return self.text.splitlines()
+
+
+class Window(NamedTuple):
+    """The options of a window, and its first and last tick."""
+
+    words: List[str]
+    begin: int
+    end: int
+    is_given: bool  # by --from
+
+
+class _Stream(io.TextIOWrapper):
+    """A stream in memory, which keeps what is written if it is closed."""
+
+    def __init__(self) -> None:
+        super().__init__(io.BytesIO(), encoding="utf-8", errors="surrogateescape", newline="")
+
+    def close(self) -> None:
+        self.flush()
+
+    def whole(self) -> bytes:
+        """Returns what was written."""
+        self.flush()
+        buffer: Any = self.buffer
+        return bytes(buffer.getvalue())
+
+
+def run(script: str, words: Sequence[str]) -> Said:
+    """Runs vcdkit-SCRIPT in this process."""
+    main = importlib.import_module("vcdkit.commands." + script.replace("-", "_")).main
+    streams = _Stream(), _Stream()
+    saved = sys.stdout, sys.stderr, sys.argv
+    sys.stdout, sys.stderr = streams
+    sys.argv = [os.path.join(os.path.dirname(PYTHON), "extras", "vcdkit-" + script)]
+    try:
+        status = main(list(words))
+    except SystemExit as end:
+        status = end.code
+    finally:
+        sys.stdout, sys.stderr, sys.argv = saved
+    return Said(int(status or 0), streams[0].whole(),
+                streams[1].whole().decode("utf-8", "surrogateescape"))
+
+
+Differ = Callable[[str, Any, Any, Any], None]
+
+
+class Asker:
+    """A dump in a file, and what a question about it needs."""
+
+    def __init__(self, seed: int, text: bytes, clocks: Sequence[str], path: str, differ: Differ):
+        self.seed, self.text, self.path, self.differ = seed, text, path, differ
+        self.dump = Dump(text)
+        self.random = random.Random("a question %d" % seed)
+        self.conditions = Conditions(self.dump, self.random)
+        self._clocks = clocks
+        self.write(path, text)
+
+    @staticmethod
+    def write(path: str, text: bytes) -> str:
+        """Writes a file, and returns its path."""
+        with open(path, "wb") as file:
+            file.write(text)
+        return path
+
+    def same(self, kind: str, words: Any, got: Any, wanted: Any) -> bool:
+        """Keeps a difference if there is one; returns whether there is none."""
+        if got != wanted:
+            self.differ(kind, words, got, wanted)
+        return bool(got == wanted)
+
+    def happens(self, share: float) -> bool:
+        """Whether something happens that does in this share of all cases."""
+        return self.random.random() < share
+
+    def maybe(self, share: float, *words: str) -> List[str]:
+        """Returns the words in this share of all cases."""
+        return list(words) if self.happens(share) else []
+
+    # ---- Random parts of a question.
+
+    def tick(self) -> int:
+        """Returns a time, most often one of the dump."""
+        choice = self.random.choice
+        time: int = choice(self.dump.times or [0]) + choice([0, 0, 0, 0, -1, 1, 2, -3, 7])
+        return max(0, min(LAST, time))
+
+    def time(self, share: float = .3) -> str:
+        """Returns a time, in this share of all cases with a unit."""
+        ticks = self.tick()
+        if self.dump.scale and self.happens(share):
+            unit = self.random.choice(UNITS)
+            text = self.dump.time_in(ticks, unit)
+            if "." not in text and unit != "fs" and self.happens(.3):
+                text += ".%d" % self.random.randint(0, 9)
+            if len(text) < 18 and self.dump.ticks(text + unit) <= LAST:
+                return text + unit
+        return str(ticks)
+
+    def window(self, share: float = .45) -> Window:
+        """Returns a window, of which each end is given in this share of all cases."""
+        first = self.time() if self.happens(share) else ""
+        last = self.time() if self.happens(share) else ""
+        begin = self.dump.ticks_up(first) if first else 0
+        end = self.dump.ticks_down(last) if last else LAST
+        if begin > end:
+            first, begin = "", 0
+        return Window(["--from", first] * bool(first) + ["--to", last] * bool(last), begin, end,
+                      bool(first))
+
+    def is_late(self, window: Window, kind: str, words: Any, said: Said) -> bool:
+        """Whether a window begins after the last timestamp, which is a usage error."""
+        if window.begin <= self.dump.end:
+            return False
+        self.same(kind + ", a late window", words, (said.status, said.output, bool(said.message)),
+                  (2, b"", True))
+        return True
+
+    def names(self, most: int = 3) -> List[str]:
+        """Returns names of variables and scopes."""
+        found = []
+        for _ in range(self.random.randint(1, most)):
+            of, how = self.random.choice(self.dump.variables), self.random.random()
+            is_small = len(self.dump.variables) < 60
+            name = bare(of.path) if how > .85 else of.path
+            if .65 < how < .8 and of.chain and is_small:
+                name = of.scope
+            try:
+                self.dump.selected([name])
+            except KeyError:
+                name = of.path
+            found.append(name)
+        return found
+
+    def unit(self, share: float = .25) -> Optional[str]:
+        """Returns a unit in this share of all cases."""
+        if not self.happens(share):
+            return None
+        return str(self.random.choice([*UNITS, "tick"])) if self.dump.scale else "tick"
+
+    def form(self) -> Tuple[List[str], Optional[str]]:
+        """Returns an option for the form of values, and the form."""
+        form = self.random.choice(FORMS)
+        return [form] if form else [], form
+
+    def clock(self) -> Variable:
+        """Returns a variable that can be a clock, most often one that is made as one."""
+        its = [one for one in self.dump.variables if one.size == 1 and not one.is_event
+               and not one.is_real and self.dump.is_unique(one)]
+        if not its:
+            raise Skip
+        busy = [one for one in its if one.code in self._clocks]
+        found: Variable = self.random.choice(busy if busy and self.happens(.85) else its)
+        return found
+
+    def clocks(self) -> Tuple[List[str], Edges]:
+        """Returns options for a clock, and its edges."""
+        one = self.clock()
+        other = one if self.happens(.6) else self.clock()
+        rise = ["--rise", self.conditions.name(one)], {(one.code, "0", "1")}
+        fall = ["--fall", self.conditions.name(other)], {(other.code, "1", "0")}
+        both = rise[0] + fall[0], rise[1] | fall[1]
+        found: Tuple[List[str], Edges] = self.random.choice([rise, rise, fall, both])
+        return found
+
+    def placed(self, options: Sequence[str], arguments: Sequence[str]) -> List[str]:
+        """Returns options before, between and after the other arguments."""
+        groups, rest = [], list(options)
+        while rest:
+            count = 2 if rest[0] in VALUED else 1
+            words, rest = rest[:count], rest[count:]
+            is_joined = count == 2 and (words[1].startswith("-") or self.happens(.2))
+            groups.append(["=".join(words)] if is_joined else words)
+        self.random.shuffle(groups)
+        if self.happens(.5) or any(word.startswith("-") for word in arguments):
+            return [*sum(groups, []), "--", *arguments]
+        found = [[word] for word in arguments]
+        for group in groups:
+            found.insert(self.random.randint(0, len(found)), group)
+        return sum(found, [])

@@ -1,0 +1,142 @@
+"""When a condition is evaluated, when it holds, and which answer a request gets."""
+from typing import List, NamedTuple, Optional, Sequence, Set, Tuple
+
+from conditions import Test
+from dumps import LAST, Dump, State, Value, Variable
+from shown import same
+
+Edges = Set[Tuple[str, str, str]]  # a code, and the digits from which and to which it goes
+
+
+class Look(NamedTuple):
+    """A time at which values are looked at: the values, and the events that count then."""
+
+    time: int
+    values: State
+    events: Set[str]
+
+
+class Wait(NamedTuple):
+    """A request, the time of its answer (None if it is late), and how long that takes."""
+
+    time: int
+    answer: Optional[int]
+    length: int
+
+
+def edge_times(dump: Dump, edges: Edges) -> Set[int]:
+    """Returns the times of edges: two values in a row that a code is given, whatever comes later in
+    the time."""
+    found = set()
+    for step in dump.steps:
+        for code, was, now in edges:
+            its = [one.value for one in step.changes if one.code == code]
+            if code in step.known:
+                its.insert(0, step.before[code])
+            if (was, now) in zip(its, its[1:]):
+                found.add(step.time)
+    return found
+
+
+def looks_at_edges(dump: Dump, edges: Edges, begin: int = 0, end: int = LAST) -> List[Look]:
+    """Returns the edges of a window, with the values just before them. An event counts if it was
+    triggered since the last edge."""
+    times, events, found = edge_times(dump, edges), set(), []  # type: ignore[var-annotated]
+    for step in dump.steps_in(begin, end):
+        if step.time in times:
+            found.append(Look(step.time, step.before, events))
+            events = set()
+        events = events | step.events
+    return found
+
+
+def looks_at_changes(dump: Dump, codes: Set[str], begin: int = 0, end: int = LAST) -> List[Look]:
+    """Returns the begin of a window that does not begin at 0, and each time in it of which the
+    codes have a value or a trigger, with the values at its end."""
+    first = [Look(begin, dump.at(begin), dump.events_at(begin))] if begin else []
+    return first + [Look(step.time, step.end, step.events) for step in dump.steps_in(begin, end)
+                    if codes & step.codes and (step.time > begin or not begin)]
+
+
+def rows_at_changes(dump: Dump, columns: Sequence[Variable], begin: int, end: int,
+                    is_window: bool) -> List[Tuple[Look, List[Optional[Value]]]]:
+    """Returns a row for each time at whose end a value is another one than at the end of the time
+    before, and for the begin of a window."""
+    found, last = [], [None] * len(columns)  # type: ignore[var-annotated]
+    times = {step.time for step in dump.steps_in(begin, end)} | ({begin} if is_window else set())
+    for time in sorted(times):
+        look = Look(time, dump.at(time), dump.events_at(time))
+        values = [look.values.get(one.code) for one in columns]
+        if not all(map(same, last, values)):
+            found.append((look, values))
+        last = values  # type: ignore[assignment]
+    return found
+
+
+def holds(test: Test, look: Look) -> bool:
+    """Whether a condition holds."""
+    return test(look.values, look.events) is True
+
+
+def starts(looks: Sequence[Look], test: Test, is_clocked: bool, every: bool = False
+           ) -> List[bool]:
+    """Returns at which looks a condition begins to hold; with `every`, at which it holds. Between
+    two looks without a clock, no event is triggered."""
+    found, held = [], False
+    for look in looks:
+        now = holds(test, look)
+        found.append(now and (every or not held))
+        held = now if is_clocked else holds(test, look._replace(events=set()))
+    return found
+
+
+def waits(looks: Sequence[Look], begins: Sequence[bool], answer: Test, span: Tuple[bool, int],
+          end: int) -> List[Wait]:
+    """Returns the requests that get an answer within so many edges (True) or ticks (False), and
+    those that are late; not those that the end leaves open."""
+    is_edges, most = span
+    found = []
+    for at, look in enumerate(looks):
+        if not begins[at]:
+            continue
+        lengths = [(other - at if is_edges else its.time - look.time, its)
+                   for other, its in enumerate(looks) if other >= at]
+        answers = [one for one in lengths if one[0] <= most and holds(answer, one[1])]
+        if answers:
+            found.append(Wait(look.time, answers[0][1].time, answers[0][0]))
+        elif at + most < len(looks) if is_edges else look.time + most <= end:
+            found.append(Wait(look.time, None, 0))
+    return found
+
+
+def waits_in_order(looks: Sequence[Look], request: Test, answer: Test, span: Tuple[bool, int],
+                   end: int) -> List[Wait]:
+    """Returns the same with --in-order: each look at which the request holds is one, and the n-th
+    look at which the answer holds while a request waits belongs to the n-th request."""
+    is_edges, most = span
+    asked: List[int] = []
+    answered: List[int] = []
+    for at, look in enumerate(looks):
+        asked += [at] * holds(request, look)
+        answered += [at] * (len(asked) > len(answered) and holds(answer, look))
+    found = []
+    for number, at in enumerate(asked):
+        other = answered[number] if number < len(answered) else None
+        length = most + 1 if other is None else (
+            other - at if is_edges else looks[other].time - looks[at].time)
+        if other is not None and length <= most:
+            found.append(Wait(looks[at].time, looks[other].time, length))
+        elif at + most < len(looks) if is_edges else looks[at].time + most <= end:
+            found.append(Wait(looks[at].time, None, 0))
+    return found
+
+
+def is_overlapping(looks: Sequence[Look], begins: Sequence[bool], answer: Test,
+                   span: Tuple[bool, int]) -> bool:
+    """Whether a request begins while another one still waits for its answer."""
+    places = [at for at, is_one in enumerate(begins) if is_one]
+    for one, other in zip(places, places[1:]):
+        length = other - one if span[0] else looks[other].time - looks[one].time
+        if length <= span[1] and not any(holds(answer, look) for look in looks[one:other]):
+            return True
+    return False

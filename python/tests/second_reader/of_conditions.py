@@ -1,0 +1,210 @@
+"""Asks vcdkit-when: conditions, answers, latencies and rules."""
+import json
+import re
+from fractions import Fraction
+from typing import Any, List, NamedTuple, Optional, Set, Tuple
+import xml.etree.ElementTree as xml
+
+from asker import Asker, Said, Skip, Window, run
+from conditions import Condition, quoted
+from dumps import FEMTOSECONDS, UNITS, Dump
+from looks import (Edges, Look, is_overlapping, looks_at_changes, looks_at_edges, starts, waits,
+                   waits_in_order)
+from shown import all_from_json
+
+MARKS = "!\"#$%&'()*+,-./:;<=>?@[\\]^_`{|}~0\u00e9\u2211"
+PATHS = ["tb.a%sb", "tb.%sa", "tb.a%s", "%sa", "a%s", "a%s1", "1%sa", "%s", "a%s-1", "tb.\\a%s[3]",
+         "tb.a%s(b)"]
+
+
+class Question(NamedTuple):
+    """A condition in a window: its options, and where it is looked at."""
+
+    words: List[str]
+    window: Window
+    edges: Optional[Edges]
+    every: bool
+
+    def looks(self, dump: Dump, codes: Set[str]) -> List[Look]:
+        """Returns the looks at values of codes."""
+        if self.edges:
+            return looks_at_edges(dump, self.edges, self.window.begin, self.window.end)
+        return looks_at_changes(dump, codes, self.window.begin, self.window.end)
+
+    def end(self, dump: Dump) -> int:
+        """Returns the last time of the window."""
+        return dump.end_of(self.window.begin, self.window.end)
+
+
+def condition(of: Asker, depth: int = 2) -> Condition:
+    """Returns a condition."""
+    found = of.conditions.make(depth)
+    if not found:
+        raise Skip
+    return found
+
+
+def question(of: Asker, clocked: float = .5) -> Question:
+    """Returns a random window, often with a clock."""
+    window = of.window(.3)
+    words, edges, every = list(window.words), None, False
+    if of.happens(clocked):
+        options, edges = of.clocks()
+        every = of.happens(.4)
+        words += options + ["--every"] * every
+    return Question(words, window, edges, every)
+
+
+def span_of(of: Asker, is_clocked: bool) -> Tuple[str, Tuple[bool, int]]:
+    """Returns the N of `within N`, and what it means: edges or ticks, and how many."""
+    dump, choice = of.dump, of.random.choice
+    if is_clocked and of.happens(.6):
+        count = choice([0, 1, 2, 3, 5, 50])
+        return str(count), (True, count)
+    gaps = [after - before for before, after in zip(dump.times, dump.times[1:])] or [1]
+    count = max(0, choice(gaps) * choice([0, 1, 1, 2, 3]) + choice([-1, 0, 0, 1]))
+    unit = choice(UNITS) if dump.scale and of.happens(.5) else ""
+    text = dump.time_in(count, unit) + unit if unit else ""
+    return text if 0 < len(text) < 20 else "%dtick" % count, (False, count)
+
+
+def ask_when(of: Asker) -> None:
+    """Asks when a condition begins to hold, or is answered in time."""
+    dump, asked, unit = of.dump, question(of), of.unit(.2)
+    first = condition(of)
+    text = first.text
+    refused = after = None
+    if of.happens(.3):
+        after, (within, span) = condition(of, 1), span_of(of, bool(asked.edges))
+        text = "%s -> %s within %s" % (first.inside(2), after.inside(2), within)
+        refused = of.happens(.5)
+        text = "!(%s)" % text if refused else text
+    looks = asked.looks(dump, of.conditions.codes)
+    begins = starts(looks, first.test, bool(asked.edges), asked.every)
+    times = [look.time for look, is_one in zip(looks, begins) if is_one]
+    if after:
+        times = [one.time for one in waits(looks, begins, after.test, span, asked.end(dump))
+                 if (one.answer is None) == refused]
+    mode = of.random.choice(["", "", "", "", "--count", "--first", "--json", "--never"])
+    words = of.placed([*asked.words, *(["--unit", unit] if unit else []), *[mode] * bool(mode)],
+                      [of.path, text])
+    said = run("when", words)
+    if of.is_late(asked.window, "when", words, said):
+        return
+    lines = [dump.time_text(time, unit) for time in times]
+    wanted = {"--count": ["%d" % len(times)], "--first": lines[:1],
+              "--json": [json.dumps({"time": time}) for time in times]}.get(mode, lines)
+    of.same("when", words, (said.status, said.lines, said.message),
+            (int((not times) != (mode == "--never")), wanted, ""))
+
+
+# ---- Latencies.
+
+def ask_latency(of: Asker) -> None:
+    """Asks how long answers take."""
+    dump, asked, unit = of.dump, question(of, .7), of.unit(.2)
+    before, after, (within, span) = condition(of), condition(of, 1), span_of(of, bool(asked.edges))
+    is_in_order, is_json = bool(asked.edges) and of.happens(.4), of.happens(.25)
+    looks, end = asked.looks(dump, of.conditions.codes), asked.end(dump)
+    begins = starts(looks, before.test, bool(asked.edges), asked.every)
+    found = (waits_in_order(looks, before.test, after.test, span, end) if is_in_order
+             else waits(looks, begins, after.test, span, end))
+    words = of.placed([*asked.words, "--latency", *["--in-order"] * is_in_order,
+                       *["--json"] * is_json, *(["--unit", unit] if unit else [])],
+                      [of.path, "%s -> %s within %s" % (before.inside(2), after.inside(2), within)])
+    said = run("when", words)
+    if of.is_late(asked.window, "latency", words, said):
+        return
+    its = [one for one in found if one.answer is not None]
+    its.sort(key=lambda one: (one.answer, one.time))  # in the order of the answers
+    warned = not is_in_order and is_overlapping(looks, begins, after.test, span)
+    if is_json:
+        got, wanted = all_from_json(said.text), [
+            {"time": one.time, "answer": one.answer, "length": one.length} for one in its]
+    else:
+        def length(of_one: int) -> str:
+            return str(of_one) if span[0] else dump.time_text(of_one, unit)
+        got = said.lines
+        wanted = ["%s %s %s" % (dump.time_text(one.time, unit),  # type: ignore[misc]
+                                dump.time_text(one.answer or 0, unit), length(one.length))
+                  for one in its]
+        wanted += summary(of, words, got, [one.length for one in its], len(found) - len(its),
+                          length, None if span[0] else unit or "")
+    of.same("latency", words, (said.status, got, bool(said.message)), (int(not its), wanted, warned))
+
+
+def summary(of: Asker, words: List[str], got: List[str], lengths: List[int], late: int,
+            length: Any, unit: Optional[str]) -> List[str]:
+    """Returns the last line of --latency. Its mean has at least six digits."""
+    if not lengths:
+        return ["0 in time, %d late" % late] * bool(late)
+    mean = Fraction(sum(lengths), len(lengths))
+    match = re.search(r"mean ([-+.e\d]+)([a-z]*)", got[-1] if got else "")
+    text = match[1] + match[2] if match else "?"
+    if match and unit is not None and of.dump.tick:
+        scale = FEMTOSECONDS.get(match[2], of.dump.tick)
+        mean = mean * of.dump.tick / scale
+    if match and abs(Fraction(match[1]) - mean) > abs(mean) / 10**5:
+        of.differ("latency, the mean", words, match[0], float(mean))
+    return ["least %s, mean %s, greatest %s, %d in time, %d late" % (
+        length(min(lengths)), text, length(max(lengths)), len(lengths), late)]
+
+
+# ---- Rules.
+
+def ask_rules(of: Asker) -> None:
+    """Asks for many conditions in one pass."""
+    dump, asked, unit, rules = of.dump, question(of), of.unit(.2), []
+    for number in range(of.random.randint(1, 6)):
+        of.conditions.reset()
+        one = condition(of)
+        looks = asked.looks(dump, of.conditions.codes)
+        begins = starts(looks, one.test, bool(asked.edges), asked.every)
+        times = [look.time for look, is_one in zip(looks, begins) if is_one]
+        rules.append(("rule %d" % number, one.text, times))
+    text = "".join(of.random.choice(["", "# a note\n", "\n"]) + "%s: %s\n" % rule[:2]
+                   for rule in rules)
+    file = of.write(of.path + ".rules", text.encode("utf-8", "surrogateescape"))
+    is_never, is_json, junit = of.happens(.4), of.happens(.3), of.path + ".xml"
+    words = of.placed([*asked.words, "--rules", file, *["--never"] * is_never,
+                       *["--json"] * is_json, *of.maybe(.3, "--junit", junit),
+                       *(["--unit", unit] if unit else [])], [of.path])
+    said = run("when", words)
+    if of.is_late(asked.window, "rules", words, said):
+        return
+    held = [rule for rule in rules if rule[2]]
+    wanted: List[Any] = ["%s: %s, %d time%s" % (
+        name, dump.time_text(times[0], unit), len(times), "s" * (len(times) != 1))
+        for name, _, times in held]
+    if is_json:
+        wanted = [{"rule": name, "first": times[0], "count": len(times)} for name, _, times in held]
+    status = int(bool(held) if is_never else len(held) < len(rules))
+    got = all_from_json(said.text) if is_json else said.lines
+    of.same("rules", [*words, text], (said.status, got, said.message), (status, wanted, ""))
+    if "--junit" in words:
+        root = xml.parse(junit).getroot()
+        bad = [name for name, _, times in rules if bool(times) == is_never]
+        of.same("rules, the report", words, [one.get("name") for one in root.iter("testcase")
+                                             if one.find("failure") is not None], bad)
+
+
+# ---- Marks in names.
+
+def ask_marks(of: Asker) -> None:
+    """Asks conditions on a name with a mark: unquoted if the pages let it be, else quoted."""
+    mark, pattern = of.random.choice(MARKS), of.random.choice(PATHS)
+    scope, _, name = (pattern % mark).rpartition(".")
+    if mark == '"' or not name or scope not in ("", "tb") or pattern % mark == "." + name:
+        raise Skip
+    text = "$timescale 1ns $end\n%s$var wire 4 ! %s [3:0] $end\n$enddefinitions $end\n" % (
+        "$scope module tb $end\n" * bool(scope), name)
+    file = of.write(of.path + ".marks", (text + "#0\nb101 !\n#5\nb1010 !\n#9\n").encode())
+    path = quoted(pattern % mark)
+    bit = '%s[1]"' % path[:-1] if path[0] == '"' else path + "[1]"
+    questions = [(path + " == 5", "0ns"), (path + "==0xa", "5ns"), ("5 <" + path, "5ns"),
+                 (bit, "5ns"), ("!(%s & %s==10)" % (path, path), "0ns"),
+                 ("signed(%s) < 0" % path, "5ns"), (path + " is not x", "0ns")]
+    text, time = of.random.choice(questions)
+    of.same("marks", [file, text], run("when", ["--", file, text]), Said(
+        0, time.encode() + b"\n", ""))
+

@@ -1,0 +1,353 @@
+"""Asks what is said of faults and before them, and asks the filters and about compressed dumps."""
+import bz2
+import csv
+import gzip
+import io
+import lzma
+import os
+import re
+import subprocess
+from typing import Any, Callable, Dict, List, NamedTuple, Tuple
+
+from asker import PYTHON, Asker, Skip, run
+from dumps import Dump, Variable
+from looks import looks_at_changes, looks_at_edges, rows_at_changes, starts, waits
+from of_conditions import condition
+from of_values import unknown, with_values
+from shown import from_json, shown
+
+FAULTS = ["q!", "#-5", "#0", "U!", "$foo", "b12 !", "$end", "#1.5", "1@@@", "bUU !", "b0 @@@",
+          "sIDLE !", "#", "$dumpports", "1 !", "p0 0 !", "$enddefinitions $end", "$dumpvars",
+          "$scope module a $end", "#99999999999999999999"]
+NINE = {"x": "xXuUwW-", "0": "0lL", "1": "1hH", "z": "zZ"}
+
+
+def body_place(text: bytes) -> int:
+    """Returns where the body begins."""
+    end = re.compile(rb"\$enddefinitions\s+\$end").search(text)
+    assert end
+    return end.end()
+
+
+class Faulty(NamedTuple):
+    """A dump with a fault: its file, the line and the name of the fault, and what is before it, as
+    a dump, of which all times up to `finished` are complete."""
+
+    path: str
+    line: int
+    fault: str
+    front: Dump
+    finished: int
+
+
+def faulty(of: Asker) -> Faulty:
+    """Returns a dump that is cut off, or has a line that is a fault."""
+    place, choice = body_place(of.text), of.random.choice
+    lines = of.text[place:].split(b"\n")
+    if re.search(rb"(?m)^[^\n]*#\d+[ \t]+\S", of.text[place:]) or len(lines) < 2:
+        raise Skip  # several items on a line: what is before a fault in it, its line does not say
+    at = of.random.randrange(1, len(lines))
+    if of.happens(.4):
+        lines = lines[:at] + [lines[at][:of.random.randrange(len(lines[at]) + 1)]]
+    else:
+        lines.insert(at, choice(FAULTS).encode())
+    text = of.text[:place] + b"\n".join(lines)
+    path = of.write(of.path + ".bad.vcd", text)
+    said = subprocess.run([os.environ["VCDKIT"], "check", path], check=False,
+                          stdout=subprocess.PIPE, stderr=subprocess.PIPE)
+    found = re.search(r":(\d+): (.*)", said.stderr.decode())
+    if not found:
+        raise Skip
+    line, fault = int(found[1]), found[2]
+    front = Dump(before(text, line))
+    if not front.times or fault == "time inside a section":
+        raise Skip
+    is_next = fault in ("bad time", "time goes back")
+    return Faulty(path, line, fault, front, front.times[-1] - (not is_next))
+
+
+def before(text: bytes, line: int) -> bytes:
+    """Returns what is before a line, as a dump: an open comment is left out, an open section is
+    closed."""
+    front = b"\n".join(text.split(b"\n")[:line - 1]) + b"\n"
+    place = body_place(text)
+    if len(front) < place:
+        raise Skip
+    words, kept, at, is_open = front[place:].split(), [], 0, False
+    while at < len(words):
+        word, at = words[at], at + 1
+        if word == b"$comment":
+            at = words.index(b"$end", at) + 1 if b"$end" in words[at:] else len(words)
+        elif word[:1] not in b"bBrR":
+            is_open = word != b"$end" if word[:1] == b"$" else is_open
+            kept.append(word)
+        elif at < len(words):
+            kept.append(word + b" " + words[at])
+            at += 1
+    return text[:place] + b"\n" + b"\n".join(kept + [b"$end"] * is_open) + b"\n"
+
+
+# ---- Before a fault.
+
+def ask_rows_before(of: Asker) -> None:
+    """Asks for the rows before a fault."""
+    bad, names = faulty(of), of.names(2)
+    columns = [one for one in bad.front.selected(names) if not one.is_event]
+    if not columns:
+        raise Skip
+    words, rows = [], rows_at_changes(bad.front, columns, 0, bad.finished, False)
+    if of.happens(.5):
+        words, edges = of.clocks()
+        rows = with_values(looks_at_edges(bad.front, edges, 0, bad.finished), columns)
+    chosen = of.conditions.make() if of.happens(.4) else None
+    if chosen:
+        words += ["--if", chosen.text]
+        rows = [row for row in rows if chosen.test(row[0].values, row[0].events) is True]
+    said = run("table", ["--unit", "tick", *words, bad.path, "--", *names])
+    of.same("rows before a fault", [bad, *words, *names], (said.status, list(csv.reader(
+        io.StringIO(said.text, newline="")))[1:], bad.fault in said.message), (1, [
+            ["%d" % look.time, *map(shown, values)] for look, values in rows], True))
+
+
+def ask_x_before(of: Asker) -> None:
+    """Asks for the unknown values before a fault."""
+    bad = faulty(of)
+    if bad.finished < 0:
+        raise Skip
+    its = [one for one in bad.front.variables if not one.is_event and not one.is_real]
+    saved, of.dump = of.dump, bad.front
+    rows = unknown(of, its, "x", 0, bad.finished, False)
+    of.dump = saved
+    said = run("x", ["--unit", "tick", bad.path])
+    of.same("x before a fault", [bad], (said.status, sorted(said.lines), bad.fault in said.message),
+            (2, sorted("%d %s %s" % row for row in rows), True))
+
+
+def ask_when_before(of: Asker) -> None:
+    """Asks for the times of a condition, and for answers, before a fault."""
+    bad, first, words, edges = faulty(of), condition(of), [], None  # type: ignore[var-annotated]
+    text, kind = first.text, of.random.choice(["when", "answered", "refused", "latency"])
+    after = None if kind == "when" else condition(of, 1)
+    if of.happens(.6):
+        words, edges = of.clocks()
+    looks = (looks_at_edges(bad.front, edges, 0, bad.finished) if edges else
+             [look for look in looks_at_changes(bad.front, of.conditions.codes)
+              if look.time <= bad.finished])
+    begins = starts(looks, first.test, bool(edges))
+    wanted = ["%d" % look.time for look, is_one in zip(looks, begins) if is_one]
+    if after:
+        most = of.random.choice([0, 1, 2, 5, 30])
+        text = "(%s) -> (%s) within %d%s" % (first.text, after.text, most, "" if edges else "tick")
+        its = waits(looks, begins, after.test, (bool(edges), most), bad.finished)
+        if kind == "refused":
+            text = "!(%s)" % text
+        wanted = ["%d" % one.time for one in its if (one.answer is None) == (kind == "refused")]
+        if kind == "latency":
+            words += ["--latency"]
+            its = [one for one in its if one.answer is not None]
+            wanted = ["%d %s %d" % one for one in sorted(its, key=lambda one: (one[1], one[0]))]
+    said = run("when", ["--unit", "tick", *words, bad.path, text])
+    of.same("when before a fault", [bad, *words, text], (said.status, said.lines, bad.fault in
+                                                         said.message), (2, wanted, True))
+
+
+def ask_salvage(of: Asker) -> None:
+    """Asks for what is before a fault, as a dump."""
+    bad, out = faulty(of), of.path + ".saved.vcd"
+    said = run("explain", ["--salvage", out, bad.path])
+    until = re.search(r"good until (\S+)", said.text)
+    with open(out, "rb") as file:
+        saved = Dump(file.read())
+    found = bad.front.ticks_down(until[1].rstrip(",")) if until else -1
+    of.same("salvage", [bad], (said.status, bad.fault in said.text + said.message, found),
+            (1, True, bad.finished))
+    times = [step.time for step in bad.front.steps if step.time <= bad.finished]
+    of.same("salvage, the values", [bad], [saved.at(time) for time in times],
+            [bad.front.at(time) for time in times])
+    with open(bad.path, "rb") as file:
+        count = len(file.read().split(b"\n"))
+    lines = [int(found) for found in re.findall(r"(?m)^[> ] *(\d+) \|", said.text)]
+    of.same("explain, the lines", [bad], [line for line in lines if line < count], [
+        line for line in range(max(1, bad.line - 2), bad.line + 2) if line < count])
+
+
+def ask_reach(of: Asker) -> None:
+    """Asks whether a dump is long enough."""
+    time = of.time()
+    is_valid = of.dump.last is not None and of.dump.ticks(time) <= of.dump.last
+    words = of.placed(["--reach", time, "--json"], [of.path])
+    said = run("explain", words)
+    of.same("reach", words, (said.status, from_json(said.text)), (int(not is_valid), {
+        "file": of.path, "kind": "valid" if is_valid else "short", "last": of.dump.last}))
+
+
+# ---- Filters.
+
+def plain_lines(of: Asker) -> Tuple[List[str], int]:
+    """Returns the lines of the dump, if each has one item, and the place of the one that ends the
+    header."""
+    lines = of.text.decode().replace("\r\n", "\n").split("\n")
+    ends = [at for at, line in enumerate(lines) if line.strip() == "$enddefinitions $end"]
+    if not ends or any(re.search(r"\$end\s+\S|\$var(?!.*\$end)|^[bBrR]\S+\s*$", line)
+                       or re.match(r"[^$\s]\S*\s+\S+\s+\S", line) for line in lines):
+        raise Skip
+    return lines, ends[0]
+
+
+def ask_four_state(of: Asker) -> None:
+    """Asks for a dump whose digits are those of VHDL."""
+    lines, end = plain_lines(of)
+
+    def nine(found: Any) -> str:
+        return "".join(of.random.choice(NINE[digit.lower()]) for digit in found[0])
+    made = lines[:end] + ["$var string 0 STR st $end", lines[end]]
+    for line in lines[end + 1:]:
+        if re.match(r"[bB][01xzXZ]+ |[01xzXZ]\S+\s*$", line):
+            line = re.sub(r"(?<=^[bB])[01xzXZ]+|^[01xzXZ]", nine, line)
+        made += [line] + of.maybe(.1 if line.startswith("#") else 0, "sIDLE STR")
+    path = of.write(of.path + ".nine.vcd", ("\n".join(made) + "\n").encode())
+    said = run("four-state", [path])
+    got = Dump(said.output)
+    of.same("four-state", [path], (said.status, [one.row for one in got.variables], got.items),
+            (0, [one.row for one in of.dump.variables], of.dump.items))
+    names = of.names(1)
+    of.same("four-state, an option", [path, *names], run("table", ["--four-state", path, "--",
+            *names])[:2], run("table", [of.path, "--", *names])[:2])
+
+
+def ask_close_sections(of: Asker) -> None:
+    """Asks for a dump in which an $end is missing before a timestamp, or is one too many."""
+    place = body_place(of.text)
+    body = re.sub(rb"\$comment\s.*?\$end(?=\s|$)", lambda found: b" " * len(found[0]),
+                  of.text[place:], flags=re.S)
+    ends = [one for one in re.finditer(rb"\$end(?=\s+#\d+\s|\s*$)", body)]
+    times = [one for one in re.finditer(rb"(?<=\n)#\d+(?=\s)", body)]
+    text = of.text
+    if ends and of.happens(.7):
+        one = of.random.choice(ends)
+        text = text[:place + one.start()] + text[place + one.end():]
+    elif times and of.happens(.6):
+        at = place + of.random.choice(times).start()
+        text = text[:at] + b"$end\n" + text[at:]
+    path = of.write(of.path + ".open.vcd", text)
+    said = run("close-sections", [path])
+    of.same("close-sections", [path], (said.status, Dump(said.output).items), (0, of.dump.items))
+    if text == of.text:
+        of.same("close-sections, nothing to do", [path], said.output, text)
+
+
+# ---- vcdkit-join-bits.
+
+def bit_by_bit(of: Asker, its: List[Variable]) -> Tuple[bytes, Dict[str, List[str]]]:
+    """Returns the dump with some vectors declared bit by bit, in any order, and the codes of their
+    bits."""
+    lines, end = plain_lines(of)
+    codes = {one.code: ["~%s_%d" % (one.code, place) for place in one.bits] for one in its}
+    of_code = {one.code: one for one in its}
+    space, order, made = of.random.choice([" ", " ", ""]), of.random.choice([1, -1, 0]), []
+    for at, line in enumerate(lines):
+        found = re.match(r"[bB]([01xzXZ]+) (\S+)\s*$" if at > end else r"\$var (\S+) \d+ (\S+) ",
+                         line) or re.match(r"([01xzXZ])(\S+)\s*$", line)
+        if not found or found[2] not in codes:
+            made.append(line)
+            continue
+        one = of_code[found[2]]
+        if at < end:
+            bits = ["$var wire 1 %s %s%s[%d] $end" % (code, one.name, space, place)
+                    for code, place in zip(codes[one.code], one.bits)][::order or 1]
+        else:
+            digits = found[1].lower()
+            digits = digits.rjust(one.size, digits[0] if digits[0] in "xz" else "0")
+            bits = [digit + code for digit, code in zip(digits, codes[one.code])]
+        if order == 0 or at > end:
+            of.random.shuffle(bits)
+        made += bits
+    return (of.random.choice(["\n", "\r\n"]).join(made) + "\n").encode(), codes
+
+
+def is_bit(of: Variable) -> bool:
+    """Whether a variable is declared as a bit of something."""
+    return of.size == 1 and (of.is_numbered or of.name[-1] == "]")
+
+
+def is_joined(of: Variable, dump: Dump) -> bool:
+    """Whether a variable may be joined from bits of a dump."""
+    return any(is_bit(one) and re.sub(r"\[-?\d+\]$", "", one.path) == of.path
+               for one in dump.variables)
+
+
+def ask_join_bits(of: Asker) -> None:
+    """Asks for a dump whose bits are joined: the highest index comes first, whatever the order of
+    the declarations."""
+    dump = of.dump
+    its = [one for one in dump.variables if 1 < one.size < 40 and one.is_numbered and not one.is_real
+           and sum(other.code == one.code for other in dump.variables) == 1
+           and len(dump.of_path[one.path]) == 1 and one.path not in dump.fronts
+           and "]" not in one.name and "\\" not in one.name
+           and not any(other.path.startswith(one.path + "[") for other in dump.variables)]
+    its = of.random.sample(its, min(len(its), 3))
+    if not its:
+        raise Skip
+    text, _ = bit_by_bit(of, its)
+    path = of.write(of.path + ".bits.vcd", text)
+    said = run("join-bits", [path])
+    got = Dump(said.output)
+    # Other bits of the dump may be joined too.
+    of.same("join-bits, the rest", [path], *([
+        one.row for one in side.variables
+        if one.path not in [each.path for each in its] and not is_bit(one)
+        and not is_joined(one, dump)] for side in (got, dump)))
+    for one in its:
+        found = got.of_path.get(one.path, [])
+        low, high = sorted((one.left, one.right))
+        if of.same("join-bits", [path, one], [(each.size, each.left, each.right)
+                                              for each in found], [(one.size, high, low)]):
+            step = 1 if one.left > one.right else -1
+            of.same("join-bits, the values", [path, one], [
+                str(got.at(each.time).get(found[0].code, "-"))[::step] for each in dump.steps],
+                [str(each.end.get(one.code, "-")) for each in dump.steps])
+
+
+def ask_bits_that_stay(of: Asker) -> None:
+    """Asks for a header whose bits are no vector: what is not joined stays as it is."""
+    choice, name = of.random.choice, of.random.choice(["q", "d", "w"])
+    places = list(range(choice([0, 1, -2]), choice([4, 5])))
+    why = choice(["a gap", "twice", "a type", "a second name", "a vector", "real", "event"])
+    kinds = {"real": "real", "event": "event"}.get(why, "wire")
+    rows = ["$var %s 1 %d %s [%d] $end" % (kinds, at, name, place)
+            for at, place in enumerate(places)]
+    of.random.shuffle(rows)
+    if why == "a gap":
+        rows = ["$var wire 1 a %s [%d] $end" % (name, place) for place in places[::2]][:3]
+    rows += {"twice": ["$var wire 1 a %s [%d] $end" % (name, places[0])],
+             "a type": ["$var reg 1 a %s [%d] $end" % (name, places[-1] + 1)],
+             "a second name": ["$var wire 1 1 pin $end"],
+             "a vector": ["$var wire 4 v %s [3:0] $end" % name]}.get(why, [])
+    header = "\n".join(["$scope module tb $end", *rows, "$upscope $end", "$enddefinitions $end"])
+    text = (header + "\n#0\n" + "1v\n" * (why == "a vector") + "#5\n").encode()
+    path = of.write(of.path + ".stay.vcd", text)
+    of.same("join-bits, bits that stay", [path, why], run("join-bits", [path])[:2], (0, text))
+
+
+# ---- Packed dumps and pipes.
+
+PACKERS: Dict[str, Callable[[bytes], bytes]] = {"gz": gzip.compress, "bz2": bz2.compress,
+                                                "xz": lzma.compress, "pipe": bytes,
+                                                "gz pipe": gzip.compress}
+
+
+def ask_packed(of: Asker) -> None:
+    """Asks about a compressed dump, or one that comes through a pipe, what was asked of a file."""
+    if of.seed % 4:
+        raise Skip  # it takes the time of ten other questions
+    how, names = of.random.choice(list(PACKERS)), of.names(1)
+    data, wanted = PACKERS[how](of.text), run("table", [of.path, "--", *names])
+    got: Any
+    if "pipe" in how:
+        script = os.path.join(os.path.dirname(PYTHON), "extras", "vcdkit-table")
+        done = subprocess.run([script, "-", "--", *names], input=data, check=False,
+                              stdout=subprocess.PIPE, stderr=subprocess.PIPE)
+        got = done.returncode, done.stdout, done.stderr.decode()
+    else:
+        got = run("table", [of.write(of.path + "." + how, data), "--", *names])
+    of.same("packed", [how, *names], tuple(got), tuple(wanted))

@@ -1,0 +1,347 @@
+"""Asks vcdkit-wave: the data of a page, what its own script shows, and the shapes of a picture. The
+page of vcdkit-diff is compared here too."""
+import json
+import os
+import re
+import shutil
+import subprocess
+from typing import Any, Dict, List, NamedTuple, Optional, Sequence, Set, Tuple
+import xml.etree.ElementTree as xml
+
+from asker import HERE, Asker, Skip, Window, run
+from dumps import LAST, Dump, Real, Value, Variable
+from shown import cell, same, shown
+
+NODE = shutil.which("node")
+NAMESPACE = "{http://www.w3.org/2000/svg}"
+ROUNDED = .06  # pixels: a place in a picture has one decimal digit
+Span = Tuple[float, float]
+Points = List[Tuple[int, Any]]
+
+
+# ---- The data of a page.
+
+def data_of(text: str) -> Any:
+    """Returns the data of a page."""
+    found = re.search(r'<script id="data" type="application/json">(.*?)</script>', text, re.S)
+    assert found
+    return json.loads(found[1])
+
+
+def points_of(data: Any, stream: int, size: int) -> Points:
+    """Returns the times and the values of a stream."""
+    gaps, values, *places = data["streams"][stream]
+    if places and places[0] is not None:
+        values = [values[place] for place in places[0]]
+    time, found = int(data["begin"]), []
+    for gap, value in zip(gaps, values):
+        time += gap
+        found.append((time, value_of(value, size)))
+    return found
+
+
+def value_of(value: Any, size: int) -> Any:
+    """Returns a value of a page: a number, `r` and a text, digits in hexadecimal, or digits in
+    binary of which one is x or z."""
+    if not isinstance(value, str):
+        return float(value)
+    if value[0] == "r":
+        return cell(Real(value[1:]))
+    if re.search("[xz]", value):
+        return value.rjust(size, value[0] if value[0] in "xz" else "0")
+    return bin(int(value, 16))[2:].rjust(size, "0")
+
+
+def plain(value: Any) -> Any:
+    """Returns a value so that NaN is equal to itself."""
+    return "nan" if value != value else value
+
+
+def wanted_points(dump: Dump, of: Variable, begin: int, end: int) -> List[Tuple[int, Value]]:
+    """Returns the times of a window at which a signal has another value than before, and the
+    values; the first one is at the begin."""
+    if of.is_event:
+        return [(step.time, "1") for step in dump.steps_in(begin, end) if of.code in step.triggers]
+    found: List[Tuple[int, Value]] = []
+    for time in sorted({begin} | {step.time for step in dump.steps_in(begin, end)}):
+        value = dump.at(time).get(of.code)
+        if value is not None and (not found or not same(value, found[-1][1])):
+            found.append((time, value))
+    return found
+
+
+def page_of(of: Asker, words: List[str], window: Window) -> Optional[Any]:
+    """Returns a page of vcdkit-wave and its data; None if it is refused for a reason that the pages
+    give: a late window, a mark outside of it, or too many ticks."""
+    said = run("wave", words)
+    if of.is_late(window, "page", words, said):
+        return None
+    end = of.dump.end_of(window.begin, window.end)
+    marks = [of.dump.ticks_down(re.sub("--mark=", "", word)) for before, word in zip(
+        ["", *words], words) if before == "--mark" or word.startswith("--mark=")]
+    if end - window.begin > 2**53 or not all(window.begin <= mark <= end for mark in marks):
+        of.same("page, refused", words, (said.status, bool(said.message)), (2, True))
+        return None
+    if not of.same("page", words, (said.status, said.message), (0, "")):
+        return None
+    return data_of(said.text), said
+
+
+def ask_page(of: Asker) -> None:
+    """Asks for a page of some signals."""
+    dump, names, window = of.dump, of.names(3), of.window()
+    words = of.form()[0] + [*window.words, "--html", *of.maybe(.2, "--light"),
+                            *of.maybe(.3, "--mark", of.time())]
+    words = of.placed(words, [of.path, *names])
+    found = page_of(of, words, window)
+    if not found:
+        return
+    data, end = found[0], dump.end_of(window.begin, window.end)
+    # The drawing of a page needs a length, so a window of one tick has a span of 1.
+    of.same("page, the window", words, (int(data["begin"]), data["span"]),
+            (window.begin, max(1, end - window.begin)))
+    its = dump.selected(names)
+    if not of.same("page, the signals", words, [(one[0], *one[1:3]) for one in data["signals"]],
+                   [(dump.key(one) if dump.key(one) in [row[0] for row in data["signals"]]
+                     else one.path, one.type, one.size) for one in its]):
+        return
+    for row, one in zip(data["signals"], its):
+        of.same("page, the data", [*words, one.path], [
+            (time, plain(value)) for time, value in points_of(data, row[3], one.size)],
+            [(time, plain(cell(value))) for time, value in wanted_points(
+                dump, one, window.begin, end)])
+
+
+def ask_around(of: Asker) -> None:
+    """Asks for a page around a time."""
+    time, count = of.time(.5), of.random.choice([0, 1, 5, 50, 1000])
+    middle, names = of.dump.ticks_down(time), of.names(2)
+    unit = of.dump.scale[1] if of.dump.scale and of.happens(.5) else ""
+    if of.dump.ticks(time) != middle or middle > of.dump.end:
+        raise Skip
+    text = of.dump.time_in(count, unit) + unit if unit else str(count)
+    begin, end = max(0, middle - count), min(LAST, middle + count)
+    words = of.placed(["--html", "--around", time, "--context", text], [of.path, *names])
+    found = page_of(of, words, Window([], begin, end, True))
+    if found:
+        last = of.dump.end_of(begin, end)
+        data = found[0]
+        of.same("around", words, (int(data["begin"]), data["span"], data["mark"]),
+                (begin, max(1, last - begin), middle - begin))
+
+
+def same_page_of_two(of: Asker, words: List[str], path: str,
+                     pairs: Sequence[Tuple[str, Variable, Variable]], dumps: Tuple[Dump, Dump],
+                     names: Set[str]) -> None:
+    """Compares the page of a difference: it has the signals of the lines, and values of the
+    dumps."""
+    with open(path, encoding="utf-8") as file:
+        data = data_of(file.read())
+    tick, seen = int(data["tick"] or 0), set()
+    of_name: Dict[str, List[Tuple[Variable, Variable]]] = {}
+    for name, *both in pairs:
+        of_name.setdefault(name, []).append((both[0], both[1]))
+    is_moved = any("is shown" in line for line in data["about"])  # B at the edges of A
+    for name, _, size, stream, side, _ in data["signals"]:
+        seen.add(name)
+        if len(of_name.get(name, ())) != 1 or is_moved:
+            continue
+        one, dump = of_name[name][0]["AB".index(side)], dumps["AB".index(side)]
+        scale = (dump.tick or 1) // tick if tick else 1
+        if not one.is_event:
+            points = points_of(data, stream, size)
+            of.same("page of two", [*words, name, side], [
+                (time, plain(value)) for time, value in points],
+                [(time, plain(cell(dump.at(time // scale).get(one.code)))) for time, _ in points])
+    clear = {name for name in names if len(of_name[name]) == 1}
+    of.same("page of two, the signals", words, sorted(clear - seen), [])
+
+
+# ---- Pixels.
+
+class Piece(NamedTuple):
+    """A value, and where it begins and ends in pixels."""
+
+    begin: float
+    end: float
+    value: Value
+
+
+def pieces_of(points: Sequence[Tuple[int, Value]], begin: int, end: int, width: int) -> List[Piece]:
+    """Returns where the values of a window are."""
+    span = max(1, end - begin)
+    places = [(time - begin) * width / span for time, _ in points] + [float(width)]
+    return [Piece(places[at], places[at + 1], value) for at, (_, value) in enumerate(points)]
+
+
+def pixels_of(spans: Sequence[Span], width: int, margin: float = 0.0) -> Set[int]:
+    """Returns the pixels that have a part of the spans, each of which is longer by a margin."""
+    found = set()
+    for begin, end in spans:
+        rounded = min(1e-6, (end - begin) / 3)
+        first, last = begin - margin + rounded, end + margin - rounded
+        if last > first:
+            found.update(range(max(0, int(first // 1)), min(width, int(-(-last // 1)))))
+    return found
+
+
+def unknown_spans(pieces: Sequence[Piece]) -> List[Span]:
+    """Returns where a signal is x."""
+    return [(one.begin, one.end) for one in pieces
+            if isinstance(one.value, str) and "x" in one.value]
+
+
+def busy_pixels(pieces: Sequence[Piece], width: int) -> Set[int]:
+    """Returns the pixels in which a signal changes more than once."""
+    places = [int(one.begin + 1e-6) for one in pieces]
+    return {place for place in places if places.count(place) > 1 and place < width}
+
+
+def same_pixels(of: Asker, words: List[str], pieces: List[Piece], shapes: Dict[str, List[Span]],
+                width: int, margin: float) -> None:
+    """Compares the pixels of a row: red if and only if the signal is x there, and a block if it
+    changes there more than once. In a picture, whose bins are not quite pixels, a shape may be
+    wrong by a margin."""
+    reds = shapes.get("x", []) + shapes.get("manyX", [])
+    spans = unknown_spans(pieces)
+    may_be = spans + [(width - 1.0, float(width)) for begin, end in spans if begin == end]
+    of.same("pixels, red without an x", words, sorted(
+        pixels_of(reds, width) - pixels_of(may_be, width, margin)), [])
+    of.same("pixels, an x without red", words, sorted(
+        pixels_of(spans, width) - pixels_of(reds, width, margin)), [])
+    blocks = shapes.get("several", []) + (shapes.get("x", []) if margin else [])
+    of.same("pixels, several changes without a block", words, sorted(
+        busy_pixels(pieces, width) - pixels_of(blocks, width, margin)), [])
+    near = [(one.begin, max(other.begin, one.begin + 1)) for one, other in zip(pieces, pieces[1:])
+            if other.begin < one.begin + 1 + margin]
+    of.same("pixels, a block without several changes", words, sorted(
+        pixels_of(shapes.get("several", []), width) - pixels_of(near, width, margin)), [])
+
+
+def shown_by(path: str, width: int, times: Sequence[int]) -> Any:
+    """Returns what the script of a page shows."""
+    done = subprocess.run([str(NODE), os.path.join(HERE, "read_page.js"), path, str(width), ",".join(
+        map(str, times))], stdout=subprocess.PIPE, stderr=subprocess.PIPE, check=False)
+    if done.returncode:
+        raise AssertionError(done.stderr.decode()[-600:])
+    return json.loads(done.stdout)
+
+
+def ask_shown(of: Asker) -> None:
+    """Asks the page's own script for values at a cursor, and for the pixels of its rows."""
+    dump, window, width = of.dump, of.window(.3), of.random.choice([50, 120, 400, 1000])
+    its = of.random.sample(dump.variables, min(8, len(dump.variables)))
+    names = list(dict.fromkeys(one.path for one in its if dump.is_unique(one)))
+    if not NODE or not names:
+        raise Skip
+    words = [*window.words, "--html", of.path, "--", *names]
+    found = page_of(of, words, window)
+    if not found:
+        return
+    begin, end = window.begin, dump.end_of(window.begin, window.end)
+    times = [min(end, max(begin, of.tick())) for _ in range(4)]
+    rows = shown_by(of.write(of.path + ".html", found[1].output), width,
+                    [time - begin for time in times])
+    for row in rows:
+        one = dump.of_path[row["path"]][0]
+        if one.is_event:
+            continue
+        for form, values in row["values"].items():
+            of.same("values at a cursor", [*words, one.path, form, times], values, [
+                shown(dump.at(time).get(one.code), "--" + form) for time in times])
+        if not one.is_real:
+            shapes = {kind: [tuple(shape[:2]) for shape in its] for kind, its in row["shapes"]}
+            same_pixels(of, [*words, one.path, str(width)], pieces_of(wanted_points(
+                dump, one, begin, end), begin, end, width), shapes, width, 0.0)
+
+
+# ---- Pictures.
+
+def rows_of(text: str) -> Tuple[float, List[Tuple[str, List[Any]]]]:
+    """Returns the width of a picture, and the path of each row with its elements: they begin with
+    the text that has a title."""
+    root = xml.fromstring(text)
+    rows: List[Tuple[str, List[Any]]] = []
+    for one in root:
+        title = one.find(NAMESPACE + "title")
+        if one.tag == NAMESPACE + "text" and title is not None and one.get("text-anchor") == "end":
+            rows.append((title.text or "", []))
+        elif rows:
+            rows[-1][1].append(one)
+    return float(root.get("width", "0")), rows
+
+
+def shapes_of(elements: Sequence[Any], left: float) -> Dict[str, List[Span]]:
+    """Returns where the shapes of each class begin and end, in pixels from the left."""
+    found: Dict[str, List[Span]] = {}
+    for one in elements:
+        for part in (one.get("d") or "").split("M")[1:]:
+            places = [float(part.split(" ")[0])] + [
+                float(place) for place in re.findall(r"H([-\d.]+)|L([-\d.]+) ", part)
+                for place in place if place]
+            found.setdefault(one.get("class"), []).append(
+                (min(places) - left, max(places) - left))
+    return found
+
+
+def ask_picture(of: Asker) -> None:
+    """Asks for the picture of a window: the pixels, levels and texts of its rows."""
+    dump, choice = of.dump, of.random.choice
+    its = [one for one in dump.variables
+           if not one.is_event and not one.is_real and dump.is_unique(one)]
+    times = sorted(set(dump.times))
+    if not its or len(times) < 2:
+        raise Skip
+    names = [one.path for one in of.random.sample(its, min(3, len(its)))]
+    at = of.random.randrange(len(times) - 1)
+    begin, end = times[at], times[min(len(times) - 1, at + of.random.choice([1, 3, 8, 40]))]
+    form, width = choice(["--hex", "--decimal", "--signed", "--binary"]), choice([100, 400, 4000])
+    words = ["--from", str(begin), "--to", str(end), "--width", str(width), form, of.path, "--",
+             *names]
+    said = run("wave", words)
+    if not of.same("picture", words, (said.status, said.message), (0, "")):
+        return
+    total, rows = rows_of(said.text)
+    left = total - width - 30
+    if not of.same("picture, the rows", words, [path for path, _ in rows], names):
+        return
+    for path, elements in rows:
+        one = dump.of_path[path][0]
+        pieces = pieces_of(wanted_points(dump, one, begin, end), begin, end, width)
+        shapes = shapes_of([each for each in elements if each.get("class") in (
+            "bit", "lane", "x", "z", "several")], left)
+        same_pixels(of, [*words, path], pieces, shapes, width, 1 + ROUNDED + 1)
+        if all(piece.end - piece.begin > 12 for piece in pieces[:-1]):
+            same_row(of, [*words, path], pieces, elements, (left, form, one.size))
+
+
+def same_row(of: Asker, words: List[str], pieces: List[Piece], elements: Sequence[Any],
+             how: Tuple[float, str, int]) -> None:
+    """Compares a row whose changes are far apart: its shapes, the levels of a bit, and the texts of
+    a lane."""
+    left, form, size = how
+    shapes = shapes_of([one for one in elements if one.get("class") in ("bit", "lane", "x", "z")],
+                       left)
+    got = sorted((round(begin), round(end)) for its in shapes.values() for begin, end in its)
+    wanted = sorted((round(one.begin), round(one.end)) for one in pieces)
+    of.same("picture, the shapes", words, [
+        pair for pair in zip(got, wanted) if max(abs(a - b) for a, b in zip(*pair)) > 1] or len(got),
+        len(wanted))
+    if size == 1:
+        levels = {float(level): round(float(begin) - left) for one in elements
+                  if one.get("class") == "bit" for begin, level in re.findall(
+                      r"M([-\d.]+) [\d.]+V([\d.]+)", one.get("d"))}
+        ones = {round(one.begin) for one in pieces if one.value == "1"}
+        if len(levels) == 2:
+            of.same("picture, the levels", words, any(
+                abs(levels[min(levels)] - one) <= 1 for one in ones), True)
+        return
+    for one in elements:
+        if one.get("text-anchor") == "middle" and one.get("class") == "":
+            place = float(one.get("x")) - left
+            full = [shown(piece.value, form) for piece in pieces
+                    if abs((piece.begin + piece.end) / 2 - place) < 1.5]
+            text = (one.text or "").lstrip("+")
+            of.same("picture, a text", [*words, one.text or ""], any(
+                value.endswith(text) for value in full), True)
+

@@ -1,0 +1,346 @@
+"""Asks vcdkit-diff about a dump and another one."""
+import json
+import os
+import shutil
+from math import gcd
+from typing import Any, Dict, List, NamedTuple, Optional, Sequence, Set, Tuple
+import xml.etree.ElementTree as xml
+
+from asker import Asker, Said, Skip, Window, run
+from dumps import LAST, Dump, Value, Variable, bare, is_inside
+from looks import Edges, Look, looks_at_edges
+from of_pages import same_page_of_two
+from other_dumps import Changed, OtherDump
+from shown import all_from_json, from_json, in_json, same, shown
+
+MAX_LINES = 20  # of each kind, without --every
+Pair = Tuple[str, Variable, Variable]
+
+
+class Asked(NamedTuple):
+    """What is asked of two dumps."""
+
+    maps: List[Tuple[str, str]]
+    names: List[str]
+    exceptions: List[str]
+    window: Window
+    is_common: bool
+    every: bool
+    tolerance: float
+    x_matches: bool
+
+    def renamed(self, path: str) -> str:
+        """Returns a path as --map has it; the longest OLD counts."""
+        for old, new in sorted(self.maps, key=lambda one: -len(one[0])):
+            if is_inside(path, old):
+                return (new + path[len(old):]) if new else path[len(old) + 1:]
+        return path
+
+    def has(self, path: str) -> bool:
+        """Whether a path is compared."""
+        return not any(is_inside(path, name) for name in self.exceptions) and (
+            not self.names or any(is_inside(path, name) for name in self.names))
+
+    def are_alike(self, one: Optional[Value], other: Optional[Value]) -> bool:
+        """Whether two values do not differ."""
+        if self.x_matches and isinstance(one, str) and isinstance(other, str):
+            return all(a == b or {a, b} & {"x", "z"} for a, b in zip(one, other))
+        return same(one, other, self.tolerance)
+
+
+class Sides:
+    """The variables of both dumps by their names, which are paired."""
+
+    def __init__(self, dumps: Sequence[Dump], asked: Asked):
+        self.dumps, self.asked = dumps, asked
+        self.of_name: List[Dict[str, List[Variable]]] = [{}, {}]
+        self.all_names: List[Set[str]] = [set(), set()]
+        for found, names, dump in zip(self.of_name, self.all_names, dumps):
+            for one in dump.variables:
+                name = asked.renamed(one.path)
+                names.add(name)
+                if asked.has(name):
+                    found.setdefault(name, []).append(one)
+        self.groups = self._groups()
+        self.pairs: List[Pair] = []
+        self.sizes: List[str] = []
+        for name, other in self.groups:
+            self._pair(name, self.of_name[0][name], self.of_name[1][other])
+
+    def _groups(self) -> List[Tuple[str, str]]:
+        """Returns the names that belong together: equal ones, and two that differ only by a range,
+        if each dump has only one of these."""
+        one, other = self.of_name
+        found = [(name, name) for name in one if name in other]
+        rest: List[Dict[str, List[str]]] = [{}, {}]
+        for its, mine, theirs in ((rest[0], one, other), (rest[1], other, one)):
+            for name in mine:
+                if name not in theirs:
+                    its.setdefault(bare(name), []).append(name)
+        return found + [(rest[0][name][0], rest[1][name][0]) for name in rest[0]
+                        if len(rest[0][name]) == len(rest[1].get(name, ())) == 1]
+
+    def _pair(self, name: str, one: List[Variable], other: List[Variable]) -> None:
+        """Pairs the variables of a name; which of several belong together, their ranges say."""
+        ranges = [[(its.left, its.right) if its.is_numbered else None for its in side]
+                  for side in (one, other)]
+        if len(one) > 1 or len(other) > 1:
+            if len({*ranges[0]}) < len(one) or {*ranges[0]} != {*ranges[1]} or (
+                    len(one) != len(other)):
+                raise Skip
+            other = [other[ranges[1].index(each)] for each in ranges[0]]
+        if [its.kind for its in one] == [its.kind for its in other]:
+            self.pairs += [(name, *both) for both in zip(one, other)]
+        else:
+            self.sizes.append(name)
+
+    def clocks(self) -> List[Pair]:
+        """Returns the pairs of which the name can be that of a clock."""
+        def is_clear(name: str) -> bool:
+            return all(sum(bare(other) == bare(name) or other.startswith(name + ".")
+                           for other in names) == 1 for names in self.all_names)
+        return [pair for pair in self.pairs if pair[1].kind == 1 and is_clear(pair[0])
+                and len(self.of_name[0][pair[0]]) == 1]
+
+    def alone(self) -> List[Tuple[str, str, int]]:
+        """Returns what only one dump has: the outermost scope that the other has not, else the
+        path; and how many variables it has there."""
+        found: Dict[Tuple[str, str], int] = {}
+        for at, letter in enumerate("AB"):
+            paired = {group[at] for group in self.groups}
+            theirs = {name[:place] for name in self.all_names[1 - at]
+                      for place in [*(place for place, mark in enumerate(name) if mark == "."),
+                                    len(name)]}
+            for name, its in self.of_name[at].items():
+                if name in paired:
+                    continue
+                fronts = [name[:place] for place, mark in enumerate(name) if mark == "."]
+                shown_name = next((front for front in fronts
+                                   if front not in theirs | paired), name)
+                key = letter, shown_name
+                found[key] = found.get(key, 0) + len(its)
+        return [(*key, count) for key, count in found.items()]
+
+
+# ---- What is asked.
+
+def another(of: Asker, changed: Changed) -> Tuple[str, Dump]:
+    """Writes another dump, and returns its path and what it has."""
+    text = OtherDump(of.dump, of.random, changed).text
+    return of.write(of.path + ".b.vcd", text), Dump(text)
+
+
+def random_changes(of: Asker) -> Changed:
+    """Returns what is different in the other dump."""
+    dump, variables = of.dump, of.dump.variables
+    without = of.random.sample(variables, min(len(variables) - 1, 3)) if of.happens(.12) else []
+    single = [one for one in variables if not one.is_real and not one.is_event and one not in without
+              and sum(other.code == one.code for other in variables) == 1]
+    top = of.random.choice(["TOP", "a.b", "tb"]) if of.happens(.25) else ""
+    if any(is_inside(one.path, top) for one in dump.variables):
+        top = ""
+    return Changed(of.random.choice([1, 1, 3]) if of.happens(.55) else 0, of.happens(.12),
+                   of.happens(.12), of.random.choice([-1, 1]) if of.happens(.2) else 0,
+                   of.happens(.25), top, without,
+                   of.random.choice(single) if single and of.happens(.06) else None,
+                   of.happens(.06))
+
+
+def random_asked(of: Asker, changed: Changed, other: Dump) -> Asked:
+    """Returns what is asked, so that names mean the same in both dumps."""
+    maps = [(changed.top, "")] if changed.top else []
+    if of.happens(.15):
+        scope = of.random.choice(of.dump.variables).scope
+        if scope and not any(is_inside(one.path, "NEW") for one in of.dump.variables):
+            maps += [(scope, "NEW.s")] + [(changed.top + "." + scope, "NEW.s")] * bool(changed.top)
+    window = of.window(.3) if of.happens(.3) else Window([], 0, LAST, False)
+    if other.tick != of.dump.tick and window.words:
+        window = Window([], 0, LAST, False)  # a number of ticks is another time in each dump
+    asked = Asked(maps, [], [], window, of.happens(.3), of.happens(.5),
+                  of.random.choice([0, 0, 0, 1e-9, .1]), of.happens(.2))
+    names = [[asked.renamed(one.path) for one in dump.variables] for dump in (of.dump, other)]
+    if any(bare(name) != name for side in names for name in side):
+        return asked  # what a name with a range selects in the other dump is not said
+    if of.happens(.25):
+        both = sorted({*names[0]} & {*names[1]})
+        asked = asked._replace(names=of.random.choices(both, k=2) if both else [])
+    return asked._replace(exceptions=[of.random.choice(names[0])] if of.happens(.2) else [])
+
+
+# ---- What differs.
+
+class Difference(NamedTuple):
+    """The first time at which a pair differs, in ticks of A, and both values, or whether an event
+    is triggered."""
+
+    mark: int
+    time: int
+    name: str
+    is_event: bool
+    values: Tuple[Any, Any]
+
+
+def looks_at_times(sides: Sides, factors: Sequence[int]) -> List[Tuple[Look, Look]]:
+    """Returns what both dumps have at each time at which one of them has a change, up to the end of
+    the shorter one; times are in common ticks."""
+    window = sides.asked.window
+    spans = [(window.begin * factor, dump.end_of(window.begin, window.end) * factor)
+             for dump, factor in zip(sides.dumps, factors)]
+    times = {spans[0][0]} | {step.time * factor for dump, factor in zip(sides.dumps, factors)
+                             for step in dump.steps}
+    return [(Look(time, one.at(time // factors[0]), events_of(one, time, factors[0])),
+             Look(time, other.at(time // factors[1]), events_of(other, time, factors[1])))
+            for one, other in [sides.dumps] for time in sorted(times)
+            if spans[0][0] <= time <= min(spans[0][1], spans[1][1])]
+
+
+def events_of(dump: Dump, time: int, factor: int) -> Set[str]:
+    """Returns the events that are triggered at a time in common ticks."""
+    return set() if time % factor else dump.events_at(time // factor)
+
+
+def differences(sides: Sides, looks: Sequence[Tuple[Look, Look]], factor: int) -> List[Difference]:
+    """Returns the first difference of each pair."""
+    found = []
+    for name, one, other in sides.pairs:
+        for mark, (mine, its) in enumerate(looks):
+            if one.is_event:
+                values: Tuple[Any, Any] = one.code in mine.events, other.code in its.events
+                is_alike = values[0] == values[1]
+            else:
+                values = mine.values.get(one.code), its.values.get(other.code)
+                is_alike = sides.asked.are_alike(*values)
+            if not is_alike:
+                found.append(Difference(mark, mine.time // factor, name, one.is_event, values))
+                break
+    return found
+
+
+def ask_diff(of: Asker) -> None:
+    """Asks what differs between a dump and another one."""
+    changed = random_changes(of)
+    path, other = another(of, changed)
+    asked = random_asked(of, changed, other)
+    sides = Sides([of.dump, other], asked)
+    factors, ticks = [1, 1], (of.dump.tick, other.tick)
+    if ticks[0] and ticks[1]:
+        factors = [one // gcd(*ticks) for one in ticks if one]  # type: ignore[arg-type]
+    words, form, unit, clock = *of.form(), of.unit(.2), of.happens(.35) and sides.clocks()
+    is_json, page, report = of.happens(.4), of.path + ".html", of.path + ".xml"
+    counts, looks = [1, 1], looks_at_times(sides, factors)
+    if clock:
+        name, one, its = of.random.choice(clock)
+        edge = of.random.choice([("--rise", "0", "1"), ("--fall", "1", "0")])
+        words += [edge[0], name]
+        both = [looks_at_edges(dump, {(code, edge[1], edge[2])}, asked.window.begin,
+                               asked.window.end)
+                for dump, code in ((of.dump, one.code), (other, its.code))]
+        looks, counts = list(zip(*both)), [len(each) for each in both]
+    words += [*asked.window.words, *["--common"] * asked.is_common, *["--every"] * asked.every,
+              *["--x-matches"] * asked.x_matches, *["--json"] * is_json,
+              *(["--real-tolerance", str(asked.tolerance)] if asked.tolerance else []),
+              *(["--unit", unit] if unit else []), *of.maybe(.15, "--junit", report),
+              *of.maybe(.12, "--html=" + page)]
+    for old, new in asked.maps:
+        words += ["--map", "%s=%s" % (old, new)]
+    for name in asked.exceptions:
+        words += ["--except", name]
+    words = of.placed(words, [of.path, path, *asked.names])
+    if os.path.exists(page):
+        os.unlink(page)
+    said = run("diff", words)
+    is_refused = (asked.window.begin > min(of.dump.end, other.end) or 0 in counts
+                  or asked.is_common and not sides.pairs and not sides.sizes
+                  or not all(any(is_inside(each, name) for each in names)
+                             for names in sides.all_names for name in asked.names))
+    if is_refused:
+        of.same("diff, refused", words, (said.status, bool(said.message)), (2, True))
+        return
+    found = differences(sides, looks, 1 if clock else factors[0])
+    same_lines(of, words, said, sides, found, counts if clock else None, (form, unit, is_json))
+    if "--junit" in words:
+        root = xml.parse(report).getroot()
+        of.same("diff, the report", words, int(root.get("failures", "0")), len(
+            {line.split(" ")[0] if not is_json else from_json(line)["kind"]
+             for line in said.lines} - {"more", "page", "and"}))
+    if found and "--html=" + page in words:
+        least = min(one.mark for one in found)
+        shown_names = {one.name for one in found if asked.every or one.mark == least}
+        same_page_of_two(of, words, page, sides.pairs, (of.dump, other), shown_names)
+
+
+def same_lines(of: Asker, words: List[str], said: Said, sides: Sides, found: List[Difference],
+               counts: Optional[List[int]], how: Tuple[Optional[str], Optional[str], bool]) -> None:
+    """Compares the lines of a difference."""
+    form, unit, is_json = how
+    one, other, asked = *sides.dumps, sides.asked
+    wanted: List[List[Any]] = []
+    if not asked.is_common:
+        scales = ["%d%s" % dump.scale if dump.scale else None for dump in (one, other)]
+        wanted += [["timescale", *scales]] * (scales[0] != scales[1])
+        wanted += [["alone", *each] for each in sides.alone()]
+        lasts = [last_of(dump, asked.window) for dump in (one, other)]
+        if counts:
+            wanted += [["edges", *counts]] * (counts[0] != counts[1] and not found)
+        elif moment(one, lasts[0]) != moment(other, lasts[1]):
+            wanted.append(["ends", *(last if is_json else None if last is None else
+                                     dump.time_text(last, unit)
+                                     for dump, last in zip((one, other), lasts))])
+    wanted += [["size", name] for name in sides.sizes]
+    least = min((each.mark for each in found), default=0)
+    for each in found:
+        if asked.every or each.mark == least:
+            time = each.time if is_json else one.time_text(each.time, unit)
+            wanted.append(["differs", time, each.name, *([] if each.is_event else [
+                (in_json if is_json else shown)(value, form) for value in each.values])])
+    got = [list(row.values()) for row in all_from_json(said.text)] if is_json else [
+        line.split(" ") for line in said.lines]
+    got = [row for row in got if row[0] not in ("page", "more") and "more" not in row]
+    events = {each.name for each in found if each.is_event}
+    got = [row[:2] if row[0] == "size" else row[:3] if row[0] == "differs" and row[2] in events
+           else row for row in got]
+    if not is_json:
+        wanted = [[("-" if cell is None else str(cell)) for cell in row] for row in wanted]
+    key = lambda row: json.dumps(row, default=str)  # noqa: E731
+    if any(sum(row[0] == kind for row in wanted) > MAX_LINES for kind in ("alone", "size", "differs")
+           ) and not asked.every:
+        wanted = [row for row in wanted if row in got]
+    of.same("diff", words, (said.status, sorted(got, key=key), said.message),
+            (int(bool(wanted)), sorted(wanted, key=key), ""))
+
+
+def last_of(dump: Dump, window: Window) -> Optional[int]:
+    """Returns the last timestamp of a window; None if there is none."""
+    return dump.last if not window.words else dump.end_of(window.begin, window.end)
+
+
+def moment(dump: Dump, time: Optional[int]) -> Any:
+    """Returns a time in femtoseconds, if the dump has a time scale."""
+    return None if time is None else time * (dump.tick or 1)
+
+
+# ---- The windows around the first difference.
+
+def ask_context(of: Asker) -> None:
+    """Asks for the parts of both dumps around the first difference."""
+    path, other = another(of, Changed(2, end=of.random.choice([0, 0, -1])))
+    folder, count = of.path + ".parts", of.random.choice([0, 1, 5, 100, 3000])
+    shutil.rmtree(folder, ignore_errors=True)
+    unit = of.dump.scale[1] if of.dump.scale and of.happens(.5) else ""
+    text = of.dump.time_in(count, unit) + unit if unit else str(count)
+    words = of.placed(["--context", text, "--into", folder, "--json"], [of.path, path])
+    said = run("diff", words)
+    times = [one["time"] for one in all_from_json(said.text) if one["kind"] == "differs"]
+    if not times:
+        of.same("context, no files", words, os.path.exists(folder), False)
+        return
+    begin, end = max(0, times[0] - count), min(LAST, times[0] + count)
+    for dump, name in ((of.dump, "diff.a.vcd"), (other, "diff.b.vcd")):
+        with open(os.path.join(folder, name), "rb") as file:
+            part = Dump(file.read())
+        codes = {one.code for one in dump.variables if not one.is_event}
+        same_rows = [(step.time, [step.end.get(code) for code in sorted(codes)])
+                     for step in dump.steps_in(begin, end)]
+        of.same("context", [*words, name], (part.times[:1], part.last, [
+            (time, [part.at(time).get(code) for code in sorted(codes)]) for time, _ in same_rows]),
+            ([begin], dump.end_of(begin, end), same_rows))

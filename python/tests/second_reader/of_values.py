@@ -1,0 +1,286 @@
+"""Asks vcdkit-values, -table, -x, -find and -info."""
+import csv
+import io
+import json
+import re
+from collections import Counter
+from typing import Any, Dict, List, Optional, Tuple
+
+from asker import Asker, Said, Skip, run
+from dumps import Dump, State, Value, Variable
+from looks import Look, looks_at_edges, rows_at_changes
+from shown import all_from_json, from_json, in_json, shown
+
+Row = Tuple[Look, List[Optional[Value]]]
+PATTERNS = ["q$", r"^tb\.", r"\[", "clk", "c|d", r"^[^.]*$", "", "(?i)CLK", r"\.a", r"\\",
+            r"g\[0\]\.", "^(?!tb)", "e.s"]
+
+
+def ask_values(of: Asker) -> None:
+    """Asks for the values at times, or at the end."""
+    dump, (words, form), unit = of.dump, of.form(), of.unit()
+    names = of.names() if of.happens(.7) else []
+    times = [of.time() for _ in range(of.random.choice([0, 1, 1, 2, 3]))]
+    ticks = [dump.ticks_down(time) for time in times] or [dump.end]
+    is_json = of.happens(.3)
+    words = words + ["--at", ",".join(times)] * bool(times) + ["--json"] * is_json
+    words = of.placed(words + (["--unit", unit] if unit else []), [of.path, *names])
+    its = [one for one in (dump.selected(names) if names else dump.variables) if not one.is_event]
+    wanted: List[Any] = []
+    for time in ticks:
+        for one in its:
+            value = dump.at(time).get(one.code)
+            front = dump.time_text(time, unit) + " " if len(ticks) > 1 else ""
+            wanted.append({"time": time, "path": one.path, "value": in_json(value, form)} if is_json
+                          else front + "%s %s" % (one.path, shown(value, form)))
+    said = run("values", words)
+    got = all_from_json(said.text) if is_json else said.lines
+    of.same("values", words, (said.status, got, bool(said.message)),
+            (0, wanted, any(time > dump.end for time in ticks)))
+
+
+# ---- vcdkit-table.
+
+def columns_of(of: Asker, most: int) -> Tuple[List[str], List[Variable]]:
+    """Returns names and their columns, which are there at least once."""
+    names = of.names(most)
+    columns = [one for one in of.dump.selected(names) if not one.is_event]
+    if not columns:
+        raise Skip
+    return names, columns
+
+
+def table_rows(of: Asker, columns: List[Variable], words: List[str]) -> Tuple[List[Row], int]:
+    """Returns the rows of a random kind, adds their options to the words, and returns the first
+    time of the window."""
+    dump, how = of.dump, of.random.choice(["change", "edge", "time"])
+    if how == "time":
+        times = [of.time() for _ in range(of.random.randint(1, 4))]
+        words += ["--at", ",".join(times)]
+        ticks = [dump.ticks_down(time) for time in times]
+        looks = [Look(time, dump.at(time), dump.events_at(time)) for time in ticks]
+        return with_values(looks, columns), 0
+    window = of.window()
+    words += window.words
+    if how == "change":
+        return rows_at_changes(dump, columns, window.begin, window.end, window.is_given), \
+            window.begin
+    options, edges = of.clocks()
+    words += options
+    return with_values(looks_at_edges(dump, edges, window.begin, window.end), columns), window.begin
+
+
+def with_values(looks: List[Look], columns: List[Variable]) -> List[Row]:
+    """Returns looks with the values of columns."""
+    return [(look, [look.values.get(one.code) for one in columns]) for look in looks]
+
+
+def ask_table(of: Asker) -> None:
+    """Asks for rows at changes, at edges or at times, half of them with a condition."""
+    dump, (words, form), unit = of.dump, of.form(), of.unit()
+    names, columns = columns_of(of, 4)
+    is_json, rows_words = of.happens(.25), []  # type: ignore[var-annotated]
+    rows, begin = table_rows(of, columns, rows_words)
+    condition = of.conditions.make() if of.happens(.5) else None
+    if condition:
+        rows_words += ["--if", condition.text]
+        rows = [row for row in rows if condition.test(row[0].values, row[0].events) is True]
+    words = of.placed([*words, *(["--unit", unit] if unit else []), *["--json"] * is_json,
+                       *rows_words], [of.path, *names])
+    said = run("table", words)
+    if begin > dump.end:
+        of.same("table, a late window", words, (said.status, bool(said.message)), (2, True))
+        return
+    unit = unit or (dump.scale[1] if dump.scale else "tick")
+    wanted: List[Any] = [["time (%s)" % unit] + [one.path for one in columns]] + [
+        [dump.time_in(look.time, unit)] + [shown(value, form) for value in values]
+        for look, values in rows]
+    if is_json:
+        keys = keys_of(columns)
+        wanted = [{"time": look.time, **dict(zip(keys, (in_json(one, form) for one in values)))}
+                  for look, values in rows]
+    got = all_from_json(said.text) if is_json else list(
+        csv.reader(io.StringIO(said.text, newline="")))
+    of.same("table", words, (said.status, got, said.message), (0, wanted, ""))
+
+
+def keys_of(columns: List[Variable]) -> List[str]:
+    """Returns the keys of columns in JSON; they have to differ."""
+    counts = Counter(one.path for one in columns)
+    keys = [one.path if counts[one.path] == 1 else one.path + " " + one.code for one in columns]
+    if len(set(keys)) < len(keys):
+        raise Skip
+    return keys
+
+
+# ---- vcdkit-x.
+
+def unknown(of: Asker, its: List[Variable], letters: str, begin: int, end: int, is_once: bool
+            ) -> List[Tuple[int, str, str]]:
+    """Returns the times at whose end a value is another one than before, or the window begins, and
+    has one of the letters."""
+    found, seen, before = [], set(), {}  # type: ignore[var-annotated]
+    for time in sorted({begin} | {step.time for step in of.dump.steps_in(begin, end)}):
+        state: State = of.dump.at(time)
+        for one in its:
+            value = state.get(one.code)
+            if not isinstance(value, str) or not set(letters) & set(value):
+                continue
+            if (time == begin or value != before.get(one.code)) and one.path not in seen:
+                seen |= {one.path} if is_once else set()
+                found.append((time, one.path, value))
+        before = state
+    return found
+
+
+def ask_x(of: Asker) -> None:
+    """Asks for unknown values."""
+    dump, (words, form), unit, window = of.dump, of.form(), of.unit(), of.window()
+    names = of.names() if of.happens(.6) else []
+    letters, is_once = of.random.choice(["x", "xz"]), of.happens(.4)
+    mode = of.random.choice(["", "", "--first", "--count", "--json"])
+    its = [one for one in (dump.selected(names) if names else dump.variables)
+           if not one.is_event and not one.is_real]
+    if is_once and len({one.path for one in its}) < len(its):
+        raise Skip
+    words += [*window.words, *["--z"] * (letters == "xz"), *[mode] * bool(mode),
+              *["--trace"] * is_once, *(["--unit", unit] if unit else [])]
+    words = of.placed(words, [of.path, *names])
+    said = run("x", words)
+    if of.is_late(window, "x", words, said):
+        return
+    rows = unknown(of, its, letters, window.begin, window.end, is_once)
+    wanted = ["%s %s %s" % (dump.time_text(time, unit), path, shown(value, form))
+              for time, path, value in rows]
+    got = said.lines
+    if mode == "--count":
+        wanted = ["%d" % len(rows)]
+    elif mode == "--json":
+        wanted = [json.dumps([time, path, shown(value, form)]) for time, path, value in rows]
+        got = [json.dumps([one["time"], one["path"], one["value"]])
+               for one in all_from_json(said.text)]
+    elif mode == "--first":
+        first = [line for line, row in zip(wanted, rows) if row[0] == rows[0][0]]
+        wanted = got if len(got) == 1 and got[0] in first else first[:1]
+    # The order within a time is not said.
+    of.same("x", words, (said.status, sorted(got), said.message),
+            (int(bool(rows)), sorted(wanted), ""))
+    if mode == "":
+        of.same("x, the order", words, [line.split(" ")[0] for line in got],
+                [line.split(" ")[0] for line in wanted])
+
+
+# ---- vcdkit-find and vcdkit-info.
+
+def ask_find(of: Asker) -> None:
+    """Asks for the variables that match, or that a file names."""
+    dump, names = of.dump, []  # type: ignore[var-annotated]
+    patterns = of.random.sample(PATTERNS, of.random.choice([0, 1, 1, 2]))
+    words = []
+    if of.happens(.35):
+        names = of.names(3)
+        ends = of.random.choices(["", " wire 1 !", "\t# x"], k=len(names))
+        text = "".join(name + end + "\n" for name, end in zip(names, ends))
+        words = ["--names", of.write(of.path + ".names", text.encode("utf-8", "surrogateescape"))]
+    found = [one for one in dump.variables if one in (dump.selected(names) if names else ())
+             or any(re.search(pattern, one.path) for pattern in patterns)
+             or not names and not patterns]
+    mode = of.random.choice([[], ["--tree"], ["--json"], ["--pick"]])
+    words = of.placed(words + mode, [of.path, *patterns])
+    said = run("find", words)
+    if not found:
+        of.same("find", words, (said.status, said.output, bool(said.message)), (1, b"", True))
+    elif not of.same("find", words, (said.status, said.message), (0, "")):
+        return
+    elif mode == ["--tree"]:
+        of.same("find --tree", words, sorted(said.lines), sorted(tree_of(found)))
+    elif mode == ["--pick"]:
+        same_part(of, words, Dump(said.output), found)
+    else:
+        got = [tuple(one.values()) for one in all_from_json(said.text)] if mode else said.lines
+        of.same("find", words, got, [one.row if mode else "%s %s %d %s" % one.row for one in found])
+
+
+def same_part(of: Asker, words: List[str], part: Dump, wanted: List[Variable]) -> None:
+    """Compares the dump that --pick writes."""
+    times = of.random.sample(of.dump.times, min(4, len(of.dump.times)))
+    codes = [one.code for one in wanted]
+    of.same("find --pick", words, [one.row for one in part.variables], [one.row for one in wanted])
+    of.same("find --pick, values", words, [[part.at(time).get(code) for code in codes]
+                                           for time in times],
+            [[of.dump.at(time).get(code) for code in codes] for time in times])
+
+
+def tree_of(found: List[Variable]) -> List[str]:
+    """Returns the lines of scopes: each counts the variables in it and below it. The top counts
+    only its own."""
+    counts: Dict[Tuple[str, ...], int] = {}
+    for one in found:
+        for depth in range(1, len(one.chain) + 1):
+            counts[one.chain[:depth]] = counts.get(one.chain[:depth], 0) + 1
+    top = sum(not one.chain for one in found)
+    return ["(top) %d" % top] * bool(top) + [
+        "%s%s %d" % ("  " * (len(chain) - 1), chain[-1], count) for chain, count in counts.items()]
+
+
+def ask_info(of: Asker) -> None:
+    """Asks what a dump is."""
+    dump, said = of.dump, run("info", ["--json", of.path])
+    if not of.same("info", [], (said.status, said.message), (0, "")):
+        return
+    got = from_json(said.text)
+    largest = got.pop("largest")
+    own = Counter(one.scope for one in dump.variables)
+    wanted = {
+        "file": of.path, "date": dump.notes.get("date") or None,
+        "version": dump.notes.get("version") or None,
+        "timescale": "%d%s" % dump.scale if dump.scale else None,
+        "types": dict(Counter(one.type for one in dump.variables)),
+        "bits": sum(one.size for one in dump.of_code.values()), "scopes": dump.scopes,
+        "variables": len(dump.variables), "codes": len(dump.of_code), "times": len(dump.times),
+        "sections": dump.sections, "changes": len(dump.items),
+        "first": dump.time_text(dump.times[0]) if dump.times else None,
+        "first_tick": dump.times[0] if dump.times else None,
+        "last": None if dump.last is None else dump.time_text(dump.last), "last_tick": dump.last}
+    of.same("info", [], got, wanted)
+    # A scope may be there twice, and a dot may be in a name: scopes with one path are one here.
+    of.same("info, largest", [], largest, {path: own[path] for path in largest})
+    of.same("info, largest", [], sorted(largest.values(), reverse=True),
+            sorted(own.values(), reverse=True)[:len(largest)])
+
+
+def saved_by_gtkwave(its: List[Variable], asked: Asker) -> str:
+    """Returns a save file of GTKWave with some variables."""
+    lines = ["[*]", "[*] GTKWave Analyzer v3.3.118", '[dumpfile] "/tmp/x.vcd"', "[timestart] 0",
+             "[size] 1000 600", "*-3.0 23 -1 -1", "[treeopen] tb.", "[sst_width] 200"]
+    for one in its:
+        is_ranged = one.size > 1 and one.is_numbered and one.name[-1] != "]"
+        lines += ["@" + asked.random.choice(["28", "22", "24", "c00022", "420"]),
+                  one.path + ("[%d:%d]" % (one.left, one.right) if is_ranged else "")]
+        lines += asked.maybe(.2, "-group") + asked.maybe(.1, "@200", "-a comment")
+    return "\n".join(lines) + "\n"
+
+
+def ask_names(of: Asker) -> None:
+    """Asks the same with --names and with the names themselves."""
+    names, more = of.names(4), of.names(1) if of.happens(.3) else []
+    if of.happens(.5):
+        ends = of.random.choices(["\n", " wire 8 !\n", "\tfoo\r\n", "\n\n"], k=len(names))
+        text = "".join(map("".join, zip(names, ends)))
+    else:
+        its = [one for one in of.random.choices(of.dump.variables, k=4)
+               if not re.match(r"[@\[*#+-]|\d", one.path)]
+        names = [one.path for one in its]
+        text = saved_by_gtkwave(its, of)
+    if not names or any(re.match(r"[@\[*#+.-]|\d", name) for name in names):
+        raise Skip
+    file = of.write(of.path + ".names", text.encode("utf-8", "surrogateescape"))
+    script = of.random.choice(["values", "table", "x", "stats"])
+    if script == "table" and more:
+        raise Skip  # the order of the names of both kinds is not said
+    words = of.placed(["--names", file], [of.path, *more])
+    got, wanted = run(script, words), run(script, [of.path, "--", *more, *names])
+
+    def plain(said: Said) -> Any:
+        return said.status, sorted(said.lines), bool(said.message)
+    of.same("names", [script, text[-300:], *words], plain(got), plain(wanted))
