@@ -1,0 +1,174 @@
+-- A table of current values when it is new, and with one item more.
+use Rattle.std.proofs.Common.{◌≡◌, ◌≢◌, ℕ, ◌≤◌, ◌==◌, Bool, true, false, List, [], ◌∷◌, ◌++◌, slice_get, Option, Some, refl, sym, ap, subst, ◌∙◌, arith}
+use Rattle.std.specs.Prelude.{option_map, unwrap_or}
+use Rattle.std.proofs.lemmas.Bool.{eqb-true, eqb-false}
+use Rattle.std.proofs.lemmas.Slice.Eq.{bytes_eq-Decides}
+use Rattle.vcd_model.specs.Declarations.{IdCode, same_code}
+use Rattle.vcd_model.specs.Header.{Header}
+use Rattle.vcd_model.specs.History.{final_value, gives_to}
+use Rattle.vcd_model.specs.Items.{BodyItem}
+use Rattle.vcd_model.specs.Values.{value_with}
+use Rattle.vcd_model.proofs.FinalValues.{final_new, final_other}
+use Rattle.vcd_view.specs.Shown.{parts}
+use Rattle.vcd_view.specs.Views.{IsViewOf}
+use Rattle.vcd_view.specs.declared.view.Code.{Code}
+use Rattle.vcd_view.specs.declared.view.HeadView.{HeadView}
+use Rattle.vcd_view.proofs.LookUpLemmas.{same_place}
+use Rattle.vcd_view.proofs.RoomLemmas.{same_sum, sum_fits}
+use Rattle.vcd_view.proofs.RowLemmas.{code_at}
+use Rattle.vcd_body.specs.Ahead.{HasBits}
+use Rattle.vcd_body.specs.Binary.{binary_digits}
+use Rattle.vcd_body.specs.Contents.{ChangesCode, IsLaidOut, held_at, kept_at}
+use Rattle.vcd_body.specs.Given.{HasGoodText, IsText}
+use Rattle.vcd_body.specs.Items.{model_form}
+use Rattle.vcd_body.specs.Kept.{Held, Kept, unset, value_at_size, with_text}
+use Rattle.vcd_body.specs.Stored.{room_of, share_of}
+use Rattle.vcd_body.specs.declared.bits.Bits.{Bits}
+use Rattle.vcd_body.specs.declared.item.Form.{Form}
+use Rattle.vcd_body.specs.declared.item.Form.TheVariants.{Vector}
+use Rattle.vcd_body.specs.declared.item.Item.{Item}
+use Rattle.vcd_body.specs.declared.item.Item.TheVariants.{Time, Begin, End, Change, Finish}
+use Rattle.vcd_body.specs.declared.table.Table.{Table}
+use Rattle.vcd_body.proofs.TableLemmas.{room_needed}
+use Rattle.vcd_body.specs.Given.{IsItem}
+use Rattle.vcd_body.specs.Current.{AreHeld, HasShares, table_bytes}
+use Rattle.std.proofs.lemmas.Option.{same_Some}
+
+-- ---- a new table
+
+-- the bytes that a header needs are enough for all shares
+pub room_enough : (v : HeadView) (h : Header) (n : ℕ) → IsViewOf v h → table_bytes v ≤ n → room_of v.codes.now ≤ n
+room_enough v h n views le =
+    let needed = room_needed v h views in
+    let same = same_sum v.text.now v.codes.now h.codes views.codes in
+    let few = sum_fits (parts v) h views in
+    omega (arith, needed, same, few, le)
+
+-- what a new table promises of its codes
+abbrev pub IsNew : HeadView → Table → Type 0
+IsNew v t = (code : ℕ) (c : Code) → slice_get v.codes.now code ≡ Some c → kept_at t code ≡ Some (unset (share_of c.size))
+
+pub new_holds : (v : HeadView) (h : Header) (t : Table) → IsViewOf v h → IsLaidOut t → IsNew v t → AreHeld t h []
+new_holds v h t views laid is = record {
+  values = record {
+    laid = laid;
+    each = λ place c declared event.
+        let m = code_at v.text.now v.codes.now h.codes place c views.codes declared in
+        ap (λ (o : Option Kept). value_at_size c.size (unwrap_or (option_map (λ (k : Kept). k.held) o) Held.Unset)) (is place m.0 m.1);
+  };
+  shares = λ place c declared.
+      let m = code_at v.text.now v.codes.now h.codes place c views.codes declared in
+      let size = m.2.size_is in
+      (unset (share_of m.0.size), is place m.0 m.1, omega (arith, ap share_of size));
+}
+
+-- ---- an item more
+
+-- one that gives no code a value
+pub held_still : (t : Table) (h : Header) (items : List BodyItem) (x : BodyItem) → ((c : IdCode) → gives_to c x ≡ false) → AreHeld t h items → AreHeld t h (items ++ x ∷ [])
+held_still t h items x none held = record {
+  values = record { laid = held.values.laid; each = λ place c declared event. held.values.each place c declared event ∙ sym (final_other c items x (none c)) };
+  shares = held.shares;
+}
+
+-- what a call that sets the value of a code promises
+abbrev pub SetsValue : Form → List ℕ → ℕ → Table → Table → Type 0
+SetsValue form text code old new = (c : Code) (k : Kept) → IsText form c text → c.event ≡ false → kept_at old code ≡ Some k → share_of c.size ≤ k.room → value_at_size c.size (held_at new code) ≡ Some (value_with c.size (model_form form) text)
+
+module _ (v : HeadView) (h : Header) (old new : Table) (items : List BodyItem) (place : ℕ) (form : Form) (text : List ℕ) (c : IdCode) (views : IsViewOf v h) (declared : slice_get h.codes place ≡ Some c) (held : AreHeld old h items)
+    (f : Kept → Kept) (room : (k : Kept) → (f k).room ≡ k.room) (changes : ChangesCode place f old new) where
+  -- the room of all codes stays
+  room_stays : (other : ℕ) (k : Kept) → kept_at old other ≡ Some k → (k' : Kept) × (kept_at new other ≡ Some k') × (k'.room ≡ k.room)
+  room_stays other k was = by_test (other == place) refl
+    where
+      by_test : (b : Bool) → (other == place) ≡ b → (k' : Kept) × (kept_at new other ≡ Some k') × (k'.room ≡ k.room)
+      by_test true e = (f k, changes other ∙ rw (e, was) refl, room k)
+      by_test false e = (k, changes other ∙ rw e was, refl)
+
+  shares_stay : HasShares new h
+  shares_stay other d there =
+      let s = held.shares other d there in
+      let r = room_stays other s.0 s.1 in
+      let more = s.2 in let room = r.2 in
+      (r.0, r.1, omega (arith, more, room))
+
+  -- and what is held of the others
+  others_stay : (other : ℕ) → (other == place) ≡ false → held_at new other ≡ held_at old other
+  others_stay other e =
+      let same : kept_at new other ≡ kept_at old other = changes other ∙ rw e refl in
+      ap (λ (o : Option Kept). unwrap_or (option_map (λ (k : Kept). k.held) o) Held.Unset) same
+
+  -- the item that sets the value
+  abbrev setting : BodyItem
+  setting = BodyItem.Changes (record { code = c; form = model_form form; text = text })
+
+  -- the code that is set has the value of the item
+  set_there : ((d : Code) → slice_get v.codes.now place ≡ Some d → IsText form d text) → SetsValue form text place old new → c.event ≡ false → value_at_size c.size (held_at new place) ≡ final_value (items ++ setting ∷ []) c
+  set_there good sets event =
+      let m = code_at v.text.now v.codes.now h.codes place c views.codes declared in
+      let k = held.shares place c declared in
+      let size = m.2.size_is in
+      let more = k.2 in
+      let value = sets m.0 k.0 (good m.0 m.1) (m.2.event_is ∙ event) k.1 (omega (arith, ap share_of size, more)) in
+      subst (λ n. value_at_size n (held_at new place) ≡ Some (value_with n (model_form form) text)) size value
+      ∙ sym (final_new c items (record { code = c; form = model_form form; text = text }) ((bytes_eq-Decides c.text c.text).1 refl))
+
+  -- of another code it says nothing
+  gives_none : (other : ℕ) (d : IdCode) → slice_get h.codes other ≡ Some d → (other == place) ≡ false → (b : Bool) → same_code d c ≡ b → b ≡ false
+  gives_none other d there apart true same =
+      let one = same_place h.codes (parts v).index other place d c views.index there declared ((bytes_eq-Decides d.text c.text).0 same) in
+      absurd (eqb-false other place apart one)
+  gives_none other d there apart false same = refl
+
+  pub change_holds : IsLaidOut new → ((d : Code) → slice_get v.codes.now place ≡ Some d → IsText form d text) → SetsValue form text place old new → AreHeld new h (items ++ setting ∷ [])
+  change_holds laid good sets = record {
+    values = record { laid = laid; each = λ other d there event. by_test other d there event (other == place) refl };
+    shares = shares_stay;
+  }
+    where
+      by_test : (other : ℕ) (d : IdCode) → slice_get h.codes other ≡ Some d → d.event ≡ false → (b : Bool) → (other == place) ≡ b → value_at_size d.size (held_at new other) ≡ final_value (items ++ setting ∷ []) d
+      by_test other d there event true e =
+          let one = eqb-true other place e in
+          let same : d ≡ c = same_Some d c (sym there ∙ ap (slice_get h.codes) one ∙ declared) in
+          rw (same, one) (set_there good sets (ap (λ (y : IdCode). y.event) (sym same) ∙ event))
+      by_test other d there event false e =
+          ap (value_at_size d.size) (others_stay other e) ∙ held.values.each other d there event
+          ∙ sym (final_other d items setting (gives_none other d there e (same_code d c) refl))
+
+-- so it is where the text alone was set
+pub set_holds : (v : HeadView) (h : Header) (old new : Table) (items : List BodyItem) (place : ℕ) (form : Form) (text : List ℕ) (c : IdCode) → IsViewOf v h → slice_get h.codes place ≡ Some c → AreHeld old h items → ChangesCode place (with_text form text) old new → IsLaidOut new
+    → ((d : Code) → slice_get v.codes.now place ≡ Some d → IsText form d text) → SetsValue form text place old new → AreHeld new h (items ++ BodyItem.Changes (record { code = c; form = model_form form; text = text }) ∷ [])
+set_holds v h old new items place form text c views declared held changes = change_holds v h old new items place form text c views declared held (with_text form text) (λ k. refl) changes
+
+-- ---- the item that was read last
+
+-- a change of this code has a text that the code may have
+pub good_text : (codes : List Code) (text : List ℕ) (place : ℕ) (form : Form) (d : Code) → HasGoodText codes text (Change place form) → slice_get codes place ≡ Some d → IsText form d text
+good_text codes text place form d good there =
+    let same : good.0 ≡ d = same_Some good.0 d (sym good.1 ∙ there) in
+    subst (λ (y : Code). IsText form y text) same good.2
+
+-- what is read gives no value where it is no change
+pub other_gives : (codes : List IdCode) (text : List ℕ) (item : Item) (x : BodyItem) → IsItem codes text item x → ((place : ℕ) (form : Form) → item ≢ Change place form) → (c : IdCode) → gives_to c x ≡ false
+other_gives codes text (Time t) x is none c = rw is refl
+other_gives codes text (Begin s) x is none c = rw is refl
+other_gives codes text End x is none c = rw is refl
+other_gives codes text (Change place form) x is none c = absurd (none place form refl)
+other_gives codes text Finish x is none c = absurd is
+
+-- ---- a change whose text is given as a number too
+
+-- the code has the value of its digits
+pub bits_hold : (v : HeadView) (h : Header) (old new : Table) (items : List BodyItem) (i : Item) (text : List ℕ) (b : Bits) (place : ℕ) (form : Form) (x : BodyItem) → IsViewOf v h → AreHeld old h items → i ≡ Change place form → HasBits i text (Some b) → HasGoodText v.codes.now text i → IsItem h.codes text i x
+    → ((k : Kept) → kept_at old place ≡ Some k → 8 ≤ k.room → ChangesCode place (with_text Vector (binary_digits b.len b.number)) old new) → IsLaidOut new → SetsValue Vector (binary_digits b.len b.number) place old new → AreHeld new h (items ++ x ∷ [])
+bits_hold v h old new items i text b place form x views held is has good read changes laid sets =
+    let digits = binary_digits b.len b.number in
+    let codes = v.codes.now in
+    let same : place ≡ has.0 = let one = sym is ∙ has.1 in cc in
+    let change = subst (λ (j : Item). IsItem h.codes text j x) has.1 read in
+    let sound = subst (λ (j : Item). HasGoodText codes text j) has.1 good in
+    let there = ap (slice_get h.codes) same ∙ change.1 in
+    let k = held.shares place change.0 there in
+    let enough = k.2 in
+    let fits : (d : Code) → slice_get codes place ≡ Some d → IsText Vector d digits = λ d there. subst (IsText Vector d) has.2 (good_text codes text has.0 Vector d sound (ap (slice_get codes) (sym same) ∙ there)) in
+    subst (λ (y : BodyItem). AreHeld new h (items ++ y ∷ [])) (sym (rw (sym has.2) change.2)) (set_holds v h old new items place Vector digits change.0 views there held (changes k.0 k.1 (omega (arith, enough))) laid fits sets)

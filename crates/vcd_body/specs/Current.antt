@@ -1,0 +1,32 @@
+-- What a table of current values holds after items.
+use Rattle.std.specs.Prelude.{◌≡◌, ℕ, ◌-◌, ◌^◌, ◌≤◌, false, min, sum_by, List, slice_get, Option, Some}
+use Rattle.vcd_model.specs.Declarations.{IdCode}
+use Rattle.vcd_model.specs.Header.{Header}
+use Rattle.vcd_model.specs.History.{final_value}
+use Rattle.vcd_model.specs.Items.{BodyItem}
+use Rattle.vcd_model.specs.Values.{Value}
+use Rattle.vcd_view.specs.Needs.{value_bytes}
+use Rattle.vcd_view.specs.declared.view.HeadView.{HeadView}
+use Rattle.vcd_body.specs.Contents.{IsLaidOut, held_at, kept_at}
+use Rattle.vcd_body.specs.Kept.{Kept, value_at_size}
+use Rattle.vcd_body.specs.Stored.{share_of}
+use Rattle.vcd_body.specs.declared.table.Table.{Table}
+
+-- how many bytes the values of the codes of a header take at most
+abbrev pub table_bytes : HeadView → ℕ
+table_bytes v = min (sum_by value_bytes v.codes.now) (2 ^ 64 - 1)
+
+-- of each code that is no event the table holds this value
+pub record HasValues (t : Table) (h : Header) (value : IdCode → Option Value) : Type 0 where
+  pub laid : IsLaidOut t
+  pub each : (index : ℕ) (c : IdCode) → slice_get h.codes index ≡ Some c → c.event ≡ false → value_at_size c.size (held_at t index) ≡ value c
+
+-- each code has room for all values that it may have
+abbrev pub HasShares : Table → Header → Type 0
+HasShares t h = (index : ℕ) (c : IdCode) → slice_get h.codes index ≡ Some c → (k : Kept) × (kept_at t index ≡ Some k) × (share_of c.size ≤ k.room)
+
+-- the table holds the value of each code that is no event after these items, and has room for its
+-- next ones
+pub record AreHeld (t : Table) (h : Header) (items : List BodyItem) : Type 0 where
+  pub values : HasValues t h (final_value items)
+  pub shares : HasShares t h

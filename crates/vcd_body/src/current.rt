@@ -1,0 +1,27 @@
+//! The current values of codes after one more item.
+ghost use Rattle.std.specs.Prelude.{◌∷◌, ◌++◌, [], List};
+ghost use Rattle.vcd_body.specs.Names.{AreHeld, BodyItem, HasBits, HasGoodText, Header, HeadView, IsItem, IsViewOf, KeepsTable};
+
+use crate::bits::Bits;
+use crate::item::Item;
+use crate::table::Table;
+use crate::value::Value;
+
+/// Sets the value of a change's code in the table: to `bits`, the digits of the text as a number,
+/// or to the text if `bits` is `None`. Any other item changes nothing.
+#[inline(always)]
+pub fn set_item(table: &mut Table<'_>, item: Item, text: &[u8], bits: Option<Bits>)
+    requires bits { HasBits item text.now bits }
+    ensures held { (view : HeadView) (h : Header) (items : List BodyItem) (x : BodyItem)
+        → IsViewOf view h → HasGoodText view.codes.now text.now item → IsItem h.codes text.now item x
+        → AreHeld table.old h items → AreHeld table.new h (items ++ x ∷ []) }
+    ensures keeps { KeepsTable table.old table.new }
+{
+    let Item::Change { code, form } = item else {
+        return;
+    };
+    match bits {
+        Some(bits) => table.set_value(code, Value::Bits(bits)),
+        None => table.set(code, form, text),
+    }
+}
