@@ -75,6 +75,7 @@ if command -v mypy > /dev/null; then
 else
     echo 'the types of package and scripts are not checked: there is no mypy'
 fi
+later 'the layers of the package' python3 python/tests/test_layers.py
 later 'the package, against another reader' python3 python/tests/test_against_reader.py
 [[ -z $library ]] || later 'the package over the library, against another reader' \
     env VCDKIT_WAY=library VCDKIT_LIBRARY="$library" python3 python/tests/test_against_reader.py

@@ -1219,7 +1219,8 @@ b011 q
                     ("four-state", states.four_states),
                     ("close-sections", sections.closed),
                     ("join-bits", bits.joined)):
-                self.assertEqual(b"".join(filtered(parts)), b"".join(filtered([text])), (name, seed))
+                self.assertEqual(b"".join(filtered(iter(parts))), b"".join(filtered(iter([text]))),
+                                 (name, seed))
 
 
 class Unknown(Case):

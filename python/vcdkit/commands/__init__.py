@@ -41,10 +41,82 @@ MARK = "\0"  # which no argument has
 FIRST, LAST = "0", str(LAST_TICK)  # of --from and --to
 NEGATIVE = re.compile(r"-[.\d].*[<>=]")
 BROKEN_PIPE = 128 + 13  # the status that a shell shows of a program that SIGPIPE ended
-class _Parser(argparse.ArgumentParser):
-    """A parser that takes options and other arguments in any order."""
+JSON = "write one JSON object per line, with times in ticks"
+UNIT = "for each time, the largest that needs no fraction"
+
+
+class Parser(argparse.ArgumentParser):
+    """A parser that takes options and other arguments in any order. Its methods that are named for
+    options add these, and return it."""
 
     needs_names = False
+
+    def file(self, names: str = "") -> "Parser":
+        """Adds FILE, which dump_of opens, and NAMEs: + if there has to be one, else *."""
+        self.four_state().add_argument("file", metavar="FILE", help="the dump")
+        return self.names(names) if names else self
+
+    def names(self, count: str) -> "Parser":
+        """Adds NAMEs, as file() does."""
+        self.needs_names = count == "+"
+        self.names_of().add_argument(
+            "names", metavar="NAME", nargs="*", default=[],
+            help="a path, as vcdkit list shows it, or a scope with everything in it"
+            + " (required without --names)" * self.needs_names)
+        return self
+
+    def names_of(self) -> "Parser":
+        """Adds --names."""
+        self.add_argument("--names", dest="names_of", metavar="FILE", help="also use the names in "
+                          "this file: the first word of each line, or the signals in a GTKWave "
+                          "save file")
+        return self
+
+    def four_state(self) -> "Parser":
+        """Adds --four-state."""
+        self.add_argument("--four-state", action="store_true",
+                          help="convert VHDL's nine states, as vcdkit-four-state does")
+        return self
+
+    def at(self, what: str) -> "Parser":
+        """Adds --at."""
+        self.add_argument("--at", metavar="TIME,..", help=what % "; or a file (-: standard input) "
+                          "with a time at the beginning of each line, as vcdkit-when writes them")
+        return self
+
+    def clock(self, what: str, is_one: bool = False) -> "Parser":
+        """Adds --rise and --fall, or only one of them."""
+        to = self.add_mutually_exclusive_group() if is_one else self
+        for option, edge in ("--rise", "rising"), ("--fall", "falling"):
+            to.add_argument(option, metavar="CLOCK", help=what % edge)
+        return self
+
+    def window(self) -> "Parser":
+        """Adds --from and --to."""
+        self.add_argument("--from", dest="begin", default=FIRST, metavar="TIME",
+                          help="the first time [default: 0]")
+        self.add_argument("--to", dest="end", default=LAST, metavar="TIME",
+                          help="the last time [default: the end of the dump]")
+        return self
+
+    def form(self) -> "Parser":
+        """Adds --hex and the other forms of a value, of which one may be taken."""
+        group = self.add_mutually_exclusive_group()
+        for form, what in FORMS.items():
+            group.add_argument("--" + form, dest="form", action="store_const", const=form,
+                               help="values " + what)
+        return self
+
+    def unit(self, default: str = UNIT) -> "Parser":
+        """Adds --unit."""
+        self.add_argument("--unit", type=_unit, metavar="UNIT", help="show times in this unit: "
+                          "tick, s, ms, us, ns, ps or fs [default: %s]" % default)
+        return self
+
+    def json(self, what: str = JSON) -> "Parser":
+        """Adds --json."""
+        self.add_argument("--json", action="store_true", help=what)
+        return self
 
     def format_help(self) -> str:
         text = super().format_help()
@@ -79,30 +151,16 @@ def _unmarked(value: Any) -> Any:
 
 
 def parser(name: str, text: str, done: str = "everything was written", failed: str = FAULT,
-           wrong: str = "usage error") -> _Parser:
+           wrong: str = "usage error") -> Parser:
     """Returns a parser of words, whose help has the text of a command and its exit statuses 0, 1
     and 2, those of a filter if nothing is said of status 1."""
     first, _, rest = text.partition("\n")
     statuses = STATUSES % (done, failed, wrong) if failed else STATUSES_OF_A_FILTER
-    made = _Parser(
+    made = Parser(
         prog=name, description=first, epilog=rest.strip("\n") + "\n" + statuses,
         formatter_class=argparse.RawDescriptionHelpFormatter, allow_abbrev=False)
     made.add_argument("-V", "--version", action="version", version="%s %s" % (name, __version__))
     return made
-
-
-def add_file(to: _Parser, names: str = "") -> None:
-    """Adds FILE, which dump_of opens, and NAMEs: + if there has to be one, else *."""
-    add_four_state(to)
-    to.add_argument("file", metavar="FILE", help="the dump")
-    if names:
-        add_names(to, names)
-
-
-def add_four_state(to: argparse.ArgumentParser) -> None:
-    """Adds --four-state."""
-    to.add_argument("--four-state", action="store_true",
-                    help="convert VHDL's nine states, as vcdkit-four-state does")
 
 
 def filter_of(name: str, text: str, words: List[str]) -> argparse.Namespace:
@@ -124,12 +182,6 @@ def dump_of(asked: argparse.Namespace, file: Optional[str] = None,
     return dump
 
 
-def add_at(to: argparse.ArgumentParser, what: str) -> None:
-    """Adds --at."""
-    to.add_argument("--at", metavar="TIME,..", help=what % "; or a file (-: standard input) with a "
-                    "time at the beginning of each line, as vcdkit-when writes them")
-
-
 def times_at(asked: argparse.Namespace) -> Optional[List[str]]:
     """Returns the times of --at; `None` if there is none."""
     text: Optional[str] = asked.at
@@ -139,35 +191,6 @@ def times_at(asked: argparse.Namespace) -> Optional[List[str]]:
         raise UsageError("--at: standard input has the dump")
     return [time for line in text_of_file(text).splitlines() for word in line.split()[:1]
             for time in word.split(",")]
-
-
-def add_names(to: _Parser, count: str) -> None:
-    """Adds NAMEs, and --names."""
-    to.needs_names = count == "+"
-    add_names_of(to)
-    to.add_argument("names", metavar="NAME", nargs="*", default=[],
-                    help="a path, as vcdkit list shows it, or a scope with everything in it"
-                    + " (required without --names)" * to.needs_names)
-
-
-def add_names_of(to: argparse.ArgumentParser) -> None:
-    """Adds --names."""
-    to.add_argument("--names", dest="names_of", metavar="FILE", help="also use the names in this "
-                    "file: the first word of each line, or the signals in a GTKWave save file")
-
-
-def add_clock(to: argparse._ActionsContainer, what: str) -> None:
-    """Adds --rise and --fall."""
-    for option, edge in ("--rise", "rising"), ("--fall", "falling"):
-        to.add_argument(option, metavar="CLOCK", help=what % edge)
-
-
-def add_window(to: argparse.ArgumentParser) -> None:
-    """Adds --from and --to."""
-    to.add_argument("--from", dest="begin", default=FIRST, metavar="TIME",
-                    help="the first time [default: 0]")
-    to.add_argument("--to", dest="end", default=LAST, metavar="TIME",
-                    help="the last time [default: the end of the dump]")
 
 
 def is_part(asked: argparse.Namespace) -> bool:
@@ -208,22 +231,6 @@ def after_end(dump: Dump, time: str) -> str:
         time, "" if last is None else ", " + dump.time(last))
 
 
-def add_form(to: argparse.ArgumentParser) -> None:
-    """Adds --hex and the other forms of a value, of which one may be taken."""
-    group = to.add_mutually_exclusive_group()
-    for form, what in FORMS.items():
-        group.add_argument("--" + form, dest="form", action="store_const", const=form,
-                           help="values " + what)
-
-
-def add_unit(to: argparse.ArgumentParser,
-             default: str = "for each time, the largest that needs no fraction") -> None:
-    """Adds --unit."""
-    to.add_argument("--unit", type=_unit, metavar="UNIT",
-                    help="show times in this unit: tick, s, ms, us, ns, ps or fs [default: %s]"
-                    % default)
-
-
 def _unit(text: str) -> str:
     """Reads the word of --unit."""
     if text not in UNITS + ("tick",):
@@ -240,12 +247,6 @@ def times_of(dump: Source, asked: argparse.Namespace) -> Callable[[int], str]:
         return str
     dump.ticks("0" + asked.unit)
     return lambda ticks: dump.time(ticks, asked.unit)
-
-
-def add_json(to: argparse._ActionsContainer,
-             what: str = "write one JSON object per line, with times in ticks") -> None:
-    """Adds --json."""
-    to.add_argument("--json", action="store_true", help=what)
 
 
 def natural(text: str) -> int:

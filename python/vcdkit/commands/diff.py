@@ -49,9 +49,7 @@ from ..model.values import Cell, value_in
 from ..questions.compare import (Comparison, Difference, Pair, Side, Sides, choose, in_common, kind,
                                  same_within)
 from ..reading.files import check_outputs, write
-from . import (FAULT, add_clock, add_form, add_four_state, add_json, add_names, add_unit,
-               add_window, check_begin, command, dump_of, is_part, parser, part_of, question,
-               times_of)
+from . import FAULT, check_begin, command, dump_of, is_part, parser, part_of, question, times_of
 
 MAX_LINES = 20
 
@@ -286,8 +284,8 @@ def words_of(words: List[str]) -> argparse.Namespace:
                     "[default: 0]")
     options.add_argument("--x-matches", action="store_true",
                     help="a digit that is x or z in either dump matches any digit")
-    add_window(options)
-    add_clock(options.add_mutually_exclusive_group(), "compare at the %s edges of this signal")
+    options.window()
+    options.clock("compare at the %s edges of this signal", is_one=True)
     options.add_argument("--every", action="store_true", help="show the first difference of each "
                     "signal, without the limit of %d lines of each kind" % MAX_LINES)
     options.add_argument("--junit", metavar="FILE", help="also write a JUnit report, with a test for "
@@ -299,13 +297,10 @@ def words_of(words: List[str]) -> argparse.Namespace:
     options.add_argument("--html", metavar="FILE", help="if values differ, write an HTML page with the "
                     "waveforms of both dumps, as vcdkit-wave --html does: the signals in the "
                     "lines, and the clock, within --context, or otherwise as much as fits")
-    add_form(options)
-    add_unit(options)
-    add_json(options)
-    add_four_state(options)
+    options.form().unit().json().four_state()
     options.add_argument("one", metavar="A", help="the first dump")
     options.add_argument("other", metavar="B", help="the second dump")
-    add_names(options, "*")
+    options.names("*")
     asked = options.parse_args(words)
     asked.maps.sort(key=lambda pair: -len(pair[0]))
     if asked.into is not None and not asked.context:

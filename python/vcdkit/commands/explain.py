@@ -38,7 +38,7 @@ from ..questions.dump import Dump
 from ..questions.salvage import Good, has_header
 from ..questions.verdicts import Verdict, files_of, summary, verdict_on, verdicts
 from ..reading.files import check_outputs, write
-from . import (add_four_state, add_json, add_unit, command, dump_of, natural, parser, times_of)
+from . import command, dump_of, natural, parser, times_of
 
 OUTPUT = ("-", "/dev/stdout")
 Unpacker = Optional[List[str]]
@@ -104,9 +104,7 @@ def words_of(words: List[str]) -> argparse.Namespace:
                     "[default: the number of processors]")
     options.add_argument("--junit", metavar="FILE",
                     help="write a JUnit report, with a test for each dump")
-    add_unit(options)
-    add_json(options)
-    add_four_state(options)
+    options.unit().json().four_state()
     options.add_argument("files", metavar="FILE", nargs="+", help="a dump, or a directory of dumps")
     asked = options.parse_args(words)
     if asked.reach is not None:

@@ -20,7 +20,7 @@ from ..forms.text import write_json
 from ..model.signals import Scope, Signal
 from ..questions.dump import compiled
 from ..questions.picked import picked
-from . import add_file, add_json, add_names_of, command, dump_of, parser
+from . import JSON, command, dump_of, parser
 
 
 def write_tree(top: Scope, is_found: Callable[[Signal], bool]) -> None:
@@ -48,9 +48,8 @@ def main(words: List[str]) -> int:
     form.add_argument("--pick", action="store_true", help="write a dump of only these variables")
     form.add_argument("--tree", action="store_true",
                       help="list scopes, with the number of variables in each")
-    add_json(form)
-    add_names_of(options)
-    add_file(options)
+    form.add_argument("--json", action="store_true", help=JSON)
+    options.names_of().file()
     options.add_argument("patterns", metavar="REGEX", nargs="*", default=[],
                     help="a regular expression [default: all variables]")
     asked = options.parse_args(words)

@@ -15,7 +15,7 @@ from typing import Any, Counter, Dict, Iterator, List, Tuple
 from ..forms.text import write_json
 from ..questions.dump import Dump
 from ..reading.body import first_time
-from . import add_file, add_json, add_unit, command, dump_of, parser, times_of
+from . import command, dump_of, parser, times_of
 
 
 def of_header(dump: Dump, count: int) -> Iterator[Tuple[str, Any]]:
@@ -49,9 +49,7 @@ def main(words: List[str]) -> int:
     options = parser("vcdkit-info", __doc__, failed="not a valid dump")
     options.add_argument("--scopes", type=int, default=5, metavar="N",
                          help="how many of the largest scopes to list [default: 5]")
-    add_unit(options)
-    add_json(options, "write one JSON object; first_tick and last_tick are ticks")
-    add_file(options)
+    options.unit().json("write one JSON object; first_tick and last_tick are ticks").file()
     asked = options.parse_args(words)
     dump = dump_of(asked)
     time_text = times_of(dump, asked)

@@ -42,8 +42,7 @@ from ..questions.dump import Dump
 from ..questions.statistics import Statistics, shares_of, statistics_of
 from ..questions.toggles import BitCounts, counts_of
 from ..reading.files import check_outputs, write
-from . import (add_file, add_form, add_json, add_unit, add_window, check_begin, command, dump_of,
-               natural, parser, times_of, window_of)
+from . import check_begin, command, dump_of, natural, parser, times_of, window_of
 
 
 def facts_of(signal: Signal, counted: Statistics, form: Optional[str], count: Optional[int]
@@ -124,11 +123,7 @@ def main(words: List[str]) -> int:
                          "to list for a signal; --json lists all [default: 10]")
     options.add_argument("--toggle", action="store_true", help="list how often each bit toggles")
     options.add_argument("--saif", metavar="FILE", help="write a SAIF file (-: standard output)")
-    add_window(options)
-    add_form(options)
-    add_unit(options)
-    add_json(options)
-    add_file(options, "+")
+    options.window().form().unit().json().file("+")
     asked = options.parse_args(words)
     check_outputs([asked.saif], [asked.file, asked.names_of])
     dump = dump_of(asked)

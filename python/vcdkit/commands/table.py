@@ -35,22 +35,17 @@ from typing import List
 from ..forms.text import in_json, shown, write_json
 from ..model.signals import keys_of
 from ..model.values import Value
-from . import (add_at, add_clock, add_file, add_form, add_json, add_unit, add_window, check_begin,
-               command, dump_of, is_part, parser, part_of, times_at)
+from . import check_begin, command, dump_of, is_part, parser, part_of, times_at
 
 
 @command
 def main(words: List[str]) -> int:
     options = parser("vcdkit-table", __doc__)
-    add_form(options)
-    add_clock(options, "write a row for each %s edge of this signal")
-    add_at(options, "write a row for each of these times%s")
+    options.form().clock("write a row for each %s edge of this signal")
+    options.at("write a row for each of these times%s")
     options.add_argument("--if", dest="condition", metavar="CONDITION",
                     help="write only the rows at which this holds")
-    add_window(options)
-    add_unit(options, "that of the time scale")
-    add_json(options)
-    add_file(options, "+")
+    options.window().unit("that of the time scale").json().file("+")
     asked = options.parse_args(words)
     if asked.at is not None and (is_part(asked) or asked.rise is not None or asked.fall is not None):
         options.error("--at goes with none of --rise, --fall, --from and --to")

@@ -16,18 +16,13 @@ from typing import List
 
 from ..forms.text import in_json, shown, write_json
 from ..questions.rows import at_times, states
-from . import (add_at, add_file, add_form, add_json, add_unit, after_end, command, dump_of, parser,
-               times_at, times_of)
+from . import after_end, command, dump_of, parser, times_at, times_of
 
 
 @command
 def main(words: List[str]) -> int:
     options = parser("vcdkit-values", __doc__)
-    add_at(options, "the times%s [default: the end of the dump]")
-    add_form(options)
-    add_unit(options)
-    add_json(options)
-    add_file(options, "*")
+    options.at("the times%s [default: the end of the dump]").form().unit().json().file("*")
     asked = options.parse_args(words)
     given, dump = times_at(asked), dump_of(asked)
     text = times_of(dump, asked)

@@ -27,8 +27,7 @@ from ..model.times import Window
 from ..questions.dump import Dump
 from ..questions.lanes import lanes_of
 from ..questions.streams import Reader
-from . import (add_file, add_form, add_window, after_end, check_begin, command, dump_of, is_part,
-               parser, window_of)
+from . import after_end, check_begin, command, dump_of, is_part, parser, window_of
 
 LEAST_WIDTH, MAX_WIDTH = 100, 20000  # pixels: room for a time of the axis; that of bins
 MAX_SIGNALS = 200  # rows of a picture
@@ -82,7 +81,7 @@ def write_page(dump: Dump, window: Window, mark: Optional[int], asked: argparse.
 @command
 def main(words: List[str]) -> int:
     options = parser("vcdkit-wave", __doc__, "the picture was written")
-    add_window(options)
+    options.window()
     options.add_argument("--around", metavar="TIME",
                          help="the middle of the window, where a mark is drawn")
     options.add_argument("--context", metavar="TIME",
@@ -94,8 +93,7 @@ def main(words: List[str]) -> int:
     options.add_argument("--light", action="store_true", help="draw dark lines on white")
     options.add_argument("--html", action="store_true", help="write an HTML page, in which you can "
                          "zoom and search, not a picture")
-    add_form(options)
-    add_file(options, "+")
+    options.form().file("+")
     asked = options.parse_args(words)
     if asked.around is not None and is_part(asked):
         options.error("--around goes with none of --from and --to")

@@ -65,8 +65,7 @@ from ..forms.text import mean_text, write_json
 from ..questions.dump import Dump
 from ..questions.when import Questions
 from ..reading.files import check_outputs, text_of_file
-from . import (FAULT, add_clock, add_file, add_json, add_unit, add_window, check_begin, command,
-               dump_of, parser, part_of, question, times_of)
+from . import FAULT, check_begin, command, dump_of, parser, part_of, question, times_of
 
 Rule = Tuple[str, str]  # its name, and its condition
 
@@ -87,15 +86,12 @@ def words_of(words: List[str]) -> argparse.Namespace:
                     "n-th answer belongs to the n-th request")
     options.add_argument("--junit", metavar="FILE", help="with --rules: also write a JUnit report, with "
                     "a test for each rule")
-    add_clock(options, "evaluate at the %s edges of this signal")
+    options.clock("evaluate at the %s edges of this signal")
     options.add_argument("--every", action="store_true",
                     help="list each edge at which it holds, not only those at which it begins to")
     options.add_argument("--never", action="store_true",
                     help="for a CI job: exit with 0 if it never held and with 1 if it did")
-    add_window(options)
-    add_unit(options)
-    add_json(options)
-    add_file(options)
+    options.window().unit().json().file()
     options.add_argument("condition", metavar="CONDITION", nargs="?",
                     help="a condition (see below); not with --rules")
     asked, rest = options.parsed(words)

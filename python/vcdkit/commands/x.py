@@ -19,8 +19,7 @@ from typing import List, Set
 from ..forms.text import in_json, shown, write_json
 from ..model.values import value_in
 from ..questions.unknown import Signals, values_of
-from . import (FAULT, add_file, add_form, add_json, add_unit, add_window, check_begin, command,
-               dump_of, parser, question, times_of)
+from . import FAULT, check_begin, command, dump_of, parser, question, times_of
 
 
 @command
@@ -32,11 +31,7 @@ def main(words: List[str]) -> int:
     form.add_argument("--count", action="store_true", help="write only the number of values")
     options.add_argument("--trace", action="store_true", help="list only the first one of each path")
     options.add_argument("--z", action="store_true", help="list values with a z too")
-    add_window(options)
-    add_form(options)
-    add_unit(options)
-    add_json(options)
-    add_file(options, "*")
+    options.window().form().unit().json().file("*")
     asked = options.parse_args(words)
     dump = dump_of(asked)
     text_of = times_of(dump, asked)

@@ -345,6 +345,11 @@ class Condition:
                 is_own = True
         return is_own
 
+    @property
+    def has_events(self) -> bool:
+        """Whether it names an event."""
+        return bool(self._events)
+
     def holds(self) -> bool:
         """Whether it holds at the values that there are."""
         return self.test(self.values) is True

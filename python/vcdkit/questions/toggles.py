@@ -2,7 +2,7 @@
 long it has each value; and these as SAIF, which power tools read."""
 import itertools
 from operator import lt
-from typing import Dict, Iterable, Iterator, List, NamedTuple, Set, Tuple, Union
+from typing import Dict, Iterable, Iterator, List, NamedTuple, Set, Tuple
 
 from ..model.names import bare
 from ..model.signals import Declaration
@@ -14,11 +14,15 @@ from ..reading.source import Source
 BATCH = 1 << 16  # lines that are looked at together
 ONES, UNKNOWNS, FLOATS = (str.maketrans("01xz", digits) for digits in ("0100", "0010", "0001"))
 BIT = (b"0", b"1", b"x", b"z")
+ROOM = 15  # ones that four binary digits have room for
 Lines = Tuple[int, List[bytes]]  # a time and its lines
 
 
+# The bits of a vector are a number with four binary digits for each of them, of which the lowest
+# one says it. So numbers up to 15 of all bits can be added at once.
+
 class Counts:
-    """A number for each bit of a vector: digit p of that of bit b is bit b of planes[p]."""
+    """A number for each bit of a vector: binary digit p of all of them is in planes[p]."""
 
     __slots__ = ("_planes",)
 
@@ -38,44 +42,30 @@ class Counts:
                     at += 1
             number, place = number >> 1, place + 1
 
+    def add_sums(self, sums: int, every: int) -> None:
+        """Adds a number up to 15 to that of each bit; `every` has all bits."""
+        for place in range(4):
+            self.add(sums >> place & every, 1 << place)
+
     def of(self, size: int) -> List[int]:
-        """Returns the numbers of so many bits, that of bit 0 last."""
-        if size == 1:
-            return [sum(plane << at for at, plane in enumerate(self._planes))]
-        digits = [format(plane, "0%db" % size) for plane in reversed(self._planes)]
+        """Returns the numbers of so many bits, the leftmost first."""
+        digits = ["%0*x" % (size, plane) for plane in reversed(self._planes)]
         return [int("".join(its), 2) for its in zip(*digits)] if digits else [0] * size
 
 
-class Count:
-    """As Counts, of a single bit."""
-
-    __slots__ = ("_number",)
-
-    def __init__(self) -> None:
-        self._number = 0
-
-    def add(self, bits: int, number: int = 1) -> None:
-        """Adds a number if the bit is one of some."""
-        self._number += number if bits else 0
-
-    def of(self, size: int) -> List[int]:
-        """Returns the number, in a list."""
-        return [self._number] * size
-
-
-def _counts_of(size: int) -> Union[Count, Counts]:
-    return Counts() if size > 1 else Count()
-
-
 class Bits:
-    """What the bits of one code do, bit 0 the rightmost. Each is x until it has a value, which is
-    no change. A value counts when the next one comes, as only the last one of a time does."""
+    """What the bits of one code do. Each is x until it has a value, which is no change. A value
+    counts when the next one comes, as only the last one of a time does."""
 
     def __init__(self, size: int, begin: int, has_ticks: bool):
         self.size, self._has_ticks = size, has_ticks
-        self.rises, self.falls, self.unknowns = (_counts_of(size) for _ in range(3))
-        self.high, self.unknown, self.floating = (_counts_of(size) for _ in range(3))  # ticks
-        self._ones, self._xs, self._zs = 0, (1 << size) - 1, 0
+        self._every = int("1" * size, 16)
+        self._rises, self._falls, self._unknowns = (Counts() for _ in range(3))
+        self._high, self._unknown, self._floating = (Counts() for _ in range(3))  # ticks
+        self._ones, self._xs, self._zs = 0, self._every, 0
+        # Of the last changes between known values, so many that there is this room.
+        self._rise_sums = self._fall_sums = 0
+        self._room = ROOM
         self._since, self._time, self._next, self._is_new = begin, begin, b"", True
 
     def start(self, text: bytes) -> None:
@@ -85,47 +75,69 @@ class Bits:
     def take(self, time: int, text: bytes) -> None:
         """Takes a value that is written at a time."""
         if time != self._time:
-            self.settle()
+            if self._next:
+                self.settle()
             self._time = time
         self._next = text
 
     def settle(self) -> None:
         """Takes the last value as that at the end of its time."""
-        text, self._next = self._next, b""
+        text, self._next, old = self._next, b"", self._ones
+        try:
+            ones = int(text, 16)
+            is_known = not self._xs and not self._zs
+        except ValueError:  # it has an x or a z, or is a real number, or there is none
+            is_known = False
+        if not is_known:
+            self._settle_unknown(text)
+            return
+        if self._has_ticks:
+            self.pass_to(self._time)
+        changed = old ^ ones
+        self._rise_sums += changed & ones
+        self._fall_sums += changed & old
+        self._ones = ones
+        self._room -= 1
+        if not self._room:
+            self._carry()
+
+    def _settle_unknown(self, text: bytes) -> None:
         if not text or text[:1] == b"r":
             return
         was_new, ones, xs, zs = self._is_new, self._ones, self._xs, self._zs
         self.pass_to(self._time)
         self._set(text)
         if not was_new:
-            self.rises.add(self._ones & ~(ones | xs | zs))
-            self.falls.add(ones & ~(self._ones | self._xs | self._zs))
-            self.unknowns.add(self._xs & ~xs)
+            self._rises.add(self._ones & ~(ones | xs | zs))
+            self._falls.add(ones & ~(self._ones | self._xs | self._zs))
+            self._unknowns.add(self._xs & ~xs)
+
+    def _carry(self) -> None:
+        """Counts the sums."""
+        self._rises.add_sums(self._rise_sums, self._every)
+        self._falls.add_sums(self._fall_sums, self._every)
+        self._rise_sums, self._fall_sums, self._room = 0, 0, ROOM
 
     def pass_to(self, time: int) -> None:
         """Counts the time up to another one."""
         ticks, self._since = time - self._since, time
-        if not self._has_ticks:
-            return
-        self.high.add(self._ones, ticks)
-        if self._xs or self._zs:
-            self.unknown.add(self._xs, ticks)
-            self.floating.add(self._zs, ticks)
+        if self._has_ticks:
+            self._high.add(self._ones, ticks)
+            self._unknown.add(self._xs, ticks)
+            self._floating.add(self._zs, ticks)
 
     def _set(self, text: bytes) -> None:
         """Takes a value as the one that there is."""
         self._is_new = False
-        if text.strip(b"01"):
-            digits = full(text.decode(), self.size)
-            self._ones, self._xs, self._zs = (
-                int(digits.translate(table), 2) for table in (ONES, UNKNOWNS, FLOATS))
-        else:
-            self._ones, self._xs, self._zs = int(text, 2), 0, 0
+        digits = full(text.decode(), self.size)
+        self._ones, self._xs, self._zs = (
+            int(digits.translate(table), 16) for table in (ONES, UNKNOWNS, FLOATS))
 
     def counts(self) -> Iterator[Tuple[int, ...]]:
         """Returns the counts of each bit, the leftmost first, as a row has them."""
+        self._carry()
         return zip(*(counts.of(self.size) for counts in (
-            self.rises, self.falls, self.unknowns, self.high, self.unknown, self.floating)))
+            self._rises, self._falls, self._unknowns, self._high, self._unknown, self._floating)))
 
     def takes_all(self, falls: List[int], rises: List[int]) -> bool:
         """Takes the times at which a known bit is written 0 and 1, if it is another one each time;
@@ -135,12 +147,12 @@ class Bits:
         if self._xs or self._zs or not 0 <= len(first) - len(second) <= 1 or not all(
                 map(lt, first, second)) or not all(map(lt, second, first[1:])):
             return False
-        self.rises.add(1, len(rises))
-        self.falls.add(1, len(falls))
+        self._rises.add(1, len(rises))
+        self._falls.add(1, len(falls))
         last = max(first[-1:] + second[-1:], default=self._since)
         is_high = len(first) == len(second) if self._ones else len(first) != len(second)
         if self._has_ticks:
-            self.high.add(1, sum(falls) - sum(rises) + last * is_high - self._since * self._ones)
+            self._high.add(1, sum(falls) - sum(rises) + last * is_high - self._since * self._ones)
         self._since, self._ones = last, int(is_high)
         return True
 

@@ -1,7 +1,7 @@
 """The times at which a condition holds, and how long answers take."""
 import collections
-from typing import (Callable, Collection, Deque, Iterator, List, NamedTuple, Optional, Sequence,
-                    Tuple)
+from typing import (Callable, Collection, Deque, Dict, Iterator, List, NamedTuple, Optional,
+                    Sequence, Set, Tuple)
 
 from ..errors import DumpFault, UnknownName, UsageError
 from ..reading import body
@@ -87,6 +87,11 @@ class _Question:
         return found
 
     @property
+    def is_asking(self) -> bool:
+        """Whether it may say something at an edge at which no value of it is another one."""
+        return self.every or self.condition.answer is not None or self.condition.has_events
+
+    @property
     def has_latency(self) -> bool:
         """Whether it is as `req -> ack within N`."""
         return bool(self.condition.answer) and not self.condition.is_refusal
@@ -132,9 +137,10 @@ class Questions:
         """Returns what becomes of each condition, with its number, as soon as that is known."""
         fault: Optional[DumpFault] = None
         try:
-            for time, number in self._looks():
-                for one in self.each[number].look(time):
-                    yield number, one
+            for time, numbers in self._looks():
+                for number in numbers:
+                    for one in self.each[number].look(time):
+                        yield number, one
         except DumpFault as error:
             fault = error
         waiting = [number for number, its in enumerate(self.each) if its.waits_for_a_time]
@@ -154,23 +160,31 @@ class Questions:
         """Whether a condition holds by an outcome: a request has its answer in time, or none."""
         return (one.answer is None) == self.each[number].condition.is_refusal
 
-    def _looks(self) -> Iterator[Tuple[int, int]]:
-        """Returns each time at which a condition is looked at, and its number; the condition has
-        the values there."""
+    def _looks(self) -> Iterator[Tuple[int, Set[int]]]:
+        """Returns each time at which conditions are looked at, and the numbers of those of which a
+        value is another one there, or that say something at each time; they have the values
+        there."""
         conditions = [one.condition for one in self.each]
-        codes = {code for one in conditions for code in one.codes}
+        numbers: Dict[bytes, List[int]] = {}  # of each code those of its conditions
+        for number, one in enumerate(conditions):
+            for code in one.codes:
+                numbers.setdefault(code, []).append(number)
         names = [*dict.fromkeys(path for one in conditions for path in one.paths), *self.clocks]
-        if self.edges:
-            for time, changes in body.at_edges(self.dump, names, codes, self.edges):
-                for number, one in enumerate(conditions):
-                    one.take(changes)
-                    yield time, number
-            return
         begin = self.dump.begin()
-        for time, changes in _with_begin(self.dump.part(names), codes, begin):
-            for number, one in enumerate(conditions):
-                if one.take(changes) or time == begin:
-                    yield time, number
+        always = {number for number, one in enumerate(self.each) if self.edges and one.is_asking}
+        times = (body.at_edges(self.dump, names, numbers, self.edges) if self.edges
+                 else _with_begin(self.dump.part(names), numbers, begin))
+        is_first = True
+        for time, changes in times:
+            due = set(always)
+            for change in changes:
+                for number in numbers.get(change[0], ()):
+                    conditions[number].take([change])
+                    due.add(number)
+            if is_first and (self.edges or time == begin):
+                due.update(range(len(conditions)))
+            is_first = False
+            yield time, due
 
 
 def _with_begin(part: Source, codes: Collection[bytes], begin: int

@@ -9,6 +9,7 @@ from ..model.times import Timescale, amount_in
 
 # A command, from its keyword to its $end.
 COMMAND = re.compile(rb"(?<!\S)(\$\S*)(.*?)(?<!\S)\$end(?!\S)", re.DOTALL)
+BLANK = re.compile(rb"[ \t\r]*\n?")
 LAST = b"$enddefinitions"
 BODY = LAST + b" $end\n"  # the last line of a header that vcdkit writes
 
@@ -40,7 +41,8 @@ def parted(blocks: Iterable[bytes]) -> Tuple[bytes, bytes]:
         is_near = is_near or text.find(LAST, begin) >= 0
         for one in commands(bytes(text)) if is_near else ():
             if one.keyword == LAST:
-                return bytes(text[:one.end]), bytes(text[one.end:])
+                end = BLANK.match(text, one.end).end()  # type: ignore[union-attr]
+                return bytes(text[:end]), bytes(text[end:])
     return bytes(text), b""
 
 

@@ -32,26 +32,6 @@ class _Place(ctypes.Structure):
                 ("fault", ctypes.c_uint64), ("line", ctypes.c_uint64)]
 
 
-class _Buffer(ctypes.Structure):
-    """Py_buffer."""
-
-    _fields_ = [("buf", ctypes.c_void_p), ("obj", ctypes.py_object), ("len", ctypes.c_ssize_t),
-                ("itemsize", ctypes.c_ssize_t), ("readonly", ctypes.c_int), ("ndim", ctypes.c_int),
-                ("format", ctypes.c_char_p), ("shape", ctypes.c_void_p),
-                ("strides", ctypes.c_void_p), ("suboffsets", ctypes.c_void_p),
-                ("internal", ctypes.c_void_p)]
-
-
-_python = ctypes.pythonapi
-_python.PyObject_GetBuffer.argtypes = [ctypes.py_object, ctypes.c_void_p, ctypes.c_int]
-_python.PyBuffer_Release.argtypes, _python.PyBuffer_Release.restype = [ctypes.c_void_p], None
-_python.PyBytes_FromStringAndSize.argtypes = [ctypes.c_char_p, ctypes.c_ssize_t]
-_python.PyBytes_FromStringAndSize.restype = ctypes.c_void_p
-_python.PyBytes_AsString.argtypes = [ctypes.c_void_p]
-_python.PyBytes_AsString.restype = ctypes.c_void_p
-_python._PyBytes_Resize.argtypes = [ctypes.c_void_p, ctypes.c_ssize_t]
-_python.Py_DecRef.argtypes, _python.Py_DecRef.restype = [ctypes.c_void_p], None
-
 _loaded: Dict[str, ctypes.CDLL] = {}
 
 
@@ -86,75 +66,38 @@ def _library() -> ctypes.CDLL:
     return _loaded[name]
 
 
-class _Lender:
-    """Keeps lent bytes alive until the call is over."""
-
-    def __init__(self) -> None:
-        self.kept: List[object] = []
-        self.buffers: List[_Buffer] = []
-
-    def lend(self, data: Data) -> Tuple[int, int]:
-        """Returns where the bytes are and how many, without a copy."""
-        self.kept.append(data)
-        if isinstance(data, bytes):
-            # The object's own bytes, which a NUL ends, so that the pointer is never null.
-            return ctypes.cast(ctypes.c_char_p(data), ctypes.c_void_p).value or 0, len(data)
-        buffer = _Buffer()
-        _python.PyObject_GetBuffer(data, ctypes.byref(buffer), 0)
-        self.buffers.append(buffer)
-        return buffer.buf, len(data)
-
-    def __enter__(self) -> "_Lender":
-        return self
-
-    def __exit__(self, *_: object) -> None:
-        for buffer in self.buffers:
-            _python.PyBuffer_Release(ctypes.byref(buffer))
-
-
-class _Filled:
-    """Bytes that the library fills: a new `bytes` object, of which a page is taken once it is
-    written. Nobody else has it yet, so it can be shortened as it lies, without a copy."""
-
-    def __init__(self, room: int):
-        self.owned = ctypes.c_void_p()
-        self.owned.value = _python.PyBytes_FromStringAndSize(None, room)
-        self.at = _python.PyBytes_AsString(self.owned)
-
-    def first(self, length: int) -> bytes:
-        """Returns the first bytes; to be called once."""
-        _python._PyBytes_Resize(ctypes.byref(self.owned), length)
-        return cast(bytes, ctypes.cast(self.owned, ctypes.py_object).value)
-
-    def __del__(self) -> None:
-        _python.Py_DecRef(self.owned)
+def _lent(data: Data) -> Tuple[int, int, object]:
+    """Returns where bytes are, how many, and what has to be kept meanwhile; it makes no copy."""
+    if isinstance(data, bytes):
+        # The object's own bytes, which a NUL ends, so that the pointer is never null.
+        return ctypes.cast(ctypes.c_char_p(data), ctypes.c_void_p).value or 0, len(data), data
+    mapped = (ctypes.c_char * len(data)).from_buffer(data)
+    return ctypes.addressof(mapped), len(data), mapped
 
 
 def run(words: Sequence[str], given: Data = b"", files: Sequence[Tuple[bytes, Data]] = (),
         room: int = 1 << 16) -> Tuple[int, bytes, bytes]:
     """Returns the status, the output and the message of these words over standard input and files.
-    The output is the object that the library wrote to, with no copy.
-
     `room` is how long the output may be; where it is longer, the command runs a second time."""
-    with _Lender() as lender:
-        lent = [lender.lend(word.encode("utf-8", "surrogateescape")) for word in words]
-        named = [(lender.lend(name), lender.lend(data)) for name, data in files]
-        seed = int.from_bytes(os.urandom(8), "little")  # of the hash of codes
-        asked = ((_Lent * max(len(lent), 1))(*[_Lent(*one) for one in lent]), len(lent),
-                 *lender.lend(given),
-                 (_File * max(len(named), 1))(*[_File(_Lent(*a), _Lent(*b)) for a, b in named]),
-                 len(named), seed)
-        used, said_used, said_room = ctypes.c_uint64(0), ctypes.c_uint64(0), 1 << 16
-        while True:
-            out, said = _Filled(room), ctypes.create_string_buffer(said_room)
-            status = _library().vcdkit_run(
-                *asked, out.at, room, ctypes.byref(used), ctypes.addressof(said), said_room,
-                ctypes.byref(said_used))
-            if status == OUT_OF_MEMORY:
-                raise RunFailed("out of memory")
-            if used.value <= room and said_used.value <= said_room:
-                return status, out.first(used.value), said.raw[:said_used.value]
-            room, said_room = max(room, used.value), max(said_room, said_used.value)
+    lent = [_lent(word.encode("utf-8", "surrogateescape")) for word in words]
+    named = [(_lent(name), _lent(data)) for name, data in files]
+    input_at, input_length, kept = _lent(given)
+    asked = ((_Lent * max(len(lent), 1))(*[_Lent(*one[:2]) for one in lent]), len(lent),
+             input_at, input_length,
+             (_File * max(len(named), 1))(*[_File(_Lent(*a[:2]), _Lent(*b[:2])) for a, b in named]),
+             len(named), int.from_bytes(os.urandom(8), "little"))  # the seed of the hash of codes
+    used, said_used, said_room = ctypes.c_uint64(0), ctypes.c_uint64(0), 1 << 16
+    while True:
+        out = mmap.mmap(-1, max(room, 1))  # a page is taken once it is written
+        said = ctypes.create_string_buffer(said_room)
+        status = _library().vcdkit_run(
+            *asked, _lent(out)[0], room, ctypes.byref(used), ctypes.addressof(said), said_room,
+            ctypes.byref(said_used))
+        if status == OUT_OF_MEMORY:
+            raise RunFailed("out of memory")
+        if used.value <= room and said_used.value <= said_room:
+            return status, out[:used.value], said.raw[:said_used.value]
+        room, said_room = max(room, used.value), max(said_room, said_used.value)
 
 
 def changes(text: Text, code: bytes, room: int = 1 << 18) -> Optional["array[int]"]:
@@ -163,14 +106,14 @@ def changes(text: Text, code: bytes, room: int = 1 << 18) -> Optional["array[int
     if not hasattr(_library(), "vcdkit_changes"):
         return None
     found, reading, seed = array("Q"), _Place(), int.from_bytes(os.urandom(8), "little")
-    with _Lender() as lender:
-        data, name = lender.lend(_data(text)), lender.lend(code)
-        some = array("Q", bytes(3 * 8 * room))
-        status = FULL
-        while status == FULL:
-            status = _library().vcdkit_changes(*data, *name, seed, ctypes.byref(reading),
-                                               some.buffer_info()[0], room)
-            found += some if reading.count == room else some[:3 * reading.count]
+    at, length, kept = _lent(_data(text))
+    name_at, name_length, _ = _lent(code)
+    some, status = array("Q", bytes(3 * 8 * room)), FULL
+    while status == FULL:
+        status = _library().vcdkit_changes(at, length, name_at, name_length, seed,
+                                           ctypes.byref(reading), some.buffer_info()[0], room)
+        found += some if reading.count == room else some[:3 * reading.count]
+    del kept
     return None if status else found
 
 
@@ -218,7 +161,7 @@ def _bytes_of(file: File) -> Data:
     with file.open() as source:
         if not filters:
             try:
-                return mmap.mmap(source.fileno(), 0, access=mmap.ACCESS_READ)
+                return mmap.mmap(source.fileno(), 0, access=mmap.ACCESS_COPY)
             except (ValueError, OSError):  # it is empty, or cannot be mapped
                 return source.read()
         data = _filtered(file, filters[0], stdin=source)

@@ -1,0 +1,44 @@
+#!/usr/bin/env python3
+"""Tests how the package is built: imports go down, no module uses a private name of another one,
+and no two classes have one name."""
+import ast
+import collections
+import glob
+import os
+import unittest
+
+PACKAGE = os.path.join(os.path.dirname(os.path.dirname(os.path.abspath(__file__))), "vcdkit")
+LAYERS = ["errors", "model", "reading", "questions", "forms", "commands"]  # the lowest first
+# Of a NamedTuple, of argparse and of C.
+PUBLIC = {"_asdict", "_make", "_replace", "_ActionsContainer", "_PyBytes_Resize"}
+
+
+class Layers(unittest.TestCase):
+    def setUp(self):
+        self.trees = {}
+        for path in glob.glob(os.path.join(PACKAGE, "**", "*.py"), recursive=True):
+            with open(path, encoding="utf-8") as file:
+                self.trees[os.path.relpath(path, PACKAGE)] = list(ast.walk(ast.parse(file.read())))
+
+    def test_imports_go_down(self):
+        for path, nodes in self.trees.items():
+            names = [(one.module or "").partition(".")[0] for one in nodes
+                     if isinstance(one, ast.ImportFrom) and one.level == 2]
+            layer = path.partition(os.sep)[0]
+            for name in filter(None, names):
+                self.assertLess(LAYERS.index(name), LAYERS.index(layer), path)
+
+    def test_private_names(self):
+        for path, nodes in self.trees.items():
+            self.assertEqual([one.attr for one in nodes if isinstance(one, ast.Attribute)
+                              and one.attr[0] == "_" != one.attr[1:2] and one.attr not in PUBLIC
+                              and getattr(one.value, "id", "") not in ("self", "_python")], [], path)
+
+    def test_names_of_classes(self):
+        names = collections.Counter(one.name for nodes in self.trees.values() for one in nodes
+                                    if isinstance(one, ast.ClassDef))
+        self.assertEqual([name for name, count in names.items() if count > 1], [])
+
+
+if __name__ == "__main__":
+    unittest.main()
