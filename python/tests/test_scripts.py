@@ -317,6 +317,13 @@ class Answers(Case):
         self.assertIn(b"bad time: 184467440738s: ticks",
                       run("vcdkit-values", ["--at", "184467440738s", dump])[2])
 
+    def test_a_time_between_two_ticks(self):
+        dump = self.file("a.vcd", b"$timescale 1ns $end $var wire 1 ! c $end $enddefinitions $end "
+                         b"#0 0! #9 1!\n")
+        self.assertEqual(run("vcdkit-values", ["--at", "9.5ns", dump]), (0, b"c 1\n", b""))
+        self.assertIn(b"10ns is after the end", run("vcdkit-values", ["--at", "10ns", dump])[2])
+        self.assertEqual(run("vcdkit-table", ["--from", "9.5ns", dump, "c"])[0], 2)
+
     def test_a_window_of_one_tick(self):
         dump = self.file("a.vcd", b"$timescale 1ns $end $var wire 1 ! c $end $enddefinitions $end "
                          b"#0 0! #1 1! #9 #18446744073709551615 0!\n")
