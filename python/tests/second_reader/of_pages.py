@@ -176,7 +176,7 @@ def pieces_of(points: Sequence[Tuple[int, Value]], begin: int, end: int, width: 
 
 def pixels_of(spans: Sequence[Span], width: int, margin: float = 0.0) -> Set[int]:
     """Returns the pixels that have a part of the spans, each of which is longer by a margin."""
-    found = set()
+    found: Set[int] = set()
     for begin, end in spans:
         rounded = min(1e-6, (end - begin) / 3)
         first, last = begin - margin + rounded, end + margin - rounded
@@ -220,8 +220,9 @@ def same_pixels(of: Asker, words: List[str], pieces: List[Piece], shapes: Dict[s
 
 def shown_by(path: str, width: int, times: Sequence[int]) -> Any:
     """Returns what the script of a page shows."""
-    done = subprocess.run([str(NODE), os.path.join(HERE, "read_page.js"), path, str(width), ",".join(
-        map(str, times))], stdout=subprocess.PIPE, stderr=subprocess.PIPE, check=False)
+    done = subprocess.run([
+        str(NODE), os.path.join(HERE, "read_page.js"), path, str(width), ",".join(map(str, times))],
+        stdout=subprocess.PIPE, stderr=subprocess.PIPE, check=False)
     if done.returncode:
         raise AssertionError(done.stderr.decode()[-600:])
     return json.loads(done.stdout)
@@ -250,7 +251,7 @@ def ask_shown(of: Asker) -> None:
             of.same("values at a cursor", [*words, one.path, form, times], values, [
                 shown(dump.at(time).get(one.code), "--" + form) for time in times])
         if not one.is_real:
-            shapes = {kind: [tuple(shape[:2]) for shape in its] for kind, its in row["shapes"]}
+            shapes = {kind: [(shape[0], shape[1]) for shape in its] for kind, its in row["shapes"]}
             same_pixels(of, [*words, one.path, str(width)], pieces_of(wanted_points(
                 dump, one, begin, end), begin, end, width), shapes, width, 0.0)
 
@@ -324,9 +325,8 @@ def same_row(of: Asker, words: List[str], pieces: List[Piece], elements: Sequenc
                        left)
     got = sorted((round(begin), round(end)) for its in shapes.values() for begin, end in its)
     wanted = sorted((round(one.begin), round(one.end)) for one in pieces)
-    of.same("picture, the shapes", words, [
-        pair for pair in zip(got, wanted) if max(abs(a - b) for a, b in zip(*pair)) > 1] or len(got),
-        len(wanted))
+    far = [pair for pair in zip(got, wanted) if max(abs(a - b) for a, b in zip(*pair)) > 1]
+    of.same("picture, the shapes", words, (far, len(got)), ([], len(wanted)))
     if size == 1:
         levels = {float(level): round(float(begin) - left) for one in elements
                   if one.get("class") == "bit" for begin, level in re.findall(
