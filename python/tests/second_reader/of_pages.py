@@ -5,7 +5,7 @@ import os
 import re
 import shutil
 import subprocess
-from typing import Any, Dict, List, NamedTuple, Optional, Sequence, Set, Tuple
+from typing import Any, Callable, Dict, List, NamedTuple, Optional, Sequence, Set, Tuple
 import xml.etree.ElementTree as xml
 
 from asker import HERE, Asker, Skip, Window, run
@@ -132,9 +132,9 @@ def ask_around(of: Asker) -> None:
 
 def same_page_of_two(of: Asker, words: List[str], path: str,
                      pairs: Sequence[Tuple[str, Variable, Variable]], dumps: Tuple[Dump, Dump],
-                     names: Set[str]) -> None:
-    """Compares the page of a difference: it has the signals of the lines, and values of the
-    dumps."""
+                     names: Set[str], are_alike: Callable[[Any, Any], bool]) -> None:
+    """Compares the page of a difference: it has the signals of the lines, values of the dumps, and
+    the times at which these differ."""
     with open(path, encoding="utf-8") as file:
         data = data_of(file.read())
     tick, seen = int(data["tick"] or 0), set()
@@ -142,7 +142,7 @@ def same_page_of_two(of: Asker, words: List[str], path: str,
     for name, *both in pairs:
         of_name.setdefault(name, []).append((both[0], both[1]))
     is_moved = any("is shown" in line for line in data["about"])  # B at the edges of A
-    for name, _, size, stream, side, _ in data["signals"]:
+    for name, _, size, stream, side, differs in data["signals"]:
         seen.add(name)
         if len(of_name.get(name, ())) != 1 or is_moved:
             continue
@@ -153,6 +153,16 @@ def same_page_of_two(of: Asker, words: List[str], path: str,
             of.same("page of two", [*words, name, side], [
                 (time, plain(value)) for time, value in points],
                 [(time, plain(cell(dump.at(time // scale).get(one.code)))) for time, _ in points])
+            if dumps[0].tick == dumps[1].tick:
+                marks, begin = points_of(data, differs, 1), int(data["begin"])
+                end = min(begin + data["span"], dumps[0].end, dumps[1].end)
+                times = {step.time for each in dumps for step in each.steps_in(begin, end)}
+                of.same("page of two, where they differ", [*words, name], [
+                    time for time in sorted(times)
+                    if [mark for at, mark in marks if at <= time][-1:] == ["1"]],
+                    [time for time in sorted(times) if not are_alike(*(
+                        each.at(time).get(its.code)
+                        for each, its in zip(dumps, of_name[name][0])))])
     clear = {name for name in names if len(of_name[name]) == 1}
     of.same("page of two, the signals", words, sorted(clear - seen), [])
 

@@ -273,7 +273,8 @@ def ask_diff(of: Asker) -> None:
     if found and "--html=" + page in words:
         least = min(one.mark for one in found)
         shown_names = {one.name for one in found if asked.every or one.mark == least}
-        same_page_of_two(of, words, page, sides.pairs, (of.dump, other), shown_names)
+        same_page_of_two(of, words, page, sides.pairs, (of.dump, other), shown_names,
+                         asked.are_alike)
 
 
 def same_lines(of: Asker, words: List[str], said: Said, sides: Sides, found: List[Difference],
