@@ -101,9 +101,10 @@ def ask_page(of: Asker) -> None:
     of.same("page, the window", words, (int(data["begin"]), data["span"]),
             (window.begin, max(1, end - window.begin)))
     its = dump.selected(names)
-    if not of.same("page, the signals", words, [(one[0], *one[1:3]) for one in data["signals"]],
-                   [(dump.key(one) if dump.key(one) in [row[0] for row in data["signals"]]
-                     else one.path, one.type, one.size) for one in its]):
+    if not of.same("page, the signals", words, [
+            (name[:len(one.path)], kind, size)  # behind it, there may be the code
+            for (name, kind, size, *_), one in zip(data["signals"], its)],
+                   [(one.path, one.type, one.size) for one in its]):
         return
     for row, one in zip(data["signals"], its):
         of.same("page, the data", [*words, one.path], [
