@@ -8,7 +8,7 @@
 #     build it: half an hour to an hour
 # make hostile runs the program while memory, reads and writes fail, with closed streams, and on
 #     dumps that are truncated, crafted or random, and asks the package and the scripts about every
-#     small dump: some minutes
+#     small dump, and what a second reader knows: some minutes
 # make docs-check runs the commands on the pages with ./vcdkit, and compares what they print with
 #     the pages. It also looks for links that lead nowhere: seconds
 # make static  links ./vcdkit-static, a program that needs no shared library: seconds after make
@@ -77,6 +77,7 @@ hostile: vcdkit
 	hostile/random_runs.py ./vcdkit --devices $$devices --runs 50000 && \
 	hostile/crafted.py ./vcdkit && \
 	VCDKIT=./vcdkit python/tests/test_every_small_dump.py && \
+	python/tests/second_reader/ask.py --seconds 120 && \
 	{ [ ! -e libvcdkit.so ] || hostile/library.py ./vcdkit ./libvcdkit.so; }; \
 	status=$$?; rm -f $$devices; exit $$status
 

@@ -76,9 +76,16 @@ else
     echo 'the types of package and scripts are not checked: there is no mypy'
 fi
 later 'the layers of the package' python3 python/tests/test_layers.py
-later 'the package, against another reader' python3 python/tests/test_against_reader.py
-[[ -z $library ]] || later 'the package over the library, against another reader' \
-    env VCDKIT_WAY=library VCDKIT_LIBRARY="$library" python3 python/tests/test_against_reader.py
+# The second reader: fixed dumps that it makes, and dumps of simulators.
+second() {
+    later "the scripts and the package, against the second reader: $1" "${@:2}" \
+        "${with_numpy:-python3}" python/tests/second_reader/ask.py --processes 1 --seeds "$1"
+}
+second 0:40 env
+[[ -z $library ]] || second 40:60 env VCDKIT_WAY=library VCDKIT_LIBRARY="$library"
+later 'the same, about dumps of simulators' "${with_numpy:-python3}" \
+    python/tests/second_reader/ask.py --processes 1 --seeds 0:1 samples/*.vcd "$@"
+[[ -n $(type -P node) ]] || echo "the page's script is not asked by the second reader: no node"
 for script in when diff; do
     later "vcdkit-$script, against another reader" python3 "python/tests/test_$script.py"
 done

@@ -25,7 +25,6 @@ sys.path[:0] = [os.path.dirname(HERE), HERE]
 os.environ.setdefault("VCDKIT", os.path.join(TOP, "vcdkit"))
 
 import browser
-import test_against_reader as plain
 from vcdkit import Dump, Signal, Value
 from vcdkit.commands import diff, wave
 from vcdkit.forms import page
@@ -110,13 +109,6 @@ class Case(unittest.TestCase):
         self.assertEqual((status, messages), (0, ""))
         return text
 
-    def random_dump(self, seed):
-        """Returns the path of a random dump, and its last time; None if it has no span of time."""
-        of = random.Random(seed)
-        path = self.file("random.vcd", plain.HEADER + plain.body(of).encode())
-        last = Dump(path).check().last
-        return (path, last) if last else (None, None)
-
 
 class Data(Case):
     """What a page has."""
@@ -155,17 +147,6 @@ class Data(Case):
         self.assertEqual([data[key] for key in ("begin", "span", "mark", "radix", "light", "tick")],
                          ["650", 100, 50, "signed", True, "100000"])
         self.assertIsNone(data_of(self.page(NESTED, "bench"))["mark"])
-
-    def test_random_dumps(self):
-        values = 0
-        for seed in range(60):
-            path, last = self.random_dump(seed)
-            if path:
-                with self.subTest(seed=seed):
-                    values += self.compare(path, ["t"])
-                    if last > 4:
-                        values += self.compare(path, ["t.q", "t.u"], "--from", "3")
-        self.assertGreater(values, 1000)
 
     def test_hostile_names(self):
         text = self.page(self.file("</title><img src=x onerror=hacked=1>.vcd".replace("/", ""),
@@ -207,46 +188,6 @@ class Data(Case):
         data = data_of(self.page("--from", str(LATE - 1), long, "q"))
         self.assertEqual((data["begin"], data["span"]), (str(LATE - 1), 10))
         self.assertEqual(run(wave, "--html", "--mark", "5", "--from", "9", long, "q")[0], 2)
-
-    def test_two_dumps(self):
-        pairs = 0
-        for seed in range(40):
-            path, last = self.random_dump(seed)
-            if path is None:
-                continue
-            of = random.Random(seed)
-            text = plain.HEADER + plain.body(of).encode()
-            other = self.file("other.vcd", re.sub(
-                rb"(?m)^(b?)[01](?=\S* ?[!\"%)]\n)", rb"\g<1>" + of.choice([b"1", b"x"]), text))
-            page = os.path.join(self.folder.name, "page.html")
-            words = ["--html", page] + ["--every"] * (seed % 2) + (
-                [] if seed % 3 else ["--context", "4", "--into", self.folder.name])
-            status, said, messages = run(diff, *words, path, other)
-            self.assertEqual((status, messages), ("differs" in said or "ends" in said, ""), seed)
-            if "differs" not in said:
-                continue
-            with self.subTest(seed=seed), open(page, encoding="ascii") as file:
-                pairs += self.compare_two(data_of(file.read()), Dump(path), Dump(other), said)
-        self.assertGreater(pairs, 20)
-
-    def compare_two(self, data, one, other, said):
-        """Compares where a page says that two dumps differ with where they do."""
-        begin, mark = int(data["begin"]), data["mark"] + int(data["begin"])
-        end = min(begin + data["span"], one.check().last, other.check().last)
-        rows = data["signals"]
-        self.assertEqual([row[4] for row in rows], ["A", "B"] * (len(rows) // 2))
-        self.assertEqual({row[0] for row in rows}, set(re.findall(r"(?m)^differs \S+ (\S+)", said)))
-        for mine, its in zip(rows[::2], rows[1::2]):
-            self.assertEqual((mine[0], mine[5]), (its[0], its[5]))
-            if mine[1] == "event" or mine[0] == "t.u.p":  # of two signals
-                continue
-            differs = points_of(data, mine[5])
-            name = re.sub("[\udc80-\udcff].*", "", mine[0]).rstrip("n").rstrip(".")
-            for time in range(begin, end + 1):
-                values = [dump.sample(time, name)[time][mine[0]] for dump in (one, other)]
-                self.assertEqual(at(differs, time) == "1", not is_same(*values), (mine[0], time))
-        self.assertTrue(any(at(points_of(data, row[5]), mark) == "1" for row in rows))
-        return len(rows) // 2
 
     def test_two_scales_and_clocks(self):
         with open(NESTED, "rb") as file:
@@ -393,14 +334,6 @@ class Shown(Case):
         self.open(self.page(NESTED, "bench"))
         times = sorted(random.Random(1).sample(range(1221), 30)) + [0, 1220]
         self.assertGreater(self.compare(NESTED, ["bench"], times), 3000)
-        for seed in range(12):
-            path, last = self.random_dump(seed)
-            if path:
-                self.open(self.page(path, "t"))
-                # A name that is no UTF-8 is another one on its way through the browser.
-                self.value(r"signals.splice(signals.findIndex(one => /n\udcff/.test(one.path)), 1)")
-                names = ["t.c", "t.q", "t.r", "t.k", "t.w", "t.u.p"]
-                self.compare(path, names, list(range(last + 1)))
 
     def test_rows(self):
         """The elements of the rows in view."""

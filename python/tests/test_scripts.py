@@ -317,6 +317,13 @@ class Answers(Case):
         self.assertIn(b"bad time: 184467440738s: ticks",
                       run("vcdkit-values", ["--at", "184467440738s", dump])[2])
 
+    def test_a_time_between_two_ticks(self):
+        dump = self.file("a.vcd", b"$timescale 1ns $end $var wire 1 ! c $end $enddefinitions $end "
+                         b"#0 0! #9 1!\n")
+        self.assertEqual(run("vcdkit-values", ["--at", "9.5ns", dump]), (0, b"c 1\n", b""))
+        self.assertIn(b"10ns is after the end", run("vcdkit-values", ["--at", "10ns", dump])[2])
+        self.assertEqual(run("vcdkit-table", ["--from", "9.5ns", dump, "c"])[0], 2)
+
     def test_a_window_of_one_tick(self):
         dump = self.file("a.vcd", b"$timescale 1ns $end $var wire 1 ! c $end $enddefinitions $end "
                          b"#0 0! #1 1! #9 #18446744073709551615 0!\n")
@@ -562,8 +569,9 @@ def random_dump(rnd, sizes):
         lines.append("#%d" % time)
         for code, size in sizes.items():
             if rnd.random() < often[code]:
-                digits = "".join(rnd.choice("01xz" if size == 1 else "01") for _ in range(size))
-                lines.append(digits + code if size == 1 else "b%s %s" % (digits, code))
+                for _ in range(rnd.choice([1, 1, 1, 2, 3])):  # only the last one counts
+                    digits = "".join(rnd.choice("01xz" if size == 1 else "01") for _ in range(size))
+                    lines.append(digits + code if size == 1 else "b%s %s" % (digits, code))
                 if not changes[code] or changes[code][-1][1] != digits:
                     changes[code].append((time, digits))
         if rnd.random() < 0.02:

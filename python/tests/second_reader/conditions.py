@@ -156,9 +156,9 @@ class Conditions:
 
     def busiest(self, its: List[Variable]) -> Variable:
         """Returns one of the variables, often one that changes much."""
-        some = [self.random.choice(its) for _ in range(3)]
-        return max(some, key=lambda one: self._busy[one.code]) if self.random.random() < .7 \
-            else some[0]
+        some: List[Variable] = [self.random.choice(its) for _ in range(3)]
+        is_busy = self.random.random() < .7
+        return max(some, key=lambda one: self._busy[one.code]) if is_busy else some[0]
 
     def name(self, of: Variable) -> str:
         """Returns the path of a variable, or without its range if that selects it too."""
@@ -181,7 +181,8 @@ class Conditions:
             return Condition("!" + (one.text if is_bare else "(%s)" % one.text), 4,
                              negated(one.test))
         which = 2 if chance < .78 else 1
-        sign = self.random.choice([[" | ", " || ", "|", "||"], [" & ", " && ", "&", "&&"]][which - 1])
+        sign = self.random.choice({1: [" | ", " || ", "|", "||"],
+                                   2: [" & ", " && ", "&", "&&"]}[which])
         least = which + self.random.choice([0, 0, 0, 4])
         return Condition(one.inside(least) + sign + other.inside(least), which,
                          joined(one.test, other.test, which == 1))

@@ -41,7 +41,7 @@ def number(text: str) -> Optional[float]:
 class Variable(NamedTuple):
     """A variable as it is declared: `left` and `right` are the numbers of its outermost bits."""
 
-    index: int
+    place: int
     chain: Tuple[str, ...]
     name: str
     type: str
@@ -148,7 +148,8 @@ class Dump:
         self._read_body(words, at)
         self.last = self.times[-1] if self.times else None
         self.end = self.last or 0
-        self.tick = FEMTOSECONDS[self.scale[1]] * self.scale[0] if self.scale else None
+        number_and_unit = self.scale
+        self.tick = number_and_unit and FEMTOSECONDS[number_and_unit[1]] * number_and_unit[0]
         self._times = [step.time for step in self.steps]
         self.of_path: Dict[str, List[Variable]] = {}
         self.of_bare: Dict[str, Set[str]] = {}
@@ -173,7 +174,7 @@ class Dump:
             if command == "$timescale":
                 found = re.match(r"(\d+)\s*(\w+)$", "".join(inside))
                 assert found
-                self.scale = int(found[1]), found[2]
+                self.scale = int(found[1]), str(found[2])
             elif command == "$scope":
                 self.scopes += 1
                 chain.append(inside[1])
@@ -267,7 +268,7 @@ class Dump:
             if not its:
                 raise KeyError(name)
             for one in its:
-                found.setdefault(one.index, one)
+                found.setdefault(one.place, one)
         return list(found.values())
 
     def key(self, of: Variable) -> str:

@@ -41,7 +41,8 @@ def edge_times(dump: Dump, edges: Edges) -> Set[int]:
 def looks_at_edges(dump: Dump, edges: Edges, begin: int = 0, end: int = LAST) -> List[Look]:
     """Returns the edges of a window, with the values just before them. An event counts if it was
     triggered since the last edge."""
-    times, events, found = edge_times(dump, edges), set(), []  # type: ignore[var-annotated]
+    times, found = edge_times(dump, edges), []
+    events: Set[str] = set()
     for step in dump.steps_in(begin, end):
         if step.time in times:
             found.append(Look(step.time, step.before, events))
@@ -62,14 +63,15 @@ def rows_at_changes(dump: Dump, columns: Sequence[Variable], begin: int, end: in
                     is_window: bool) -> List[Tuple[Look, List[Optional[Value]]]]:
     """Returns a row for each time at whose end a value is another one than at the end of the time
     before, and for the begin of a window."""
-    found, last = [], [None] * len(columns)  # type: ignore[var-annotated]
+    found = []
+    last: List[Optional[Value]] = [None] * len(columns)
     times = {step.time for step in dump.steps_in(begin, end)} | ({begin} if is_window else set())
     for time in sorted(times):
         look = Look(time, dump.at(time), dump.events_at(time))
         values = [look.values.get(one.code) for one in columns]
         if not all(map(same, last, values)):
             found.append((look, values))
-        last = values  # type: ignore[assignment]
+        last = values
     return found
 
 

@@ -1,13 +1,14 @@
 """Makes dumps that look like those of real designs: equal names in many scopes, escaped names,
-ranges in and beside names, bits declared one by one, 1 to 130 bits, real numbers, events, aliases of
-other types, glitches, sections, repeated and empty times, times up to 2^64 - 1, all time scales."""
+ranges in and beside names, bits declared one by one, 1 to 130 bits, real numbers, events, aliases
+of other types, glitches, sections, repeated and empty times, times up to 2^64 - 1, all time
+scales."""
 import random
 from typing import Dict, List, NamedTuple, Tuple
 
-NAMES = ["clk", "rst_n", "q", "q", "d", "data", "valid", "ready", "state", "cnt", "a", "a", "b", "x",
-         "is", "signed", "within", "mem[0]", "mem[1]", "q[0]", "q[1]", "\\a&b", "\\e.s", "\\u1/q[3]",
-         "\\d+e", "n,m", "r$1", "s-1", "\\a->b", "_0", "\\(p)", "\u00e9", "inf", "nan", "e1",
-         "\\q<0>", "within_", "tb", "a.q", "u0.d", "u0.q", "q.a", "core.d.q"]
+NAMES = ["clk", "rst_n", "q", "q", "d", "data", "valid", "ready", "state", "cnt", "a", "a", "b",
+         "x", "is", "signed", "within", "mem[0]", "mem[1]", "q[0]", "q[1]", "\\a&b", "\\e.s",
+         "\\u1/q[3]", "\\d+e", "n,m", "r$1", "s-1", "\\a->b", "_0", "\\(p)", "\u00e9", "inf",
+         "nan", "e1", "\\q<0>", "within_", "tb", "a.q", "u0.d", "u0.q", "q.a", "core.d.q"]
 SCOPES = ["tb", "dut", "u0", "u1", "g[0]", "g[1]", "\\gen.x", "core", "q", "a", "$unit", "tb"]
 REALS = ["0", "1", "1.0", "1.50", "1.5", "-2.25", "1e3", "-1e-3", "0.1", "1000", "-0", "-0.0", "3",
          "1e22", "1e16", "1e15", "123456789012345680", "1e-5", "0.0001", "1e300", "-1e300",

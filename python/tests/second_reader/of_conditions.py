@@ -118,19 +118,19 @@ def ask_latency(of: Asker) -> None:
     its = [one for one in found if one.answer is not None]
     its.sort(key=lambda one: (one.answer, one.time))  # in the order of the answers
     warned = not is_in_order and is_overlapping(looks, begins, after.test, span)
+    wanted: List[Any] = [one._asdict() for one in its]
+    got: List[Any] = said.lines
     if is_json:
-        got, wanted = all_from_json(said.text), [
-            {"time": one.time, "answer": one.answer, "length": one.length} for one in its]
+        got = all_from_json(said.text)
     else:
         def length(of_one: int) -> str:
             return str(of_one) if span[0] else dump.time_text(of_one, unit)
-        got = said.lines
-        wanted = ["%s %s %s" % (dump.time_text(one.time, unit),  # type: ignore[misc]
-                                dump.time_text(one.answer or 0, unit), length(one.length))
-                  for one in its]
+        wanted = ["%s %s %s" % (dump.time_text(one.time, unit), dump.time_text(
+            one.answer or 0, unit), length(one.length)) for one in its]
         wanted += summary(of, words, got, [one.length for one in its], len(found) - len(its),
                           length, None if span[0] else unit or "")
-    of.same("latency", words, (said.status, got, bool(said.message)), (int(not its), wanted, warned))
+    of.same("latency", words, (said.status, got, bool(said.message)),
+            (int(not its), wanted, warned))
 
 
 def summary(of: Asker, words: List[str], got: List[str], lengths: List[int], late: int,

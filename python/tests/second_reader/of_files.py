@@ -95,7 +95,8 @@ def ask_rows_before(of: Asker) -> None:
     columns = [one for one in bad.front.selected(names) if not one.is_event]
     if not columns:
         raise Skip
-    words, rows = [], rows_at_changes(bad.front, columns, 0, bad.finished, False)
+    words: List[str] = []
+    rows = rows_at_changes(bad.front, columns, 0, bad.finished, False)
     if of.happens(.5):
         words, edges = of.clocks()
         rows = with_values(looks_at_edges(bad.front, edges, 0, bad.finished), columns)
@@ -125,7 +126,8 @@ def ask_x_before(of: Asker) -> None:
 
 def ask_when_before(of: Asker) -> None:
     """Asks for the times of a condition, and for answers, before a fault."""
-    bad, first, words, edges = faulty(of), condition(of), [], None  # type: ignore[var-annotated]
+    bad, first, edges = faulty(of), condition(of), None
+    words: List[str] = []
     text, kind = first.text, of.random.choice(["when", "answered", "refused", "latency"])
     after = None if kind == "when" else condition(of, 1)
     if of.happens(.6):
@@ -280,8 +282,8 @@ def ask_join_bits(of: Asker) -> None:
     """Asks for a dump whose bits are joined: the highest index comes first, whatever the order of
     the declarations."""
     dump = of.dump
-    its = [one for one in dump.variables if 1 < one.size < 40 and one.is_numbered and not one.is_real
-           and sum(other.code == one.code for other in dump.variables) == 1
+    its = [one for one in dump.variables if 1 < one.size < 40 and one.is_numbered
+           and not one.is_real and sum(other.code == one.code for other in dump.variables) == 1
            and len(dump.of_path[one.path]) == 1 and one.path not in dump.fronts
            and "]" not in one.name and "\\" not in one.name
            and not any(other.path.startswith(one.path + "[") for other in dump.variables)]

@@ -105,7 +105,8 @@ def ask_sample(of: Asker) -> None:
 def changes_of(of: Asker, part: Part, one: Variable) -> List[Tuple[int, Value]]:
     """Returns the values that a part gives a code; it begins with the last one before it."""
     first = of.dump.at(part.begin - 1).get(one.code) if part.begin else None
-    return [(part.begin, first)] * (first is not None) + [  # type: ignore[list-item]
+    early: List[Tuple[int, Value]] = [] if first is None else [(part.begin, first)]
+    return early + [
         (item.time, "1" if one.is_event else item.value) for item in of.dump.items
         if item.code == one.code and part.begin <= item.time <= part.end
         and not (one.is_event and item.section)]
@@ -132,9 +133,10 @@ def ask_arrays(of: Asker) -> None:
     if numpy is None or one.is_event:
         raise Skip
     times, values = part.dump.arrays(one.path)
-    masks = numpy.ma.getmaskarray(values)
+    of_masked: Any = numpy.ma
     got = [(int(time), None if mask else plain(float(value)) if one.is_real else int(value))
-           for time, mask, value in zip(times, masks, numpy.ma.getdata(values))]
+           for time, mask, value in zip(times, of_masked.getmaskarray(values),
+                                        of_masked.getdata(values))]
     wanted: List[Tuple[int, Any]] = []
     for time, value in changes_of(of, part, one):
         found = cell(value)
@@ -220,7 +222,8 @@ def ask_when(of: Asker) -> None:
 def ask_header(of: Asker) -> None:
     """Asks what the header has."""
     dump, whole, names = of.dump, Package(of.path), of.names()
-    pattern, flags = of.random.choice(["q", r"\.a$", "CLK", "^tb", r"\\"]), of.random.choice([0, re.I])
+    pattern = of.random.choice(["q", r"\.a$", "CLK", "^tb", r"\\"])
+    flags = of.random.choice([0, re.I])
     scopes: Dict[str, List[str]] = {}
     for scope in whole.tree.walk():
         for signal in scope.signals:
@@ -230,17 +233,19 @@ def ask_header(of: Asker) -> None:
         own.setdefault(one.scope, []).append(one.path)
     header = whole.header
     of.same("package, the header", (pattern, names), (
-        [one.path for one in whole.find(pattern, flags)], [tuple(one) for one in whole.select(names)],
-        scopes, header.date or None, header.version or None,
+        [one.path for one in whole.find(pattern, flags)],
+        [tuple(one) for one in whole.select(names)], scopes,
+        header.date or None, header.version or None,
         str(header.timescale) if header.timescale else None,
         [list(column) for column in whole.signals.columns()]), (
             [one.path for one in dump.variables if re.search(pattern, one.path, flags)],
             [one.row for one in dump.selected(names)], own, dump.notes.get("date") or None,
             dump.notes.get("version") or None, "%d%s" % dump.scale if dump.scale else None,
-            list(map(list, zip(*(one.row for one in dump.variables))))))
+            [[one.row[at] for one in dump.variables] for at in range(4)]))
     one = variable_of(of)
-    of.same("package, a name", one.path, (one.path in whole.signals, "no.such" in whole.signals, tuple(
-        whole[of.conditions.name(one)])), (True, False, one.row))
+    of.same("package, a name", one.path, (
+        one.path in whole.signals, "no.such" in whole.signals,
+        tuple(whole[of.conditions.name(one)])), (True, False, one.row))
 
 
 def ask_times(of: Asker) -> None:

@@ -5,7 +5,7 @@ import os
 import re
 import shutil
 import subprocess
-from typing import Any, Dict, List, NamedTuple, Optional, Sequence, Set, Tuple
+from typing import Any, Callable, Dict, List, NamedTuple, Optional, Sequence, Set, Tuple
 import xml.etree.ElementTree as xml
 
 from asker import HERE, Asker, Skip, Window, run
@@ -101,9 +101,10 @@ def ask_page(of: Asker) -> None:
     of.same("page, the window", words, (int(data["begin"]), data["span"]),
             (window.begin, max(1, end - window.begin)))
     its = dump.selected(names)
-    if not of.same("page, the signals", words, [(one[0], *one[1:3]) for one in data["signals"]],
-                   [(dump.key(one) if dump.key(one) in [row[0] for row in data["signals"]]
-                     else one.path, one.type, one.size) for one in its]):
+    if not of.same("page, the signals", words, [
+            (name[:len(one.path)], kind, size)  # behind it, there may be the code
+            for (name, kind, size, *_), one in zip(data["signals"], its)],
+                   [(one.path, one.type, one.size) for one in its]):
         return
     for row, one in zip(data["signals"], its):
         of.same("page, the data", [*words, one.path], [
@@ -132,9 +133,9 @@ def ask_around(of: Asker) -> None:
 
 def same_page_of_two(of: Asker, words: List[str], path: str,
                      pairs: Sequence[Tuple[str, Variable, Variable]], dumps: Tuple[Dump, Dump],
-                     names: Set[str]) -> None:
-    """Compares the page of a difference: it has the signals of the lines, and values of the
-    dumps."""
+                     names: Set[str], are_alike: Callable[[Any, Any], bool]) -> None:
+    """Compares the page of a difference: it has the signals of the lines, values of the dumps, and
+    the times at which these differ."""
     with open(path, encoding="utf-8") as file:
         data = data_of(file.read())
     tick, seen = int(data["tick"] or 0), set()
@@ -142,7 +143,7 @@ def same_page_of_two(of: Asker, words: List[str], path: str,
     for name, *both in pairs:
         of_name.setdefault(name, []).append((both[0], both[1]))
     is_moved = any("is shown" in line for line in data["about"])  # B at the edges of A
-    for name, _, size, stream, side, _ in data["signals"]:
+    for name, _, size, stream, side, differs in data["signals"]:
         seen.add(name)
         if len(of_name.get(name, ())) != 1 or is_moved:
             continue
@@ -153,6 +154,16 @@ def same_page_of_two(of: Asker, words: List[str], path: str,
             of.same("page of two", [*words, name, side], [
                 (time, plain(value)) for time, value in points],
                 [(time, plain(cell(dump.at(time // scale).get(one.code)))) for time, _ in points])
+            if dumps[0].tick == dumps[1].tick:
+                marks, begin = points_of(data, differs, 1), int(data["begin"])
+                end = min(begin + data["span"], dumps[0].end, dumps[1].end)
+                times = {step.time for each in dumps for step in each.steps_in(begin, end)}
+                of.same("page of two, where they differ", [*words, name], [
+                    time for time in sorted(times)
+                    if [mark for at, mark in marks if at <= time][-1:] == ["1"]],
+                    [time for time in sorted(times) if not are_alike(*(
+                        each.at(time).get(its.code)
+                        for each, its in zip(dumps, of_name[name][0])))])
     clear = {name for name in names if len(of_name[name]) == 1}
     of.same("page of two, the signals", words, sorted(clear - seen), [])
 
@@ -176,7 +187,7 @@ def pieces_of(points: Sequence[Tuple[int, Value]], begin: int, end: int, width: 
 
 def pixels_of(spans: Sequence[Span], width: int, margin: float = 0.0) -> Set[int]:
     """Returns the pixels that have a part of the spans, each of which is longer by a margin."""
-    found = set()
+    found: Set[int] = set()
     for begin, end in spans:
         rounded = min(1e-6, (end - begin) / 3)
         first, last = begin - margin + rounded, end + margin - rounded
@@ -220,8 +231,9 @@ def same_pixels(of: Asker, words: List[str], pieces: List[Piece], shapes: Dict[s
 
 def shown_by(path: str, width: int, times: Sequence[int]) -> Any:
     """Returns what the script of a page shows."""
-    done = subprocess.run([str(NODE), os.path.join(HERE, "read_page.js"), path, str(width), ",".join(
-        map(str, times))], stdout=subprocess.PIPE, stderr=subprocess.PIPE, check=False)
+    done = subprocess.run([
+        str(NODE), os.path.join(HERE, "read_page.js"), path, str(width), ",".join(map(str, times))],
+        stdout=subprocess.PIPE, stderr=subprocess.PIPE, check=False)
     if done.returncode:
         raise AssertionError(done.stderr.decode()[-600:])
     return json.loads(done.stdout)
@@ -250,7 +262,7 @@ def ask_shown(of: Asker) -> None:
             of.same("values at a cursor", [*words, one.path, form, times], values, [
                 shown(dump.at(time).get(one.code), "--" + form) for time in times])
         if not one.is_real:
-            shapes = {kind: [tuple(shape[:2]) for shape in its] for kind, its in row["shapes"]}
+            shapes = {kind: [(shape[0], shape[1]) for shape in its] for kind, its in row["shapes"]}
             same_pixels(of, [*words, one.path, str(width)], pieces_of(wanted_points(
                 dump, one, begin, end), begin, end, width), shapes, width, 0.0)
 
@@ -324,9 +336,8 @@ def same_row(of: Asker, words: List[str], pieces: List[Piece], elements: Sequenc
                        left)
     got = sorted((round(begin), round(end)) for its in shapes.values() for begin, end in its)
     wanted = sorted((round(one.begin), round(one.end)) for one in pieces)
-    of.same("picture, the shapes", words, [
-        pair for pair in zip(got, wanted) if max(abs(a - b) for a, b in zip(*pair)) > 1] or len(got),
-        len(wanted))
+    far = [pair for pair in zip(got, wanted) if max(abs(a - b) for a, b in zip(*pair)) > 1]
+    of.same("picture, the shapes", words, (far, len(got)), ([], len(wanted)))
     if size == 1:
         levels = {float(level): round(float(begin) - left) for one in elements
                   if one.get("class") == "bit" for begin, level in re.findall(

@@ -43,7 +43,8 @@ def facts_of(dump: Dump, of: Variable, begin: int, end: int) -> Facts:
     last = dump.end_of(begin, end)
     if of.is_event:
         times = [step.time for step in dump.steps_in(begin, end) if of.code in step.triggers]
-        return Facts(len(times), [], [(after - before, 0) for before, after in zip(times, times[1:])])
+        return Facts(len(times), [], [(after - before, 0)
+                                      for before, after in zip(times, times[1:])])
     states = states_of(dump, of, begin, end)
     ends = [time for time, _ in states[1:]] + [last]
     pulses = [Pulse(value, until - time, 0 < at < len(states) - 1)
@@ -54,7 +55,8 @@ def facts_of(dump: Dump, of: Variable, begin: int, end: int) -> Facts:
 
 def periods_of(states: Sequence[Tuple[int, Value]]) -> List[Tuple[int, int]]:
     """Returns the times from one rise of a bit to the next, without an x or a z in between."""
-    found, rise, high = [], None, 0
+    found: List[Tuple[int, int]] = []
+    rise, high = None, 0
     for (time, value), (after, other) in zip(states, states[1:]):
         high += (after - time) * (value == "1")
         if other not in ("0", "1"):

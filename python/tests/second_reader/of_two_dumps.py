@@ -134,8 +134,8 @@ def random_changes(of: Asker) -> Changed:
     """Returns what is different in the other dump."""
     dump, variables = of.dump, of.dump.variables
     without = of.random.sample(variables, min(len(variables) - 1, 3)) if of.happens(.12) else []
-    single = [one for one in variables if not one.is_real and not one.is_event and one not in without
-              and sum(other.code == one.code for other in variables) == 1]
+    single = [one for one in variables if not one.is_real and not one.is_event
+              and one not in without and sum(other.code == one.code for other in variables) == 1]
     top = of.random.choice(["TOP", "a.b", "tb"]) if of.happens(.25) else ""
     if any(is_inside(one.path, top) for one in dump.variables):
         top = ""
@@ -216,15 +216,21 @@ def differences(sides: Sides, looks: Sequence[Tuple[Look, Look]], factor: int) -
     return found
 
 
+def factors_of(one: Dump, other: Dump) -> List[int]:
+    """Returns how many common ticks a tick of each dump has."""
+    if not one.tick or not other.tick:
+        return [1, 1]
+    common = gcd(one.tick, other.tick)
+    return [one.tick // common, other.tick // common]
+
+
 def ask_diff(of: Asker) -> None:
     """Asks what differs between a dump and another one."""
     changed = random_changes(of)
     path, other = another(of, changed)
     asked = random_asked(of, changed, other)
     sides = Sides([of.dump, other], asked)
-    factors, ticks = [1, 1], (of.dump.tick, other.tick)
-    if ticks[0] and ticks[1]:
-        factors = [one // gcd(*ticks) for one in ticks if one]  # type: ignore[arg-type]
+    factors = factors_of(of.dump, other)
     words, form, unit, clock = *of.form(), of.unit(.2), of.happens(.35) and sides.clocks()
     is_json, page, report = of.happens(.4), of.path + ".html", of.path + ".xml"
     counts, looks = [1, 1], looks_at_times(sides, factors)
@@ -235,7 +241,8 @@ def ask_diff(of: Asker) -> None:
         both = [looks_at_edges(dump, {(code, edge[1], edge[2])}, asked.window.begin,
                                asked.window.end)
                 for dump, code in ((of.dump, one.code), (other, its.code))]
-        looks, counts = list(zip(*both)), [len(each) for each in both]
+        looks = [(mine, its) for mine, its in zip(*both)]
+        counts = [len(each) for each in both]
     words += [*asked.window.words, *["--common"] * asked.is_common, *["--every"] * asked.every,
               *["--x-matches"] * asked.x_matches, *["--json"] * is_json,
               *(["--real-tolerance", str(asked.tolerance)] if asked.tolerance else []),
@@ -266,7 +273,8 @@ def ask_diff(of: Asker) -> None:
     if found and "--html=" + page in words:
         least = min(one.mark for one in found)
         shown_names = {one.name for one in found if asked.every or one.mark == least}
-        same_page_of_two(of, words, page, sides.pairs, (of.dump, other), shown_names)
+        same_page_of_two(of, words, page, sides.pairs, (of.dump, other), shown_names,
+                         asked.are_alike)
 
 
 def same_lines(of: Asker, words: List[str], said: Said, sides: Sides, found: List[Difference],
@@ -302,8 +310,8 @@ def same_lines(of: Asker, words: List[str], said: Said, sides: Sides, found: Lis
     if not is_json:
         wanted = [[("-" if cell is None else str(cell)) for cell in row] for row in wanted]
     key = lambda row: json.dumps(row, default=str)  # noqa: E731
-    if any(sum(row[0] == kind for row in wanted) > MAX_LINES for kind in ("alone", "size", "differs")
-           ) and not asked.every:
+    kinds = [row[0] for row in wanted]
+    if not asked.every and any(kinds.count(kind) > MAX_LINES for kind in kinds):
         wanted = [row for row in wanted if row in got]
     of.same("diff", words, (said.status, sorted(got, key=key), said.message),
             (int(bool(wanted)), sorted(wanted, key=key), ""))

@@ -4,7 +4,7 @@ import io
 import json
 import re
 from collections import Counter
-from typing import Any, Dict, List, Optional, Tuple
+from typing import Any, Dict, List, Optional, Set, Tuple
 
 from asker import Asker, Said, Skip, run
 from dumps import Dump, State, Value, Variable
@@ -79,7 +79,8 @@ def ask_table(of: Asker) -> None:
     """Asks for rows at changes, at edges or at times, half of them with a condition."""
     dump, (words, form), unit = of.dump, of.form(), of.unit()
     names, columns = columns_of(of, 4)
-    is_json, rows_words = of.happens(.25), []  # type: ignore[var-annotated]
+    is_json = of.happens(.25)
+    rows_words: List[str] = []
     rows, begin = table_rows(of, columns, rows_words)
     condition = of.conditions.make() if of.happens(.5) else None
     if condition:
@@ -119,7 +120,9 @@ def unknown(of: Asker, its: List[Variable], letters: str, begin: int, end: int, 
             ) -> List[Tuple[int, str, str]]:
     """Returns the times at whose end a value is another one than before, or the window begins, and
     has one of the letters."""
-    found, seen, before = [], set(), {}  # type: ignore[var-annotated]
+    found: List[Tuple[int, str, str]] = []
+    seen: Set[str] = set()
+    before: State = {}
     for time in sorted({begin} | {step.time for step in of.dump.steps_in(begin, end)}):
         state: State = of.dump.at(time)
         for one in its:
@@ -174,9 +177,8 @@ def ask_x(of: Asker) -> None:
 
 def ask_find(of: Asker) -> None:
     """Asks for the variables that match, or that a file names."""
-    dump, names = of.dump, []  # type: ignore[var-annotated]
+    dump, names, words = of.dump, [], []  # type: Any, List[str], List[str]
     patterns = of.random.sample(PATTERNS, of.random.choice([0, 1, 1, 2]))
-    words = []
     if of.happens(.35):
         names = of.names(3)
         ends = of.random.choices(["", " wire 1 !", "\t# x"], k=len(names))
@@ -185,7 +187,7 @@ def ask_find(of: Asker) -> None:
     found = [one for one in dump.variables if one in (dump.selected(names) if names else ())
              or any(re.search(pattern, one.path) for pattern in patterns)
              or not names and not patterns]
-    mode = of.random.choice([[], ["--tree"], ["--json"], ["--pick"]])
+    mode: List[str] = of.random.choice([[], ["--tree"], ["--json"], ["--pick"]])
     words = of.placed(words + mode, [of.path, *patterns])
     said = run("find", words)
     if not found:

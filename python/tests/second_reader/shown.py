@@ -15,7 +15,7 @@ def is_known(digits: str) -> bool:
 
 def integer(digits: str, is_signed: bool = False) -> int:
     """Returns the number that known digits are."""
-    return int(digits, 2) - (is_signed and digits[0] == "1") * 2 ** len(digits)
+    return int(digits, 2) - (1 << len(digits)) * (is_signed and digits[0] == "1")
 
 
 def same(one: Any, other: Any, tolerance: float = 0.0) -> bool:

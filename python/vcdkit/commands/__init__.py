@@ -210,15 +210,16 @@ def window_of(dump: Dump, asked: argparse.Namespace) -> Window:
 
 def check_begin(dump: Dump, asked: argparse.Namespace) -> None:
     """Refuses a --from after the end of the dump."""
-    is_late = after_end(dump, asked.begin)
+    is_late = after_end(dump, asked.begin, True)
     if is_late:
         raise UsageError("--from: " + is_late)
 
 
-def after_end(dump: Dump, time: str) -> str:
+def after_end(dump: Dump, time: str, is_up: bool = False) -> str:
     """Returns what to say of a time that is after the last timestamp of a dump; of another one an
-    empty text. It reads up to that time, and raises a fault that comes before it."""
-    ticks = dump.ticks(time, is_up=True)
+    empty text. A time between two ticks is the one before it, or after it. It reads up to that
+    time, and raises a fault that comes before it."""
+    ticks = dump.ticks(time, is_up)
     try:
         if not ticks or dump.cut(ticks - 1, ticks).check().last == ticks:
             return ""

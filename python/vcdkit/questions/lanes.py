@@ -43,7 +43,7 @@ class Lane:
         self.first: List[Tuple[int, bytes]] = []
         # Whether further changes in the bin say nothing new, but for the last value.
         self.is_full = False
-        self.numbers: List[float] = []
+        self.numbers: List[Tuple[int, float]] = []
         self.has_x, self.time = False, 0
         self.before: Optional[bytes] = None  # the value at the begin of the bin
 
@@ -54,15 +54,18 @@ class Lane:
         if self.first and self.time < time:  # else the last value was there for no time
             self.has_x = self.has_x or _is_x(self.text)
         self.text, self.time = text, time
+        # Of the values of one time only the last one counts, and not if it is that from before.
         if self.first and self.first[-1][0] == time:
-            self.first[-1] = time, text
-        elif len(self.first) < 2:
+            self.first.pop()
+        if self.numbers and self.numbers[-1][0] == time:
+            self.numbers.pop()
+        is_back = text == (self.first[-1][1] if self.first else self.before)
+        if len(self.first) < 2 and (self.is_event or not is_back):
             self.first.append((time, text))
-            self.is_full = len(self.first) == 2 and not self.is_real
-        if self.is_real:
-            number = self.value(text)
-            if isinstance(number, float):
-                self.numbers.append(number)
+        self.is_full = len(self.first) == 2 and not self.is_real
+        number = self.value(text) if self.is_real and self.first else None
+        if isinstance(number, float):
+            self.numbers.append((time, number))
 
     def value(self, text: bytes) -> object:
         """Returns the value that a text of the body has; of a real signal also digits as a
@@ -77,8 +80,9 @@ class Lane:
         if self.text is not None and len(self.first) > 1:
             self.has_x = (self.has_x or _is_x(self.text)
                           or self.first[0][0] > begin and _is_x(self.before))
-            self.points.append((begin, Several(min(self.numbers, default=0.0),
-                                               max(self.numbers, default=0.0), self.has_x)))
+            numbers = [number for _, number in self.numbers]
+            self.points.append((begin, Several(min(numbers, default=0.0),
+                                               max(numbers, default=0.0), self.has_x)))
             self.points.append((end, self.value(self.text)))
         else:
             self.points += [(time, self.value(text)) for time, text in self.first]
