@@ -468,11 +468,20 @@ fn take_lines<'a, C, V: Visit<C>, W: Sink>(
     take_lines_with_end::<C, V, W, false>(command, visit, view, regs, ahead, out)
 }
 
+/// Returns whether lines for `take_lines` come next: two of two bytes each, and the visitor has not
+/// ended the walk.
+#[inline(always)]
+fn lines_come<C, V: Visit<C>>(visit: &V, ahead: Ahead<'_>) -> bool
+    ensures { result ≡ true → V.over visit.now ≡ false }
+{
+    !visit.is_over() && two_short_lines_come(ahead)
+}
+
 /// Has the visitor handle the items ahead, one after the other, up to a comment, or up to two lines
 /// for `take_lines`, and returns the look-ahead, the registers and the visitor after the last of
-/// them, and how the walk ended. It also ends if the visitor ends the walk, if a write fails, or at
-/// an item that is bad or does not lie completely in the chunk. The first item is tried even if the
-/// visitor has already ended the walk.
+/// them, how the walk ended, and whether it was at such lines. It also ends if the visitor ends the
+/// walk, if a write fails, or at an item that is bad or does not lie completely in the chunk. The
+/// first item is tried even if the visitor has already ended the walk.
 // In each arm of an item the compiler knows whether it was a change. At its end, the walk forgets
 // the white space that it has seen: otherwise this is saved before each item, and `check` of 27,505
 // codes takes 6 % more.
@@ -484,28 +493,30 @@ fn walk_items<'a, C, V: Visit<C>, W: Sink>(
     mut regs: Regs,
     mut ahead: Ahead<'a>,
     out: &mut W,
-) -> Walked<'a, V>
+) -> (Walked<'a, V>, bool)
     requires failures { (W.device out.old).failures < 2 ^ 64 - 1 }
     requires stands { V.stands visit command.old (bytes_of ahead) regs }
     requires within { passed_of ahead ≤ length (bytes_of ahead) }
-    ensures { Walks V.takes V.stands V.over view.entry
+    ensures walks { Walks V.takes V.stands V.over view.entry
         (stage_at ahead.entry regs visit command.old (W.device out.old))
-        (stage_at result.ahead result.regs result.visit command.new (W.device out.new)) result.ended }
+        (stage_at result.0.ahead result.0.regs result.0.visit command.new (W.device out.new))
+        result.0.ended }
+    ensures lines { result.1 ≡ true → V.over result.0.visit ≡ false }
 {
     'items: loop {
         let Some(taken) = take_next(command, &mut visit, view, &mut regs, &mut ahead, out) else {
             ahead.forget();
-            return Walked::ended_at(ahead, regs, visit, Ok(false));
+            return (Walked::ended_at(ahead, regs, visit, Ok(false)), false);
         };
         let was_no_change = match taken {
             Ok(was_no_change) => was_no_change,
-            Err(failed) => return Walked::ended_at(ahead, regs, visit, Err(failed)),
+            Err(failed) => return (Walked::ended_at(ahead, regs, visit, Err(failed)), false),
         };
         if visit.is_over() {
-            return Walked::ended_at(ahead, regs, visit, Ok(true));
+            return (Walked::ended_at(ahead, regs, visit, Ok(true)), false);
         }
         if was_no_change && two_short_lines_come(ahead) {
-            return Walked::ended_at(ahead, regs, visit, Ok(false));
+            return (Walked::ended_at(ahead, regs, visit, Ok(false)), true);
         }
     }
 }
@@ -533,9 +544,10 @@ pub fn walk_ahead<'a, C, V: Visit<C>, W: Sink>(
         (stage_at ahead.entry regs visit command.old (W.device out.old))
         (stage_at result.ahead result.regs result.visit command.new (W.device out.new)) result.ended }
 {
+    let mut at_lines = lines_come(&visit, ahead);
     'parts: loop {
         let from = ahead.passed();
-        if !visit.is_over() && two_short_lines_come(ahead) {
+        if at_lines {
             let lines = take_lines(command, visit, view, regs, ahead, out);
             if !lines.can_go_on() {
                 return lines;
@@ -544,16 +556,21 @@ pub fn walk_ahead<'a, C, V: Visit<C>, W: Sink>(
             regs = lines.regs;
             visit = lines.visit;
         }
-        let items = walk_items(command, visit, view, regs, ahead, out);
+        let (items, lines_next) = walk_items(command, visit, view, regs, ahead, out);
         if !items.can_go_on() {
             return items;
         }
-        let past = after_comments(items.ahead);
+        let past = if lines_next {
+            items.ahead
+        } else {
+            after_comments(items.ahead)
+        };
         if past.passed() == from {
             return items;
         }
         ahead = past;
         regs = items.regs;
         visit = items.visit;
+        at_lines = lines_next || lines_come(&visit, ahead);
     }
 }

@@ -1,7 +1,6 @@
 -- What is due with a change that was taken ahead, which is no event's: the line of its time, unless
 -- that was written last, and its own line.
 use Rattle.std.proofs.Common.{◌≡◌, ◌≢◌, ◌&&◌, false, ap, sym, subst, ◌∙◌, Err, Ok, ℕ, ◌+◌, ◌*◌, ◌%◌, ◌^◌, Some, Option, List, Result, arith, refl}
-use Rattle.std.specs.Prelude.{IfOk}
 use Rattle.vcd_model.specs.HeadText.{new_code}
 use Rattle.vcd_model.specs.ItemText.{time_due}
 use Rattle.vcd_model.specs.Items.{Change, leaves_open, time_after}

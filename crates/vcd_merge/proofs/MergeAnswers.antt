@@ -1,5 +1,5 @@
 -- What a step of a merge answers, by what the step of its input gave.
-use Rattle.std.proofs.Common.{true≢false, ◌≡◌, ◌≢◌, ℕ, true, false, List, [], ◌∷◌, ◌++◌, length, take, slice_get, Option, Some, None, Ok, Err, refl, sym, ap, subst, ◌∙◌, inl, inr}
+use Rattle.std.proofs.Common.{true≢false, ◌≡◌, ◌≢◌, ℕ, true, List, [], ◌∷◌, ◌++◌, length, take, slice_get, Option, Some, None, Ok, Err, refl, sym, ap, subst, ◌∙◌, inl, inr}
 use Rattle.std.specs.Prelude.{All, IfSome}
 use Rattle.std.specs.List.{AllByRecursion}
 use Rattle.std.proofs.lemmas.Option.{get_or_from_slice_get, slice_get_within}
@@ -23,7 +23,7 @@ use Rattle.vcd_body.specs.declared.answer.More.TheVariants.{Again}
 use Rattle.vcd_body.specs.declared.answer.Stop.{Stop}
 use Rattle.vcd_body.specs.declared.answer.Stop.TheVariants.{Dump as Faulty, Read, Write, Unmatched}
 use Rattle.vcd_merge.specs.declared.seat.Seat.{Seat}
-use Rattle.vcd_merge.proofs.MergeSteps.{all_before, given_more, given_still, dump_at, len_map, lane_at, same_header, seat_spot, spot_seat, time_at}
+use Rattle.vcd_merge.proofs.MergeSteps.{all_before, given_more, given_still, len_map, lane_at, same_header, seat_spot, spot_seat, time_at}
 use Rattle.vcd_merge.proofs.SpotLemmas.{seats_stay, spot_source}
 
 -- what a step has read, by the spot of the input that it leaves

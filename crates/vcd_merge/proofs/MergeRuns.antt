@@ -49,7 +49,6 @@ use Rattle.vcd_merge.proofs.SpotLemmas.{same_next}
 use Rattle.vcd_merge.proofs.Unsettled.{unsettled}
 use Rattle.vcd_body.proofs.StoreLemmas.{same_or_not}
 use Rattle.vcd_head.proofs.InsideLemmas.{get_mapped}
-use Rattle.vcd_merge.proofs.PartLemmas.{same_part}
 
 -- ---- what is counted
 

@@ -1,8 +1,7 @@
 -- Inputs of a merge that were each read on its turn, by what the inputs are.
-use Rattle.std.proofs.Common.{◌≡◌, ◌≢◌, ℕ, ◌<◌, ◌⊎◌, Bool, true, false, List, ◌++◌, length, slice_get, Option, Some, None, inl, inr, refl, sym, ap, subst, ◌∙◌, arith}
+use Rattle.std.proofs.Common.{◌≡◌, ℕ, ◌⊎◌, Bool, true, false, List, length, slice_get, Option, Some, None, inl, inr, refl, sym, ap, subst, ◌∙◌, arith}
 use Rattle.std.proofs.lemmas.Option.{slice_get_within}
 use Rattle.vcd_model.specs.Header.{Header}
-use Rattle.vcd_model.specs.HeadText.{first_number}
 use Rattle.vcd_model.specs.Input.{Input}
 use Rattle.vcd_model.specs.Merge.{Dump, Key, factor, key_after, key_lt}
 use Rattle.vcd_text.specs.Device.{Supply}

@@ -235,16 +235,15 @@ pub fn merge_step<S: Source, W: Sink>(
     ensures heads { merge.new.heads.now ≡ merge.old.heads.now }
     ensures reads { (k : ℕ) × IsNext merge.old.seats.now k
         × (map S.failures sources.new ≡ failures_with (map S.failures sources.old) k result)
-        × NamesInput k result }
-    ensures left { result ≡ Ok More.Again
-        → left_of merge.new.seats.now < left_of merge.old.seats.now }
-    ensures one { (k : ℕ) × ((j : ℕ) → j ≢ k
-        → spot_at S.rest merge.new.seats.now sources.new windows.new.chunks.now windows.new.tokens.now j
-        ≡ spot_at S.rest merge.old.seats.now sources.old windows.old.chunks.now windows.old.tokens.now j)
+        × NamesInput k result
         × ((j : ℕ) → j ≢ k
-        → (slice_get sources.new j ≡ slice_get sources.old j)
+        → (spot_at S.rest merge.new.seats.now sources.new windows.new.chunks.now windows.new.tokens.now j
+        ≡ spot_at S.rest merge.old.seats.now sources.old windows.old.chunks.now windows.old.tokens.now j)
+        × (slice_get sources.new j ≡ slice_get sources.old j)
         × (part (part_len (length merge.old.seats.now) windows.old.tokens.now) j windows.new.values.now
         ≡ part (part_len (length merge.old.seats.now) windows.old.tokens.now) j windows.old.values.now)) }
+    ensures left { result ≡ Ok More.Again
+        → left_of merge.new.seats.now < left_of merge.old.seats.now }
     ensures last { EndsAtReadOf (map S.last_failed sources.new) result }
     ensures passed_on { HasPassedOn (W.kept_back out.new) result }
     ensures writes { CountsWrites (W.device out.old) (W.device out.new) result }

@@ -4,6 +4,7 @@ use Rattle.std.specs.Prelude.{get_or, slice_set}
 use Rattle.std.proofs.lemmas.List.{set-get_or}
 use Rattle.std.proofs.Math.Nat.{mul-div_cancel_left}
 use Rattle.std.proofs.lemmas.Nat.{mul-le}
+use Rattle.vcd_head.proofs.IndexLemmas.{map_map}
 use Rattle.vcd_head.specs.declared.head.Head.{Head}
 use Rattle.vcd_merge.specs.MergeParts.{AreParts, part_len}
 use Rattle.vcd_merge.specs.declared.seat.Seat.{Seat}
@@ -30,7 +31,7 @@ use Rattle.vcdkit.specs.declared.failure.Failure.{Failure}
 use Rattle.vcdkit.specs.declared.failure.Failure.TheVariants.{Stopped, Refused, OutOfMemory}
 use Rattle.vcd_words.specs.declared.refusal.Refusal.{Refusal}
 use Rattle.vcd_words.specs.declared.refusal.Refusal.TheVariants as refusal
-use Rattle.vcdkit.specs.Failure.{failure_of, merge_end, CountsReads}
+use Rattle.vcdkit.specs.Failure.{failure_of, merge_end, CountsReads, CountsReadsOf}
 use Rattle.vcd_words.specs.Refusal.{model_refusal}
 use Rattle.vcdkit.specs.Inputs.{AreBegun, AreParked, AreShown, HaveBegun, Stops}
 use Rattle.vcdkit.specs.Message.{end_message, end_status, refusal_status, Shows}
@@ -71,31 +72,38 @@ module _ (want : Want) (asked : List (List ℕ)) (limit chunk : ℕ) (names text
   abbrev Runs : Type 0
   Runs = HasRun want limit chunk names texts old new out out' err err' status
 
+  abbrev Counts : Result Done Failure → Type 0
+  Counts end = CountsReadsOf (λ (s : Supply). s.failures) old new (failure_of end)
+
   abbrev due : (end : Result Done Failure) → Ends end → Outcome
   due end e = outcome want limit names e.lefts
 
-  pub has_run : (end : Result Done Failure) → Ends end → status ≡ end_status (failure_of end) → Says end → Runs
-  has_run (Ok d) e k s =
+  pub has_run : (end : Result Done Failure) → Ends end → Counts end → status ≡ end_status (failure_of end) → Says end → Runs
+  has_run (Ok d) e n k s =
       let o = due (Ok d) e in
       WithOutcome e.lefts e.read e.needed e.in_turn (Whole e.leaves.1 (subst (λ (l : List ℕ). Shows err err' l) (sym (ap (λ (o : Outcome). o.message) e.leaves.0)) s) (k ∙ sym (ap (λ (o : Outcome). o.status) e.leaves.0)))
-  has_run (Err (Stopped (Dump input line fault))) e k s =
+  has_run (Err (Stopped (Dump input line fault))) e n k s =
       let o = due (Err (Stopped (Dump input line fault))) e in
       let message : o.message ≡ end_message names asked (Some (Stopped (Dump input line fault))) = ap (λ (o : Outcome). o.message) e.leaves.0 ∙ rw (e.leaves.1, fault_outcome) refl in
       let is : o.status ≡ 1 = ap (λ (o : Outcome). o.status) e.leaves.0 ∙ rw (e.leaves.1, fault_outcome) refl in
       WithOutcome e.lefts e.read e.needed e.in_turn (Whole e.leaves.2 (subst (λ (l : List ℕ). Shows err err' l) (sym message) s) (k ∙ sym is))
-  has_run (Err (Stopped (Read input))) e k s =
+  has_run (Err (Stopped (Read input))) e n k s =
       let o = due (Err (Stopped (Read input))) e in
       let message : o.message ≡ end_message names asked (Some (Stopped (Read input))) = ap (λ (o : Outcome). o.message) e.leaves.0.1 in
       WithOutcome e.lefts e.read e.needed e.in_turn (Whole e.leaves.1 (subst (λ (l : List ℕ). Shows err err' l) (sym message) s) (k ∙ sym (ap (λ (o : Outcome). o.status) e.leaves.0.1)))
-  has_run (Err (Stopped Write)) e k s = WithOutcome e.lefts e.read e.needed e.in_turn (Part e.leaves s k)
-  has_run (Err (Stopped (Unmatched place))) e k s =
+  has_run (Err (Stopped Write)) e n k s = WithOutcome e.lefts e.read e.needed e.in_turn (Part e.leaves s k)
+  has_run (Err (Stopped (Unmatched place))) e n k s =
       WithOutcome e.lefts e.read e.needed e.in_turn (Whole e.leaves.1 (subst (λ (l : List ℕ). Shows err err' l) (sym (ap (λ (o : Outcome). o.message) e.leaves.0)) s) (k ∙ sym (ap (λ (o : Outcome). o.status) e.leaves.0)))
-  has_run (Err (Refused why)) e k s =
+  has_run (Err (Refused why)) e n k s =
       let o = due (Err (Refused why)) e in
       let output : o.output ≡ [] = ap (λ (o : Outcome). o.output) e.leaves.0 ∙ refused_output (name_at names 0) why in
       WithOutcome e.lefts e.read e.needed e.in_turn (Whole (subst (λ (l : List ℕ). Writes out out' l) (sym output) e.leaves.1) (subst (λ (l : List ℕ). Shows err err' l) (sym (ap (λ (o : Outcome). o.message) e.leaves.0)) s)
       (k ∙ sym (ap (λ (o : Outcome). o.status) e.leaves.0 ∙ refused_status (name_at names 0) why)))
-  has_run (Err OutOfMemory) e k s = NoMemory e.lefts e.read e.needed e.in_turn e.leaves s k
+  has_run (Err OutOfMemory) e n k s = NoMemory e.lefts e.read e.needed e.in_turn n e.leaves s k
+
+-- the failed reads of readers are counted by what is supplied
+pub counted_reads : {X : Type 0} (rest : X → Option (List ℕ)) (failures : X → ℕ) (old new : List X) (why : Option Failure) → CountsReadsOf failures old new why → CountsReadsOf (λ (s : Supply). s.failures) (map (supply rest failures) old) (map (supply rest failures) new) why
+counted_reads rest failures old new why counts = rw (map_map (supply rest failures) (λ (s : Supply). s.failures) old, map_map (supply rest failures) (λ (s : Supply). s.failures) new) counts
 
 -- nothing is said
 pub shows_nothing : (err : Device) → Shows err err []

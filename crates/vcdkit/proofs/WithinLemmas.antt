@@ -294,9 +294,9 @@ run_within a b c d le want names texts old new out out' err err' status short (W
     WithOutcome inputs (read_within a b c d le (is_settled want) [] texts old new inputs short read) (all_within a b c d le old new inputs all want needed)
     (turns_within a b c d le texts old new inputs out out' short all want turns)
     (subst (λ (o : Outcome). IsOutcome o out out' err err' status) (same_outcome a b want names inputs all) leaves)
-run_within a b c d le want names texts old new out out' err err' status short (NoMemory inputs read needed turns written shown status_is) =
+run_within a b c d le want names texts old new out out' err err' status short (NoMemory inputs read needed turns same written shown status_is) =
     let all = lefts_short a b c d le is_header_over [] texts old new inputs short read in
-    NoMemory inputs (read_within a b c d le is_header_over [] texts old new inputs short read) (all_within a b c d le old new inputs all want needed) (turns_within a b c d le texts old new inputs out out' short all want turns) written shown status_is
+    NoMemory inputs (read_within a b c d le is_header_over [] texts old new inputs short read) (all_within a b c d le old new inputs all want needed) (turns_within a b c d le texts old new inputs out out' short all want turns) same written shown status_is
 
 -- under one limit any texts will do
 pub same_limit : (limit : ℕ) (texts : List (List ℕ)) → AllByRecursion (IsShort limit limit) texts

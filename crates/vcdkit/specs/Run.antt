@@ -141,11 +141,15 @@ pub data IsOutcome (o : Outcome) (out out' err err' : Device) (status : ℕ) : T
   -- a prefix of the output, if a write of it failed
   Part : (written : WritesSome out out' o.output) (shown : Shows err err' (program_line (codes "write failed"))) (status_is : status ≡ 3) → IsOutcome o out out' err err' status
 
+-- no read of these readers failed
+abbrev pub NoneFailed : (old new : List Supply) → Type 0
+NoneFailed old new = map (λ (s : Supply). s.failures) new ≡ map (λ (s : Supply). s.failures) old
+
 -- how a job ends over readers with these texts
 pub data HasRun (want : model.Want) (limit chunk : ℕ) (names texts : List (List ℕ)) (old new : List Supply) (out out' err err' : Device) (status : ℕ) : Type 0 where
   -- with the outcome of its inputs
   WithOutcome : (inputs : List Input) (read : AreRead (is_settled want) limit chunk [] texts old new inputs) (needed : AreNeeded want limit chunk old new inputs) (in_turn : AreInTurn want limit chunk texts old new inputs out out') (leaves : IsOutcome (model.outcome want limit names inputs) out out' err err' status)
       → HasRun want limit chunk names texts old new out out' err err' status
-  -- without output, if memory ran out; no more was read than the headers
-  NoMemory : (inputs : List Input) (read : AreRead is_header_over limit chunk [] texts old new inputs) (needed : AreNeeded want limit chunk old new inputs) (in_turn : AreInTurn want limit chunk texts old new inputs out out') (written : Writes out out' []) (shown : Shows err err' (program_line (codes "out of memory"))) (status_is : status ≡ 3)
+  -- without output, if memory ran out and no read failed; no more was read than the headers
+  NoMemory : (inputs : List Input) (read : AreRead is_header_over limit chunk [] texts old new inputs) (needed : AreNeeded want limit chunk old new inputs) (in_turn : AreInTurn want limit chunk texts old new inputs out out') (same : NoneFailed old new) (written : Writes out out' []) (shown : Shows err err' (program_line (codes "out of memory"))) (status_is : status ≡ 3)
       → HasRun want limit chunk names texts old new out out' err err' status

@@ -59,7 +59,7 @@ pub(crate) struct Reading<'h, B> {
 /// allocator, the hasher of codes, and how many declarations are allowed. `feed` is at the
 /// beginning of that input; after it, it is right after the header. Fails at a fault of the header,
 /// if a read fails, or if memory runs out.
-pub(crate) fn open_input<S: Source, B: BuildHasher>(
+pub(crate) fn read_head_of<S: Source, B: BuildHasher>(
     reading: &Reading<'_, B>,
     input: usize,
     feed: &mut Feed<'_, '_, '_, '_, S>,
@@ -111,7 +111,7 @@ fn begin<S: Source, B: BuildHasher>(
     ensures seated { IfOk result (λ begun. IsNewOver (length chunk.old) (length token.old) begun.seat) }
 {
     let mut feed = Feed::new(reader, chunk, token, value);
-    let head = open_input(reading, input, &mut feed)?;
+    let head = read_head_of(reading, input, &mut feed)?;
     let seat = Seat::new(feed.parked());
     Ok(BegunInput { head, seat })
 }
@@ -173,7 +173,7 @@ impl Inputs {
 /// Reads the headers of all inputs in order, and returns them with the parked feeds. Each of the
 /// slices in `windows` has one equal part for each reader. All headers together may have 16,777,216
 /// declarations. Fails at the first header with a fault, at a failed read, or if memory runs out.
-pub(crate) fn open_inputs<S: Source, B: BuildHasher>(
+pub(crate) fn read_heads<S: Source, B: BuildHasher>(
     alloc: Global,
     readers: &mut [S],
     windows: &mut Windows<'_>,

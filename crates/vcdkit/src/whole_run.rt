@@ -3,7 +3,7 @@ ghost use Rattle.std.specs.Prelude.{◌≡◌, ◌+◌, ◌-◌, ◌^◌, ◌<�
 ghost use Rattle.vcdkit.specs.Names.{AreReaders, AreWithin, AreWithinBound, chunk_len_of, CountsAt, CountsReadsOf, CountsWrites, Does, end_of, EndsAtRead, EndsAtReadOf, EndsAtStop, EndsSo, FailOnce, failure_of, HasNotFailed, HasPassedOn, HasPassedOnAt, InputEnds, is_asked, is_merge, IsEnough, IsValid, JobEnds, limit_of, MayFailOnce, merge_end, Merges, names_asked, Narrows, PassesOn, reads_failed, request_for, request_of_task, room_size, RunsJob, RunsUnder, SameLoans, source_of, stop_writes, WantEnds, writes_failed};
 
 use crate::failure::Failure;
-use crate::inputs::{MAX_DECLARATIONS, Reading, open_input, open_inputs, windows_for};
+use crate::inputs::{MAX_DECLARATIONS, Reading, read_head_of, read_heads, windows_for};
 use crate::message::report;
 use crate::tasks::{need_of, room_for, task_of};
 use std::alloc::Global;
@@ -138,7 +138,7 @@ fn run_input<S: Source, W: Sink, B: BuildHasher>(
         hasher,
         most: MAX_DECLARATIONS,
     };
-    let head = open_input(&reading, 0, &mut feed)?;
+    let head = read_head_of(&reading, 0, &mut feed)?;
     run_want(alloc, &mut job.task, head.view(), &mut feed, out)
 }
 
@@ -166,7 +166,7 @@ fn run_merge<S: Source, W: Sink, B: BuildHasher>(
         tokens: &mut memory.tokens,
         values: &mut memory.values,
     };
-    let mut inputs = open_inputs(alloc, readers, &mut windows, hasher)?;
+    let mut inputs = read_heads(alloc, readers, &mut windows, hasher)?;
     merged(merge(&inputs.heads, readers, &mut windows, &mut inputs.seats, out))
 }
 

@@ -1,4 +1,4 @@
-use Rattle.std.proofs.Common.{◌-◌, length}
+use Rattle.std.proofs.Common.{◌≡◌, ◌-◌, true, false, length}
 use Rattle.vcd_text.specs.Ahead.{bytes_of, passed_of}
 use Rattle.vcd_body.specs.Walk.{HasCome, stage_at}
 use Rattle.vcd_body.proofs.walk.walk_ahead.Given as goal
@@ -6,6 +6,7 @@ use Rattle.vcd_body.proofs.walk.walk_ahead.Given as goal
 abbrev pub invariant-parts : goal.invariant-parts
 invariant-parts g l = record {
   come : HasCome g.V.Visit.takes g.V.Visit.stands g.V.Visit.over l.fn.view (stage_at l.fn.ahead l.fn.regs l.fn.visit l.fn.command (g.W.Sink.device l.fn.out)) (stage_at l.ahead l.regs l.visit l.command (g.W.Sink.device l.out));
+  on : l.at_lines ≡ true → g.V.Visit.over l.visit ≡ false;
 }
 
 abbrev pub decreases-parts : goal.decreases-parts

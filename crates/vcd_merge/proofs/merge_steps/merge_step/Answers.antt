@@ -12,13 +12,10 @@ pub returns-clause-lengths : goal.returns-clause-lengths
 returns-clause-lengths g c = let l = c.run_step-answer.ensures.runs.leaves.touches in rw (sym c.order_of-order.ensures.stay) (l.seats, record { chunks = l.chunks; tokens = l.tokens; values = l.values })
 
 pub returns-clause-reads : goal.returns-clause-reads
-returns-clause-reads g c = let l = c.run_step-answer.ensures.runs in rw (sym c.order_of-order.ensures.stay) (l.input, l.next, l.leaves.touches.reads, l.leaves.touches.named)
+returns-clause-reads g c = let l = c.run_step-answer.ensures.runs in rw (sym c.order_of-order.ensures.stay) (l.input, l.next, l.leaves.touches.reads, l.leaves.touches.named, λ j other. let u = l.leaves.touches.untouched j other in (l.leaves.touches.others j other, u.0, u.1))
 
 pub returns-clause-left : goal.returns-clause-left
 returns-clause-left g c = rw (sym c.order_of-order.ensures.stay) c.run_step-answer.ensures.runs.leaves.left
-
-pub returns-clause-one : goal.returns-clause-one
-returns-clause-one g c = let l = c.run_step-answer.ensures.runs in rw (sym c.order_of-order.ensures.stay) (l.input, l.leaves.touches.others, l.leaves.touches.untouched)
 
 pub returns-clause-writes : goal.returns-clause-writes
 returns-clause-writes g c = c.run_step-answer.ensures.runs.leaves.touches.writes

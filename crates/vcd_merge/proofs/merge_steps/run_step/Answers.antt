@@ -1,4 +1,4 @@
-use Rattle.std.proofs.Common.{◌≡◌, ◌+◌, ◌∙◌, true, false, sym, ap, refl, length, Err, rules, subst, take, arith, inr, add-zero}
+use Rattle.std.proofs.Common.{◌≡◌, ◌+◌, ◌∙◌, sym, ap, refl, length, Err, rules, subst, take, arith, inr, add-zero}
 use Rattle.std.proofs.lemmas.Option.{slice_get_within}
 use Rattle.vcd_model.specs.HeadText.{first_number}
 use Rattle.vcd_model.specs.Merge.{factor}

@@ -10,7 +10,7 @@ use Rattle.vcdkit.proofs.inputs.begin.Goals as goal
 pub returns-in_err-head-clause-begins : goal.returns-in_err-head-clause-begins
 returns-in_err-head-clause-begins g c = λ text h.
     let why = c.in_err-head.field-0.0 in
-    let feed = c.open_input.new.feed in
+    let feed = c.read_head_of.new.feed in
     let e : c.from_residual.result ≡ Err why = search rules in
     let stands : HasGiven (whole text) [] c.new-feed.result = subst (λ (o : Option (List ℕ)). IfSome o (λ t. HasGiven (whole t) [] c.new-feed.result)) h c.new-feed.ensures.begins.stands in
     let limit = c.in_err-head.ensures.lengths.0 ∙ c.new-feed.ensures.begins.limit in
@@ -22,7 +22,7 @@ returns-in_err-head-clause-begins g c = λ text h.
 
 pub returns-clause-begins : goal.returns-clause-begins
 returns-clause-begins g c = λ text h.
-    let feed = c.open_input.new.feed in
+    let feed = c.read_head_of.new.feed in
     let stands : HasGiven (whole text) [] c.new-feed.result = subst (λ (o : Option (List ℕ)). IfSome o (λ t. HasGiven (whole t) [] c.new-feed.result)) h c.new-feed.ensures.begins.stands in
     let limit = c.in_ok-head.ensures.lengths.0 ∙ c.new-feed.ensures.begins.limit in
     let chunk = c.in_ok-head.ensures.lengths.1 ∙ c.new-feed.ensures.begins.chunk_len in
@@ -38,4 +38,4 @@ pub returns-clause-seated : goal.returns-clause-seated
 returns-clause-seated g c =
     let limit = c.in_ok-head.ensures.lengths.0 ∙ c.new-feed.ensures.begins.limit in
     let chunk = c.in_ok-head.ensures.lengths.1 ∙ c.new-feed.ensures.begins.chunk_len in
-    seated c.args.reading.now.most _ _ (whole []) (record { rest = None; failures = 0 }) c.open_input.new.feed limit chunk c.new-seat.result c.parked.result c.parked.ensures.fits c.parked.ensures.parked c.in_ok-head.ensures.«open» c.new-seat.ensures.parked c.new-seat.ensures.regs c.new-seat.ensures.«open»
+    seated c.args.reading.now.most _ _ (whole []) (record { rest = None; failures = 0 }) c.read_head_of.new.feed limit chunk c.new-seat.result c.parked.result c.parked.ensures.fits c.parked.ensures.parked c.in_ok-head.ensures.«open» c.new-seat.ensures.parked c.new-seat.ensures.regs c.new-seat.ensures.«open»

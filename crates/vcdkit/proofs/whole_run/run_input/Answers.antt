@@ -25,18 +25,18 @@ returns-in_err-head-clause-ends g c = λ text name h.
     let why = c.in_err-head.field-0.0 in
     let e : c.from_residual-in_err-head.result ≡ Err why = search rules in
     let stands : HasGiven (whole text) [] c.new-feed.result = subst (λ (o : Option (List ℕ)). IfSome o (λ t. HasGiven (whole t) [] c.new-feed.result)) h c.new-feed.ensures.begins.stands in
-    let limit : limit_of c.open_input.new.feed ≡ c.args.job.now.limit = c.in_err-head.ensures.lengths.0 ∙ omega (arith, c.in_ok-memory.ensures) in
-    let chunk : chunk_len_of c.open_input.new.feed ≡ c.args.job.now.chunk = c.in_err-head.ensures.lengths.1 ∙ omega (arith, c.in_ok-memory.ensures) in
-    let gone : c.in_err-head.reader-1-own.given.0 ≡ source_of c.open_input.new.feed = search rules in
+    let limit : limit_of c.read_head_of.new.feed ≡ c.args.job.now.limit = c.in_err-head.ensures.lengths.0 ∙ omega (arith, c.in_ok-memory.ensures) in
+    let chunk : chunk_len_of c.read_head_of.new.feed ≡ c.args.job.now.chunk = c.in_err-head.ensures.lengths.1 ∙ omega (arith, c.in_ok-memory.ensures) in
+    let gone : c.in_err-head.reader-1-own.given.0 ≡ source_of c.read_head_of.new.feed = search rules in
     let before : Supply = supply g.S.Source.rest g.S.Source.failures c.args.reader.now in
-    let counted = subst (λ (n : ℕ). CountsRead 0 n (g.S.Source.failures (source_of c.open_input.new.feed)) (Some why)) (ap g.S.Source.failures c.new-feed.ensures.begins.source_is) c.in_err-head.ensures.failures in
+    let counted = subst (λ (n : ℕ). CountsRead 0 n (g.S.Source.failures (source_of c.read_head_of.new.feed)) (Some why)) (ap g.S.Source.failures c.new-feed.ensures.begins.source_is) c.in_err-head.ensures.failures in
     rw (e, gone) (refused c.args.job.now.task c.args.job.now.limit c.args.job.now.chunk (whole text) name before _ _ why
-    (failed declarations_allowed c.args.job.now.limit c.args.job.now.chunk (whole text) before c.open_input.new.feed limit chunk 0 why counted (c.in_err-head.ensures.reads (whole text) stands)))
+    (failed declarations_allowed c.args.job.now.limit c.args.job.now.chunk (whole text) before c.read_head_of.new.feed limit chunk 0 why counted (c.in_err-head.ensures.reads (whole text) stands)))
 
 pub returns-clause-ends : goal.returns-clause-ends
 returns-clause-ends g c = λ text name h.
     let stands : HasGiven (whole text) [] c.new-feed.result = subst (λ (o : Option (List ℕ)). IfSome o (λ t. HasGiven (whole t) [] c.new-feed.result)) h c.new-feed.ensures.begins.stands in
-    let feed = c.open_input.new.feed in
+    let feed = c.read_head_of.new.feed in
     let limit : limit_of feed ≡ c.args.job.now.limit = c.in_ok-head.ensures.lengths.0 ∙ omega (arith, c.in_ok-memory.ensures) in
     let chunk : chunk_len_of feed ≡ c.args.job.now.chunk = c.in_ok-head.ensures.lengths.1 ∙ omega (arith, c.in_ok-memory.ensures) in
     let gone : c.reader-2-1.given.0 ≡ source_of c.run_want.new.feed = search rules in

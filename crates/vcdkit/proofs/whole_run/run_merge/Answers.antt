@@ -14,8 +14,8 @@ returns-in_err-memory-clause-ends g c = λ texts names h.
     let e : c.from_residual.result ≡ Err OutOfMemory = search rules in
     rw e (stopped c.args.job.now.limit c.args.job.now.chunk names texts _ _ _ OutOfMemory (nothing_stops _ _ g.S.Source.rest g.S.Source.failures c.args.readers.now texts c.requires.readers.some h))
 
-pub open_inputs-requires-clause-parts : goal.open_inputs-requires-clause-parts
-open_inputs-requires-clause-parts g c =
+pub read_heads-requires-clause-parts : goal.read_heads-requires-clause-parts
+read_heads-requires-clause-parts g c =
     let lc : length c.deref_mut.result.now ≡ length c.args.readers.now * c.args.job.now.chunk = c.deref_mut.ensures.len ∙ c.in_ok-memory.ensures.0 in
     let lt : length c.deref_mut-2.result.now ≡ length c.args.readers.now * c.args.job.now.limit = c.deref_mut-2.ensures.len ∙ c.in_ok-memory.ensures.1 in
     let lv : length c.deref_mut-3.result.now ≡ length c.args.readers.now * c.args.job.now.limit = c.deref_mut-3.ensures.len ∙ c.in_ok-memory.ensures.2 in
@@ -48,10 +48,10 @@ merge-requires-clause-bound g c =
     let lv = same.values ∙ c.deref_mut-3.ensures.len ∙ c.in_ok-memory.ensures.2 in
     let heads : length c.deref.result.now ≡ n = ap length c.deref.ensures.value ∙ c.in_ok-inputs.ensures.many.0 in
     let seats : length c.deref_mut-4.result.now ≡ n = ap length c.deref_mut-4.ensures.value ∙ c.in_ok-inputs.ensures.many.1 in
-    lends_within n c.args.job.now.chunk c.args.job.now.limit (length c.deref_mut-4.result.now) c.deref.result.now c.open_inputs.new.windows c.requires.readers.some c.args.job.now.chunk_in_range.1 lc lt lv heads seats
+    lends_within n c.args.job.now.chunk c.args.job.now.limit (length c.deref_mut-4.result.now) c.deref.result.now c.read_heads.new.windows c.requires.readers.some c.args.job.now.chunk_in_range.1 lc lt lv heads seats
 
 pub merge-requires-clause-reads : goal.merge-requires-clause-reads
-merge-requires-clause-reads g c = still_low g.S.Source.failures _ c.args.readers.now c.open_inputs.new.readers c.in_ok-inputs.ensures.reads c.requires.readers.low
+merge-requires-clause-reads g c = still_low g.S.Source.failures _ c.args.readers.now c.read_heads.new.readers c.in_ok-inputs.ensures.reads c.requires.readers.low
 
 pub returns-clause-ends : goal.returns-clause-ends
 returns-clause-ends g c = λ texts names h.
@@ -63,15 +63,15 @@ returns-clause-ends g c = λ texts names h.
     let limit = part_is (length c.args.readers.now) c.args.job.now.limit c.deref_mut-2.result.now c.requires.readers.some lt in
     let seats : c.deref_mut-4.result.now ≡ c.in_ok-inputs.inputs.seats.items = c.deref_mut-4.ensures.value in
     rw c.merged.ensures
-    (merge_ends (length c.args.readers.now) (length c.deref_mut-4.result.now) c.args.job.now.limit _ _ c.args.job.now.chunk _ _ g.S.Source.rest g.S.Source.failures names texts c.args.readers.now c.open_inputs.new.readers c.merge.new.sources
+    (merge_ends (length c.args.readers.now) (length c.deref_mut-4.result.now) c.args.job.now.limit _ _ c.args.job.now.chunk _ _ g.S.Source.rest g.S.Source.failures names texts c.args.readers.now c.read_heads.new.readers c.merge.new.sources
     _ _ _ _ _ _ c.merge.result many limit (ap₂ (λ a b. a / b) same.tokens many ∙ limit) chunk (ap₂ (λ a b. a / b) same.chunks many ∙ chunk) (c.in_ok-inputs.ensures.begins texts h)
     (λ lanes names shows parked. c.merge.ensures.follows (headers_in lanes) lanes names (rw c.deref.ensures.value shows) refl
-    (subst (λ (l : List Seat). AreParked (length c.deref_mut-4.result.now) g.S.Source.rest lanes l c.open_inputs.new.readers c.open_inputs.new.windows.chunks.now c.open_inputs.new.windows.tokens.now) (sym seats) parked)))
+    (subst (λ (l : List Seat). AreParked (length c.deref_mut-4.result.now) g.S.Source.rest lanes l c.read_heads.new.readers c.read_heads.new.windows.chunks.now c.read_heads.new.windows.tokens.now) (sym seats) parked)))
 
 pub returns-clause-reads : goal.returns-clause-reads
 returns-clause-reads g c =
     let (k, within, counts, named) = c.merge.ensures.reads in
-    rw c.merged.ensures (counts_merge _ _ _ k c.merge.result c.in_ok-inputs.ensures.reads (omega (arith, length-map c.open_inputs.new.readers g.S.Source.failures)) counts named)
+    rw c.merged.ensures (counts_merge _ _ _ k c.merge.result c.in_ok-inputs.ensures.reads (omega (arith, length-map c.read_heads.new.readers g.S.Source.failures)) counts named)
 
 pub returns-clause-last : goal.returns-clause-last
 returns-clause-last g c = rw c.merged.ensures (merged_last _ c.merge.result c.merge.ensures.last)

@@ -1,9 +1,9 @@
-use Rattle.std.proofs.Common.{◌≡◌, ◌∙◌, length, map, Ok, Err, Some, refl}
+use Rattle.std.proofs.Common.{◌≡◌, ◌∙◌, length, map, Ok, Err, None, Some, refl}
 use Rattle.std.specs.Prelude.{string_bytes}
 use Rattle.std.proofs.lemmas.List.{length-map}
 use Rattle.vcd_words.specs.Job.{model_want, names_asked}
 use Rattle.vcdkit.specs.Failure.{writes_failed}
-use Rattle.vcdkit.proofs.EndLemmas.{has_run, shows_nothing}
+use Rattle.vcdkit.proofs.EndLemmas.{counted_reads, has_run, shows_nothing}
 use Rattle.vcdkit.proofs.RunLemmas.{failed_read, few_writes, most_one, shown_once}
 use Rattle.vcdkit.proofs.whole_run.run_with_hasher.Goals as goal
 
@@ -11,13 +11,13 @@ pub returns-in-Ok-clause-gives : goal.returns-in-Ok-clause-gives
 returns-in-Ok-clause-gives g c = λ texts h.
     let many : length (map string_bytes c.args.names.now) ≡ length c.args.readers.now = length-map c.args.names.now string_bytes ∙ c.requires.names in
     has_run (model_want c.args.job.task) (names_asked c.args.job.task) c.args.job.limit c.args.job.chunk (map string_bytes c.args.names.now) texts _ _ _ _ _ _ 0 (Ok c.in-Ok.field-0)
-    (c.in-Ok.ensures.ends texts (map string_bytes c.args.names.now) h many) refl (shows_nothing (g.E.Sink.device _))
+    (c.in-Ok.ensures.ends texts (map string_bytes c.args.names.now) h many) (counted_reads g.S.Source.rest g.S.Source.failures _ _ None c.in-Ok.ensures.reads) refl (shows_nothing (g.E.Sink.device _))
 
 pub returns-clause-gives : goal.returns-clause-gives
 returns-clause-gives g c = λ texts h.
     let many : length (map string_bytes c.args.names.now) ≡ length c.args.readers.now = length-map c.args.names.now string_bytes ∙ c.requires.names in
     has_run (model_want c.args.job.task) (names_asked c.args.job.task) c.args.job.limit c.args.job.chunk (map string_bytes c.args.names.now) texts _ _ _ _ _ _ c.report.result (Err c.in-Err.failure)
-    (c.in-Err.ensures.ends texts (map string_bytes c.args.names.now) h many) c.report.ensures.status (rw (c.names.ensures, c.run_readers.ensures.names) at c.report.ensures.line)
+    (c.in-Err.ensures.ends texts (map string_bytes c.args.names.now) h many) (counted_reads g.S.Source.rest g.S.Source.failures _ _ (Some c.in-Err.failure) c.in-Err.ensures.reads) c.report.ensures.status (rw (c.names.ensures, c.run_readers.ensures.names) at c.report.ensures.line)
 
 pub returns-clause-failures : goal.returns-clause-failures
 returns-clause-failures g c = (
