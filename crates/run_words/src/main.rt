@@ -1,12 +1,13 @@
 //! A stored run of the program on the machine: command lines of fixed words, one after the other.
 //! It prints each line, what the program writes to standard output for it, its status, and what it
-//! writes to the error stream.
+//! writes to the error stream. At the end it runs the program on its own arguments and its own
+//! standard error, and prints how much was written there.
 #![tactic(auto)]
 
 use std::alloc::{AllocError, Global};
-use std::io;
 use std::io::Write;
-use vcd_program::run_words_on_machine;
+use std::{fs, io};
+use vcd_program::{run_on_machine, run_words_on_machine};
 use vcd_text::Watch;
 
 /// The command lines, without the program's name.
@@ -47,9 +48,35 @@ fn run_line(rt: &HostRuntime, line: &str) -> io::Result<()> {
     rt.stdout().write_all(said.device.as_slice())
 }
 
+/// Returns the number after this name among the counts, or 0 if there is none.
+fn count_of(counts: &str, name: &str) -> u64 {
+    let mut words = counts.split_whitespace().skip_while(|word| *word != name);
+    words.nth(1).and_then(|word| word.parse().ok()).unwrap_or(0)
+}
+
+/// Returns how many bytes this process has written so far, and in how many writes, as the system
+/// counts them.
+fn written(rt: &HostRuntime) -> io::Result<(u64, u64)> {
+    let counts = fs::read_to_string(rt, "/proc/self/io")?;
+    Ok((count_of(&counts, "wchar:"), count_of(&counts, "syscw:")))
+}
+
+/// Runs the program on the arguments and the streams of this process, and prints its status, and
+/// how many bytes were written meanwhile, and in how many writes. All that does not come to
+/// standard output is a message on standard error.
+fn run_arguments(rt: &HostRuntime) -> io::Result<()> {
+    println!(rt; "$ (arguments)")?;
+    let before = written(rt)?;
+    let status = run_on_machine(rt);
+    let after = written(rt)?;
+    let bytes = after.0.saturating_sub(before.0);
+    let writes = after.1.saturating_sub(before.1);
+    println!(rt; "status {status}, bytes {bytes}, writes {writes}")
+}
+
 fn main(rt: HostRuntime) -> io::Result<()> {
     for line in LINES {
         run_line(&rt, line)?;
     }
-    Ok(())
+    run_arguments(&rt)
 }

@@ -1,5 +1,6 @@
 mod MemoryLemmas
 mod LentLemmas
 mod HostLemmas
+pub mod UnderLemmas
 mod RunsLemmas
 mod Statuses

@@ -133,11 +133,11 @@ module _ (a b : Bool) where
   )
 
   -- what words leave that were parsed
-  left-parsed : (words : Option Words) (asked : List (Option Text)) (files : List MemoryFile) (input : Text) (host after : Memory) (left : End) (out err : List ℕ) (status : ℕ) → host.files.now ≡ files → host.input.now ≡ input → noted host ≡ [] → LeftAs left after out err status
-      → Runs OpensIn known bytes_of no_failures none_failed words asked host after (holding false []) (holding a out) (holding false []) (holding b err) status → IsLeftOf words asked files input left ⊎ IsOutOfMemory left
-  left-parsed words asked files input host after left out err status f i n holds (Runs.Refused fault is same leaves) =
+  left-parsed : (words : Option Words) (asked : List (Option Text)) (files : List MemoryFile) (input : Text) (host after : Memory) (left : End) (out err : List ℕ) (status : ℕ) (NoneKept : Type 0) → host.files.now ≡ files → host.input.now ≡ input → noted host ≡ [] → LeftAs left after out err status
+      → Runs OpensIn known bytes_of no_failures none_failed words asked host after (holding false []) (holding a out) (holding false []) (holding b err) status NoneKept → IsLeftOf words asked files input left ⊎ IsOutOfMemory left
+  left-parsed words asked files input host after left out err status NoneKept f i n holds (Runs.Refused fault is same leaves) =
       inl (IsLeftOf.Refused fault is (is-left left after out err status [] (command_outcome words [] []) holds (ap noted same ∙ n) leaves))
-  left-parsed words asked files input host after left out err status f i n holds (Runs.Ran want limit is readers done opened ends gives lower near under) =
+  left-parsed words asked files input host after left out err status NoneKept f i n holds (Runs.Ran want limit is readers done opened ends gives lower near under passed_on) =
       let o = opened-in files input host asked readers after f i opened in
       let texts = map (λ (b : Bytes). b.rest.now) readers in
       by_end o texts (o.bytes ∙ texts-of readers) (gives (all-known readers) texts (texts-of readers))
@@ -149,7 +149,7 @@ module _ (a b : Bool) where
           inl (IsLeftOf.Ran (record { want = want; limit = limit }) is texts have (is-left left after out err status asked (command_outcome words (map called asked) (map whole texts)) holds (o.notes ∙ ap (λ l. l ++ asked) n)
           (subst (λ l. IsOutcome (command_outcome words (map called asked) l) (holding false []) (holding a out) (holding false []) (holding b err) status) all leaves)))
       by_end o texts have (Leaves.NoMemory inputs read needed turns fails) = inr (out-of-memory left after out err status holds fails)
-  left-parsed words asked files input host after left out err status f i n holds (Runs.Stopped job is name opened leaves) =
+  left-parsed words asked files input host after left out err status NoneKept f i n holds (Runs.Stopped job is name opened leaves) =
       let before = opened.0 in
       let inputs = opened.3 in
       let next = opened.4 in
@@ -157,35 +157,35 @@ module _ (a b : Bool) where
       let missing = missed files input before inputs host next after name o (opened.6) in
       inl (IsLeftOf.Stopped job is before opened.1 name opened.2 (map (λ (b : Bytes). b.rest.now) inputs) (o.bytes ∙ texts-of inputs) missing.1
       (is-left left after out err status (before ++ name ∷ []) (unopened_outcome (called name)) holds (missing.0 ∙ ap (λ l. l ++ (before ++ name ∷ [])) n) leaves))
-  left-parsed words asked files input host after left out err status f i n holds (Runs.NoMemory job is opened fails) = inr (out-of-memory left after out err status holds fails)
+  left-parsed words asked files input host after left out err status NoneKept f i n holds (Runs.NoMemory job is opened fails) = inr (out-of-memory left after out err status holds fails)
 
   -- what any words leave
-  pub left-by : (words : List Text) (files : List MemoryFile) (input : Text) (host after : Memory) (left : End) (out err : List ℕ) (status : ℕ) → host.files.now ≡ files → host.input.now ≡ input → noted host ≡ [] → LeftAs left after out err status
-      → RunsOn words OpensIn known bytes_of no_failures none_failed host after (holding false []) (holding a out) (holding false []) (holding b err) status → IsLeftBy words files input left
-  left-by words files input host after left out err status f i n holds (RunsOn.NoMatches why is only same (inl some)) =
+  pub left-by : (words : List Text) (files : List MemoryFile) (input : Text) (host after : Memory) (left : End) (out err : List ℕ) (status : ℕ) (NoneKept : Type 0) → host.files.now ≡ files → host.input.now ≡ input → noted host ≡ [] → LeftAs left after out err status
+      → RunsOn words OpensIn known bytes_of no_failures none_failed host after (holding false []) (holding a out) (holding false []) (holding b err) status NoneKept → IsLeftBy words files input left
+  left-by words files input host after left out err status NoneKept f i n holds (RunsOn.NoMatches why is only same (inl some)) =
       IsLeftBy.NoMatches why is only some.0 some.1 (is-left left after out err status [] (answer_outcome why some.1) holds (ap noted same ∙ n) some.2)
-  left-by words files input host after left out err status f i n holds (RunsOn.NoMatches why is only same (inr fails)) = IsLeftBy.NoMemory (out-of-memory left after out err status holds fails)
-  left-by words files input host after left out err status f i n holds (RunsOn.Parsed matches is run) =
-      elim (left-parsed (words_used matches) (inputs_asked matches) files input host after left out err status f i n holds run) [ inl parsed ↦ IsLeftBy.Parsed matches is parsed | inr none ↦ IsLeftBy.NoMemory none ]
+  left-by words files input host after left out err status NoneKept f i n holds (RunsOn.NoMatches why is only same (inr fails)) = IsLeftBy.NoMemory (out-of-memory left after out err status holds fails)
+  left-by words files input host after left out err status NoneKept f i n holds (RunsOn.Parsed matches is run) =
+      elim (left-parsed (words_used matches) (inputs_asked matches) files input host after left out err status NoneKept f i n holds run) [ inl parsed ↦ IsLeftBy.Parsed matches is parsed | inr none ↦ IsLeftBy.NoMemory none ]
 
   -- the output is flushed, as nothing is kept in a buffer
-  left-flushed : {W : Type 0} (device : W → Device) (flushes : W → Bool → W → Type 0) (words : List Text) (files : List MemoryFile) (input : Text) (host after : Memory) (left : End) (out' : W) (out err : List ℕ) (status : ℕ)
+  left-flushed : {W : Type 0} (device : W → Device) (Quiet : W → Type 0) (flushes : W → Bool → W → Type 0) (words : List Text) (files : List MemoryFile) (input : Text) (host after : Memory) (left : End) (out' : W) (out err : List ℕ) (status : ℕ)
       → ((old new : W) (done : Bool) → flushes old done new → (done ≡ true) × (new ≡ old)) → device out' ≡ holding a out → host.files.now ≡ files → host.input.now ≡ input → noted host ≡ [] → LeftAs left after out err status
-      → Finishes device flushes (λ out_now err_now n. RunsOn words OpensIn known bytes_of no_failures none_failed host after (holding false []) out_now (holding false []) err_now n) out' (holding b err) status → IsLeftBy words files input left
-  left-flushed device flushes words files input host after left out' out err status flush is f i n holds (Finishes.Flushed before leaves flushed held same) =
-      left-by words files input host after left out err status f i n holds
-      (subst (λ d. RunsOn words OpensIn known bytes_of no_failures none_failed host after (holding false []) d (holding false []) (holding b err) status) (ap device (sym (flush before out' true flushed).1) ∙ is) leaves)
-  left-flushed device flushes words files input host after left out' out err status flush is f i n holds (Finishes.Failed before leaves machine fails held same) =
+      → Finishes device flushes (λ now err_now n. RunsOn words OpensIn known bytes_of no_failures none_failed host after (holding false []) (device now) (holding false []) err_now n (Quiet now)) out' (holding b err) status → IsLeftBy words files input left
+  left-flushed device Quiet flushes words files input host after left out' out err status flush is f i n holds (Finishes.Flushed before leaves flushed held same) =
+      left-by words files input host after left out err status (Quiet before) f i n holds
+      (subst (λ d. RunsOn words OpensIn known bytes_of no_failures none_failed host after (holding false []) d (holding false []) (holding b err) status (Quiet before)) (ap device (sym (flush before out' true flushed).1) ∙ is) leaves)
+  left-flushed device Quiet flushes words files input host after left out' out err status flush is f i n holds (Finishes.Failed before leaves machine fails held same) =
       let bad : false ≡ true = (flush before out' false fails).0 in cc
-  left-flushed device flushes words files input host after left out' out err status flush is f i n holds (Finishes.Unflushed before shown was leaves below fails held same then status_is) =
+  left-flushed device Quiet flushes words files input host after left out' out err status flush is f i n holds (Finishes.Unflushed before shown was leaves below fails held same then status_is) =
       let bad : false ≡ true = (flush before out' false fails).0 in cc
 
-  pub left-in-memory : {W : Type 0} (device : W → Device) (flushes : W → Bool → W → Type 0) (words : List Text) (files : List MemoryFile) (input : Text) (host after : Memory) (left : End) (out' : W) (out err : List ℕ) (status : ℕ) (out0 err0 err1 : Device)
+  pub left-in-memory : {W : Type 0} (device : W → Device) (Quiet : W → Type 0) (flushes : W → Bool → W → Type 0) (words : List Text) (files : List MemoryFile) (input : Text) (host after : Memory) (left : End) (out' : W) (out err : List ℕ) (status : ℕ) (out0 err0 err1 : Device)
       → ((old new : W) (done : Bool) → flushes old done new → (done ≡ true) × (new ≡ old)) → device out' ≡ holding a out → host.files.now ≡ files → host.input.now ≡ input → noted host ≡ [] → LeftAs left after out err status
       → out0 ≡ holding false [] → err0 ≡ holding false [] → err1 ≡ holding b err
-      → Finishes device flushes (λ out_now err_now n. RunsOn words OpensIn known bytes_of no_failures none_failed host after out0 out_now err0 err_now n) out' err1 status → IsLeftBy words files input left
-  left-in-memory device flushes words files input host after left out' out err status out0 err0 err1 flush is f i n holds e0 e1 e2 fin =
-      left-flushed device flushes words files input host after left out' out err status flush is f i n holds
-      (subst (λ d. Finishes device flushes (λ out_now err_now n. RunsOn words OpensIn known bytes_of no_failures none_failed host after (holding false []) out_now (holding false []) err_now n) out' d status) e2
-      (subst (λ d. Finishes device flushes (λ out_now err_now n. RunsOn words OpensIn known bytes_of no_failures none_failed host after (holding false []) out_now d err_now n) out' err1 status) e1
-      (subst (λ d. Finishes device flushes (λ out_now err_now n. RunsOn words OpensIn known bytes_of no_failures none_failed host after d out_now err0 err_now n) out' err1 status) e0 fin)))
+      → Finishes device flushes (λ now err_now n. RunsOn words OpensIn known bytes_of no_failures none_failed host after out0 (device now) err0 err_now n (Quiet now)) out' err1 status → IsLeftBy words files input left
+  left-in-memory device Quiet flushes words files input host after left out' out err status out0 err0 err1 flush is f i n holds e0 e1 e2 fin =
+      left-flushed device Quiet flushes words files input host after left out' out err status flush is f i n holds
+      (subst (λ d. Finishes device flushes (λ now err_now n. RunsOn words OpensIn known bytes_of no_failures none_failed host after (holding false []) (device now) (holding false []) err_now n (Quiet now)) out' d status) e2
+      (subst (λ d. Finishes device flushes (λ now err_now n. RunsOn words OpensIn known bytes_of no_failures none_failed host after (holding false []) (device now) d err_now n (Quiet now)) out' err1 status) e1
+      (subst (λ d. Finishes device flushes (λ now err_now n. RunsOn words OpensIn known bytes_of no_failures none_failed host after d (device now) err0 err_now n (Quiet now)) out' err1 status) e0 fin)))

@@ -1,5 +1,5 @@
 -- What a program leaves, from what its calls do.
-use Rattle.std.proofs.Common.{◌≡◌, ◌≤◌, ◌+◌, ◌⊎◌, ℕ, Bool, true, false, List, [], length, map, refl, sym, subst, ap, ◌∙◌, inl, inr, arith, codes, cond, ◌==◌}
+use Rattle.std.proofs.Common.{◌≡◌, ◌≢◌, ◌≤◌, ◌+◌, ◌⊎◌, ℕ, Bool, true, false, List, [], length, map, refl, sym, subst, ap, ◌∙◌, inl, inr, arith, codes, cond, ◌==◌}
 use Rattle.std.specs.Prelude.{All, IfSome, Option, None, Some, Result, Ok, Err}
 use Rattle.clap.specs.Words.{Text, is_simple_and_free}
 use Rattle.clap.specs.declared.error.kind.ErrorKind.{ErrorKind}
@@ -107,19 +107,19 @@ pub without-output : (o : Outcome) (out err err' : Device) (status : ℕ) → o.
 without-output o out err err' status none shown is = Whole (subst (λ l. Writes out out l) (sym none) (writes-none out)) shown is
 
 -- memory ran out before an input was opened
-pub no-memory : {H I : Type 0} (opens : H → Option Text → Result I OpenFault → H → Type 0) (knows : I → Type 0) (rest : I → Option (List ℕ)) (failures : I → ℕ) (last_failed : I → Bool) (words : Option Words) (names : List (Option Text)) (host : H) (out err err' : Device) (status : ℕ) (j : Job)
-    → job_of words ≡ Ok j → Shows err err' (program_line (codes "out of memory")) → status ≡ 3 → Runs opens knows rest failures last_failed words names host host out out err err' status
-no-memory opens knows rest failures last_failed words names host out err err' status j e shown is = Runs.NoMemory j e ([], names, refl, [], host, refl, inl refl) (writes-none out, shown, is)
+pub no-memory : {H I : Type 0} (opens : H → Option Text → Result I OpenFault → H → Type 0) (knows : I → Type 0) (rest : I → Option (List ℕ)) (failures : I → ℕ) (last_failed : I → Bool) (words : Option Words) (names : List (Option Text)) (host : H) (out err err' : Device) (status : ℕ) (NoneKept : Type 0) (j : Job)
+    → job_of words ≡ Ok j → Shows err err' (program_line (codes "out of memory")) → status ≡ 3 → Runs opens knows rest failures last_failed words names host host out out err err' status NoneKept
+no-memory opens knows rest failures last_failed words names host out err err' status NoneKept j e shown is = Runs.NoMemory j e ([], names, refl, [], host, refl, inl refl) (writes-none out, shown, is)
 
 -- words that ask for no job
-pub refused : {H I : Type 0} (opens : H → Option Text → Result I OpenFault → H → Type 0) (knows : I → Type 0) (rest : I → Option (List ℕ)) (failures : I → ℕ) (last_failed : I → Bool) (words : Option Words) (names : List (Option Text)) (host : H) (out err err' : Device) (status : ℕ) (f : UseFault)
-    → IsFaultOf f (job_of words) → Shows err err' (use_outcome f).message → status ≡ (use_outcome f).status → Runs opens knows rest failures last_failed words names host host out out err err' status
-refused {H} {I} opens knows rest failures last_failed words names host out err err' status f e shown is = by_fault f e shown is
+pub refused : {H I : Type 0} (opens : H → Option Text → Result I OpenFault → H → Type 0) (knows : I → Type 0) (rest : I → Option (List ℕ)) (failures : I → ℕ) (last_failed : I → Bool) (words : Option Words) (names : List (Option Text)) (host : H) (out err err' : Device) (status : ℕ) (NoneKept : Type 0) (f : UseFault)
+    → IsFaultOf f (job_of words) → Shows err err' (use_outcome f).message → status ≡ (use_outcome f).status → Runs opens knows rest failures last_failed words names host host out out err err' status NoneKept
+refused {H} {I} opens knows rest failures last_failed words names host out err err' status NoneKept f e shown is = by_fault f e shown is
   where
-    said : (g : model.UseFault) → job_of words ≡ Err g → Shows err err' (model.use_outcome g).message → status ≡ 2 → Runs opens knows rest failures last_failed words names host host out out err err' status
+    said : (g : model.UseFault) → job_of words ≡ Err g → Shows err err' (model.use_outcome g).message → status ≡ 2 → Runs opens knows rest failures last_failed words names host host out out err err' status NoneKept
     said g e shown is = Runs.Refused g e refl (subst (λ o. IsOutcome o out out err err' status) (sym (command-refused words g e)) (Whole (writes-none out) shown is))
 
-    by_fault : (f : UseFault) → IsFaultOf f (job_of words) → Shows err err' (use_outcome f).message → status ≡ (use_outcome f).status → Runs opens knows rest failures last_failed words names host host out out err err' status
+    by_fault : (f : UseFault) → IsFaultOf f (job_of words) → Shows err err' (use_outcome f).message → status ≡ (use_outcome f).status → Runs opens knows rest failures last_failed words names host host out out err err' status NoneKept
     by_fault use_fault.BadWords e shown is = said model.UseFault.BadWords e shown is
     by_fault (use_fault.BadLimit word) e shown is = said (model.UseFault.BadLimit word.now) e shown is
     by_fault (use_fault.BadTime word) e shown is = said (model.UseFault.BadTime word.now) e shown is
@@ -127,21 +127,21 @@ refused {H} {I} opens knows rest failures last_failed words names host out err e
     by_fault use_fault.NotRising e shown is = said model.UseFault.NotRising e shown is
     by_fault use_fault.TooManyFiles e shown is = said model.UseFault.TooManyFiles e shown is
     by_fault use_fault.InputTwice e shown is = said model.UseFault.InputTwice e shown is
-    by_fault use_fault.OutOfMemory e shown is = no-memory opens knows rest failures last_failed words names host out err err' status e.0 e.1 (memory-shown err err' shown) is
+    by_fault use_fault.OutOfMemory e shown is = no-memory opens knows rest failures last_failed words names host out err err' status NoneKept e.0 e.1 (memory-shown err err' shown) is
 
 -- an input that cannot be opened
-pub stopped : {H I : Type 0} (opens : H → Option Text → Result I OpenFault → H → Type 0) (knows : I → Type 0) (rest : I → Option (List ℕ)) (failures : I → ℕ) (last_failed : I → Bool) (words : Option Words) (asked names : List (Option Text)) (host host' : H) (out err err' : Device) (status : ℕ)
+pub stopped : {H I : Type 0} (opens : H → Option Text → Result I OpenFault → H → Type 0) (knows : I → Type 0) (rest : I → Option (List ℕ)) (failures : I → ℕ) (last_failed : I → Bool) (words : Option Words) (asked names : List (Option Text)) (host host' : H) (out err err' : Device) (status : ℕ) (NoneKept : Type 0)
     (j : Job) (why : OpenStop) (said : Option (Bor Text)) → job_of words ≡ Ok j → names ≡ asked → why ≡ stop.Unopened said → StopsAmong opens names host host' why → Shows err err' (unopened_outcome (called (text_of said))).message → status ≡ 3
-    → Runs opens knows rest failures last_failed words asked host host' out out err err' status
-stopped opens knows rest failures last_failed words asked names host host' out err err' status j why said e named is at shown three =
+    → Runs opens knows rest failures last_failed words asked host host' out out err err' status NoneKept
+stopped opens knows rest failures last_failed words asked names host host' out err err' status NoneKept j why said e named is at shown three =
     Runs.Stopped j e (text_of said) (subst (λ l. OpensUpTo opens l (text_of said) host host') named (subst (λ w. StopsAmong opens names host host' w) is at))
     (without-output (unopened_outcome (called (text_of said))) out err err' status refl shown three)
 
 -- memory ran out while inputs were opened
-pub memory-stopped : {H I : Type 0} (opens : H → Option Text → Result I OpenFault → H → Type 0) (knows : I → Type 0) (rest : I → Option (List ℕ)) (failures : I → ℕ) (last_failed : I → Bool) (words : Option Words) (asked names : List (Option Text)) (host host' : H) (out err err' : Device) (status : ℕ)
+pub memory-stopped : {H I : Type 0} (opens : H → Option Text → Result I OpenFault → H → Type 0) (knows : I → Type 0) (rest : I → Option (List ℕ)) (failures : I → ℕ) (last_failed : I → Bool) (words : Option Words) (asked names : List (Option Text)) (host host' : H) (out err err' : Device) (status : ℕ) (NoneKept : Type 0)
     (j : Job) (why : OpenStop) → job_of words ≡ Ok j → names ≡ asked → why ≡ stop.OutOfMemory → StopsAmong opens names host host' why → Shows err err' (program_line (codes "out of memory")) → status ≡ 3
-    → Runs opens knows rest failures last_failed words asked host host' out out err err' status
-memory-stopped opens knows rest failures last_failed words asked names host host' out err err' status j why e named is at shown three =
+    → Runs opens knows rest failures last_failed words asked host host' out out err err' status NoneKept
+memory-stopped opens knows rest failures last_failed words asked names host host' out err err' status NoneKept j why e named is at shown three =
     Runs.NoMemory j e (subst (λ l. OpensSome opens l host host') named (subst (λ w. StopsAmong opens names host host' w) is at)) (writes-none out, shown, three)
 
 -- ---- answers of a parse
@@ -211,18 +211,19 @@ near-limit longest wide narrow (inl same) = inl same
 near-limit longest wide narrow (inr less) = inr (less.2, less.0)
 
 -- the job was run over the inputs that the words ask for
-pub ran : {H I : Type 0} (opens : H → Option Text → Result I OpenFault → H → Type 0) (knows : I → Type 0) (rest : I → Option (List ℕ)) (failures : I → ℕ) (last_failed : I → Bool) (words : Option Words) (asked : List (Option Text)) (host host' : H) (out out' err err' : Device) (status : ℕ)
+pub ran : {H I : Type 0} (opens : H → Option Text → Result I OpenFault → H → Type 0) (knows : I → Type 0) (rest : I → Option (List ℕ)) (failures : I → ℕ) (last_failed : I → Bool) (words : Option Words) (asked : List (Option Text)) (host host' : H) (out out' err err' : Device) (status : ℕ) (NoneKept : Type 0)
     (want : Want) (limit lower chunk : ℕ) (names wanted : List Text) (readers after : List I)
     → job_of words ≡ Ok (record { want = want; limit = limit }) → chunk ≡ 65536 → names ≡ map called asked → wanted ≡ names_wanted want → Opens opens host asked readers host'
     → EndsSo names wanted (map failures readers) (map failures after) (map last_failed after) out out' err err' status
     → (All knows readers → (texts : List Text) → map rest readers ≡ map (λ text. Some text) texts → HasRun want limit chunk names texts (map (supply rest failures) readers) (map (supply rest failures) after) out out' err err' status)
     → IsLimitOf limit lower → ((texts : List Text) → map rest readers ≡ map (λ text. Some text) texts → HasRun want lower chunk names texts (map (supply rest failures) readers) (map (supply rest failures) after) out out' err err' status)
-    → Runs opens knows rest failures last_failed words asked host host' out out' err err' status
-ran opens knows rest failures last_failed words asked host host' out out' err err' status want limit lower chunk names wanted readers after e at named wants opened ends gives near under =
+    → (map failures after ≢ map failures readers → NoneKept)
+    → Runs opens knows rest failures last_failed words asked host host' out out' err err' status NoneKept
+ran opens knows rest failures last_failed words asked host host' out out' err err' status NoneKept want limit lower chunk names wanted readers after e at named wants opened ends gives near under passed_on =
     Runs.Ran want limit e readers after opened
     (subst (λ l. EndsSo l (names_wanted want) (map failures readers) (map failures after) (map last_failed after) out out' err err' status) named (subst (λ l. EndsSo names l (map failures readers) (map failures after) (map last_failed after) out out' err err' status) wants ends))
     (λ known texts h. leaves (command_outcome words (map called asked)) limit texts (λ inputs. command-is words want limit (map called asked) inputs e) (gives known texts h)) lower near
-    (λ texts h. leaves (outcome want lower (map called asked)) lower texts (λ inputs. refl) (under texts h))
+    (λ texts h. leaves (outcome want lower (map called asked)) lower texts (λ inputs. refl) (under texts h)) passed_on
   where
     leaves : (due : List Input → Outcome) (n : ℕ) (texts : List Text) → ((inputs : List Input) → due inputs ≡ outcome want n (map called asked) inputs) → HasRun want n chunk names texts (map (supply rest failures) readers) (map (supply rest failures) after) out out' err err' status
         → Leaves due want n texts (map (supply rest failures) readers) (map (supply rest failures) after) out out' err err' status
@@ -233,8 +234,8 @@ ran opens knows rest failures last_failed words asked host host' out out' err er
 
 -- ---- the flush
 
-pub finished : {W : Type 0} (device : W → Device) (flushes : W → Bool → W → Type 0) (Left : (out err : Device) → ℕ → Type 0) (before out' : W) (err' : Device) (status : ℕ) (is : Bool)
-    → Left (device before) err' status → flushes before is out' → Keeps (device before).held (device out').held → (device out').failures ≡ (device before).failures → (is ≡ false → 3 ≤ status) → Finishes device flushes Left out' err' status
+pub finished : {W : Type 0} (device : W → Device) (flushes : W → Bool → W → Type 0) (Left : (out : W) → (err : Device) → ℕ → Type 0) (before out' : W) (err' : Device) (status : ℕ) (is : Bool)
+    → Left before err' status → flushes before is out' → Keeps (device before).held (device out').held → (device out').failures ≡ (device before).failures → (is ≡ false → 3 ≤ status) → Finishes device flushes Left out' err' status
 finished device flushes Left before out' err' status true left flushed held same machine = Finishes.Flushed before left flushed held same
 finished device flushes Left before out' err' status false left flushed held same machine = Finishes.Failed before left (machine refl) flushed held same
 

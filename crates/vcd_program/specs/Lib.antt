@@ -1,4 +1,5 @@
 pub mod Runs
 pub mod Memory
 pub mod Process
+pub mod ProcessRun
 pub mod Names

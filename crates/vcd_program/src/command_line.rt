@@ -1,6 +1,6 @@
 //! From the words of the command line to the exit status.
 ghost use Rattle.std.specs.Prelude.{◌≡◌, ◌-◌, ◌^◌, ◌<◌, ◌≤◌, ◌+◌, map, string_bytes};
-ghost use Rattle.vcd_program.specs.Names.{Answers, AsksFor, Finishes, kind_of, MayFailOnce, RunsMatches, RunsOn, RunsWords};
+ghost use Rattle.vcd_program.specs.Names.{Answers, AsksFor, Finishes, KeepsNoneBack, kind_of, MayFailOnce, RunsMatches, RunsOn, RunsWords};
 
 use clap::{ArgMatches, Error};
 use std::alloc::Global;
@@ -146,10 +146,11 @@ pub fn run_program<H: Host, W: Output, E: Sink, B: BuildHasher>(
 ) -> u8
     requires out_failures { (W.device out.old).failures < 2 ^ 64 - 1 }
     requires err_failures { (E.device err.old).failures < 2 ^ 64 - 2 }
-    ensures { Finishes W.device W.flushes (λ out_now err_now status. RunsOn
+    ensures { Finishes W.device W.flushes (λ now err_now status. RunsOn
         (map string_bytes words.now) H.opens H.knows_length
         H.Input.rest H.Input.failures H.Input.last_failed host.old host.new
-        (W.device out.old) out_now (E.device err.old) err_now status)
+        (W.device out.old) (W.device now) (E.device err.old) err_now status
+        (KeepsNoneBack W.kept_back out.old now))
         out.new (E.device err.new) result }
 {
     let status = parse_and_run(alloc, words, host, out, err, hasher);

@@ -12,19 +12,22 @@
 //!
 //! - `command_line`: from the words to the exit status
 //! - `memory`: a host in memory
-//! - `process`: any process, as a host
+//! - `process`: any process, and how its inputs are opened
+//! - `process_run`: the program as a process runs it
 //! - `machine`: the process that the program runs in
 //!
 //! In `specs/`: `Runs`, what a program ends with; `Memory`, what it leaves over a host in memory;
-//! `Process`, what it leaves over a process.
+//! `Process`, what is opened in a process; `ProcessRun`, what the program leaves over a process.
 #![tactic(auto)]
 
 mod command_line;
 mod machine;
 mod memory;
 mod process;
+mod process_run;
 
 pub use command_line::run_program;
 pub use machine::{run_on_machine, run_words_on_machine};
 pub use memory::{Filled, Left, Memory, MemoryFile, run_in_memory, run_into_memory};
-pub use process::{Process, run_process};
+pub use process::{Process, Stream};
+pub use process_run::run_process;

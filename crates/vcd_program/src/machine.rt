@@ -1,7 +1,8 @@
 //! The process that the program runs in.
 ghost use Rattle.std.specs.Prelude.{◌-◌, ◌^◌, ◌<◌, ◌≤◌, ⊤};
 
-use crate::process::{Process, run_process, run_words};
+use crate::process::Process;
+use crate::process_run::{run_process, run_words};
 use std::alloc::Global;
 use std::fs::{File, Metadata};
 use std::hash::RandomState;
@@ -129,9 +130,9 @@ fn stand_in(rt: &HostRuntime) -> Option<File> {
 /// Runs the program with the arguments, the files and the streams of the process, and returns the
 /// exit status, as `run_process` does.
 ///
-/// Messages wait in a buffer and are written at the end, in one write, so that those of programs
-/// that share a standard error do not mix. Only the message that there is no memory for this buffer
-/// or for that of the output is written in pieces.
+/// A message waits in a buffer and is written at the end. If it has at most 8,192 bytes, it is one
+/// write, so that the messages of programs that share a standard error do not mix. The message that
+/// there is no memory for this buffer or for that of the output is written in pieces.
 ///
 /// The system gives a file that is opened the lowest free descriptor. If a standard stream is
 /// closed, that is its descriptor, so a directory is open there until the end (`stand_in`).

@@ -1,17 +1,16 @@
-//! The program as a process runs it: over the arguments, the files and the streams of any process.
-ghost use Rattle.std.specs.Prelude.{◌≡◌, ◌-◌, ◌^◌, ◌<◌, ◌≤◌, ℕ, Bool, List, Option, map, IfErr, IfOk, Result, string_bytes};
-ghost use Rattle.vcd_program.specs.Process.{bytes_left, Delivers, Error, GivesAtMost, length_known, OpensOn, read_as, RunsAs, RunsGiven, RunsOver, RunsSeeded, UseFault};
+//! Any process, and how its files and its standard input are opened and read.
+ghost use Rattle.std.specs.Prelude.{◌≡◌, ℕ, Bool, List, Option, map, IfErr, IfOk, Result, string_bytes};
+ghost use Rattle.vcd_program.specs.Process.{bytes_left, Error, GivesAtMost, length_known, OpensOn, read_as, UseFault};
 ghost use Rattle.vcd_program.specs.Names.{failed_calls};
 
-use crate::command_line::run_program;
 use std::alloc::Global;
-use std::hash::{BuildHasher, BuildHasherDefault, FoldHasher};
+use std::hash::BuildHasher;
 use std::io;
 use std::io::{ErrorKind, Read};
-use vcd_host::{Host, OpenFault, Output};
-use vcd_text::{Sink, Source, Watch};
+use vcd_host::{Host, OpenFault};
+use vcd_text::{Source, Watch};
 use vcd_words::UseFault;
-use vcdkit::{Again, use_fault};
+use vcdkit::Again;
 
 /// What a process has besides its output and its error stream. The program is proved over any
 /// process, also over one that is wrong about lengths.
@@ -104,10 +103,10 @@ impl<F: Read, I: Read> Read for Stream<F, I> {
 
 /// Opens the files of a process.
 #[derive(Drop)]
-struct ProcessHost<'p, P> {
-    process: &'p mut P,
+pub(crate) struct ProcessHost<'p, P> {
+    pub(crate) process: &'p mut P,
     /// Whether the process has random numbers. If it has none, each read of an input fails.
-    is_seeded: bool,
+    pub(crate) is_seeded: bool,
 }
 
 impl<P: Process> ProcessHost<'_, P> {
@@ -154,122 +153,4 @@ impl<P: Process> Host for ProcessHost<'_, P> {
             Stream::Refused => None,
         }
     }
-}
-
-/// Runs the program with these arguments over the inputs of the process behind `host`, and returns
-/// the exit status, as `run_program` does. Output goes to `out`, and messages go to `err`.
-fn run_hosted<P: Process, W: Output, E: Sink, B: BuildHasher>(
-    alloc: Global,
-    host: &mut ProcessHost<'_, P>,
-    words: &[String],
-    out: &mut W,
-    err: &mut E,
-    hasher: &B,
-) -> u8
-    requires out_failures { (W.device out.old).failures < 2 ^ 64 - 1 }
-    requires err_failures { (E.device err.old).failures < 2 ^ 64 - 2 }
-    ensures loan { host.new.process.ghost_name ≡ host.old.process.ghost_name }
-    ensures runs { RunsOver P.opens P.gives P.knows_file P.knows_input P.File.remaining
-        P.Input.remaining W.device W.flushes host.old host.new (map string_bytes words.now)
-        (W.device out.old) out.new (E.device err.old) (E.device err.new) result }
-    ensures low { result ≤ 3 }
-{
-    run_program(alloc, words, host, out, err, hasher)
-}
-
-/// Runs the program with these arguments over the inputs of the process, and returns the exit
-/// status, as `run_program` does. Output goes to `out`, and messages go to `err`. If `is_seeded` is
-/// false, the process has no random numbers, and each read of an input fails.
-fn run_over<P: Process, W: Output, E: Sink, B: BuildHasher>(
-    alloc: Global,
-    process: &mut P,
-    is_seeded: bool,
-    words: &[String],
-    out: &mut W,
-    err: &mut E,
-    hasher: &B,
-) -> u8
-    requires out_failures { (W.device out.old).failures < 2 ^ 64 - 1 }
-    requires err_failures { (E.device err.old).failures < 2 ^ 64 - 2 }
-    ensures runs { RunsSeeded P.opens P.gives P.knows_file P.knows_input P.File.remaining
-        P.Input.remaining W.device W.flushes process.old process.new is_seeded
-        (map string_bytes words.now) (W.device out.old) out.new (E.device err.old)
-        (E.device err.new) result }
-    ensures low { result ≤ 3 }
-{
-    let mut host = ProcessHost { process, is_seeded };
-    run_hosted(alloc, &mut host, words, out, err, hasher)
-}
-
-/// Runs the program with these arguments, its own name first among them, over the inputs of the
-/// process, and returns the exit status, as `run_program` does. Output goes to `out`, and messages
-/// go to `err`, which is not flushed.
-///
-/// Identifier codes are hashed with random numbers of the process, so that nobody can make a dump
-/// whose codes are slow to find. If it has none, each read of an input fails.
-pub(crate) fn run_words<P: Process, W: Output, E: Sink>(
-    alloc: Global,
-    process: &mut P,
-    words: &[String],
-    out: &mut W,
-    err: &mut E,
-) -> u8
-    requires out_failures { (W.device out.old).failures < 2 ^ 64 - 1 }
-    requires err_failures { (E.device err.old).failures < 2 ^ 64 - 2 }
-    ensures runs { RunsGiven P.opens P.gives P.seeds P.knows_file P.knows_input P.File.remaining
-        P.Input.remaining W.device W.flushes process.old process.new (map string_bytes words.now)
-        (W.device out.old) out.new (E.device err.old) (E.device err.new) result }
-    ensures low { result ≤ 3 }
-{
-    match process.seed() {
-        Some(hasher) => run_over(alloc, process, true, words, out, err, &hasher),
-        None => {
-            let hasher: BuildHasherDefault<FoldHasher> = BuildHasherDefault::new();
-            run_over(alloc, process, false, words, out, err, &hasher)
-        }
-    }
-}
-
-/// Runs the program over the process, as `run_process` does, but does not flush `err`.
-fn run_unflushed<P: Process, W: Output, E: Sink>(
-    alloc: Global,
-    process: &mut P,
-    out: &mut W,
-    err: &mut E,
-) -> u8
-    requires out_failures { (W.device out.old).failures < 2 ^ 64 - 1 }
-    requires err_failures { (E.device err.old).failures < 2 ^ 64 - 2 }
-    ensures runs { RunsAs P.words P.refuses P.opens P.gives P.seeds P.knows_file P.knows_input
-        P.File.remaining P.Input.remaining W.device W.flushes process.old process.new
-        out.old out.new (E.device err.old) (E.device err.new) result }
-    ensures low { result ≤ 3 }
-{
-    match process.words(alloc) {
-        Ok(words) => run_words(alloc, process, words.as_slice(), out, err),
-        Err(fault) => use_fault(fault, err),
-    }
-}
-
-/// Runs the program with the arguments, the files and the standard input of the process, flushes
-/// the output and then the error stream, and returns the exit status, as `run_program` does. Output
-/// goes to `out`, and messages go to `err`. The status is 2 if an argument is not UTF-8, and 3 if
-/// there is no memory for the arguments. If the error stream cannot be flushed, this is ignored.
-///
-/// If the process has no random numbers, with which codes are hashed, each read of an input fails.
-pub fn run_process<P: Process, W: Output, E: Output>(
-    alloc: Global,
-    process: &mut P,
-    out: &mut W,
-    err: &mut E,
-) -> u8
-    requires out_failures { (W.device out.old).failures < 2 ^ 64 - 1 }
-    requires err_failures { (E.device err.old).failures < 2 ^ 64 - 2 }
-    ensures runs { Delivers E.device E.flushes (λ shown. RunsAs P.words P.refuses P.opens P.gives
-        P.seeds P.knows_file P.knows_input P.File.remaining P.Input.remaining W.device W.flushes
-        process.old process.new out.old out.new (E.device err.old) shown result) err.new }
-    ensures low { result ≤ 3 }
-{
-    let status = run_unflushed(alloc, process, out, err);
-    let _ = err.flush();
-    status
 }

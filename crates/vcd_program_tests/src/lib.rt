@@ -1,5 +1,6 @@
 //! The tests of `vcd_program`: command lines over a host in memory, files of the machine that
-//! cannot be read, the buffer of an output, and a process in memory.
+//! cannot be read, the buffer of an output, and a process in memory. `relied_on` has a caller whose
+//! contract needs each clause of the program's.
 #![tactic(auto)]
 
 #[cfg(test)]
@@ -14,3 +15,6 @@ mod machine;
 mod process;
 #[cfg(test)]
 mod prompt;
+mod relied_on;
+
+pub use relied_on::run_relied_on;

@@ -4,26 +4,39 @@ ghost use Rattle.std.specs.Prelude.{⊤, ℕ, List, Option, Result};
 ghost use Rattle.vcd_program.specs.Process.{Error, UseFault};
 
 use super::command_lines::words_of;
+use super::relied_on::run_relied_on;
 use std::alloc::{AllocError, Global};
-use std::cell::Cell;
+use std::cell::RefCell;
 use std::hash::{BuildHasherDefault, FoldHasher};
 use std::io;
 use std::io::{ErrorKind, Write};
 use vcd_host::Buffered;
-use vcd_program::{Process, run_process};
-use vcd_text::Watch;
+use vcd_program::Process;
 use vcd_words::UseFault;
 
 const DUMP: &[u8] = b"$var wire 1 ! a $end $enddefinitions $end #1 1!\n";
 
+const BAD: &[u8] = b"$var wire 1 ! bad $end\n$enddefinitions $end\n#1 1! #3 0!\n#x\n";
+
 const INPUT: &[u8] = b"$var real 1 ! input $end $enddefinitions $end #4 r1 !\n";
 
-// The only file is a.vcd. It notes the names of the files that it is to open.
+// What a process lacks: nothing; arguments that are text; memory for its arguments, or for a file;
+// random numbers; or room for its output.
+#[derive(Clone, Copy, PartialEq, Eq)]
+enum Lack {
+    Nothing,
+    Text,
+    WordMemory,
+    FileMemory,
+    Seed,
+    Room,
+}
+
+// Its files are a.vcd and bad.vcd. It notes the names of the files that it is to open.
 #[derive(Drop)]
 struct InMemory {
     words: &'static [&'static str],
-    is_text: bool,
-    is_seeded: bool,
+    lack: Lack,
     opened: Vec<String>,
 }
 
@@ -49,19 +62,24 @@ impl Process for InMemory {
     ghost knows_input = { λ _. ⊥ };
 
     fn words(&self, alloc: Global) -> Result<Vec<String>, UseFault<'static>> {
-        if !self.is_text {
-            return Err(UseFault::BadWords);
+        match self.lack {
+            Lack::Text => Err(UseFault::BadWords),
+            Lack::WordMemory => Err(UseFault::OutOfMemory),
+            _ => Ok(words_of(alloc, self.words)?),
         }
-        Ok(words_of(alloc, self.words)?)
     }
 
     fn open(&mut self, name: &str) -> io::Result<&'static [u8]> {
         let alloc = *self.opened.allocator();
         self.opened.push(String::from_str(alloc, name)?)?;
-        if name == "a.vcd" {
-            return Ok(DUMP);
+        if self.lack == Lack::FileMemory {
+            return Err(io::Error::from(ErrorKind::OutOfMemory));
         }
-        Err(io::Error::from(ErrorKind::NotFound))
+        match name {
+            "a.vcd" => Ok(DUMP),
+            "bad.vcd" => Ok(BAD),
+            _ => Err(io::Error::from(ErrorKind::NotFound)),
+        }
     }
 
     fn input(&self) -> &'static [u8] {
@@ -69,10 +87,10 @@ impl Process for InMemory {
     }
 
     fn seed(&self) -> Option<BuildHasherDefault<FoldHasher>> {
-        if self.is_seeded {
-            return Some(BuildHasherDefault::new());
+        if self.lack == Lack::Seed {
+            return None;
         }
-        None
+        Some(BuildHasherDefault::new())
     }
 
     fn max_bytes_of_file(&self, _file: &&'static [u8]) -> Option<usize> {
@@ -84,15 +102,30 @@ impl Process for InMemory {
     }
 }
 
-// A device that counts the bytes that it is given.
-#[derive(Drop)]
-struct Counted<'a> {
-    bytes: &'a Cell<usize>,
+// Appends these bytes.
+fn append(bytes: &RefCell<Vec<u8>>, more: &[u8]) -> io::Result<()> {
+    let Ok(mut bytes) = bytes.try_borrow_mut() else {
+        return Err(io::Error::from(ErrorKind::ResourceBusy));
+    };
+    Ok(bytes.extend_from_slice(more)?)
 }
 
-impl Write for Counted<'_> {
+// A device that keeps the bytes that it is given, unless it has no room. It also appends them to
+// those of both streams.
+#[derive(Drop)]
+struct Device<'a> {
+    bytes: &'a RefCell<Vec<u8>>,
+    both: &'a RefCell<Vec<u8>>,
+    has_room: bool,
+}
+
+impl Write for Device<'_> {
     fn write(&mut self, from: &[u8]) -> io::Result<usize> {
-        self.bytes.set(self.bytes.get().saturating_add(from.len()));
+        if !self.has_room {
+            return Err(io::Error::from(ErrorKind::StorageFull));
+        }
+        append(self.bytes, from)?;
+        append(self.both, from)?;
         Ok(from.len())
     }
 
@@ -101,76 +134,124 @@ impl Write for Counted<'_> {
     }
 }
 
-// The words, whether they are text, whether there are random numbers, the files that are opened,
-// the output, how many bytes the message has, and the status.
+// The arguments, what the process lacks, the files that are opened, what is on the output and on
+// the error stream, and the status.
 #[derive(Clone, Copy)]
 struct Row {
     words: &'static [&'static str],
-    is_text: bool,
-    is_seeded: bool,
+    lack: Lack,
     opened: &'static [&'static str],
     out: &'static [u8],
-    message: usize,
+    message: &'static [u8],
     status: u8,
 }
 
-static ROWS: [Row; 6] = [
+static ROWS: [Row; 13] = [
     Row {
         words: &["list"],
-        is_text: true,
-        is_seeded: true,
+        lack: Lack::Nothing,
         opened: &[],
         out: b"input real 1 !\n",
-        message: 0,
+        message: b"",
         status: 0,
     },
     Row {
         words: &["list", "a.vcd"],
-        is_text: true,
-        is_seeded: true,
+        lack: Lack::Nothing,
         opened: &["a.vcd"],
         out: b"a wire 1 !\n",
-        message: 0,
+        message: b"",
         status: 0,
     },
-    // vcdkit: none.vcd: cannot be opened
     Row {
-        words: &["merge", "a.vcd", "none.vcd", "a.vcd"],
-        is_text: true,
-        is_seeded: true,
-        opened: &["a.vcd", "none.vcd"],
+        words: &["check", "bad.vcd"],
+        lack: Lack::Nothing,
+        opened: &["bad.vcd"],
         out: b"",
-        message: 35,
-        status: 3,
+        message: b"vcdkit: bad.vcd:4: bad time\n",
+        status: 1,
     },
-    // vcdkit: --from is above --to
     Row {
-        words: &["cut", "--from", "5", "--to", "4", "a.vcd"],
-        is_text: true,
-        is_seeded: true,
-        opened: &[],
-        out: b"",
-        message: 29,
-        status: 2,
+        words: &["pick", "-i", "bad.vcd", "bad"],
+        lack: Lack::Nothing,
+        opened: &["bad.vcd"],
+        out: b"$var wire 1 ! bad $end\n$enddefinitions $end\n#1\n1!\n#3\n0!\n",
+        message: b"vcdkit: bad.vcd:4: bad time\n",
+        status: 1,
     },
-    // vcdkit: bad words
     Row {
-        words: &[],
-        is_text: false,
-        is_seeded: true,
-        opened: &[],
-        out: b"",
-        message: 18,
-        status: 2,
-    },
-    // vcdkit: a.vcd: read failed
-    Row {
-        words: &["list", "a.vcd"],
-        is_text: true,
-        is_seeded: false,
+        words: &["pick", "-i", "a.vcd", "b"],
+        lack: Lack::Nothing,
         opened: &["a.vcd"],
         out: b"",
-        message: 27,
+        message: b"vcdkit: b: selects nothing\n",
+        status: 1,
+    },
+    Row {
+        words: &["merge", "a.vcd", "none.vcd", "a.vcd"],
+        lack: Lack::Nothing,
+        opened: &["a.vcd", "none.vcd"],
+        out: b"",
+        message: b"vcdkit: none.vcd: cannot be opened\n",
+        status: 3,
+    },
+    Row {
+        words: &["cut", "--from", "5", "--to", "4", "a.vcd"],
+        lack: Lack::Nothing,
+        opened: &[],
+        out: b"",
+        message: b"vcdkit: --from is above --to\n",
+        status: 2,
+    },
+    Row {
+        words: &["merge", "a.vcd", "-o", "b.vcd"],
+        lack: Lack::Nothing,
+        opened: &[],
+        out: b"",
+        message: b"error: unexpected argument '-o' found\n\n  \
+            tip: output goes to standard output; use '> FILE'\n\n\
+            Usage: vcdkit merge [OPTIONS] FILE...\n\n\
+            For more information, try '--help'.\n",
+        status: 2,
+    },
+    Row {
+        words: &["list"],
+        lack: Lack::Text,
+        opened: &[],
+        out: b"",
+        message: b"vcdkit: bad words\n",
+        status: 2,
+    },
+    Row {
+        words: &["list"],
+        lack: Lack::WordMemory,
+        opened: &[],
+        out: b"",
+        message: b"vcdkit: out of memory\n",
+        status: 3,
+    },
+    Row {
+        words: &["list", "a.vcd"],
+        lack: Lack::FileMemory,
+        opened: &["a.vcd"],
+        out: b"",
+        message: b"vcdkit: out of memory\n",
+        status: 3,
+    },
+    Row {
+        words: &["list", "a.vcd"],
+        lack: Lack::Seed,
+        opened: &["a.vcd"],
+        out: b"",
+        message: b"vcdkit: a.vcd: read failed\n",
+        status: 3,
+    },
+    Row {
+        words: &["list", "a.vcd"],
+        lack: Lack::Room,
+        opened: &["a.vcd"],
+        out: b"",
+        message: b"vcdkit: write failed\n",
         status: 3,
     },
 ];
@@ -180,22 +261,42 @@ fn are(opened: &[String], names: &[&str]) -> bool {
     opened.len() == names.len() && opened.iter().zip(names).all(|(a, b)| a.as_str() == *b)
 }
 
-// Whether a run is as this row says, before its streams are dropped.
+// Whether these bytes were written, and these after them, and nothing else.
+fn has(written: &RefCell<Vec<u8>>, first: &[u8], last: &[u8]) -> bool {
+    written.try_borrow().is_ok_and(|bytes| {
+        bytes.len() == first.len() + last.len() && bytes.starts_with(first) && bytes.ends_with(last)
+    })
+}
+
+// Whether a run is as this row says, before its streams are dropped: the message comes after all
+// output.
 fn is_as(alloc: Global, row: &Row) -> Result<bool, AllocError> {
     let mut process = InMemory {
         words: row.words,
-        is_text: row.is_text,
-        is_seeded: row.is_seeded,
+        lack: row.lack,
         opened: Vec::new(alloc),
     };
-    let bytes = Cell::new(0);
-    let mut out = Watch::new(Vec::new(alloc));
-    let mut err = Buffered::new(alloc, Counted { bytes: &bytes })?;
-    let status = run_process(alloc, &mut process, &mut out, &mut err);
+    let written = RefCell::new(Vec::new(alloc));
+    let said = RefCell::new(Vec::new(alloc));
+    let both = RefCell::new(Vec::new(alloc));
+    let output = Device {
+        bytes: &written,
+        both: &both,
+        has_room: row.lack != Lack::Room,
+    };
+    let messages = Device {
+        bytes: &said,
+        both: &both,
+        has_room: true,
+    };
+    let mut out = Buffered::new(alloc, output)?;
+    let mut err = Buffered::new(alloc, messages)?;
+    let status = run_relied_on(alloc, &mut process, &mut out, &mut err);
     Ok(
         are(process.opened.as_slice(), row.opened)
-            && out.device.as_slice() == row.out
-            && bytes.get() == row.message
+            && has(&written, row.out, b"")
+            && has(&said, row.message, b"")
+            && has(&both, row.out, row.message)
             && status == row.status,
     )
 }

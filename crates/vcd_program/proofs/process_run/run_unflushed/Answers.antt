@@ -1,7 +1,7 @@
 use Rattle.std.proofs.Common.{arith, map, refl, string_bytes, subst, sym}
-use Rattle.vcd_program.specs.Process.{RunsAs}
+use Rattle.vcd_program.specs.ProcessRun.{RunsAs}
 use Rattle.vcd_program.proofs.Statuses.{use-low}
-use Rattle.vcd_program.proofs.process.run_unflushed.Goals as goal
+use Rattle.vcd_program.proofs.process_run.run_unflushed.Goals as goal
 
 pub returns-in-Ok-clause-runs : goal.returns-in-Ok-clause-runs
 returns-in-Ok-clause-runs g c = RunsAs.Ran (map string_bytes c.as_slice.result.now) (subst (λ words. g.P.Process.words c.args.process.now (map string_bytes words)) (sym c.as_slice.ensures.value) c.in-Ok.ensures.words) c.run_words.ensures.runs

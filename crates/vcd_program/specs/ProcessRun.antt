@@ -1,0 +1,43 @@
+-- What the program leaves that a process runs.
+use Rattle.std.specs.Prelude.{◌≡◌, ℕ, Bool, List, Option, is_some}
+use Rattle.std.specs.Io.KnownBytes.{Keeps}
+use Rattle.std.specs.declared.io.Read.{Ghosts as Reads}
+use Rattle.clap.specs.Words.{Text}
+use Rattle.vcd_text.specs.Device.{Device}
+use Rattle.vcd_text.specs.Watch.{failed_calls, has_just_failed}
+use Rattle.vcd_text.specs.declared.device.Sink.{Ghosts as Sinks}
+use Rattle.vcd_text.specs.declared.device.Watch.{Watch}
+use Rattle.vcd_words.specs.declared.job.UseFault.{UseFault}
+use Rattle.vcdkit.specs.Message.{Shows, use_outcome}
+use Rattle.vcd_program.specs.Process.{OpensInput, bytes_left, length_known}
+use Rattle.vcd_program.specs.Runs.{Finishes, KeepsNoneBack, RunsOn}
+use Rattle.vcd_program.specs.declared.process.Process.{Ghosts}
+use Rattle.vcd_program.specs.declared.process.Stream.{Stream}
+
+-- what the program leaves that is run on these words over the inputs of a process, which was
+-- `process` and is `process'`, with random numbers or without
+abbrev pub RunsOver : {P F I B K W : Type 0} → Ghosts P F I B K → Reads F → Reads I → Sinks W → (W → Bool → W → Type 0) → (seeded : Bool) → (process process' : P) → List Text → (out out' : W) → (err err' : Device) → ℕ → Type 0
+RunsOver {F = F} {I = I} p f i w flushes seeded process process' words out out' err err' status =
+    Finishes w.device flushes (λ now err_now n. RunsOn {I = Watch (Stream F I)} words (OpensInput p.opens p.gives seeded) (λ watch. length_known p.knows_file p.knows_input watch.device) (λ watch. bytes_left f.remaining i.remaining watch.device) failed_calls has_just_failed
+    process process' (w.device out) (w.device now) err err_now n (KeepsNoneBack w.kept_back out now)) out' err' status
+
+-- the same with random numbers if the process gives some
+abbrev pub RunsGiven : {P F I B K W : Type 0} → Ghosts P F I B K → Reads F → Reads I → Sinks W → (W → Bool → W → Type 0) → (process process' : P) → List Text → (out out' : W) → (err err' : Device) → ℕ → Type 0
+RunsGiven {B = B} p f i w flushes process process' words out out' err err' status = (seed : Option B) × p.seeds process seed × RunsOver p f i w flushes (is_some seed) process process' words out out' err err' status
+
+-- What the program leaves that a process runs: that of the arguments which the process gives; or, if
+-- it gives none, the line and the status for that, and nothing else.
+pub data RunsAs {P F I B K W : Type 0} (p : Ghosts P F I B K) (f : Reads F) (i : Reads I) (w : Sinks W) (flushes : W → Bool → W → Type 0) (process process' : P) (out out' : W) (err err' : Device) (status : ℕ) : Type 0 where
+  Ran : (words : List Text) (given : p.words process words) (runs : RunsGiven p f i w flushes process process' words out out' err err' status) → RunsAs p f i w flushes process process' out out' err err' status
+  NoWords : (fault : UseFault) (refused : p.refuses process fault) (same : process' ≡ process) (unwritten : out' ≡ out) (shown : Shows err err' (use_outcome fault).message) (status_is : status ≡ (use_outcome fault).status)
+      → RunsAs p f i w flushes process process' out out' err err' status
+
+-- What is left once the error stream `before`, with this left on it, was flushed: all of that is
+-- there, whether the flush succeeds or fails.
+pub record Delivers {E : Type 0} (device : E → Device) (flushes : E → Bool → E → Type 0) (Left : Device → Type 0) (err' : E) : Type 0 where
+  pub before : E
+  pub left : Left (device before)
+  pub done : Bool
+  pub flushed : flushes before done err'
+  pub held : Keeps (device before).held (device err').held
+  pub same : (device err').failures ≡ (device before).failures

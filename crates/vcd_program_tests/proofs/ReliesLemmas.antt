@@ -1,0 +1,171 @@
+-- What callers rely on, from the contract of the program.
+use Rattle.std.proofs.Common.{◌≡◌, ℕ, Bool, true, false, List, [], ◌∷◌, map, ap, ◌∙◌, inl, inr, refl, subst}
+use Rattle.std.specs.Prelude.{All, Option, Some, None, Result, Ok, Err, is_some}
+use Rattle.std.specs.declared.io.Read.{Ghosts as Reads}
+use Rattle.clap.specs.Words.{Text}
+use Rattle.vcd_model.specs.Input.{Input}
+use Rattle.vcd_model.specs.Job.{Want}
+use Rattle.vcd_model.specs.Outcome.{Outcome, allowed_after, declarations_allowed}
+use Rattle.vcd_model.specs.Due.{due}
+use Rattle.vcd_model.specs.Settled.{is_header_over, is_settled}
+use Rattle.vcd_model.specs.Tokens.{Token}
+use Rattle.vcd_text.specs.Answer.{whole}
+use Rattle.vcd_text.specs.Device.{Device, Supply, supply}
+use Rattle.vcd_text.specs.ReadAhead.{ReadsAsNeeded}
+use Rattle.vcd_text.specs.declared.device.Sink.{Ghosts as Sinks}
+use Rattle.vcd_text.specs.declared.device.Watch.{Watch}
+use Rattle.vcd_body.specs.Answer.{IsLeft}
+use Rattle.vcd_engine.specs.TaskRun.{KeepsUp}
+use Rattle.vcd_merge.specs.MergeRun.{AreReadOnTurn}
+use Rattle.vcd_merge.specs.Seat.{Lane}
+use Rattle.vcdkit.specs.Inputs.{headers_in}
+use Rattle.vcdkit.specs.Run.{AreInTurn, AreMergedInTurn, AreRead, IsOutcome}
+use Rattle.vcd_host.specs.declared.host.OpenFault.{OpenFault}
+use Rattle.vcd_host.specs.declared.host.OpenFault.TheVariants.{Unopened, OutOfMemory}
+use Rattle.vcd_program.specs.Process.{OpensInput, bytes_left, length_known}
+use Rattle.vcd_program.specs.ProcessRun.{Delivers, RunsAs}
+use Rattle.vcd_program.specs.Runs.{Finishes, KeepsNoneBack, Leaves, Runs, RunsOn}
+use Rattle.vcd_program.proofs.UnderLemmas.{program-under}
+use Rattle.vcd_program.specs.declared.process.Process.{Ghosts}
+use Rattle.vcd_program.specs.declared.process.Stream.{Stream}
+use Rattle.vcd_program.specs.declared.process.Stream.TheVariants.{File, Input as Standard, Refused as Failing}
+use Rattle.vcd_program_tests.specs.Relies.{AreOnTurn, EndsFlushed, EndsWith, OpensOne, Over, OverMany, OverOne, Relies, ReliesOnProcess, bytes_of, is_merge, is_right, stream_bytes}
+
+ends-with : (o : Outcome) (out out' err err' : Device) (status : ℕ) → IsOutcome o out out' err err' status → EndsWith o out out' err err' status
+ends-with o out out' err err' status (IsOutcome.Whole written shown is) = inl (written, shown, is)
+ends-with o out out' err err' status (IsOutcome.Part written shown is) = inr (written, shown, is)
+
+-- the one input of a run that has one
+one-input : (settled : ℕ → List Token → Bool) (limit : ℕ) (text : Text) (s t : Supply) (inputs : List Input) → AreRead settled limit 65536 [] (text ∷ []) (s ∷ []) (t ∷ []) inputs
+    → (i : Input) × (inputs ≡ i ∷ []) × IsLeft (whole text) s t i × ReadsAsNeeded limit 65536 s t i [] (settled (allowed_after []))
+one-input settled limit text s t [] read = absurd read
+one-input settled limit text s t (i ∷ inputs) read = (i, ap (λ l. i ∷ l) read.2, read.0, read.1)
+
+module _ (limit : ℕ) (texts : List Text) (s t : Supply) (i : Input) (out out' : Device) where
+  keeps-up : (want : Want) (inputs : List Input) → is_merge want ≡ false → inputs ≡ i ∷ [] → AreInTurn want limit 65536 texts (s ∷ []) (t ∷ []) inputs out out' → KeepsUp (due want declarations_allowed) limit 65536 i [] s t out out'
+  keeps-up Want.Check inputs single is turns = turns s t i refl refl is
+  keeps-up Want.Listing inputs single is turns = turns s t i refl refl is
+  keeps-up (Want.Pick names) inputs single is turns = turns s t i refl refl is
+  keeps-up (Want.Cut from to) inputs single is turns = turns s t i refl refl is
+  keeps-up (Want.Sample times names) inputs single is turns = turns s t i refl refl is
+  keeps-up (Want.Edges names) inputs single is turns = turns s t i refl refl is
+  keeps-up Want.Merge inputs single is turns = absurd cc
+
+on-turn : (limit : ℕ) (lanes : List Lane) (old new : List Supply) (lefts : List Input) (out out' : Device) → AreReadOnTurn limit 65536 (headers_in lanes) lanes old new lefts out out' → AreOnTurn limit lanes old new lefts out out'
+on-turn limit lanes old new lefts out out' (AreReadOnTurn.Unread same) = inl same
+on-turn limit lanes old new lefts out out' (AreReadOnTurn.OnTurn merged headers begins more written each) =
+    inr (merged, headers, begins, more, written, λ k l s t i is_l is_s is_t is_i. elim (each k l s t i is_l is_s is_t is_i) [ inl same ↦ inl same | inr r ↦ inr (r.items, r.first, r.no_more) ])
+
+module _ (limit : ℕ) (due_of : List Input → Outcome) (out out' err err' : Device) (status : ℕ) where
+  over-one : (want : Want) (text : Text) (s t : Supply) → is_merge want ≡ false → Leaves due_of want limit (text ∷ []) (s ∷ []) (t ∷ []) out out' err err' status → OverOne want limit due_of out out' err err' status text s t
+  over-one want text s t single (Leaves.WithOutcome inputs read needed turns leaves) =
+      let one = one-input (is_settled want) limit text s t inputs read in
+      let kept = keeps-up limit (text ∷ []) s t one.0 out out' want inputs single one.1 turns in
+      record {
+        left = one.0;
+        is_left = one.2;
+        written = kept.0;
+        is_written = kept.1;
+        keeps_up = kept.2;
+        ends = inl (ends-with _ out out' err err' status (subst (λ l. IsOutcome (due_of l) out out' err err' status) one.1 leaves), one.3);
+      }
+  over-one want text s t single (Leaves.NoMemory inputs read needed turns fails) =
+      let one = one-input is_header_over limit text s t inputs read in
+      let kept = keeps-up limit (text ∷ []) s t one.0 out out' want inputs single one.1 turns in
+      record {
+        left = one.0;
+        is_left = one.2;
+        written = kept.0;
+        is_written = kept.1;
+        keeps_up = kept.2;
+        ends = inr (fails, one.3);
+      }
+
+  over-many : (want : Want) (texts : List Text) (old new : List Supply) → is_merge want ≡ true → Leaves due_of want limit texts old new out out' err err' status → OverMany limit due_of out out' err err' status texts old new
+  over-many Want.Merge texts old new merges (Leaves.WithOutcome inputs read needed (AreMergedInTurn.InHeaders why stops) leaves) = record { lefts = inputs; needed = needed; on_turn = inl (why, stops); ends = inl (ends-with _ out out' err err' status leaves, read) }
+  over-many Want.Merge texts old new merges (Leaves.WithOutcome inputs read needed (AreMergedInTurn.InBodies lanes mid begun bodies) leaves) =
+      record { lefts = inputs; needed = needed; on_turn = inr (lanes, mid, begun, on-turn limit lanes mid new inputs out out' bodies); ends = inl (ends-with _ out out' err err' status leaves, read) }
+  over-many Want.Merge texts old new merges (Leaves.NoMemory inputs read needed (AreMergedInTurn.InHeaders why stops) fails) = record { lefts = inputs; needed = needed; on_turn = inl (why, stops); ends = inr (fails, read) }
+  over-many Want.Merge texts old new merges (Leaves.NoMemory inputs read needed (AreMergedInTurn.InBodies lanes mid begun bodies) fails) = record { lefts = inputs; needed = needed; on_turn = inr (lanes, mid, begun, on-turn limit lanes mid new inputs out out' bodies); ends = inr (fails, read) }
+  over-many Want.Check texts old new merges leaves = absurd cc
+  over-many Want.Listing texts old new merges leaves = absurd cc
+  over-many (Want.Pick names) texts old new merges leaves = absurd cc
+  over-many (Want.Cut from to) texts old new merges leaves = absurd cc
+  over-many (Want.Sample times names) texts old new merges leaves = absurd cc
+  over-many (Want.Edges names) texts old new merges leaves = absurd cc
+
+  over-of : (want : Want) (texts : List Text) (old new : List Supply) → Leaves due_of want limit texts old new out out' err err' status → Over want limit due_of out out' err err' status texts old new
+  over-of want texts old new leaves = record {
+    one = λ single text s t is_text is_old is_new.
+        over-one want text s t single (subst (λ l. Leaves due_of want limit (text ∷ []) (s ∷ []) l out out' err err' status) is_new (subst (λ l. Leaves due_of want limit (text ∷ []) l new out out' err err' status) is_old (subst (λ l. Leaves due_of want limit l old new out out' err err' status) is_text leaves)));
+    many = λ merges. over-many want texts old new merges leaves;
+  }
+
+-- functions that agree on each element make the same list
+same-map : {A B : Type 0} (f g : A → B) → ((x : A) → f x ≡ g x) → (xs : List A) → map f xs ≡ map g xs
+same-map f g same [] = refl
+same-map f g same (x ∷ xs) = ap (λ y. y ∷ map f xs) (same x) ∙ ap (λ l. g x ∷ l) (same-map f g same xs)
+
+all-so : {A : Type 0} (Old New : A → Type 0) → ((x : A) → Old x → New x) → (xs : List A) → All Old xs → All New xs
+all-so Old New so xs all k d low = so _ (all k d low)
+
+-- `rest` and `known` say the same as `rest_now` and `knows_now`
+module _ {H I : Type 0} (words : List Text) (opens : H → Option Text → Result I OpenFault → H → Type 0) (knows knows_now : I → Type 0) (right : (x : I) → knows_now x → knows x) (rest rest_now : I → Option (List ℕ)) (same : (x : I) → rest x ≡ rest_now x) (failures : I → ℕ)
+    (out out' err err' : Device) (status : ℕ) where
+  over-now : (limit : ℕ) (due_of : List Input → Outcome) (want : Want) (readers after : List I) (texts : List Text) → (map rest readers ≡ map (λ text. Some text) texts → Leaves due_of want limit texts (map (supply rest failures) readers) (map (supply rest failures) after) out out' err err' status)
+      → map rest_now readers ≡ map (λ text. Some text) texts → Over want limit due_of out out' err err' status texts (map (supply rest_now failures) readers) (map (supply rest_now failures) after)
+  over-now limit due_of want readers after texts leaves have =
+      let supplies = same-map (supply rest failures) (supply rest_now failures) (λ x. ap (λ r. record { rest = r; failures = failures x }) (same x)) in
+      over-of limit due_of out out' err err' status want texts _ _
+      (subst (λ l. Leaves due_of want limit texts (map (supply rest_now failures) readers) l out out' err err' status) (supplies after)
+      (subst (λ l. Leaves due_of want limit texts l (map (supply rest failures) after) out out' err err' status) (supplies readers) (leaves (same-map rest rest_now same readers ∙ have))))
+
+  relies-of : (last_failed : I → Bool) (host host' : H) (kept kept' : ℕ) → RunsOn words opens knows rest failures last_failed host host' out out' err err' status (kept ≡ 0 → kept' ≡ 0) → Relies words opens knows_now rest_now failures last_failed host host' out out' err err' kept kept' status
+  relies-of last_failed host host' kept kept' (RunsOn.Parsed matches are (Runs.Refused fault is same leaves)) = Relies.Refused matches are fault is same (ends-with _ out out' err err' status leaves)
+  relies-of last_failed host host' kept kept' (RunsOn.Parsed matches are (Runs.Ran want limit is readers after opened ends leaves lower near under passed_on)) =
+      Relies.Ran matches are want limit is readers after opened ends (λ all texts. over-now limit _ want readers after texts (leaves (all-so knows_now knows right readers all) texts)) lower near (λ texts. over-now lower _ want readers after texts (under texts)) passed_on
+  relies-of last_failed host host' kept kept' (RunsOn.Parsed matches are (Runs.Stopped job is name opened leaves)) = Relies.Stopped matches are name opened (ends-with _ out out' err err' status leaves)
+  relies-of last_failed host host' kept kept' (RunsOn.Parsed matches are (Runs.NoMemory job is opened fails)) = Relies.NoMemory matches are opened fails
+  relies-of last_failed host host' kept kept' (RunsOn.NoMatches why is only same answers) = Relies.NoMatches why same answers
+
+ends-flushed : {W : Type 0} (device : W → Device) (flushes : W → Bool → W → Type 0) (Left Then : (out : W) → (err : Device) → ℕ → Type 0) (out' : W) (err' : Device) (status : ℕ) → ((out : W) (err : Device) (n : ℕ) → Left out err n → Then out err n)
+    → Finishes device flushes Left out' err' status → EndsFlushed device flushes Then out' err' status
+ends-flushed device flushes Left Then out' err' status so (Finishes.Flushed before left flushed held same) =
+    record { before = before; shown = err'; was = status; left = so _ _ _ left; done = true; flushed = (flushed, held, same); answer = inl (refl, refl, λ failed. absurd cc) }
+ends-flushed device flushes Left Then out' err' status so (Finishes.Failed before left machine fails held same) = record { before = before; shown = err'; was = status; left = so _ _ _ left; done = false; flushed = (fails, held, same); answer = inl (refl, refl, λ failed. machine) }
+ends-flushed device flushes Left Then out' err' status so (Finishes.Unflushed before shown was left below fails held same then is) =
+    record { before = before; shown = shown; was = was; left = so _ _ _ left; done = false; flushed = (fails, held, same); answer = inr (refl, below, then, is) }
+
+same-bytes : {F I : Type 0} (f : Reads F) (i : Reads I) (stream : Stream F I) → bytes_left f.remaining i.remaining stream ≡ stream_bytes f i stream
+same-bytes f i (File file) = refl
+same-bytes f i (Standard input) = refl
+same-bytes f i Failing = refl
+
+right-known : {P F I B K : Type 0} (p : Ghosts P F I B K) (stream : Stream F I) → is_right p stream → length_known p.knows_file p.knows_input stream
+right-known p (File file) right = right
+right-known p (Standard input) right = right
+right-known p Failing right = right
+
+opens-one : {P F I B K : Type 0} (p : Ghosts P F I B K) (seeded : Bool) (process : P) (name : Option Text) (result : Result (Watch (Stream F I)) OpenFault) (process' : P) → OpensInput p.opens p.gives seeded process name result process' → OpensOne p seeded process name result process'
+opens-one p true process None (Ok watch) process' o = o
+opens-one p false process None (Ok watch) process' o = o
+opens-one p seeded process None (Err fault) process' o = absurd o
+opens-one p true process (Some name) (Ok watch) process' o = o
+opens-one p false process (Some name) (Ok watch) process' o = o
+opens-one p seeded process (Some name) (Err Unopened) process' o = o
+opens-one p seeded process (Some name) (Err OutOfMemory) process' o = o
+
+pub process-of : {P F I B K W E : Type 0} (p : Ghosts P F I B K) (f : Reads F) (i : Reads I) (w : Sinks W) (flushes : W → Bool → W → Type 0) (e : Sinks E) (sends : E → Bool → E → Type 0) (process process' : P) (out out' : W) (err err' : E) (status : ℕ)
+    → Delivers e.device sends (λ shown. RunsAs p f i w flushes process process' out out' (e.device err) shown status) err' → ReliesOnProcess p f i w flushes e sends process process' out out' err err' status
+process-of p f i w flushes e sends process process' out out' err err' status d = by_run d.left
+  where
+    by_run : RunsAs p f i w flushes process process' out out' (e.device err) (e.device d.before) status → ReliesOnProcess p f i w flushes e sends process process' out out' err err' status
+    by_run (RunsAs.Ran words given r) =
+        let seeded = is_some r.0 in
+        let runs = (program-under (OpensInput p.opens p.gives seeded) (OpensOne p seeded) (λ process. process) (λ _. Unit {0}) (λ old new name result _ o. (opens-one p seeded old name result new o, tt)) _ _ _ _ process process' tt
+        w.device flushes (λ now. KeepsNoneBack w.kept_back out now) words (w.device out) out' (e.device err) (e.device d.before) status r.2).0 in
+        ReliesOnProcess.Ran words given r.0 r.1 d.before
+        (ends-flushed w.device flushes _ _ out' (e.device d.before) status
+        (λ now err_now n left. relies-of words (OpensOne p seeded) _ (λ watch. is_right p watch.device) (λ watch. right-known p watch.device) _ (bytes_of f i) (λ watch. same-bytes f i watch.device) _ (w.device out) (w.device now) (e.device err) err_now n _ process process' (w.kept_back out) (w.kept_back now) left) runs)
+        d.done (d.flushed, d.held, d.same)
+    by_run (RunsAs.NoWords fault refused same unwritten shown is) = ReliesOnProcess.NoWords fault refused same unwritten d.before shown is d.done (d.flushed, d.held, d.same)

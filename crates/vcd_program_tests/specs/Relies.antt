@@ -1,0 +1,179 @@
+-- What callers of the program rely on, clause by clause.
+use Rattle.std.specs.Prelude.{◌≡◌, ◌≢◌, ◌⊎◌, ◌+◌, ◌<◌, ◌≤◌, ℕ, ⊤, nat_lt, Bool, true, false, cond, All, List, [], ◌∷◌, ◌++◌, codes, length, map, slice_get, slice_set, Option, Some, None, is_some, Result, Ok, Err}
+use Rattle.std.specs.Io.KnownBytes.{Appends, Keeps}
+use Rattle.std.specs.IoError.{error_kind}
+use Rattle.std.specs.declared.io.Error.{Error}
+use Rattle.std.specs.declared.io.ErrorKind.TheVariants as io_kind
+use Rattle.std.specs.declared.io.Read.{Ghosts as Reads}
+use Rattle.clap.specs.Words.{HasMatchesOf, Text}
+use Rattle.clap.specs.declared.error.kind.ErrorKind.{ErrorKind}
+use Rattle.clap.specs.declared.parser.matches.ArgMatches.{ArgMatches}
+use Rattle.vcd_model.specs.Due.{due}
+use Rattle.vcd_model.specs.Input.{Input}
+use Rattle.vcd_model.specs.Items.{BodyItem}
+use Rattle.vcd_model.specs.Job.{Want, outcome}
+use Rattle.vcd_model.specs.Merge.{Dump, factor, headers_of, key_after, merge_open, merged_items}
+use Rattle.vcd_model.specs.Outcome.{Outcome, allowed_after, declarations_allowed, program_line}
+use Rattle.vcd_model.specs.Settled.{is_header_over, is_settled}
+use Rattle.vcd_model.specs.SettledMerge.{Seen, is_settled_merge}
+use Rattle.vcd_model.specs.Tokens.{stream_of}
+use Rattle.vcd_model.specs.Words.{command_outcome, job_of}
+use Rattle.vcd_text.specs.Answer.{whole}
+use Rattle.vcd_text.specs.Device.{Device, Supply, Writes, WritesSome, failures_then, supply}
+use Rattle.vcd_text.specs.ReadAhead.{ReadsAsNeeded}
+use Rattle.vcd_text.specs.Watch.{failed_calls, has_just_failed}
+use Rattle.vcd_text.specs.declared.device.Sink.{Ghosts as Sinks}
+use Rattle.vcd_text.specs.declared.device.Watch.{Watch}
+use Rattle.vcd_body.specs.Answer.{IsLeft}
+use Rattle.vcd_merge.specs.MergeRun.{BeginsWith, NoneBefore}
+use Rattle.vcd_merge.specs.Seat.{Lane, ReadsNoMore}
+use Rattle.vcd_words.specs.Words.{program_app, words_used}
+use Rattle.vcd_words.specs.declared.job.UseFault.{UseFault}
+use Rattle.vcdkit.specs.Failure.{CountsReads, EndsAtReadOf, writes_failed}
+use Rattle.vcdkit.specs.Inputs.{AreBegun, Stops, headers_in}
+use Rattle.vcdkit.specs.Message.{end_message, end_status, unopened_outcome, use_outcome}
+use Rattle.vcdkit.specs.Run.{AreRead}
+use Rattle.vcd_host.specs.Asked.{inputs_asked}
+use Rattle.vcd_host.specs.Opens.{Opens, OpensSome, OpensUpTo, called}
+use Rattle.vcd_host.specs.declared.host.OpenFault.{OpenFault}
+use Rattle.vcd_host.specs.declared.host.OpenFault.TheVariants.{Unopened, OutOfMemory}
+use Rattle.vcd_program.specs.Runs.{Answers, names_wanted}
+use Rattle.vcd_program.specs.declared.process.Process.{Ghosts}
+use Rattle.vcd_program.specs.declared.process.Stream.{Stream}
+use Rattle.vcd_program.specs.declared.process.Stream.TheVariants.{File, Input as Standard, Refused as Failing}
+
+-- whether it is a merge
+abbrev pub is_merge : Want → Bool
+is_merge Want.Merge = true
+is_merge want = false
+
+-- ---- how a run ends
+
+-- the error stream took this line, or failed after a prefix of it
+abbrev pub Says : (err err' : Device) → Text → Type 0
+Says err err' line = Writes err err' line ⊎ WritesSome err err' line
+
+-- with this outcome, or with a prefix of its output, if a write of the output failed
+abbrev pub EndsWith : Outcome → (out out' err err' : Device) → (status : ℕ) → Type 0
+EndsWith o out out' err err' status = (Writes out out' o.output × Says err err' o.message × (status ≡ o.status)) ⊎ (WritesSome out out' o.output × Says err err' (program_line (codes "write failed")) × (status ≡ 3))
+
+-- without output, because memory ran out
+abbrev pub EndsWithout : (out out' err err' : Device) → (status : ℕ) → Type 0
+EndsWithout out out' err err' status = Writes out out' [] × Says err err' (program_line (codes "out of memory")) × (status ≡ 3)
+
+-- ---- a job over inputs whose texts are known
+
+-- A run over one input with this text, which has this outcome: how much of the text counts; that no
+-- read ran ahead of the output; how the run ends; and that no more was read than what settles it, or
+-- its header if memory ran out.
+pub record OverOne (want : Want) (limit : ℕ) (outcome_of : List Input → Outcome) (out out' err err' : Device) (status : ℕ) (text : Text) (old new : Supply) : Type 0 where
+  pub left : Input
+  pub is_left : IsLeft (whole text) old new left
+  pub written : List ℕ
+  pub is_written : Appends out.held out'.held written
+  pub keeps_up : ReadsAsNeeded limit 65536 old new left [] (λ ts. nat_lt (length written) (length (due want declarations_allowed ts)))
+  pub ends : (EndsWith (outcome_of (left ∷ [])) out out' err err' status × ReadsAsNeeded limit 65536 old new left [] (is_settled want (allowed_after [])))
+      ⊎ (EndsWithout out out' err err' status × ReadsAsNeeded limit 65536 old new left [] (is_header_over (allowed_after [])))
+
+-- After these headers, the inputs of a merge were read only in their turn, and no read ran ahead of
+-- the output: they have given these items, what is due with them was written, and no more of an
+-- input was read than its next item.
+abbrev pub AreOnTurn : (limit : ℕ) → List Lane → (old new : List Supply) → List Input → (out out' : Device) → Type 0
+AreOnTurn limit lanes old new lefts out out' = (new ≡ old)
+    ⊎ ((merged : List Dump) × (headers_of merged ≡ headers_in lanes) × ((k : ℕ) (l : Lane) (d : Dump) → slice_get lanes k ≡ Some l → slice_get merged k ≡ Some d → BeginsWith limit (headers_in lanes) l d.items)
+    × (more : List ℕ) × Appends out.held out'.held (merge_open (headers_in lanes) (merged_items merged) ++ more)
+    × ((k : ℕ) (l : Lane) (s t : Supply) (i : Input) → slice_get lanes k ≡ Some l → slice_get old k ≡ Some s → slice_get new k ≡ Some t → slice_get lefts k ≡ Some i
+    → (t ≡ s) ⊎ ((items : List BodyItem) × NoneBefore limit (headers_in lanes) lanes merged k (key_after (factor (headers_in lanes) l.header) k items) × ReadsNoMore limit 65536 l items i t.rest)))
+
+-- a merge over inputs with these texts: the same of each input, also in view of the others, and that
+-- each was read on its turn
+pub record OverMany (limit : ℕ) (outcome_of : List Input → Outcome) (out out' err err' : Device) (status : ℕ) (texts : List Text) (old new : List Supply) : Type 0 where
+  pub lefts : List Input
+  pub needed : (k : ℕ) (s t : Supply) (i : Input) → slice_get old k ≡ Some s → slice_get new k ≡ Some t → slice_get lefts k ≡ Some i
+      → ReadsAsNeeded limit 65536 s t i [] (λ ts. is_settled_merge (slice_set (map (λ (other : Input). Seen.All (stream_of limit other)) lefts) k (Seen.First ts)))
+  pub on_turn : ((why : _) × Stops limit 65536 0 [] texts old new why)
+      ⊎ ((lanes : List Lane) × (mid : List Supply) × AreBegun limit 65536 [] texts old mid lanes × AreOnTurn limit lanes mid new lefts out out')
+  pub ends : (EndsWith (outcome_of lefts) out out' err err' status × AreRead (is_settled Want.Merge) limit 65536 [] texts old new lefts) ⊎ (EndsWithout out out' err err' status × AreRead is_header_over limit 65536 [] texts old new lefts)
+
+-- a job over inputs with these texts
+pub record Over (want : Want) (limit : ℕ) (outcome_of : List Input → Outcome) (out out' err err' : Device) (status : ℕ) (texts : List Text) (old new : List Supply) : Type 0 where
+  pub one : is_merge want ≡ false → (text : Text) (s t : Supply) → texts ≡ text ∷ [] → old ≡ s ∷ [] → new ≡ t ∷ [] → OverOne want limit outcome_of out out' err err' status text s t
+  pub many : is_merge want ≡ true → OverMany limit outcome_of out out' err err' status texts old new
+
+-- ---- a run on words
+
+-- Before the output is flushed, of which `kept` bytes were kept back, and now `kept'` are: which
+-- inputs were opened; over any inputs how the job ended, and which calls failed; over inputs whose
+-- texts are known the outcome of the words, if the host is right about all lengths; and whatever the
+-- lengths, the outcome under a limit that may be lower. If a read failed, nothing is kept back.
+pub data Relies {H I : Type 0} (words : List Text) (opens : H → Option Text → Result I OpenFault → H → Type 0) (knows : I → Type 0) (rest : I → Option (List ℕ)) (failures : I → ℕ) (last_failed : I → Bool) (host host' : H) (out out' err err' : Device) (kept kept' : ℕ) (status : ℕ) : Type 0 where
+  Ran : (matches : ArgMatches) (are : HasMatchesOf program_app words matches) (want : Want) (limit : ℕ) (is : job_of (words_used matches) ≡ Ok (record { want = want; limit = limit })) (readers after : List I) (opened : Opens opens host (inputs_asked matches) readers host')
+      (ends : (why : _) × CountsReads (map failures readers) (map failures after) why × (failures_then (writes_failed why) out' ≡ out.failures + writes_failed why) × (status ≡ end_status why) × Says err err' (end_message (map called (inputs_asked matches)) (names_wanted want) why)
+      × EndsAtReadOf (map last_failed after) why)
+      (gives : All knows readers → (texts : List Text) → map rest readers ≡ map (λ text. Some text) texts
+      → Over want limit (command_outcome (words_used matches) (map called (inputs_asked matches))) out out' err err' status texts (map (supply rest failures) readers) (map (supply rest failures) after))
+      (lower : ℕ) (near : (lower ≡ limit) ⊎ ((4096 ≤ lower) × (lower ≤ limit))) (under : (texts : List Text) → map rest readers ≡ map (λ text. Some text) texts
+      → Over want lower (outcome want lower (map called (inputs_asked matches))) out out' err err' status texts (map (supply rest failures) readers) (map (supply rest failures) after))
+      (passed_on : map failures after ≢ map failures readers → kept ≡ 0 → kept' ≡ 0) → Relies words opens knows rest failures last_failed host host' out out' err err' kept kept' status
+  Stopped : (matches : ArgMatches) (are : HasMatchesOf program_app words matches) (name : Option Text) (opened : OpensUpTo opens (inputs_asked matches) name host host') (ends : EndsWith (unopened_outcome (called name)) out out' err err' status)
+      → Relies words opens knows rest failures last_failed host host' out out' err err' kept kept' status
+  NoMemory : (matches : ArgMatches) (are : HasMatchesOf program_app words matches) (opened : OpensSome opens (inputs_asked matches) host host') (ends : EndsWithout out out' err err' status) → Relies words opens knows rest failures last_failed host host' out out' err err' kept kept' status
+  Refused : (matches : ArgMatches) (are : HasMatchesOf program_app words matches) (fault : _) (is : job_of (words_used matches) ≡ Err fault) (same : host' ≡ host) (ends : EndsWith (command_outcome (words_used matches) [] []) out out' err err' status)
+      → Relies words opens knows rest failures last_failed host host' out out' err err' kept kept' status
+  NoMatches : (why : ErrorKind) (same : host' ≡ host) (answers : Answers why out out' err err' status) → Relies words opens knows rest failures last_failed host host' out out' err err' kept kept' status
+
+-- ---- a process
+
+-- In what follows `p`, `f` and `i` are what a process, its files and its standard input say of
+-- themselves.
+
+-- the bytes that reads of an input give, if those of its file or of standard input are known; of
+-- `Refused`, of which each read fails, one byte
+abbrev pub stream_bytes : {F I : Type 0} → Reads F → Reads I → Stream F I → Option (List ℕ)
+stream_bytes f i (File file) = f.remaining file.device
+stream_bytes f i (Standard input) = i.remaining input.device
+stream_bytes f i Failing = Some (0 ∷ [])
+
+abbrev pub bytes_of : {F I : Type 0} → Reads F → Reads I → Watch (Stream F I) → Option (List ℕ)
+bytes_of f i watch = stream_bytes f i watch.device
+
+-- whether the process is right about the length of an input
+abbrev pub is_right : {P F I B K : Type 0} → Ghosts P F I B K → Stream F I → Type 0
+is_right p (File file) = p.knows_file file.device
+is_right p (Standard input) = p.knows_input input.device
+is_right p Failing = ⊤
+
+-- The process opened the file of this name, or gave its standard input, and changed by nothing else.
+-- Without random numbers each read of the input fails.
+abbrev pub OpensOne : {P F I B K : Type 0} → Ghosts P F I B K → (seeded : Bool) → (process : P) → Option Text → Result (Watch (Stream F I)) OpenFault → (process' : P) → Type 0
+OpensOne p seeded process None (Ok watch) process' = (input : _) × p.gives process input × (process' ≡ process) × (watch.device ≡ cond seeded (Standard (record { device = input })) Failing)
+OpensOne p seeded process None (Err fault) process' = ⊥
+OpensOne p seeded process (Some name) (Ok watch) process' = (file : _) × p.opens process name (Ok file) process' × (watch.device ≡ cond seeded (File (record { device = file })) Failing)
+OpensOne p seeded process (Some name) (Err Unopened) process' = (error : Error) × p.opens process name (Err error) process' × (error_kind error ≢ io_kind.OutOfMemory)
+OpensOne p seeded process (Some name) (Err OutOfMemory) process' = (error : Error) × p.opens process name (Err error) process' × (error_kind error ≡ io_kind.OutOfMemory)
+
+-- a stream that was `before` was flushed, which succeeded or failed; nothing else was written to it
+abbrev pub IsFlushed : {W : Type 0} → (device : W → Device) → (flushes : W → Bool → W → Type 0) → (done : Bool) → (before after : W) → Type 0
+IsFlushed device flushes done before after = flushes before done after × Keeps (device before).held (device after).held × ((device after).failures ≡ (device before).failures)
+
+-- The output was flushed with this left in it. If that failed, the status is 3, and the line for it
+-- is on the error stream, unless the status was 3 before.
+pub record EndsFlushed {W : Type 0} (device : W → Device) (flushes : W → Bool → W → Type 0) (Left : (out : W) → (err : Device) → ℕ → Type 0) (out' : W) (err' : Device) (status : ℕ) : Type 0 where
+  pub before : W
+  pub shown : Device
+  pub was : ℕ
+  pub left : Left before shown was
+  pub done : Bool
+  pub flushed : IsFlushed device flushes done before out'
+  pub answer : ((err' ≡ shown) × (status ≡ was) × (done ≡ false → 3 ≤ status)) ⊎ ((done ≡ false) × (was < 3) × Says shown err' (program_line (codes "write failed")) × (status ≡ 3))
+
+-- The program ran on the arguments of the process, with random numbers if the process gives some;
+-- nothing but its inputs was opened; and output and messages were flushed. Or the process gives no
+-- arguments, and nothing but the message for that was written.
+pub data ReliesOnProcess {P F I B K W E : Type 0} (p : Ghosts P F I B K) (f : Reads F) (i : Reads I) (w : Sinks W) (flushes : W → Bool → W → Type 0) (e : Sinks E) (sends : E → Bool → E → Type 0) (process process' : P) (out out' : W) (err err' : E) (status : ℕ) : Type 0 where
+  Ran : (words : List Text) (given : p.words process words) (seed : Option B) (seed_is : p.seeds process seed) (before : E)
+      (runs : EndsFlushed w.device flushes (λ now err_now n. Relies {I = Watch (Stream F I)} words (OpensOne p (is_some seed)) (λ watch. is_right p watch.device) (bytes_of f i) failed_calls has_just_failed
+      process process' (w.device out) (w.device now) (e.device err) err_now (w.kept_back out) (w.kept_back now) n) out' (e.device before) status)
+      (done : Bool) (flushed : IsFlushed e.device sends done before err') → ReliesOnProcess p f i w flushes e sends process process' out out' err err' status
+  NoWords : (fault : UseFault) (refused : p.refuses process fault) (same : process' ≡ process) (unwritten : out' ≡ out) (before : E) (shown : Says (e.device err) (e.device before) (use_outcome fault).message) (is : status ≡ (use_outcome fault).status)
+      (done : Bool) (flushed : IsFlushed e.device sends done before err') → ReliesOnProcess p f i w flushes e sends process process' out out' err err' status
