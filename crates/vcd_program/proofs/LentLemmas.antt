@@ -85,9 +85,9 @@ module _ (n n' m m' status : ℕ) (ws vs : List ℕ) where
   leaves-after due want limit texts old new (Leaves.WithOutcome inputs read needed turns leaves) =
       let o = outcome-after _ leaves in
       (o.0, o.1, Leaves.WithOutcome inputs read needed (turns-after n n' ws want limit texts old new inputs turns) o.2)
-  leaves-after due want limit texts old new (Leaves.NoMemory inputs read needed turns fails) =
+  leaves-after due want limit texts old new (Leaves.NoMemory inputs read needed turns same fails) =
       let o = fails-after (codes "out of memory") fails in
-      (o.0, o.1, Leaves.NoMemory inputs read needed (turns-after n n' ws want limit texts old new inputs turns) o.2)
+      (o.0, o.1, Leaves.NoMemory inputs read needed (turns-after n n' ws want limit texts old new inputs turns) same o.2)
 
   runs-after : (words : Option Words) (asked : List (Option Text)) (host after : Memory) (NoneKept : Type 0) → After (λ out out' err err' n. Runs OpensIn known bytes_of no_failures none_failed words asked host after out out' err err' n NoneKept)
   runs-after words asked host after NoneKept (Runs.Refused fault is same leaves) = let o = outcome-after _ leaves in (o.0, o.1, Runs.Refused fault is same o.2)

@@ -148,7 +148,7 @@ module _ (a b : Bool) where
           let all = all-read (is_settled want) limit 65536 [] texts readers done inputs read in
           inl (IsLeftOf.Ran (record { want = want; limit = limit }) is texts have (is-left left after out err status asked (command_outcome words (map called asked) (map whole texts)) holds (o.notes ∙ ap (λ l. l ++ asked) n)
           (subst (λ l. IsOutcome (command_outcome words (map called asked) l) (holding false []) (holding a out) (holding false []) (holding b err) status) all leaves)))
-      by_end o texts have (Leaves.NoMemory inputs read needed turns fails) = inr (out-of-memory left after out err status holds fails)
+      by_end o texts have (Leaves.NoMemory inputs read needed turns same fails) = inr (out-of-memory left after out err status holds fails)
   left-parsed words asked files input host after left out err status NoneKept f i n holds (Runs.Stopped job is name opened leaves) =
       let before = opened.0 in
       let inputs = opened.3 in

@@ -90,7 +90,7 @@ pub leaves-of : (due : List Input → Outcome) (want : Want) (limit : ℕ) (name
     → HasRun want limit 65536 names texts old new out out' err err' status → Leaves due want limit texts old new out out' err err' status
 leaves-of due want limit names texts old new out out' err err' status is (HasRun.WithOutcome inputs read needed turns left) =
     Leaves.WithOutcome inputs read needed turns (subst (λ o. IsOutcome o out out' err err' status) (sym (is inputs)) left)
-leaves-of due want limit names texts old new out out' err err' status is (HasRun.NoMemory inputs read needed turns written shown status_is) = Leaves.NoMemory inputs read needed turns (written, shown, status_is)
+leaves-of due want limit names texts old new out out' err err' status is (HasRun.NoMemory inputs read needed turns same written shown status_is) = Leaves.NoMemory inputs read needed turns same (written, shown, status_is)
 
 -- ---- before a job is run
 

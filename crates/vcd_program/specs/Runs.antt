@@ -16,7 +16,7 @@ use Rattle.vcd_text.specs.declared.device.Source.{Ghosts}
 use Rattle.vcd_words.specs.Words.{parse_status_of, program_app, words_used}
 use Rattle.vcdkit.specs.Failure.{CountsReads, EndsAtReadOf, writes_failed}
 use Rattle.vcdkit.specs.Message.{Shows, end_message, end_status, unopened_outcome}
-use Rattle.vcdkit.specs.Run.{AreInTurn, AreNeeded, AreRead, IsOutcome}
+use Rattle.vcdkit.specs.Run.{AreInTurn, AreNeeded, AreRead, IsOutcome, NoneFailed}
 use Rattle.vcd_host.specs.Asked.{inputs_asked}
 use Rattle.vcd_host.specs.Opens.{Opens, OpensSome, OpensUpTo, called}
 use Rattle.vcd_host.specs.declared.host.OpenFault.{OpenFault}
@@ -42,11 +42,12 @@ EndsSo names asked before after last_failed out out' err err' status =
     × EndsAtReadOf last_failed why
 
 -- over inputs with these texts: the outcome that is due for what was read of each; no more was read
--- than what settles it, and no read ran ahead of the output; or nothing if memory ran out
+-- than what settles it, and no read ran ahead of the output; or nothing if memory ran out, and then
+-- no read failed
 pub data Leaves (due : List Input → Outcome) (want : Want) (limit : ℕ) (texts : List Text) (old new : List Supply) (out out' err err' : Device) (status : ℕ) : Type 0 where
   WithOutcome : (inputs : List Input) (read : AreRead (is_settled want) limit 65536 [] texts old new inputs) (needed : AreNeeded want limit 65536 old new inputs) (in_turn : AreInTurn want limit 65536 texts old new inputs out out') (leaves : IsOutcome (due inputs) out out' err err' status)
       → Leaves due want limit texts old new out out' err err' status
-  NoMemory : (inputs : List Input) (read : AreRead is_header_over limit 65536 [] texts old new inputs) (needed : AreNeeded want limit 65536 old new inputs) (in_turn : AreInTurn want limit 65536 texts old new inputs out out') (fails : Fails (codes "out of memory") out out' err err' status)
+  NoMemory : (inputs : List Input) (read : AreRead is_header_over limit 65536 [] texts old new inputs) (needed : AreNeeded want limit 65536 old new inputs) (in_turn : AreInTurn want limit 65536 texts old new inputs out out') (same : NoneFailed old new) (fails : Fails (codes "out of memory") out out' err err' status)
       → Leaves due want limit texts old new out out' err err' status
 
 -- ---- what words leave that were parsed
