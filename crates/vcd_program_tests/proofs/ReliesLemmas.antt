@@ -69,7 +69,7 @@ module _ (limit : ℕ) (due_of : List Input → Outcome) (out out' err err' : De
         keeps_up = kept.2;
         ends = inl (ends-with _ out out' err err' status (subst (λ l. IsOutcome (due_of l) out out' err err' status) one.1 leaves), one.3);
       }
-  over-one want text s t single (Leaves.NoMemory inputs read needed turns fails) =
+  over-one want text s t single (Leaves.NoMemory inputs read needed turns same fails) =
       let one = one-input is_header_over limit text s t inputs read in
       let kept = keeps-up limit (text ∷ []) s t one.0 out out' want inputs single one.1 turns in
       record {
@@ -78,15 +78,15 @@ module _ (limit : ℕ) (due_of : List Input → Outcome) (out out' err err' : De
         written = kept.0;
         is_written = kept.1;
         keeps_up = kept.2;
-        ends = inr (fails, one.3);
+        ends = inr (fails, one.3, same);
       }
 
   over-many : (want : Want) (texts : List Text) (old new : List Supply) → is_merge want ≡ true → Leaves due_of want limit texts old new out out' err err' status → OverMany limit due_of out out' err err' status texts old new
   over-many Want.Merge texts old new merges (Leaves.WithOutcome inputs read needed (AreMergedInTurn.InHeaders why stops) leaves) = record { lefts = inputs; needed = needed; on_turn = inl (why, stops); ends = inl (ends-with _ out out' err err' status leaves, read) }
   over-many Want.Merge texts old new merges (Leaves.WithOutcome inputs read needed (AreMergedInTurn.InBodies lanes mid begun bodies) leaves) =
       record { lefts = inputs; needed = needed; on_turn = inr (lanes, mid, begun, on-turn limit lanes mid new inputs out out' bodies); ends = inl (ends-with _ out out' err err' status leaves, read) }
-  over-many Want.Merge texts old new merges (Leaves.NoMemory inputs read needed (AreMergedInTurn.InHeaders why stops) fails) = record { lefts = inputs; needed = needed; on_turn = inl (why, stops); ends = inr (fails, read) }
-  over-many Want.Merge texts old new merges (Leaves.NoMemory inputs read needed (AreMergedInTurn.InBodies lanes mid begun bodies) fails) = record { lefts = inputs; needed = needed; on_turn = inr (lanes, mid, begun, on-turn limit lanes mid new inputs out out' bodies); ends = inr (fails, read) }
+  over-many Want.Merge texts old new merges (Leaves.NoMemory inputs read needed (AreMergedInTurn.InHeaders why stops) same fails) = record { lefts = inputs; needed = needed; on_turn = inl (why, stops); ends = inr (fails, read, same) }
+  over-many Want.Merge texts old new merges (Leaves.NoMemory inputs read needed (AreMergedInTurn.InBodies lanes mid begun bodies) same fails) = record { lefts = inputs; needed = needed; on_turn = inr (lanes, mid, begun, on-turn limit lanes mid new inputs out out' bodies); ends = inr (fails, read, same) }
   over-many Want.Check texts old new merges leaves = absurd cc
   over-many Want.Listing texts old new merges leaves = absurd cc
   over-many (Want.Pick names) texts old new merges leaves = absurd cc

@@ -63,9 +63,13 @@ EndsWithout out out' err err' status = Writes out out' [] × Says err err' (prog
 
 -- ---- a job over inputs whose texts are known
 
+-- as many calls had failed before
+abbrev pub NoneFailed : (old new : List Supply) → Type 0
+NoneFailed old new = map (λ (s : Supply). s.failures) new ≡ map (λ (s : Supply). s.failures) old
+
 -- A run over one input with this text, which has this outcome: how much of the text counts; that no
 -- read ran ahead of the output; how the run ends; and that no more was read than what settles it, or
--- its header if memory ran out.
+-- its header if memory ran out, and then no read failed.
 pub record OverOne (want : Want) (limit : ℕ) (outcome_of : List Input → Outcome) (out out' err err' : Device) (status : ℕ) (text : Text) (old new : Supply) : Type 0 where
   pub left : Input
   pub is_left : IsLeft (whole text) old new left
@@ -73,7 +77,7 @@ pub record OverOne (want : Want) (limit : ℕ) (outcome_of : List Input → Outc
   pub is_written : Appends out.held out'.held written
   pub keeps_up : ReadsAsNeeded limit 65536 old new left [] (λ ts. nat_lt (length written) (length (due want declarations_allowed ts)))
   pub ends : (EndsWith (outcome_of (left ∷ [])) out out' err err' status × ReadsAsNeeded limit 65536 old new left [] (is_settled want (allowed_after [])))
-      ⊎ (EndsWithout out out' err err' status × ReadsAsNeeded limit 65536 old new left [] (is_header_over (allowed_after [])))
+      ⊎ (EndsWithout out out' err err' status × ReadsAsNeeded limit 65536 old new left [] (is_header_over (allowed_after [])) × NoneFailed (old ∷ []) (new ∷ []))
 
 -- After these headers, the inputs of a merge were read only in their turn, and no read ran ahead of
 -- the output: they have given these items, what is due with them was written, and no more of an
@@ -93,7 +97,7 @@ pub record OverMany (limit : ℕ) (outcome_of : List Input → Outcome) (out out
       → ReadsAsNeeded limit 65536 s t i [] (λ ts. is_settled_merge (slice_set (map (λ (other : Input). Seen.All (stream_of limit other)) lefts) k (Seen.First ts)))
   pub on_turn : ((why : _) × Stops limit 65536 0 [] texts old new why)
       ⊎ ((lanes : List Lane) × (mid : List Supply) × AreBegun limit 65536 [] texts old mid lanes × AreOnTurn limit lanes mid new lefts out out')
-  pub ends : (EndsWith (outcome_of lefts) out out' err err' status × AreRead (is_settled Want.Merge) limit 65536 [] texts old new lefts) ⊎ (EndsWithout out out' err err' status × AreRead is_header_over limit 65536 [] texts old new lefts)
+  pub ends : (EndsWith (outcome_of lefts) out out' err err' status × AreRead (is_settled Want.Merge) limit 65536 [] texts old new lefts) ⊎ (EndsWithout out out' err err' status × AreRead is_header_over limit 65536 [] texts old new lefts × NoneFailed old new)
 
 -- a job over inputs with these texts
 pub record Over (want : Want) (limit : ℕ) (outcome_of : List Input → Outcome) (out out' err err' : Device) (status : ℕ) (texts : List Text) (old new : List Supply) : Type 0 where
