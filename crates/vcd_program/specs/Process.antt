@@ -33,11 +33,11 @@ abbrev pub read_as : {F I : Type 0} → Bool → Stream F I → Stream F I
 read_as true stream = stream
 read_as false stream = Refused
 
--- In what follows `opens` says what a process may return for the name of a file, and what that leaves
--- of it, and `gives` what it may return as its standard input.
+-- In what follows `opens` says what a process may return for the name of a file, and what that
+-- leaves of it, and `gives` what it may return as its standard input.
 
--- What is opened in a process that was `old` and is `new`: the file of this name if there is a name,
--- otherwise standard input, for which the process stays as it is.
+-- What is opened in a process that was `old` and is `new`: the file of this name if there is a
+-- name, otherwise standard input, for which the process stays as it is.
 abbrev pub OpensInput : {P F I : Type 0} → (P → List ℕ → Result F Error → P → Type 0) → (P → I → Type 0) → (seeded : Bool) → (old : P) → Option (List ℕ) → Result (Watch (Stream F I)) OpenFault → (new : P) → Type 0
 OpensInput opens gives seeded old None (Ok watch) new = (input : _) × gives old input × (new ≡ old) × (watch.device ≡ read_as seeded (Input (record { device = input })))
 OpensInput opens gives seeded old None (Err fault) new = ⊥

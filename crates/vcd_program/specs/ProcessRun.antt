@@ -25,8 +25,8 @@ RunsOver {F = F} {I = I} p f i w flushes seeded process process' words out out' 
 abbrev pub RunsGiven : {P F I B K W : Type 0} → Ghosts P F I B K → Reads F → Reads I → Sinks W → (W → Bool → W → Type 0) → (process process' : P) → List Text → (out out' : W) → (err err' : Device) → ℕ → Type 0
 RunsGiven {B = B} p f i w flushes process process' words out out' err err' status = (seed : Option B) × p.seeds process seed × RunsOver p f i w flushes (is_some seed) process process' words out out' err err' status
 
--- What the program leaves that a process runs: that of the arguments which the process gives; or, if
--- it gives none, the line and the status for that, and nothing else.
+-- What the program leaves that a process runs: that of the arguments which the process gives; or,
+-- if it gives none, the line and the status for that, and nothing else.
 pub data RunsAs {P F I B K W : Type 0} (p : Ghosts P F I B K) (f : Reads F) (i : Reads I) (w : Sinks W) (flushes : W → Bool → W → Type 0) (process process' : P) (out out' : W) (err err' : Device) (status : ℕ) : Type 0 where
   Ran : (words : List Text) (given : p.words process words) (runs : RunsGiven p f i w flushes process process' words out out' err err' status) → RunsAs p f i w flushes process process' out out' err err' status
   NoWords : (fault : UseFault) (refused : p.refuses process fault) (same : process' ≡ process) (unwritten : out' ≡ out) (shown : Shows err err' (use_outcome fault).message) (status_is : status ≡ (use_outcome fault).status)

@@ -56,16 +56,16 @@ pub data Leaves (due : List Input → Outcome) (want : Want) (limit : ℕ) (text
 abbrev pub IsLimitOf : (limit lower : ℕ) → Type 0
 IsLimitOf limit lower = (lower ≡ limit) ⊎ ((4096 ≤ lower) × (lower ≤ limit))
 
--- What a program leaves whose words ask for these inputs, before it flushes. `NoneKept` says that the
--- output keeps nothing back.
+-- What a program leaves whose words ask for these inputs, before it flushes. `NoneKept` says that
+-- the output keeps nothing back.
 pub data Runs {H I : Type 0} (opens : H → Option Text → Result I OpenFault → H → Type 0) (knows : I → Type 0) (rest : I → Option (List ℕ)) (failures : I → ℕ) (last_failed : I → Bool) (words : Option Words) (asked : List (Option Text)) (host host' : H) (out out' err err' : Device) (status : ℕ) (NoneKept : Type 0) : Type 0 where
   -- the words ask for no job: no input is opened
   Refused : (fault : UseFault) (is : job_of words ≡ Err fault) (same : host' ≡ host) (leaves : IsOutcome (command_outcome words [] []) out out' err err' status)
       → Runs opens knows rest failures last_failed words asked host host' out out' err err' status NoneKept
-  -- all inputs were opened, and the job was run over them: it leaves the outcome of the words if the
-  -- host is right about the lengths of all inputs; whatever their lengths, it leaves the outcome
-  -- under a token limit that may be lower, but not below 4,096, so that no input is cut short. If a
-  -- read failed, the output keeps nothing back.
+  -- all inputs were opened, and the job was run over them: it leaves the outcome of the words if
+  -- the host is right about the lengths of all inputs; whatever their lengths, it leaves the
+  -- outcome under a token limit that may be lower, but not below 4,096, so that no input is cut
+  -- short. If a read failed, the output keeps nothing back.
   Ran : (want : Want) (limit : ℕ) (is : job_of words ≡ Ok (record { want = want; limit = limit })) (readers after : List I) (opened : Opens opens host asked readers host')
       (ends : EndsSo (map called asked) (names_wanted want) (map failures readers) (map failures after) (map last_failed after) out out' err err' status)
       (leaves : All knows readers → (texts : List Text) → map rest readers ≡ map (λ text. Some text) texts

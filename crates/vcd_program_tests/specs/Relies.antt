@@ -68,8 +68,8 @@ abbrev pub NoneFailed : (old new : List Supply) → Type 0
 NoneFailed old new = map (λ (s : Supply). s.failures) new ≡ map (λ (s : Supply). s.failures) old
 
 -- A run over one input with this text, which has this outcome: how much of the text counts; that no
--- read ran ahead of the output; how the run ends; and that no more was read than what settles it, or
--- its header if memory ran out, and then no read failed.
+-- read ran ahead of the output; how the run ends; and that no more was read than what settles it,
+-- or its header if memory ran out, and then no read failed.
 pub record OverOne (want : Want) (limit : ℕ) (outcome_of : List Input → Outcome) (out out' err err' : Device) (status : ℕ) (text : Text) (old new : Supply) : Type 0 where
   pub left : Input
   pub is_left : IsLeft (whole text) old new left
@@ -89,8 +89,8 @@ AreOnTurn limit lanes old new lefts out out' = (new ≡ old)
     × ((k : ℕ) (l : Lane) (s t : Supply) (i : Input) → slice_get lanes k ≡ Some l → slice_get old k ≡ Some s → slice_get new k ≡ Some t → slice_get lefts k ≡ Some i
     → (t ≡ s) ⊎ ((items : List BodyItem) × NoneBefore limit (headers_in lanes) lanes merged k (key_after (factor (headers_in lanes) l.header) k items) × ReadsNoMore limit 65536 l items i t.rest)))
 
--- a merge over inputs with these texts: the same of each input, also in view of the others, and that
--- each was read on its turn
+-- a merge over inputs with these texts: the same of each input, also in view of the others, and
+-- that each was read on its turn
 pub record OverMany (limit : ℕ) (outcome_of : List Input → Outcome) (out out' err err' : Device) (status : ℕ) (texts : List Text) (old new : List Supply) : Type 0 where
   pub lefts : List Input
   pub needed : (k : ℕ) (s t : Supply) (i : Input) → slice_get old k ≡ Some s → slice_get new k ≡ Some t → slice_get lefts k ≡ Some i
@@ -108,8 +108,8 @@ pub record Over (want : Want) (limit : ℕ) (outcome_of : List Input → Outcome
 
 -- Before the output is flushed, of which `kept` bytes were kept back, and now `kept'` are: which
 -- inputs were opened; over any inputs how the job ended, and which calls failed; over inputs whose
--- texts are known the outcome of the words, if the host is right about all lengths; and whatever the
--- lengths, the outcome under a limit that may be lower. If a read failed, nothing is kept back.
+-- texts are known the outcome of the words, if the host is right about all lengths; and whatever
+-- the lengths, the outcome under a limit that may be lower. If a read failed, nothing is kept back.
 pub data Relies {H I : Type 0} (words : List Text) (opens : H → Option Text → Result I OpenFault → H → Type 0) (knows : I → Type 0) (rest : I → Option (List ℕ)) (failures : I → ℕ) (last_failed : I → Bool) (host host' : H) (out out' err err' : Device) (kept kept' : ℕ) (status : ℕ) : Type 0 where
   Ran : (matches : ArgMatches) (are : HasMatchesOf program_app words matches) (want : Want) (limit : ℕ) (is : job_of (words_used matches) ≡ Ok (record { want = want; limit = limit })) (readers after : List I) (opened : Opens opens host (inputs_asked matches) readers host')
       (ends : (why : _) × CountsReads (map failures readers) (map failures after) why × (failures_then (writes_failed why) out' ≡ out.failures + writes_failed why) × (status ≡ end_status why) × Says err err' (end_message (map called (inputs_asked matches)) (names_wanted want) why)
@@ -147,8 +147,8 @@ is_right p (File file) = p.knows_file file.device
 is_right p (Standard input) = p.knows_input input.device
 is_right p Failing = ⊤
 
--- The process opened the file of this name, or gave its standard input, and changed by nothing else.
--- Without random numbers each read of the input fails.
+-- The process opened the file of this name, or gave its standard input, and changed by nothing
+-- else. Without random numbers each read of the input fails.
 abbrev pub OpensOne : {P F I B K : Type 0} → Ghosts P F I B K → (seeded : Bool) → (process : P) → Option Text → Result (Watch (Stream F I)) OpenFault → (process' : P) → Type 0
 OpensOne p seeded process None (Ok watch) process' = (input : _) × p.gives process input × (process' ≡ process) × (watch.device ≡ cond seeded (Standard (record { device = input })) Failing)
 OpensOne p seeded process None (Err fault) process' = ⊥
