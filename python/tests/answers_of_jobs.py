@@ -1,12 +1,12 @@
 """What the options of the scripts answer that do a whole job, by definition: --if, --latency,
---toggle, --saif, --trace, --reach and --names. As in answers.py, each function is over the whole
+--rules, --toggle, --saif, --trace, --reach and --names. As in answers.py, each function is over the whole
 lists and imports nothing of the package."""
 import re
 from typing import Dict, List, NamedTuple, Optional, Sequence, Set, Tuple
 
 from answers import (Clocks, Dump, Row, Tree, Value, Variable, bare, changes_of, edge_times,
-                     holds, is_event, is_real, last_time, looks, starts, states, unknown, value_at,
-                     value_before)
+                     holds, is_event, is_real, last_time, looks, starts, states, time_text,
+                     unknown, value_at, value_before, when)
 
 
 # ---- vcdkit-table --if.
@@ -93,6 +93,31 @@ def overlap(dump: Dump, tree: Tree, codes: Set[str], clocks: Clocks, every: bool
     return any(place[other] <= place[one] + wait and not any(
         holds(after, look.values) is True for look in its[one:other])
         for one, other in zip(found, found[1:]))
+
+
+# ---- vcdkit-when --rules.
+
+class Rule(NamedTuple):
+    """A rule: its name, a condition, its codes, and an answer, as when() has it."""
+
+    name: str
+    tree: Tree
+    codes: Set[str]
+    answer: Optional[Tuple[Tree, int, bool, bool]] = None
+
+
+def rules(dump: Dump, its: Sequence[Rule], clocks: Clocks, every: bool
+          ) -> List[Tuple[str, int, int]]:
+    """Each rule that holds at some time, with the first time and how many there are. Each has the
+    times of its condition, whatever the other rules are."""
+    found = [(one.name, when(dump, one.tree, one.codes, clocks, every, one.answer)) for one in its]
+    return [(name, times[0], len(times)) for name, times in found if times]
+
+
+def rule_lines(dump: Dump, found: Sequence[Tuple[str, int, int]]) -> List[str]:
+    """The lines of rules that hold."""
+    return ["%s: %s, %d time%s" % (name, time_text(dump.tick, first), count, "s" * (count != 1))
+            for name, first, count in found]
 
 
 # ---- vcdkit-stats --toggle and --saif.

@@ -23,8 +23,8 @@ class Jobs(Scripts):
         self.fault, self.last = self.dump.fault, by_definition.last_time(self.dump)
         with open(self.path, "wb") as file:
             file.write(case.text)
-        asks = [self.ask_rows, self.ask_latencies, self.ask_toggles, self.ask_trace,
-                self.ask_verdicts]
+        asks = [self.ask_rows, self.ask_latencies, self.ask_rules, self.ask_toggles,
+                self.ask_trace, self.ask_verdicts]
         for turn in range(min(2 * case.more - 1, 10)):
             self.number = case.number + turn
             self.names = self.of.names[(self.number // 2) % len(self.of.names)]
@@ -91,6 +91,35 @@ class Jobs(Scripts):
                            *words, *window.words, self.path, condition], [] if is_late else lines,
                   2 if is_late or part.fault else int(not found),
                   is_late[1] if is_late else part.fault or is_warned)
+
+    def ask_rules(self) -> None:
+        """Asks for many conditions in one pass, some of them with an answer."""
+        window, (words, clocks) = self.window(), self.clocks(3)
+        every, is_never = bool(clocks) and self.number % 4 == 1, self.number % 3 == 0
+        part = by_definition.cut(self.dump, window.begin, window.end)
+        rules, lines = [], ["# rules", ""]
+        for at, (text, tree) in enumerate(self.of.conditions[self.number % 3:] * 2):
+            name, codes, answer = "rule %d" % at, codes_of(tree), None
+            if at % 2:
+                after_text, after = self.turn(self.of.conditions, at)
+                is_of_edges, wait = bool(clocks) and at % 4 == 1, self.turn([0, 1, 5], at)
+                answer, codes = (after, wait, is_of_edges, at % 3 == 0), codes | codes_of(after)
+                text = "(%s) -> (%s) within %d%s" % (
+                    text, after_text, wait, "tick" * (not is_of_edges))
+                text = "!(%s)" % text if at % 3 == 0 else text
+            rules.append(of_jobs.Rule(name, tree, codes, answer))
+            lines.append("%s: %s" % (name, text))
+        if not rules:
+            return
+        with open(self.saved, "w", encoding="ascii") as file:
+            file.write("\n".join(lines))
+        found = of_jobs.rules(part, rules, clocks, every)
+        late = self.late(window.begin)
+        is_well = not found if is_never else len(found) == len(rules)
+        self.same("when", ["--rules=" + self.saved, *["--never"] * is_never, *["--every"] * every,
+                           *words, *window.words, self.path], [] if late else of_jobs.rule_lines(
+                               part, found), 2 if late or part.fault else int(not is_well),
+                  late[1] if late else part.fault or False)
 
     def ask_toggles(self) -> None:
         """Asks what bits do."""
