@@ -14,7 +14,9 @@ from shown import cell, same, shown
 
 NODE = shutil.which("node")
 NAMESPACE = "{http://www.w3.org/2000/svg}"
-ROUNDED = .06  # pixels: a place in a picture has one decimal digit
+# Pixels: a place on a page is a float; one in a picture has one decimal digit, and the bins of a
+# picture are not quite as wide as its pixels.
+EXACT, ROUGH = 1e-5, 2.1
 Span = Tuple[float, float]
 Points = List[Tuple[int, Any]]
 
@@ -211,8 +213,7 @@ def busy_pixels(pieces: Sequence[Piece], width: int) -> Set[int]:
 def same_pixels(of: Asker, words: List[str], pieces: List[Piece], shapes: Dict[str, List[Span]],
                 width: int, margin: float) -> None:
     """Compares the pixels of a row: red if and only if the signal is x there, and a block if it
-    changes there more than once. In a picture, whose bins are not quite pixels, a shape may be
-    wrong by a margin."""
+    changes there more than once. A shape may be wrong by a margin."""
     reds = shapes.get("x", []) + shapes.get("manyX", [])
     spans = unknown_spans(pieces)
     may_be = spans + [(width - 1.0, float(width)) for begin, end in spans if begin == end]
@@ -220,7 +221,7 @@ def same_pixels(of: Asker, words: List[str], pieces: List[Piece], shapes: Dict[s
         pixels_of(reds, width) - pixels_of(may_be, width, margin)), [])
     of.same("pixels, an x without red", words, sorted(
         pixels_of(spans, width) - pixels_of(reds, width, margin)), [])
-    blocks = shapes.get("several", []) + (shapes.get("x", []) if margin else [])
+    blocks = shapes.get("several", []) + (shapes.get("x", []) if margin > EXACT else [])
     of.same("pixels, several changes without a block", words, sorted(
         busy_pixels(pieces, width) - pixels_of(blocks, width, margin)), [])
     near = [(one.begin, max(other.begin, one.begin + 1)) for one, other in zip(pieces, pieces[1:])
@@ -264,7 +265,7 @@ def ask_shown(of: Asker) -> None:
         if not one.is_real:
             shapes = {kind: [(shape[0], shape[1]) for shape in its] for kind, its in row["shapes"]}
             same_pixels(of, [*words, one.path, str(width)], pieces_of(wanted_points(
-                dump, one, begin, end), begin, end, width), shapes, width, 0.0)
+                dump, one, begin, end), begin, end, width), shapes, width, EXACT)
 
 
 # ---- Pictures.
@@ -322,7 +323,7 @@ def ask_picture(of: Asker) -> None:
         pieces = pieces_of(wanted_points(dump, one, begin, end), begin, end, width)
         shapes = shapes_of([each for each in elements if each.get("class") in (
             "bit", "lane", "x", "z", "several")], left)
-        same_pixels(of, [*words, path], pieces, shapes, width, 1 + ROUNDED + 1)
+        same_pixels(of, [*words, path], pieces, shapes, width, ROUGH)
         if all(piece.end - piece.begin > 12 for piece in pieces[:-1]):
             same_row(of, [*words, path], pieces, elements, (left, form, one.size))
 
