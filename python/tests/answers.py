@@ -616,7 +616,7 @@ def shares(spans: Spans, form: str) -> List[Dict[str, Any]]:
 
 class Compare(NamedTuple):
     """What is asked of vcdkit-diff: NAMEs, --except, --common, --every, an edge ("01", "10", or
-    none) and its clock, and --real-tolerance."""
+    none) and its clock, --real-tolerance, --x-matches, and --from and --to in ticks of A."""
 
     names: Sequence[str]
     exceptions: Sequence[str]
@@ -625,6 +625,9 @@ class Compare(NamedTuple):
     edge: str
     clock: str
     tolerance: float
+    x_matches: bool = False
+    begin: Optional[Fraction] = None
+    end: Optional[Fraction] = None
 
     def codes(self, dump: Dump) -> Set[str]:
         """The code of the clock in a dump, also if it has a range in only one of them; none
@@ -704,7 +707,7 @@ def differences(dumps: Sequence[Dump], both: Sequence[Tuple[Variable, Variable]]
         for mark in marks:
             values = [compared_value(side, of, mark, factor, bool(asked.edge))
                       for side, of, factor in zip(its, pair, factors)]
-            if not alike(values[0], values[1], asked.tolerance):
+            if not alike(values[0], values[1], asked):
                 time = its[0][mark].time if asked.edge else mark // factors[0]
                 found.append((mark, pair[0].path, "differs %s %s %s %s" % (
                     time_text(dumps[0].tick, time), pair[0].path, *map(in_a_line, values, pair))))
@@ -725,12 +728,30 @@ def compared_value(its: Sequence[Look], of: Variable, mark: int, factor: int, is
     return past[-1].values.get(of.code) if past else None
 
 
-def alike(one: Optional[Value], other: Optional[Value], tolerance: float) -> bool:
+def alike(one: Optional[Value], other: Optional[Value], asked: Compare) -> bool:
     """Whether two values are the same; real numbers may differ by the tolerance, or by this part of
-    the larger one."""
+    the larger one. With --x-matches, an x or a z is the same as any digit, but a missing value, or
+    a text that is no number, is the same only as itself."""
     if isinstance(one, float) and isinstance(other, float):
-        return same(one, other) or isclose(one, other, rel_tol=tolerance, abs_tol=tolerance)
+        return same(one, other) or isclose(one, other, rel_tol=asked.tolerance,
+                                           abs_tol=asked.tolerance)
+    if asked.x_matches and isinstance(one, str) and isinstance(other, str) and (
+            "r" not in one[:1] + other[:1]):
+        return all(a == b or "x" in a + b or "z" in a + b for a, b in zip(one, other))
     return one == other
+
+
+def windows(dumps: Sequence[Dump], asked: Compare) -> List[Dump]:
+    """The window of both dumps. Decided: it begins and ends at ticks of both, so that it is the
+    same time in both."""
+    if asked.begin is None:
+        return [*dumps]
+    factors = factors_of([dump.tick for dump in dumps])
+    longest = max(factors)
+    begin = ceil(asked.begin * factors[0] / longest) * longest
+    end = None if asked.end is None else floor(asked.end * factors[0] / longest) * longest
+    return [cut(dump, begin // factor, FOREVER if end is None else end // factor)
+            for dump, factor in zip(dumps, factors)]
 
 
 def in_a_line(value: Optional[Value], of: Variable) -> str:
@@ -749,8 +770,12 @@ def factors_of(scales: Sequence[Optional[int]]) -> List[int]:
 
 
 def compare(dumps: Sequence[Dump], asked: Compare) -> Tuple[List[str], bool]:
-    """The lines of vcdkit-diff, and whether it refuses the question: a NAME that is not in both
-    dumps, an exception that is in neither, no clock, nothing in common, or no edge."""
+    """The lines of vcdkit-diff, and whether it refuses the question: a window that begins after the
+    end of a dump, a NAME that is not in both dumps, an exception that is in neither, no clock,
+    nothing in common, or no edge."""
+    whole, dumps = dumps, windows(dumps, asked)
+    if any(part.begin > last_time(dump) for part, dump in zip(dumps, whole)):
+        return [], True
     sides = [dump.variables for dump in dumps]
     each = [[compared(sides, [name], [])[at] for at in (0, 1)]
             for name in (*asked.names, *asked.exceptions)]

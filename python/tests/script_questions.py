@@ -80,6 +80,11 @@ class Scripts:
         number, unit = Fraction(place) * self.dump.tick / 10**6, "ns"
         return "%s%s" % (by_definition.decimal(number), unit)
 
+    def place(self, place: Fraction) -> str:
+        """Returns a place in ticks as a time, in a unit if that can be."""
+        return by_definition.decimal(place * (self.dump.tick or 10**6) / 10**6) + "ns" * bool(
+            self.dump.tick)
+
     def ticks(self, text: str, is_up: bool = False) -> int:
         """Returns a time in ticks."""
         number, unit = re.fullmatch(r"([\d.]+)(\D*)", text).groups()  # type: ignore[union-attr]
@@ -108,11 +113,11 @@ class Scripts:
         at = None if place is None else self.text(place)
         names = self.names if self.number % 4 else []
         time = self.last if at is None else self.ticks(at)
-        fault = self.fault if at is None else self.fault_by(max(time, self.ticks(at, True) - 1))
+        fault = self.fault if at is None else self.fault_by(time)
         its = self.states(names)
         if not its:
             return  # nothing is read for events, so no fault is seen
-        is_late = at is not None and self.ticks(at, True) > self.last
+        is_late = at is not None and time > self.last
         self.same("values", [*([] if at is None else ["--at=" + at]), "--" + form, self.path,
                              *names],
                   [] if fault else ["%s %s" % (one.path, by_definition.shown(
@@ -274,7 +279,16 @@ class Scripts:
         asked = by_definition.Compare(
             names, exceptions, self.number % 4 == 0, self.number % 3 == 0,
             self.turn(["", "01", "10"]) if self.of.clock else "", self.of.clock,
-            self.turn([0.0, 0.5], 3))
+            self.turn([0.0, 0.5], 3), self.number % 5 == 1)
+        if self.number % 8 == 5:
+            places = [Fraction(one) for one in PLACES]
+            places = [one for one in places if self.dump.tick or one.denominator == 1]
+            begin = self.turn(places, 8)
+            end = self.turn([None, *(one for one in places if one >= begin + 1)], 16)
+            asked = asked._replace(begin=begin, end=end)
+            words += ["--from=" + self.place(begin)]
+            words += [] if end is None else ["--to=" + self.place(end)]
+        words += ["--x-matches"] * asked.x_matches
         words += ["--except=" + one for one in exceptions] + ["--every"] * asked.every
         words += ["--common"] * asked.is_common + ["--real-tolerance=0.5"] * bool(asked.tolerance)
         if asked.edge:

@@ -21,9 +21,10 @@ first edge of B's clock, and so on, at whatever times the edges are. The followi
 dates and versions, identifier codes, types such as reg and wire, the order of changes within a time
 step, repeated values, and whether a value is in a section. Real numbers are compared as numbers,
 and NaN equals NaN. tb.q in one dump matches tb.q[3:0] in the other. With --from and --to, only this
-window of both dumps is compared. If you give NAMEs, only these are compared. With --map, use the
-new names in NAMEs; the lines show them too. If a scope has two names, as in the lines
-`alone A tb.rtl 9` and `alone B tb.gate 9`, --map tb.gate=tb.rtl compares what is in it.
+window of both dumps is compared, and a number of ticks counts ticks of A. If you give NAMEs, only
+these are compared. With --map, use the new names in NAMEs; the lines show them too. If a scope has
+two names, as in the lines `alone A tb.rtl 9` and `alone B tb.gate 9`, --map tb.gate=tb.rtl compares
+what is in it.
 
 examples:
   vcdkit-diff golden.vcd.gz sim.vcd
@@ -44,12 +45,14 @@ from ..forms.text import in_json, write_json
 from ..forms.text import shown as value_text
 from ..model.names import hint
 from ..model.signals import Signal
-from ..model.times import amount_of
+from ..model.times import LAST_TICK, amount_of
 from ..model.values import Cell, value_in
 from ..questions.compare import (Comparison, Difference, Pair, Side, Sides, choose, in_common, kind,
                                  same_within)
+from ..questions.dump import Dump
 from ..reading.files import check_outputs, write
-from . import FAULT, check_begin, command, dump_of, is_part, parser, part_of, question, times_of
+from . import (FAULT, LAST, after_end, check_begin, command, dump_of, is_part, parser, part_of,
+               question, times_of)
 
 MAX_LINES = 20
 
@@ -144,9 +147,7 @@ def lines_of(differences: Iterable[Difference]) -> List[Line]:
 def sides_of(asked: argparse.Namespace) -> Sides:
     """Reads both dumps, and looks for all names that were given."""
     dumps = [dump_of(asked, file) for file in (asked.one, asked.other)]  # --names of the first
-    for dump in dumps if is_part(asked) else ():
-        check_begin(dump, asked)
-    dumps = [part_of(dump, asked) for dump in dumps]
+    dumps = parts_of(dumps, asked) if is_part(asked) else dumps
     with ThreadPoolExecutor(2) as pool:
         one, other = pool.map(lambda dump: Side(dump, asked.maps), dumps)
     choose((one, other), asked.names, asked.exceptions)
@@ -161,6 +162,27 @@ def sides_of(asked: argparse.Namespace) -> Sides:
         if name not in one.found | other.found:
             raise neither(name, [*one.names, *other.names])
     return one, other
+
+
+def parts_of(dumps: Sequence[Dump], asked: argparse.Namespace) -> List[Dump]:
+    """Returns the window of both dumps. If their ticks differ, it begins and ends at ticks of both,
+    and a number of ticks counts those of A."""
+    scales = [dump.timescale for dump in dumps if dump.timescale]
+    if len(set(scales)) < 2:
+        for dump in dumps:
+            check_begin(dump, asked)
+        return [part_of(dump, asked) for dump in dumps]
+    longest = max(scale.femtoseconds for scale in scales)
+    begin = -(-scales[0].span(asked.begin) // longest) * longest
+    end = scales[0].span(asked.end) // longest * longest if asked.end != LAST else None
+    parts = []
+    for dump, span in zip(dumps, (scale.femtoseconds for scale in scales)):
+        is_late = after_end(dump, dump.time(begin // span))
+        if is_late:
+            raise UsageError("--from: " + is_late)
+        parts.append(dump.cut(begin // span, LAST_TICK if end is None else
+                              min(end // span, LAST_TICK)))
+    return parts
 
 
 def neither(name: str, paths: Iterable[str]) -> UsageError:
