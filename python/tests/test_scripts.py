@@ -960,6 +960,12 @@ class Conditions(Case):
             its = said("vcdkit-when", "--json", *clock, "--rules", rules, dump)[:-1]
             self.assertEqual([one for one in alone if one != "0"],
                              [re.findall(r"\d+", line)[-1] for line in its], clock)
+        # An event that is never triggered is never looked at.
+        events = self.file("e.vcd", b"$var wire 1 ! a $end $var event 1 e e $end "
+                           b"$enddefinitions $end #0 1! #5\n")
+        both = self.file("both", b"a: a\nnone: !e\n")
+        self.assertEqual(said("vcdkit-when", "--rules", both, events), ["a: 0, 1 time", "status 1"])
+        self.assertEqual(said("vcdkit-when", events, "!e"), ["status 1"])
         bad = self.file("bad", b"one: req\ntwo: req ==\n")
         self.assertEqual(run("vcdkit-when", ["--rules", bad, dump])[2],
                          b"vcdkit-when: two: bad condition: it ends too early\n")

@@ -181,7 +181,7 @@ class Questions:
                 for number in numbers.get(change[0], ()):
                     conditions[number].take([change])
                     due.add(number)
-            if is_first and (self.edges or time == begin):
+            if is_first and (self.edges or 0 < begin == time):
                 due.update(range(len(conditions)))
             is_first = False
             yield time, due
