@@ -173,13 +173,14 @@ class Conditions:
         chance = self.random.random()
         if depth == 0 or chance < .35:
             return self._simple()
-        one, other = self.make(depth - 1), self.make(depth - 1)
-        if one is None or other is None:
-            return None
-        if chance < .5:
+        one = self.make(depth - 1)
+        if one and chance < .5:
             is_bare = one.binding == 4 and one.text[0] != "!" and self.random.random() < .8
             return Condition("!" + (one.text if is_bare else "(%s)" % one.text), 4,
                              negated(one.test))
+        other = self.make(depth - 1)
+        if one is None or other is None:
+            return None
         which = 2 if chance < .78 else 1
         sign = self.random.choice({1: [" | ", " || ", "|", "||"],
                                    2: [" & ", " && ", "&", "&&"]}[which])

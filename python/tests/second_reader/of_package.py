@@ -241,7 +241,7 @@ def ask_header(of: Asker) -> None:
             [one.path for one in dump.variables if re.search(pattern, one.path, flags)],
             [one.row for one in dump.selected(names)], own, dump.notes.get("date") or None,
             dump.notes.get("version") or None, "%d%s" % dump.scale if dump.scale else None,
-            [[one.row[at] for one in dump.variables] for at in range(4)]))
+            [[one.row[column] for one in dump.variables] for column in range(4)]))
     one = variable_of(of)
     of.same("package, a name", one.path, (
         one.path in whole.signals, "no.such" in whole.signals,

@@ -55,17 +55,26 @@ class Sides:
         self.dumps, self.asked = dumps, asked
         self.of_name: List[Dict[str, List[Variable]]] = [{}, {}]
         self.all_names: List[Set[str]] = [set(), set()]
-        for found, names, dump in zip(self.of_name, self.all_names, dumps):
+        self.all_scopes: List[Set[str]] = [set(), set()]
+        for at, dump in enumerate(dumps):
             for one in dump.variables:
                 name = asked.renamed(one.path)
-                names.add(name)
+                self.all_names[at].add(name)
+                self.all_scopes[at].update(self._scopes(one))
                 if asked.has(name):
-                    found.setdefault(name, []).append(one)
+                    self.of_name[at].setdefault(name, []).append(one)
         self.groups = self._groups()
         self.pairs: List[Pair] = []
         self.sizes: List[str] = []
         for name, other in self.groups:
             self._pair(name, self.of_name[0][name], self.of_name[1][other])
+
+    def _scopes(self, of: Variable) -> List[str]:
+        """Returns the scopes around a variable, the outermost first, with their new names. A dot
+        may be in a name too."""
+        found = [self.asked.renamed(".".join(of.chain[:depth + 1]))
+                 for depth in range(len(of.chain))]
+        return [one for one in found if self.asked.renamed(of.path).startswith(one + ".")]
 
     def _groups(self) -> List[Tuple[str, str]]:
         """Returns the names that belong together: equal ones, and two that differ only by a range,
@@ -108,17 +117,12 @@ class Sides:
         found: Dict[Tuple[str, str], int] = {}
         for at, letter in enumerate("AB"):
             paired = {group[at] for group in self.groups}
-            theirs = {name[:place] for name in self.all_names[1 - at]
-                      for place in [*(place for place, mark in enumerate(name) if mark == "."),
-                                    len(name)]}
-            for name, its in self.of_name[at].items():
-                if name in paired:
-                    continue
-                fronts = [name[:place] for place, mark in enumerate(name) if mark == "."]
-                shown_name = next((front for front in fronts
-                                   if front not in theirs | paired), name)
-                key = letter, shown_name
-                found[key] = found.get(key, 0) + len(its)
+            theirs = self.all_names[1 - at] | self.all_scopes[1 - at] | paired
+            for one in [one for name, its in self.of_name[at].items() if name not in paired
+                        for one in its]:
+                name = next((scope for scope in self._scopes(one) if scope not in theirs),
+                            self.asked.renamed(one.path))
+                found[letter, name] = found.get((letter, name), 0) + 1
         return [(*key, count) for key, count in found.items()]
 
 
