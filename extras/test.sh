@@ -92,6 +92,7 @@ done
 later 'the package and the scripts, on every 60th small dump' env STRIDE=60 PROCESSES=1 \
     VCDKIT_LIBRARY="$library" python3 python/tests/test_every_small_dump.py
 later 'the scripts, at any argument, file and stream' python3 python/tests/test_scripts.py
+later 'the scripts, on long files and as outputs' python3 python/tests/test_files.py
 later 'the pages of vcdkit-wave and vcdkit-diff' python3 python/tests/test_page.py
 [[ -n $(type -P chromium chromium-browser google-chrome) ]] ||
     echo 'the pages are not tried in a browser: there is no chromium'

@@ -1,6 +1,7 @@
 """What the options of the scripts answer that do a whole job, by definition: --if, --latency,
 --rules, --toggle, --saif, --trace, --reach and --names. As in answers.py, each function is over the whole
 lists and imports nothing of the package."""
+import os
 import re
 from typing import Dict, List, NamedTuple, Optional, Sequence, Set, Tuple
 
@@ -194,6 +195,22 @@ def verdict(dump: Dump, reach: Optional[int]) -> Tuple[str, object]:
         return "fault", dump.fault
     is_short = reach is not None and (last is None or last < reach)
     return "short" if is_short else "valid", last
+
+
+def lines_around(lines: Sequence[bytes], number: int) -> List[str]:
+    """What vcdkit-explain shows of a fault in a line: two lines before it, this one, and one after
+    it, if they are there; of each its number and its first 100 bytes, in which what is no printable
+    ASCII is \\xNN."""
+    return ["%s %6d | %s" % (">" if at == number else " ", at, "".join(
+        chr(byte) if 32 <= byte < 127 else "\\x%02x" % byte for byte in lines[at - 1][:100]))
+            for at in range(max(number - 2, 1), min(number + 1, len(lines)) + 1)]
+
+
+def may_replace(output: str, inputs: Sequence[str]) -> bool:
+    """Whether a script may write to a path: not if that is a regular file that it reads, under
+    whatever name. Decided: it may replace any other file, as the shell does."""
+    return not any(os.path.isfile(one) and os.path.exists(output) and os.path.samefile(one, output)
+                   for one in inputs)
 
 
 def saved_names(variables: Sequence[Variable], lines: Sequence[str]) -> List[str]:

@@ -115,6 +115,15 @@ class Ways:
 
 # ---- Small dumps.
 
+FAR = 2**64 - 1
+# Windows: before, at, between and after the timestamps; of a single tick; at both ends of time.
+WINDOWS = [(0, FAR), (0, 5), (3, 7), (5, 5), (5, FAR), (7, 12), (10, 11), (12, FAR), (0, 0)]
+LATE = [FAR - 1, FAR]
+LATE_WINDOWS = [(0, FAR), (0, 0), (FAR, FAR), (FAR - 1, FAR), (FAR - 1, FAR - 1), (1, FAR - 1)]
+PLACES = ["0", "3", "4.5", "5", "7", "10", "10.5", "12"]  # in ticks
+ENDS = [None, "0", "5", "5.5", "10", "12"]
+
+
 class Declarations(NamedTuple):
     """A header, and what is tried over it: the lines of bodies, names, clocks, conditions."""
 
@@ -123,6 +132,22 @@ class Declarations(NamedTuple):
     names: List[List[str]]
     clock: str
     conditions: Sequence[Tuple[str, Tree]]
+    is_late: bool = False  # times are near the greatest one
+
+    @property
+    def windows(self) -> List[Tuple[int, int]]:
+        """The windows of a part, in ticks."""
+        return LATE_WINDOWS if self.is_late else WINDOWS
+
+    @property
+    def places(self) -> List[str]:
+        """Where windows of scripts begin, in ticks."""
+        return ["0", *map(str, LATE)] if self.is_late else PLACES
+
+    @property
+    def ends(self) -> List[Optional[str]]:
+        """Where they end; None: with the dump."""
+        return [None, "0", *map(str, LATE)] if self.is_late else ENDS
 
 
 def of_line(header: str) -> List[Variable]:
@@ -233,6 +258,10 @@ DECLARATIONS = {
         [["t.c"], ["t"], ["t.c", "t"]], "t.c", [
             ("t.c", ("true", C)), ("!t.c", ("not", ("true", C))), ("t.c is x", ("is", C, "x")),
             ("t.c != 0", ("not", ("==", C, 0))), ("t.c is not z", ("not", ("is", C, "z")))]),
+    "late": Declarations(
+        BIT, ["#0", *("#%d" % time for time in LATE), "0!", "1!", "x!", *SECTION],
+        [["t.c"]], "t.c", [("t.c", ("true", C)), ("!t.c", ("not", ("true", C))),
+                           ("t.c is x", ("is", C, "x"))], True),
     "vector": Declarations(
         VECTOR, [*TIMES, "0!", "1!", 'b1 "', 'b01x "', 'bx "', 'b101 "', *SECTION,
                  '$dumpvars 0! b0 " $end'],
@@ -276,9 +305,6 @@ DECLARATIONS = {
             ("!t.e", ("not", ("true", E)))]),
 }
 END = "$enddefinitions $end\n"
-FAR = 2**64 - 1
-# Windows: before, at, between and after the timestamps; one of a single tick.
-WINDOWS = [(0, FAR), (0, 5), (3, 7), (5, 5), (5, FAR), (7, 12), (10, 11), (12, FAR)]
 
 
 # ---- What was answered.

@@ -5,13 +5,14 @@ from typing import Any, Dict, List, Optional, Sequence, Tuple
 
 import answers as by_definition
 from answers import Tree, Variable
-from asking import (END, WINDOWS, Ask, Asked, Declarations, answered, codes_of, dump_of, keys_of,
+from asking import (END, Ask, Asked, Declarations, answered, codes_of, dump_of, keys_of,
                     last_of, part_of, plain_list)
 from vcdkit import Dump, merge
 
 # A time, and how much before and after it, in ticks.
 AROUND = [("7", "4", "2"), ("7", "0", "0"), ("7", "9", "5"), ("4.5", "0.5", "0.5"),
-          ("4.5", "0", "0.4"), ("5", "1.5", "4.9"), ("10.5", "0.6", "0")]
+          ("4.5", "0", "0.4"), ("5", "1.5", "4.9"), ("10.5", "0.6", "0"),
+          ("18446744073709551615", "3", "5"), ("0", "5", "0")]
 HAS_NUMPY = importlib.util.find_spec("numpy") is not None
 
 
@@ -60,7 +61,7 @@ class Case:
         for names in self.some(self.of.names):
             self.ask_values(names)
         self.ask_changes()
-        windows = self.some(WINDOWS[1:])
+        windows = self.some(self.of.windows[1:])
         self.ask_part("", self.dump, self.whole)
         for begin, end in dict.fromkeys(windows):
             part, dump = by_definition.cut(self.dump, begin, end), self.whole.cut(begin, end)
@@ -178,14 +179,14 @@ class Case:
         if picked.variables:
             self.same("pick", "%s" % names, last_of(picked),
                       lambda: part_of(self.whole.pick(names)))
-        if self.number % 3 == 0:
+        if self.number % 3 == 0 and not self.of.is_late:  # a merge may not have such times
             self.ask_merge()
 
     def ask_merge(self) -> None:
         """Asks about this dump beside a window of it in another tick, and beside itself."""
         header = self.of.header.replace("10ns", "1ns") if self.number % 2 else self.of.header
         other = (header + END + self.body).encode()
-        begin, end = self.some(WINDOWS, 1)[0]
+        begin, end = self.some(self.of.windows, 1)[0]
         part = by_definition.merge([by_definition.cut(self.dump, begin, end), dump_of(other)])
         dump = merge(self.whole.cut(begin, end), Dump(other))
         names = ["in%d.%s" % (at, one) for at in (2, 1) for one in self.some(self.of.names)[0]]

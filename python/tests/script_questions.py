@@ -15,8 +15,6 @@ MAINS = {"diff": diff.main, "explain": explain.main, "find": find.main, "info": 
          "stats": stats.main, "table": table.main, "values": values.main, "when": when.main,
          "x": x.main}
 FORMS = ["binary", "hex", "decimal", "signed"]
-PLACES = ["0", "3", "4.5", "5", "7", "10", "10.5", "12"]  # of windows, in ticks
-ENDS = [None, "5", "5.5", "10", "12"]
 
 
 class Window(NamedTuple):
@@ -94,7 +92,7 @@ class Scripts:
 
     def window(self) -> Window:
         """Returns a window in turn."""
-        begin, end = self.text(self.turn(PLACES, 3)), self.turn(ENDS, 7)
+        begin, end = self.text(self.turn(self.of.places, 3)), self.turn(self.of.ends, 7)
         first = self.ticks(begin, True)
         words = ["--from=" + begin] if begin != "0" or self.number % 2 else []
         if end is None or Fraction(end) < first:
@@ -109,7 +107,7 @@ class Scripts:
 
     def ask_values(self) -> None:
         """Asks for values at a time."""
-        place, form = self.turn([None, *PLACES]), self.turn(FORMS, 2)
+        place, form = self.turn([None, *self.of.places]), self.turn(FORMS, 2)
         at = None if place is None else self.text(place)
         names = self.names if self.number % 4 else []
         time = self.last if at is None else self.ticks(at)
@@ -281,7 +279,7 @@ class Scripts:
             self.turn(["", "01", "10"]) if self.of.clock else "", self.of.clock,
             self.turn([0.0, 0.5], 3), self.number % 5 == 1)
         if self.number % 8 == 5:
-            places = [Fraction(one) for one in PLACES]
+            places = [Fraction(one) for one in self.of.places]
             places = [one for one in places if self.dump.tick or one.denominator == 1]
             begin = self.turn(places, 8)
             end = self.turn([None, *(one for one in places if one >= begin + 1)], 16)
