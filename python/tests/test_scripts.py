@@ -570,7 +570,8 @@ def random_dump(rnd, sizes):
         for code, size in sizes.items():
             if rnd.random() < often[code]:
                 for _ in range(rnd.choice([1, 1, 1, 2, 3])):  # only the last one counts
-                    digits = "".join(rnd.choice("01xz" if size == 1 else "01") for _ in range(size))
+                    letters = "01xz" if size == 1 or rnd.random() < 0.2 else "01"
+                    digits = "".join(rnd.choice(letters) for _ in range(size))
                     lines.append(digits + code if size == 1 else "b%s %s" % (digits, code))
                 if not changes[code] or changes[code][-1][1] != digits:
                     changes[code].append((time, digits))

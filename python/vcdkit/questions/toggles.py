@@ -85,7 +85,8 @@ class Bits:
         text, self._next, old = self._next, b"", self._ones
         try:
             ones = int(text, 16)
-            is_known = not self._xs and not self._zs
+            # `0x` would be no digits, but a prefix.
+            is_known = not self._xs and not self._zs and text[1:2] != b"x"
         except ValueError:  # it has an x or a z, or is a real number, or there is none
             is_known = False
         if not is_known:
