@@ -1302,7 +1302,7 @@ class Toggles(unittest.TestCase):
             rows = toggles.counts_of(dump, names, Window(begin, max(last, begin) + 1), True)
             wanted = [counts for code, size in sizes.items()
                       for counts in self.wanted(changes[code], size, begin, max(last, begin))]
-            self.assertEqual([row[2:] for row in rows], wanted, seed)
+            self.assertEqual([row[3:] for row in rows], wanted, seed)
 
     def test_one_bit(self):
         with tempfile.NamedTemporaryFile(suffix=".vcd") as file:
@@ -1317,6 +1317,16 @@ class Toggles(unittest.TestCase):
         counts = toggles.counts_of(dump, ["\\u/a"], Window(0, 6), True)
         lines = "".join(saif.texts_of(dump, counts, 5, "1")).split("\n")
         self.assertEqual(lines[11:14], ["(INSTANCE u\\/a", "  (NET", "    (q\\-r\\[3\\]"])
+
+    def test_one_path_in_two_scopes(self):
+        dump = Dump(b"$scope module t $end $var wire 1 * a0.c $end $scope module a0 $end $var wire "
+                    b"1 ( c $end $upscope $end $upscope $end $enddefinitions $end #0 0* 1( #5 1* "
+                    b"#9")
+        counts = toggles.counts_of(dump, ["t"], Window(0, 10), True)
+        lines = "".join(saif.texts_of(dump, counts, 9, "1")).split()
+        self.assertEqual([lines[at + 1:at + 5] for at, word in enumerate(lines)
+                          if word in ("(a0\\.c", "(c")],
+                         [["(T0", "5)", "(T1", "4)"], ["(T0", "0)", "(T1", "9)"]])
 
 
 class Many(Case):
