@@ -855,6 +855,16 @@ class Declared(Case):
         self.assertEqual(said("vcdkit-diff", one, other), [
             "differs 0ns w 1 0", "differs 0ns w 0 1", "status 1"])
 
+    def test_a_dot_in_a_name_makes_no_scope(self):
+        head = b"$scope module t $end $var wire 1 # x $end %s$upscope $end $enddefinitions $end #0 %s"
+        one = self.file("a.vcd", head % (b"$var wire 1 ! \\u.c $end $var wire 1 \" \\u.d $end ",
+                                         b"0! 0\" 0# #9"))
+        other = self.file("b.vcd", head % (b"", b"0# #9"))
+        self.assertEqual(said("vcdkit-diff", one, other), [
+            "alone A t.\\u.c 1", "alone A t.\\u.d 1", "status 1"])
+        picture = run("vcdkit-wave", [one, "t.\\u.c", "t.\\u.d"])[1]
+        self.assertIn(b"</title>\\u.c</text>", picture)
+
 
 class Conditions(Case):
     """What conditions, and rules of them, are."""
