@@ -2,7 +2,7 @@
 long it has each value."""
 from itertools import islice
 from operator import and_, lt, xor
-from typing import Dict, Iterable, Iterator, List, NamedTuple, Set, Tuple
+from typing import Dict, Iterable, Iterator, List, NamedTuple, Tuple
 
 from ..model.names import bare
 from ..model.signals import Declaration
@@ -124,7 +124,8 @@ class Bits:
         """Takes the times at which a known bit is written 0 and 1, if it is another one each time;
         whether it is."""
         first, second = (falls, rises) if self._ones else (rises, falls)
-        if self._is_new or self._xs or self._zs or not 0 <= len(first) - len(second) <= 1 or not all(
+        is_known = not (self._is_new or self._xs or self._zs)
+        if not is_known or not 0 <= len(first) - len(second) <= 1 or not all(
                 map(lt, first, second)) or not all(map(lt, second, first[1:])):
             return False
         self._rises.add_number(1, len(rises))
