@@ -864,6 +864,16 @@ class Declared(Case):
         self.assertEqual(said("vcdkit-diff", one, other), [
             "differs 0ns w 1 0", "differs 0ns w 0 1", "status 1"])
 
+    def test_a_dot_in_a_name_makes_no_scope(self):
+        head = b"$scope module t $end $var wire 1 # x $end %s$upscope $end $enddefinitions $end #0 %s"
+        one = self.file("a.vcd", head % (b"$var wire 1 ! \\u.c $end $var wire 1 \" \\u.d $end ",
+                                         b"0! 0\" 0# #9"))
+        other = self.file("b.vcd", head % (b"", b"0# #9"))
+        self.assertEqual(said("vcdkit-diff", one, other), [
+            "alone A t.\\u.c 1", "alone A t.\\u.d 1", "status 1"])
+        picture = run("vcdkit-wave", [one, "t.\\u.c", "t.\\u.d"])[1]
+        self.assertIn(b"</title>\\u.c</text>", picture)
+
 
 class Conditions(Case):
     """What conditions, and rules of them, are."""
@@ -1317,7 +1327,7 @@ class Toggles(unittest.TestCase):
             rows = toggles.counts_of(dump, names, Window(begin, max(last, begin) + 1), True)
             wanted = [counts for code, size in sizes.items()
                       for counts in self.wanted(changes[code], size, begin, max(last, begin))]
-            self.assertEqual([row[2:] for row in rows], wanted, seed)
+            self.assertEqual([row[3:] for row in rows], wanted, seed)
 
     def test_one_bit(self):
         with tempfile.NamedTemporaryFile(suffix=".vcd") as file:
@@ -1332,6 +1342,16 @@ class Toggles(unittest.TestCase):
         counts = toggles.counts_of(dump, ["\\u/a"], Window(0, 6), True)
         lines = "".join(saif.texts_of(dump, counts, 5, "1")).split("\n")
         self.assertEqual(lines[11:14], ["(INSTANCE u\\/a", "  (NET", "    (q\\-r\\[3\\]"])
+
+    def test_one_path_in_two_scopes(self):
+        dump = Dump(b"$scope module t $end $var wire 1 * a0.c $end $scope module a0 $end $var wire "
+                    b"1 ( c $end $upscope $end $upscope $end $enddefinitions $end #0 0* 1( #5 1* "
+                    b"#9")
+        counts = toggles.counts_of(dump, ["t"], Window(0, 10), True)
+        lines = "".join(saif.texts_of(dump, counts, 9, "1")).split()
+        self.assertEqual([lines[at + 1:at + 5] for at, word in enumerate(lines)
+                          if word in ("(a0\\.c", "(c")],
+                         [["(T0", "5)", "(T1", "4)"], ["(T0", "0)", "(T1", "9)"]])
 
 
 class Many(Case):

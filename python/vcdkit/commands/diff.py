@@ -292,33 +292,35 @@ def tolerance(text: str) -> float:
 
 def words_of(words: List[str]) -> argparse.Namespace:
     """Reads the command line."""
-    options = parser("vcdkit-diff", __doc__, "no difference", "a difference", "usage error, " + FAULT)
+    options = parser("vcdkit-diff", __doc__, "no difference", "a difference",
+                     "usage error, " + FAULT)
     options.add_argument("--map", dest="maps", metavar="OLD=NEW", type=map_of, action="append",
-                    default=[], help="treat the scope or signal OLD of either dump as NEW; OLD= "
-                    "removes it from paths; if several fit, the longest OLD counts; may be "
-                    "repeated")
-    options.add_argument("--common", action="store_true", help="compare only what both have, without "
-                    "the lines timescale, alone, ends and edges")
+                         default=[], help="treat the scope or signal OLD of either dump as NEW; "
+                         "OLD= removes it from paths; if several fit, the longest OLD counts; may "
+                         "be repeated")
+    options.add_argument("--common", action="store_true", help="compare only what both have, "
+                         "without the lines timescale, alone, ends and edges")
     options.add_argument("--except", dest="exceptions", metavar="NAME", action="append", default=[],
-                    help="leave out this signal or scope; may be repeated")
-    options.add_argument("--real-tolerance", dest="tolerance", metavar="T", type=tolerance, default=0.0,
-                    help="real numbers may differ by T, or by T times the larger one "
-                    "[default: 0]")
-    options.add_argument("--x-matches", action="store_true",
-                    help="a digit that is x or z in either dump matches any digit")
+                         help="leave out this signal or scope; may be repeated")
+    options.add_argument("--real-tolerance", dest="tolerance", metavar="T", type=tolerance,
+                         default=0.0, help="real numbers may differ by T, or by T times the larger "
+                         "one [default: 0]")
+    options.add_argument("--x-matches", action="store_true", help="a digit that is x or z in "
+                         "either dump matches any digit")
     options.window()
     options.clock("compare at the %s edges of this signal", is_one=True)
     options.add_argument("--every", action="store_true", help="show the first difference of each "
-                    "signal, without the limit of %d lines of each kind" % MAX_LINES)
-    options.add_argument("--junit", metavar="FILE", help="also write a JUnit report, with a test for "
-                    "each kind of line")
-    options.add_argument("--context", metavar="TIME", help="if values differ, write both dumps from "
-                    "TIME before to TIME after the difference, as diff.a.vcd and diff.b.vcd")
+                         "signal, without the limit of %d lines of each kind" % MAX_LINES)
+    options.add_argument("--junit", metavar="FILE", help="also write a JUnit report, with a test "
+                         "for each kind of line")
+    options.add_argument("--context", metavar="TIME", help="if values differ, write both dumps "
+                         "from TIME before to TIME after the difference, as diff.a.vcd and "
+                         "diff.b.vcd")
     options.add_argument("--into", metavar="DIRECTORY",
-                    help="the directory of these files [default: .]")
-    options.add_argument("--html", metavar="FILE", help="if values differ, write an HTML page with the "
-                    "waveforms of both dumps, as vcdkit-wave --html does: the signals in the "
-                    "lines, and the clock, within --context, or otherwise as much as fits")
+                         help="the directory of these files [default: .]")
+    options.add_argument("--html", metavar="FILE", help="if values differ, write an HTML page with "
+                         "the waveforms of both dumps, as vcdkit-wave --html does: the signals in "
+                         "the lines, and the clock, within --context, or otherwise as much as fits")
     options.form().unit().json().four_state()
     options.add_argument("one", metavar="A", help="the first dump")
     options.add_argument("other", metavar="B", help="the second dump")

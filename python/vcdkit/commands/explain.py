@@ -93,17 +93,19 @@ def salvage(dump: Dump, fault: DumpFault, before: bytes, asked: argparse.Namespa
 
 def words_of(words: List[str]) -> argparse.Namespace:
     """Reads the command line."""
-    options = parser("vcdkit-explain", __doc__, "valid dumps, as far as they go", "not a valid dump")
-    options.add_argument("--salvage", metavar="OUT",
-                    help="write everything before the fault to a file (-: standard output)")
-    options.add_argument("--token-limit", type=int, metavar="N",
-                    help="maximum token length: 64 to 16777216 bytes [default: 1048576]")
-    options.add_argument("--reach", metavar="TIME", help="treat a dump that ends before TIME as faulty")
+    options = parser("vcdkit-explain", __doc__, "valid dumps, as far as they go",
+                     "not a valid dump")
+    options.add_argument("--salvage", metavar="OUT", help="write everything before the fault to a "
+                         "file (-: standard output)")
+    options.add_argument("--token-limit", type=int, metavar="N", help="maximum token "
+                         "length: 64 to 16777216 bytes [default: 1048576]")
+    options.add_argument("--reach", metavar="TIME",
+                         help="treat a dump that ends before TIME as faulty")
     options.add_argument("--jobs", type=natural, default=os.cpu_count() or 1, metavar="N",
-                    help="how many dumps to check at a time "
-                    "[default: the number of processors]")
+                         help="how many dumps to check at a time [default: the number of "
+                         "processors]")
     options.add_argument("--junit", metavar="FILE",
-                    help="write a JUnit report, with a test for each dump")
+                         help="write a JUnit report, with a test for each dump")
     options.unit().json().four_state()
     options.add_argument("files", metavar="FILE", nargs="+", help="a dump, or a directory of dumps")
     asked = options.parse_args(words)

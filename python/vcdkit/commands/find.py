@@ -51,7 +51,7 @@ def main(words: List[str]) -> int:
     form.add_argument("--json", action="store_true", help=JSON)
     options.names_of().file()
     options.add_argument("patterns", metavar="REGEX", nargs="*", default=[],
-                    help="a regular expression [default: all variables]")
+                         help="a regular expression [default: all variables]")
     asked = options.parse_args(words)
     asked.names = []
     dump, patterns = dump_of(asked), list(map(compiled, asked.patterns))

@@ -119,8 +119,9 @@ def write_bits(dump: Dump, window: Window, asked: argparse.Namespace) -> None:
 @command
 def main(words: List[str]) -> int:
     options = parser("vcdkit-stats", __doc__)
-    options.add_argument("--values", type=natural, default=10, metavar="N", help="how many values "
-                         "to list for a signal; --json lists all [default: 10]")
+    options.add_argument("--values", type=natural, default=10, metavar="N",
+                         help="how many values to list for a signal; --json lists all [default: "
+                         "10]")
     options.add_argument("--toggle", action="store_true", help="list how often each bit toggles")
     options.add_argument("--saif", metavar="FILE", help="write a SAIF file (-: standard output)")
     options.window().form().unit().json().file("+")

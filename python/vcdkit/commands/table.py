@@ -44,10 +44,11 @@ def main(words: List[str]) -> int:
     options.form().clock("write a row for each %s edge of this signal")
     options.at("write a row for each of these times%s")
     options.add_argument("--if", dest="condition", metavar="CONDITION",
-                    help="write only the rows at which this holds")
+                         help="write only the rows at which this holds")
     options.window().unit("that of the time scale").json().file("+")
     asked = options.parse_args(words)
-    if asked.at is not None and (is_part(asked) or asked.rise is not None or asked.fall is not None):
+    has_clock = asked.rise is not None or asked.fall is not None
+    if asked.at is not None and (is_part(asked) or has_clock):
         options.error("--at goes with none of --rise, --fall, --from and --to")
     times, whole = times_at(asked), dump_of(asked)
     columns = [one for one in whole.select(asked.names) if one.type != "event"]

@@ -77,23 +77,23 @@ def words_of(words: List[str]) -> argparse.Namespace:
     form = options.add_mutually_exclusive_group()
     form.add_argument("--first", action="store_true", help="list only the first time")
     form.add_argument("--count", action="store_true", help="write only the number of times")
-    form.add_argument("--latency", action="store_true",
-                      help="for req -> ack within N, also list when ack follows and after how long")
+    form.add_argument("--latency", action="store_true", help="for req -> ack within N, also list "
+                      "when ack follows and after how long")
     form.add_argument("--rules", metavar="FILE", help="evaluate the conditions in this file, each "
                       "on a line `name: condition`, and write a line for each that holds")
-    options.add_argument("--in-order", action="store_true", help="with --latency: each edge at which "
-                    "req holds is a request, each edge at which ack holds is an answer, and the "
-                    "n-th answer belongs to the n-th request")
-    options.add_argument("--junit", metavar="FILE", help="with --rules: also write a JUnit report, with "
-                    "a test for each rule")
+    options.add_argument("--in-order", action="store_true", help="with --latency: each edge at "
+                         "which req holds is a request, each edge at which ack holds is an answer, "
+                         "and the n-th answer belongs to the n-th request")
+    options.add_argument("--junit", metavar="FILE", help="with --rules: also write a JUnit report, "
+                         "with a test for each rule")
     options.clock("evaluate at the %s edges of this signal")
-    options.add_argument("--every", action="store_true",
-                    help="list each edge at which it holds, not only those at which it begins to")
-    options.add_argument("--never", action="store_true",
-                    help="for a CI job: exit with 0 if it never held and with 1 if it did")
+    options.add_argument("--every", action="store_true", help="list each edge at which it holds, "
+                         "not only those at which it begins to")
+    options.add_argument("--never", action="store_true", help="for a CI job: exit with 0 if it "
+                         "never held and with 1 if it did")
     options.window().unit().json().file()
     options.add_argument("condition", metavar="CONDITION", nargs="?",
-                    help="a condition (see below); not with --rules")
+                         help="a condition (see below); not with --rules")
     asked, rest = options.parsed(words)
     if rest:
         options.error("put the condition into quotes" if rest[0][:1] != "-" else

@@ -29,7 +29,8 @@ def main(words: List[str]) -> int:
     form = options.add_mutually_exclusive_group()
     form.add_argument("--first", action="store_true", help="list only the first one")
     form.add_argument("--count", action="store_true", help="write only the number of values")
-    options.add_argument("--trace", action="store_true", help="list only the first one of each path")
+    options.add_argument("--trace", action="store_true",
+                         help="list only the first one of each path")
     options.add_argument("--z", action="store_true", help="list values with a z too")
     options.window().form().unit().json().file("*")
     asked = options.parse_args(words)

@@ -9,7 +9,7 @@ import re
 from typing import List, NamedTuple, Optional, Sequence, Tuple
 
 from ..model.signals import Signal, keys_of
-from ..model.times import Timescale, Window
+from ..model.times import Timescale
 from ..questions.streams import MAX_BYTES, Stream, TooMuch
 from ..reading.source import Source
 

@@ -43,7 +43,8 @@ class Surroundings:
         return self.begin + (before or [0])[0], self.begin + (after or [max(self.ends)])[-1]
 
 
-def rows_of(window: Surroundings, sides: Sides, pairs: Sequence[Named], same: Same) -> List[PageRow]:
+def rows_of(window: Surroundings, sides: Sides, pairs: Sequence[Named], same: Same
+            ) -> List[PageRow]:
     """Returns the rows of pairs of signals. Fails if they have too much for a page."""
     reader, streams = Reader(keeps_texts=True), []
     for at, side in enumerate(sides):

@@ -15,8 +15,7 @@ from .text import shown
 ROW, HIGH, PAD, TOP, CHAR = 26, 16, 10, 34, 6.7  # pixels
 Shapes = Dict[str, List[str]]  # the parts of the path of each class
 CURVE = 3 * HIGH  # pixels: how high a curve is
-LEAST_WIDTH, MAX_WIDTH = 100, 20000  # pixels: room for a time of the axis; that of bins
-MAX_SIGNALS, MAX_NAME = 200, 40  # rows; letters
+MAX_NAME = 40  # letters
 LEAST_ROOM = 3  # letters of a value that is cut
 DARK = {"back": "#10161d", "text": "#d8dee4", "axis": "#8b98a5", "grid": "#2b3540",
         "bit": "#3fd07f", "lane": "#58a6ff", "curve": "#d2a8ff", "x": "#ff4040", "z": "#ffa020",

@@ -1,7 +1,7 @@
 """The usual causes of the faults of a dump, and what helps."""
 import io
 import re
-from typing import BinaryIO, Callable, Iterator, List, Optional, Tuple, cast
+from typing import BinaryIO, Callable, Iterator, Optional, Tuple, cast
 
 from ..errors import DumpFault
 from ..reading.formats import format_of

@@ -4,7 +4,7 @@ A value is as a body has it: the fewest digits, or r and a real number. So equal
 have equal digits."""
 import contextlib
 from math import gcd, isclose, isnan
-from typing import (Callable, Dict, Generator, Iterable, Iterator, List, NamedTuple, Optional,
+from typing import (Callable, Dict, Generator, Iterator, List, NamedTuple, Optional,
                     Sequence, Set, Tuple, Union)
 
 from ..errors import UnknownName, UsageError
@@ -15,7 +15,6 @@ from ..model.values import full, real_of
 from ..reading import body
 from ..reading.source import Source, merge
 from .picked import MAX_NAMES
-from .rows import FALL, RISE
 
 BLOCK = 1 << 16
 Values = Tuple[Optional[bytes], Optional[bytes]]
@@ -179,7 +178,8 @@ def _in_order(sides: Sides, places: Tuple[List[int], List[int]]) -> Sequence[Lis
     that they declare if these are the same on both sides, each once, else by their order."""
     if len(places[0]) == len(places[1]) == 1:
         return places
-    by_range = [{side.dump.declarations[at].declared: at for at in its} for side, its in zip(sides, places)]
+    by_range = [{side.dump.declarations[at].declared: at for at in its}
+                for side, its in zip(sides, places)]
     if by_range[0].keys() != by_range[1].keys() or any(
             len(one) < len(its) for one, its in zip(by_range, places)):
         return places

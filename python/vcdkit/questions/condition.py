@@ -317,11 +317,11 @@ class Condition:
             self.answer, self.span = self._test(whole.test), self._span(whole.orelse)
             whole = whole.body
         self.test = self._test(whole)
-        self._readers: Dict[bytes, List[Tuple[int, Callable[[bytes], Any]]]] = {}
+        self.readers: Dict[bytes, List[Tuple[int, Callable[[bytes], Any]]]] = {}
         for name, place in self._places.items():
             if isinstance(name, _Name):
                 read = functools.lru_cache(maxsize=1 << 10)(name.value)
-                self._readers.setdefault(name.signal.code.encode(), []).append((place, read))
+                self.readers.setdefault(name.signal.code.encode(), []).append((place, read))
         self._events = [place for name, place in self._places.items()
                         if isinstance(name, _Name) and name.signal.type == "event"]
         self.end_events()
@@ -334,13 +334,13 @@ class Condition:
     @property
     def codes(self) -> KeysView[bytes]:
         """The codes of its signals."""
-        return self._readers.keys()
+        return self.readers.keys()
 
     def take(self, changes: Changes) -> bool:
         """Takes changes, of which some may be of other signals; whether one is of its own."""
         is_own = False
         for code, raw in changes:
-            for place, read in self._readers.get(code, ()):
+            for place, read in self.readers.get(code, ()):
                 self.values[place] = read(raw)
                 is_own = True
         return is_own

@@ -102,10 +102,8 @@ class Dump(Source):
         return self._changes(name, self[name])
 
     def _changes(self, name: str, signal: Signal) -> Iterator[Tuple[int, Cell]]:
-        known = body.Known([signal.code.encode()])
-        for time, text in body.timed(self.part([name]), is_all=True):
-            for _, value in known[text]:
-                yield time, value_in(value, signal.size)
+        for time, value in body.at_once(self.part([name]), signal.code.encode()):
+            yield time, value_in(value, signal.size)
 
     def arrays(self, name: str) -> Tuple[Any, Any]:
         """Returns the changes of one signal as arrays of numpy: the times as uint64, and the values

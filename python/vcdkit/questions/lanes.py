@@ -148,7 +148,8 @@ class Lanes:
             if not codes:
                 break
             for code, value, at in body.changes_in(text, *piece, codes):
-                self.of_code[code].note(body.time_at(text, body.time_before(text, 0, at + 1)), value)
+                time = body.time_at(text, body.time_before(text, 0, at + 1))
+                self.of_code[code].note(time, value)
         self.note_unknown(text, middle, end)
         self.take_last(text, middle, end)
 

@@ -120,7 +120,8 @@ def as_they_come(source: Source, names: List[str], columns: Sequence[Signal],
     pairs = (_at_edges(body.at_edges(source, names, codes, edges), columns, only) if edges
              else _at_changes(body.steps(source.part(names), codes), columns, only))
     # Row() takes longer than all that makes a pair.
-    return map(tuple.__new__, itertools.repeat(Row), pairs)
+    rows: Iterator[Row] = map(tuple.__new__, itertools.repeat(Row), pairs)
+    yield from rows
 
 
 def _at_changes(steps: Iterable[body.Step], columns: Sequence[Signal], only: Optional[Condition]

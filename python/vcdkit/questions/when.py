@@ -1,6 +1,6 @@
 """The times at which a condition holds, and how long answers take."""
 import collections
-from typing import (Callable, Collection, Deque, Dict, Iterator, List, NamedTuple, Optional,
+from typing import (Any, Callable, Collection, Deque, Dict, Iterator, List, NamedTuple, Optional,
                     Sequence, Set, Tuple)
 
 from ..errors import DumpFault, UnknownName, UsageError
@@ -39,6 +39,7 @@ class _Question:
         self._waiting: Deque[_Request] = collections.deque()
         self._late = 0  # of them, how many wait for an answer that would come too late
         self._held, self._looks = False, 0
+        self._has_events = self.condition.has_events
 
     def look(self, time: int) -> List[Outcome]:
         """Takes the values at a time as those at which the condition is looked at. Returns what is
@@ -49,7 +50,7 @@ class _Question:
         found = [Outcome(time, time, 0)] if is_start else []
         if condition.answer:
             found = self._outcomes(time, is_start)
-        if condition.end_events() and not self.has_clock:  # over before the next time
+        if self._has_events and condition.end_events() and not self.has_clock:  # they are over
             self._held = condition.holds()
         return found
 
@@ -89,7 +90,7 @@ class _Question:
     @property
     def is_asking(self) -> bool:
         """Whether it may say something at an edge at which no value of it is another one."""
-        return self.every or self.condition.answer is not None or self.condition.has_events
+        return self.every or self.condition.answer is not None or self._has_events
 
     @property
     def has_latency(self) -> bool:
@@ -165,21 +166,22 @@ class Questions:
         value is another one there, or that say something at each time; they have the values
         there."""
         conditions = [one.condition for one in self.each]
-        numbers: Dict[bytes, List[int]] = {}  # of each code those of its conditions
+        # Of each code the numbers of its conditions, their values, its place there, and its reader.
+        readers: Dict[bytes, List[Tuple[int, List[Any], int, Callable[[bytes], Any]]]] = {}
         for number, one in enumerate(conditions):
-            for code in one.codes:
-                numbers.setdefault(code, []).append(number)
+            for code, its in one.readers.items():
+                readers.setdefault(code, []).extend((number, one.values, *each) for each in its)
         names = [*dict.fromkeys(path for one in conditions for path in one.paths), *self.clocks]
         begin = self.dump.begin()
         always = {number for number, one in enumerate(self.each) if self.edges and one.is_asking}
-        times = (body.at_edges(self.dump, names, numbers, self.edges) if self.edges
-                 else _with_begin(self.dump.part(names), numbers, begin))
+        times = (body.at_edges(self.dump, names, readers, self.edges) if self.edges
+                 else _with_begin(self.dump.part(names), readers, begin))
         is_first = True
         for time, changes in times:
             due = set(always)
-            for change in changes:
-                for number in numbers.get(change[0], ()):
-                    conditions[number].take([change])
+            for code, raw in changes:
+                for number, values, place, read in readers.get(code, ()):
+                    values[place] = read(raw)
                     due.add(number)
             if is_first and (self.edges or 0 < begin == time):
                 due.update(range(len(conditions)))

@@ -37,13 +37,11 @@ def blocks(text: BinaryIO) -> Iterator[bytes]:
         yield block if block.endswith(b"\n") else block + text.readline()
 
 
-def timed(part: Source, some: Optional[Blocks] = None, is_all: bool = False
-          ) -> Iterator[Tuple[int, bytes]]:
+def timed(part: Source, some: Optional[Blocks] = None) -> Iterator[Tuple[int, bytes]]:
     """Returns each timestamp of a part of a dump with the lines up to the next one, as soon as that
     comes: a text that does not end with a line feed. What comes before the first timestamp has time
     0. A timestamp that is there twice is one, and one without lines is left out, as is a time that
-    a fault leaves unfinished, unless all are asked for. `some` may leave out lines of the body that
-    do not matter."""
+    a fault leaves unfinished. `some` may leave out lines of the body that do not matter."""
     now, texts = 0, []
     fault: Optional[DumpFault] = None
     try:
@@ -63,7 +61,7 @@ def timed(part: Source, some: Optional[Blocks] = None, is_all: bool = False
                         texts.append(text)
     except DumpFault as error:
         fault = error
-    if texts and (fault is None or is_all or part.is_finished(now, fault)):
+    if texts and (fault is None or part.is_finished(now, fault)):
         yield now, b"\n".join(texts)
     if fault:
         raise fault
@@ -144,6 +142,18 @@ class _First:
             return False
         self.waiting.discard(code)
         return self._is_begin or code in self._lead
+
+
+def at_once(part: Source, code: bytes) -> Iterator[Tuple[int, bytes]]:
+    """Returns the times and the values of a code, each as soon as its line comes."""
+    known, now = Known([code]), 0
+    with part.body() as out:
+        for line in out:
+            if line[:1] == b"#":
+                now = int(line[1:])
+            else:
+                for _, value in known[line[:-1]]:
+                    yield now, value
 
 
 def at_edges(source: Source, names: List[str], codes: Collection[bytes], edges: Collection[Edge]

@@ -62,17 +62,18 @@ def declarations(text: bytes) -> Tuple[Scope, List[Declaration]]:
     there twice is one."""
     top = Scope("", "", "", [], [])
     opened: List[Tuple[Scope, ...]] = [()]  # the scopes around a place, and around those
+    known: Dict[Tuple[int, str], Scope] = {}
     found = []
     for keyword, raw, *_ in commands(text):
         words = [word.decode("utf-8", "surrogateescape") for word in raw]
         outer = opened[-1][-1] if opened[-1] else top
         before = outer.path + "." if outer.path else ""
         if keyword == b"$scope":
-            inner = next((one for one in outer.scopes if one.name == words[1]), None)
-            if inner is None:
-                inner = Scope(words[1], before + words[1], words[0], [], [])
-                outer.scopes.append(inner)
-            opened.append((*opened[-1], inner))
+            key = id(outer), words[1]
+            if key not in known:
+                known[key] = Scope(words[1], before + words[1], words[0], [], [])
+                outer.scopes.append(known[key])
+            opened.append((*opened[-1], known[key]))
         elif keyword == b"$upscope":
             opened.pop()
         elif keyword == b"$var":

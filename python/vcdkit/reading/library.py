@@ -8,7 +8,7 @@ import mmap
 import os
 import subprocess
 from array import array
-from typing import Any, BinaryIO, Dict, Iterator, List, Optional, Sequence, Tuple, Union, cast
+from typing import Any, BinaryIO, Dict, Iterator, List, Optional, Sequence, Tuple, Union
 
 from ..errors import RunFailed, UnknownName, VcdkitError, error_of
 from .program import FAULT, not_started
