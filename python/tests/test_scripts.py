@@ -1343,6 +1343,14 @@ class Toggles(unittest.TestCase):
         lines = "".join(saif.texts_of(dump, counts, 5, "1")).split("\n")
         self.assertEqual(lines[11:14], ["(INSTANCE u\\/a", "  (NET", "    (q\\-r\\[3\\]"])
 
+    def test_an_x_in_front(self):
+        for size, value, wanted in (2, "x1", [(0, 0, 1), (1, 0, 0)]), (
+                3, "0x1", [(0, 0, 0), (0, 0, 1), (1, 0, 0)]):
+            dump = Dump(("$var wire %d ! q $end $enddefinitions $end #0 b0 ! #1 b%s ! #2 b1 ! #3"
+                         % (size, value)).encode())
+            rows = toggles.counts_of(dump, ["q"], Window(0, 4), False)
+            self.assertEqual([row[3:6] for row in rows], wanted)
+
     def test_one_path_in_two_scopes(self):
         dump = Dump(b"$scope module t $end $var wire 1 * a0.c $end $scope module a0 $end $var wire "
                     b"1 ( c $end $upscope $end $upscope $end $enddefinitions $end #0 0* 1( #5 1* "

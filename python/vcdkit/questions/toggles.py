@@ -76,8 +76,8 @@ class Bits:
         if self._is_new and changes:
             self._take(*changes.pop(0))
         try:
-            # Without the 0, `0x` would be no digits, but a prefix.
-            values = [int(b"0" + text, 16) for _, text in changes]
+            # Without the zeros, `0x1` would be a prefix and a digit, and so would `x1` with one.
+            values = [int(b"00" + text, 16) for _, text in changes]
         except ValueError:  # one has an x or a z, or is a real number
             values = []
         if not values or self._xs or self._zs:
