@@ -11,7 +11,7 @@ from ..model.values import full
 from ..reading import body
 from ..reading.source import Source
 
-BATCH = 1 << 18  # lines that are looked at together
+BATCH = 1 << 16  # lines that are looked at together
 ONES, UNKNOWNS, FLOATS = (str.maketrans("01xz", digits) for digits in ("0100", "0010", "0001"))
 BIT = (b"0", b"1", b"x", b"z")
 ROOM = 15  # ones that four binary digits have room for
