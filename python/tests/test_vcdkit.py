@@ -676,10 +676,10 @@ class Times(unittest.TestCase):
         for time, wanted in ((1150, "1150"), ("1150", "1150"), ("115ns", "115ns"),
                              ("1.5ns", "1500ps"), ("0.25us", "250ns"), ("1.50ns", "1500ps"),
                              ("2.000001s", "2000001us"), ("3.0", "3"), (" 7 ps", "7ps")):
-            self.assertEqual(vcdkit.times.word(time), wanted)
+            self.assertEqual(str(vcdkit.model.times.amount_of(time)), wanted)
         for time in "1.5", "1.5fs", "ns", "-5ns", "1e3ns", "", 2**64:
             with self.assertRaises(UsageError):
-                vcdkit.times.word(time)
+                vcdkit.model.times.amount_of(time)
 
     def test_scales(self):
         scale = Timescale(100, "ps")
