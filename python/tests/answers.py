@@ -516,6 +516,18 @@ def states(dump: Dump, code: str, begin: int, end: int) -> List[Tuple[int, Value
     return its
 
 
+def pixels(dump: Dump, of: Variable, end: int, width: int) -> List[Tuple[bool, int]]:
+    """What the pixels of a row have, which shows a dump from 0 to a time: whether the value has an
+    x at some time of the pixel, and how often it changes there. A pixel that has an x is red, and
+    no other one; one that has several changes is a block."""
+    its = states(dump, of.code, 0, end)
+    places = [Fraction(time * width, end) for time, _ in its] + [Fraction(width)]
+    spans = [(begin, to) for begin, to, (_, value) in zip(places, places[1:], its)
+             if isinstance(value, str) and "x" in value]
+    return [(any(begin < at + 1 and to > at for begin, to in spans),
+             sum(at <= place < at + 1 for place in places[:-1])) for at in range(width)]
+
+
 def lengths(its: Sequence[int]) -> Optional[Dict[str, Any]]:
     """How many lengths of time there are, the shortest, the longest and the mean one."""
     return {"times": len(its), "shortest": min(its), "longest": max(its),
