@@ -439,8 +439,9 @@ class Look(NamedTuple):
 def looks(dump: Dump, codes: Set[str], clocks: Clocks) -> List[Look]:
     """Where a condition over some codes is evaluated: at each time at which one of them changes,
     and at the begin of a part, if that is not 0, with the values at its end; or at the edges of
-    clocks, with the values just before. An event is triggered at its time; at a clock, from its time to before the next edge. Decided: before one of
-    the signals has a value, and between its changes, there is nothing to evaluate."""
+    clocks, with the values just before. An event is triggered at its time; at a clock, from its
+    time to before the next edge. Decided: before one of the signals has a value, and between its
+    changes, there is nothing to evaluate."""
     events = {one.code for one in dump.variables if is_event(one)} & codes
     of = [one for one in dump.changes if one.code in codes]
     begins = [dump.begin] * (dump.begin > 0)
