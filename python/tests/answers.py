@@ -439,8 +439,9 @@ class Look(NamedTuple):
 def looks(dump: Dump, codes: Set[str], clocks: Clocks) -> List[Look]:
     """Where a condition over some codes is evaluated: at each time at which one of them changes,
     and at the begin of a part, if that is not 0, with the values at its end; or at the edges of
-    clocks, with the values just before. An event is triggered at its time; at a clock, from its time to before the next edge. Decided: before one of
-    the signals has a value, and between its changes, there is nothing to evaluate."""
+    clocks, with the values just before. An event is triggered at its time; at a clock, from its
+    time to before the next edge. Decided: before one of the signals has a value, and between its
+    changes, there is nothing to evaluate."""
     events = {one.code for one in dump.variables if is_event(one)} & codes
     of = [one for one in dump.changes if one.code in codes]
     begins = [dump.begin] * (dump.begin > 0)
@@ -514,6 +515,18 @@ def states(dump: Dump, code: str, begin: int, end: int) -> List[Tuple[int, Value
         if value is not None and not (its and same(its[-1][1], value)):
             its.append((time, value))
     return its
+
+
+def pixels(dump: Dump, of: Variable, end: int, width: int) -> List[Tuple[bool, int]]:
+    """What the pixels of a row have, which shows a dump from 0 to a time: whether the value has an
+    x at some time of the pixel, and how often it changes there. A pixel that has an x is red, and
+    no other one; one that has several changes is a block."""
+    its = states(dump, of.code, 0, end)
+    places = [Fraction(time * width, end) for time, _ in its] + [Fraction(width)]
+    spans = [(begin, to) for begin, to, (_, value) in zip(places, places[1:], its)
+             if isinstance(value, str) and "x" in value]
+    return [(any(begin < at + 1 and to > at for begin, to in spans),
+             sum(at <= place < at + 1 for place in places[:-1])) for at in range(width)]
 
 
 def lengths(its: Sequence[int]) -> Optional[Dict[str, Any]]:

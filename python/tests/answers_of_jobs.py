@@ -1,6 +1,6 @@
 """What the options of the scripts answer that do a whole job, by definition: --if, --latency,
---rules, --toggle, --saif, --trace, --reach and --names. As in answers.py, each function is over the whole
-lists and imports nothing of the package."""
+--rules, --toggle, --saif, --trace, --reach and --names, and what they show of files. As in
+answers.py, each function is over the whole lists and imports nothing of the package."""
 import os
 import re
 from typing import Dict, List, NamedTuple, Optional, Sequence, Set, Tuple

@@ -85,8 +85,8 @@ class Outputs(Case):
 
     def test_outputs(self) -> None:
         dump, torn, rules, other = self.inputs
-        names = ["a.vcd", "b.vcd", "./a.vcd", "sub/../torn.vcd", "rules", "soft", "hard", "sub/soft", "old",
-                 "new"]
+        names = ["a.vcd", "b.vcd", "./a.vcd", "sub/../torn.vcd", "rules", "soft", "hard",
+                 "sub/soft", "old", "new"]
         for name, read, words in (
                 ("explain", [torn], ["--salvage", "", torn]),
                 ("explain", [dump, torn], ["--junit", "", dump, torn]),

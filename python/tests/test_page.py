@@ -15,6 +15,8 @@ import math
 import os
 import random
 import re
+import shutil
+import subprocess
 import sys
 import tempfile
 import unittest
@@ -24,7 +26,9 @@ TOP = os.path.dirname(os.path.dirname(HERE))
 sys.path[:0] = [os.path.dirname(HERE), HERE]
 os.environ.setdefault("VCDKIT", os.path.join(TOP, "vcdkit"))
 
+import answers as by_definition
 import browser
+from asking import dump_of
 from vcdkit import Dump, Signal, Value
 from vcdkit.commands import diff, wave
 from vcdkit.forms import page
@@ -282,6 +286,42 @@ def contrast(colours, name, back):
     mixed = [part * one + (1 - part) * other for one, other in zip(over, below)]
     one, other = sorted((light(channels(colours[name])[0]), light(mixed)), reverse=True)
     return (one + 0.05) / (other + 0.05)
+
+
+NODE = shutil.which("node")
+
+
+@unittest.skipIf(NODE is None, "there is no node")
+class Pixels(Case):
+    """What the page's own script draws, in node, against the definition of a pixel."""
+
+    def shapes(self, path, width):
+        """Returns the shapes of each row: a kind, and where each begins and ends."""
+        page = self.file("page.html", self.page(path, "a", "b").encode())
+        script = os.path.join(HERE, "second_reader", "read_page.js")
+        done = subprocess.run([NODE, script, page, str(width), "0"], stdout=subprocess.PIPE,
+                              check=True)
+        return [dict(row["shapes"]) for row in json.loads(done.stdout)]
+
+    def test_random_rows(self):
+        for seed in range(25):
+            of = random.Random(seed)
+            times = sorted(of.sample(range(90), of.choice([5, 20, 60])))
+            body = "".join("#%d\n%s!\nb%s v\n" % (
+                time, of.choice("01x"), of.choice(["0", "1", "10", "1x", "x"])) for time in times)
+            text = "$var wire 1 ! a $end $var wire 2 v b $end $enddefinitions $end\n%s#90\n" % body
+            path, width = self.file("a.vcd", text.encode()), of.choice([7, 13, 40])
+            dump = dump_of(text.encode())
+            for one, shapes in zip(dump.variables, self.shapes(path, width)):
+                wanted = by_definition.pixels(dump, one, 90, width)
+                red, blocks = ({at for kind in kinds for shape in shapes.get(kind, ())
+                                for at in range(width)
+                                if min(shape[1], at + 1) - max(shape[0], at) > 1e-6}
+                               for kinds in (("x", "manyX"), ("several",)))
+                with self.subTest(seed=seed, path=one.path):
+                    self.assertEqual(red, {at for at, (has_x, _) in enumerate(wanted) if has_x})
+                    self.assertLessEqual({at for at, (_, count) in enumerate(wanted) if count > 1},
+                                         blocks)
 
 
 @unittest.skipIf(browser.PROGRAM is None, "there is no chromium")

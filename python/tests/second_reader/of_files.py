@@ -244,12 +244,13 @@ def bit_by_bit(of: Asker, its: List[Variable]) -> Tuple[bytes, Dict[str, List[st
     """Returns the dump with some vectors declared bit by bit, in any order, and the codes of their
     bits."""
     lines, end = plain_lines(of)
+    declared = r"\s*\$var\s+(\S+)\s+\d+\s+(\S+)\s"
     codes = {one.code: ["~%s_%d" % (one.code, place) for place in one.bits] for one in its}
     of_code = {one.code: one for one in its}
     space, order, made = of.random.choice([" ", " ", ""]), of.random.choice([1, -1, 0]), []
     for at, line in enumerate(lines):
-        found = re.match(r"[bB]([01xzXZ]+) (\S+)\s*$" if at > end else r"\$var (\S+) \d+ (\S+) ",
-                         line) or re.match(r"([01xzXZ])(\S+)\s*$", line)
+        found = re.match(r"[bB]([01xzXZ]+) (\S+)\s*$" if at > end else declared, line) or re.match(
+            r"([01xzXZ])(\S+)\s*$", line)
         if not found or found[2] not in codes:
             made.append(line)
             continue
