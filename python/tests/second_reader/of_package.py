@@ -221,7 +221,8 @@ def ask_when(of: Asker) -> None:
 
 def ask_header(of: Asker) -> None:
     """Asks what the header has."""
-    dump, whole, names = of.dump, Package(of.path), of.names()
+    dump, names = of.dump, of.names()
+    whole: Any = Package(of.path)
     pattern = of.random.choice(["q", r"\.a$", "CLK", "^tb", r"\\"])
     flags = of.random.choice([0, re.I])
     scopes: Dict[str, List[str]] = {}
