@@ -49,8 +49,9 @@ def is_vcdkit(program: str) -> bool:
     return said.startswith(b"vcdkit ")
 
 
-# What is no token of a dump, on a line of its own.
-FAULT = b"\n?\n"
+# What is no token of a dump, on a line of its own. It is not even an identifier code, which would
+# complete the change in which a program was killed.
+FAULT = b"\n\x01\n"
 
 
 class _Part:
