@@ -24,6 +24,7 @@ pub mod Pieces
 pub mod HeldShort
 pub mod HeldLines
 pub mod SetLemmas
+pub mod CurrentLemmas
 pub mod CompareLemmas
 pub mod EndLemmas
 pub mod StepLemmas

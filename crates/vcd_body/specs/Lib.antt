@@ -17,6 +17,8 @@ pub mod Kept
 pub mod Stored
 pub mod Held
 pub mod Values
+pub mod Current
+pub mod Other
 pub mod Steps
 pub mod Ahead
 pub mod Spelled

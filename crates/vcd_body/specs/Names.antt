@@ -35,14 +35,16 @@ pub use Rattle.vcd_body.specs.Binary.{binary_digits, bit_of, is_proper}
 pub use Rattle.vcd_body.specs.Calls.{EndsUnread, HasGoodValue, NeedsOneToken, OpensOrRefuses, ReadsCode, ReadsCommand, ReadsComment, ReadsInner, ReadsItem, ReadsTimestamp, ReadsOne, ReadsRest, ReadsToken, RefusesIn, TakesToken}
 pub use Rattle.vcd_body.specs.Changes.{AreBinary, AreBinaryIf, AreBitsAt, IsBinaryAt, IsDigitAt, IsLowerAt, IsNeedless, bit_in, extended, id_line, line_under}
 pub use Rattle.vcd_body.specs.Contents.{ChangesCode, GivesShares, GivesText, GivesValue, IsLaidOut, KeepsTable, SetsCode, SetsNumber, bytes_in, codes_in, codes_shown, counts_at, held_at, is_chosen, kept_at, line_of, new_at, shown_as, value_in}
+pub use Rattle.vcd_body.specs.Current.{AreHeld}
 pub use Rattle.vcd_body.specs.Counters.{count_of, counts_of}
 pub use Rattle.vcd_body.specs.Fault.{call_end, fault_number}
-pub use Rattle.vcd_body.specs.Given.{AreRegsPast, GivesItem, GivesPhrase, IsGoodChange, IsGoodPhrase, IsGoodText, IsItem, text_of}
+pub use Rattle.vcd_body.specs.Given.{AreRegsPast, GivesItem, HasGoodText, GivesPhrase, IsGoodChange, IsGoodPhrase, IsGoodText, IsItem, text_of}
 pub use Rattle.vcd_body.specs.Held.{HasDigits, digits_of, held_in, held_or}
 pub use Rattle.vcd_body.specs.Id.{id_text}
 pub use Rattle.vcd_body.specs.Items.{AreRegsAfter, AreRegsWith, model_form, regs_after}
 pub use Rattle.vcd_body.specs.Kept.{AreTwo, Held, IsStep, Kept, are_two, as_chosen, bytes_for, counts_if, counts_with, differs, digit_in, goes_from, last_bit, last_digit_in, one_more, real_text, unset, value_at_size, with_change, with_held, with_number, with_number_change, with_step, with_text}
 pub use Rattle.vcd_body.specs.Lines.{IsDigitLine, IsFront, IsTextLine, LeavesFront, LeavesLine, LeavesShortest, LeavesText, MayBe}
+pub use Rattle.vcd_body.specs.Other.{is_other}
 pub use Rattle.vcd_body.specs.Packed.{ArePacked, HasFour, two_bits_at, two_bits_of, two_bits_or, digit_of, digits_in, packed_byte, held_digit, quarter_of, shifted}
 pub use Rattle.vcd_body.specs.Reads.{AsksForCode, Begun, Fails, FailsAfter, GaveItems, Looks, OpensPhrase, Passes, PassesScalar, Reads, ReadsAll, ReadsChange, ReadsPhrase, Refuses}
 pub use Rattle.vcd_body.specs.Spelled.{HasChange, HasTimestamp, HasPlaces, IsSpelled, IsSpelledAs, Names, StandsAt, bytes_without, line_without}

@@ -58,7 +58,8 @@
 //!
 //! The table keeps values:
 //!
-//! - `table`: `Table`; `value`: `Value`, the value of a change
+//! - `table`: `Table`; `value`: `Value`, the value of a change; `current`: `set_item`, the values of
+//!   codes with one more item
 //! - `slot`: `Slot`, `Share`, `Shown`; `store`: how slots and shares are set; `counters`: the
 //!   counters of a code, which are in parts in its slot and its share
 //! - `bits`: `Bits`, up to 32 binary digits as a number, and how a slot holds them; `packed`:
@@ -82,7 +83,7 @@
 //!
 //! In `specs/` callers read `Items`, `Reads`, `Given`, `Ahead`, `Taken`, `Walk`, `Spelled` and
 //! `Fault`; of a run's end `Answer`, and of what was written `Device` and `Id`; for the table
-//! `Contents` and `Kept`.
+//! `Contents`, `Kept` and `Current`.
 //!
 //! # Limits
 //!
@@ -99,6 +100,7 @@ mod bits;
 mod change;
 mod compare;
 mod counters;
+mod current;
 mod fault;
 mod held;
 mod held_text;
@@ -126,6 +128,7 @@ mod words;
 pub use ahead::{ScannedItem, item_comes, pass_items, pass_on_before_read};
 pub use answer::{Done, More, Stop};
 pub use bits::Bits;
+pub use current::set_item;
 pub use fault::BodyFault;
 pub use id::{Id, put_change};
 pub use item::{Form, Item, Regs, Section};

@@ -1,6 +1,6 @@
 //! The current values of the codes of a header, in lent slices.
 ghost use Rattle.std.specs.Prelude.{◌≡◌, ℕ, ◌<◌, ◌≤◌, length, false};
-ghost use Rattle.vcd_body.specs.Names.{ChangesCode, ChangesRoomy, GivesShares, GivesText, GivesValue, IsLaidOut, IsStep, KeepsTable, SetsCode, SetsNumber, as_chosen, by_text, bytes_in, codes_in, codes_shown, counts_at, digit_in, held_at, is_chosen, kept_at, model_form, new_at, one_more, real_text, shown_as, value_at_size, value_in, value_with, with_change, with_number_change, with_step, with_text, with_value, with_value_change};
+ghost use Rattle.vcd_body.specs.Names.{ChangesCode, ChangesRoomy, GivesShares, GivesText, GivesValue, IsLaidOut, IsStep, KeepsTable, SetsCode, SetsNumber, as_chosen, by_text, bytes_in, codes_in, codes_shown, counts_at, digit_in, held_at, is_chosen, is_other, kept_at, model_form, new_at, one_more, real_text, shown_as, value_at_size, value_in, value_with, with_change, with_number_change, with_step, with_text, with_value, with_value_change};
 
 use crate::bits::{Bits, put_digits};
 use crate::compare::value_differs;
@@ -197,6 +197,23 @@ impl<'a> Table<'a> {
             form,
             text,
         )
+    }
+
+    /// Returns whether the value of a change of this form and text is another one than the code at
+    /// index `code` has, both taken at `size` bits; true if the code has no value.
+    #[inline(never)]
+    pub fn is_other(&self, code: usize, size: usize, form: Form, text: &[u8]) -> bool
+        ensures { IsLaidOut self.now
+            → result ≡ is_other (value_at_size size (held_at self.now code))
+            (value_with size (model_form form) text.now) }
+    {
+        let Some(held) = self.held(code) else {
+            return true;
+        };
+        if held.holding.state == State::Unset {
+            return true;
+        }
+        value_differs(held, size, form, text)
     }
 
     /// Returns which kind of value the code at index `code` has: digits, a real number, or none. It

@@ -27,7 +27,7 @@ use Rattle.vcd_model.specs.Outcome.{Request}
 use Rattle.vcd_body.specs.Given.{IsItem}
 use Rattle.vcd_engine.specs.Quiet.{TakesQuietly}
 use Rattle.vcd_engine.specs.ItemText.{HasWritten, LastTells, may_be_kept, times_with}
-use Rattle.vcd_engine.specs.Values.{AreHeld, HasValues}
+use Rattle.vcd_body.specs.Current.{AreHeld, HasValues}
 use Rattle.vcd_engine.specs.declared.task_state.cut.Cut.{Cut}
 use Rattle.vcd_engine.specs.declared.item_text.ItemText.{ItemText}
 use Rattle.vcd_view.specs.Shown.{parts}
@@ -48,7 +48,7 @@ use Rattle.vcd_body.specs.declared.table.Table.{Table}
 use Rattle.vcd_engine.proofs.PickLemmas.{last_time}
 use Rattle.vcd_engine.proofs.ItemTextLemmas.{may_is}
 use Rattle.vcd_engine.proofs.ListLemmas.{next}
-use Rattle.vcd_engine.proofs.ValuesLemmas.{held_still}
+use Rattle.vcd_body.proofs.CurrentLemmas.{held_still}
 use Rattle.vcd_view.proofs.ListLemmas.{there}
 
 -- ---- the values before a time

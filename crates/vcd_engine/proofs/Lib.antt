@@ -1,5 +1,4 @@
 pub mod Variables
-pub mod ValuesLemmas
 pub mod ListLemmas
 pub mod Lines
 pub mod EngineLemmas

@@ -23,9 +23,9 @@ use Rattle.vcd_engine.specs.Cut.{IsNoTimestamp}
 use Rattle.vcd_body.specs.Given.{IsItem}
 use Rattle.vcd_engine.specs.Quiet.{TakesQuietly}
 use Rattle.vcd_engine.specs.Sample.{AreSampled, asked_in, is_due, names_in}
-use Rattle.vcd_engine.specs.Values.{AreHeld}
+use Rattle.vcd_body.specs.Current.{AreHeld}
 use Rattle.vcd_engine.specs.declared.task_state.sample.Sample.{Sample}
-use Rattle.vcd_engine.proofs.ValuesLemmas.{held_still}
+use Rattle.vcd_body.proofs.CurrentLemmas.{held_still}
 
 -- ---- the times before one that is not below a timestamp
 

@@ -19,7 +19,7 @@ use Rattle.vcd_body.specs.Contents.{codes_shown, held_at, value_in}
 use Rattle.vcd_body.specs.Kept.{value_at_size}
 use Rattle.vcd_body.specs.declared.table.Table.{Table}
 use Rattle.vcd_body.proofs.TableLemmas.{shown_are}
-use Rattle.vcd_engine.specs.Values.{AreHeld}
+use Rattle.vcd_body.specs.Current.{AreHeld}
 use Rattle.vcd_engine.proofs.SelectedLines.{declared_at}
 
 -- ---- a line

@@ -27,8 +27,8 @@ use Rattle.vcd_body.specs.declared.item.Form.{Form}
 use Rattle.vcd_body.specs.declared.step.Step.{Step}
 use Rattle.vcd_body.specs.declared.table.Table.{Table}
 use Rattle.vcd_engine.specs.Edges.{AreTallied, numbers}
-use Rattle.vcd_engine.specs.Values.{AreHeld}
-use Rattle.vcd_engine.proofs.ValuesLemmas.{IsNew, SetsValue, change_holds, held_still, new_holds}
+use Rattle.vcd_body.specs.Current.{AreHeld}
+use Rattle.vcd_body.proofs.CurrentLemmas.{IsNew, SetsValue, change_holds, held_still, new_holds}
 use Rattle.vcd_engine.proofs.ItemTextLemmas.{some_text}
 
 -- ---- a table whose counters alone change

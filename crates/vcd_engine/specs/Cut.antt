@@ -15,7 +15,7 @@ use Rattle.vcd_view.specs.declared.view.HeadView.{HeadView}
 use Rattle.vcd_body.specs.declared.item.Item.{Item}
 use Rattle.vcd_body.specs.declared.item.Item.TheVariants.{Time}
 use Rattle.vcd_engine.specs.ItemText.{HasWritten}
-use Rattle.vcd_engine.specs.Values.{AreHeld, HasValues}
+use Rattle.vcd_body.specs.Current.{AreHeld, HasValues}
 use Rattle.vcd_engine.specs.declared.task_state.cut.Cut.{Cut}
 use Rattle.vcd_view.specs.Views.{IsViewOf}
 use Rattle.vcd_body.specs.declared.table.Table.{Table}

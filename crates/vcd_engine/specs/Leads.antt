@@ -9,7 +9,7 @@ use Rattle.vcd_view.specs.Views.{IsViewOf}
 use Rattle.vcd_view.specs.declared.view.HeadView.{HeadView}
 use Rattle.vcd_head.specs.Marks.{is_marked, marks_of}
 use Rattle.vcd_body.specs.declared.table.Table.{Table}
-use Rattle.vcd_engine.specs.Values.{AreHeld}
+use Rattle.vcd_body.specs.Current.{AreHeld}
 
 -- this many declarations from an index on have no line, whatever the items and the time
 abbrev pub HaveNoLine : List (List ℕ) → List Declaration → ℕ → ℕ → Type 0

@@ -3,7 +3,6 @@ pub mod Room
 pub mod TaskRun
 pub mod ItemText
 pub mod Selection
-pub mod Values
 pub mod Report
 pub mod Check
 pub mod Pick

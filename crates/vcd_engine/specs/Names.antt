@@ -58,4 +58,4 @@ pub use Rattle.vcd_engine.specs.TaskRun.{CountsOn, EndsAsAsked, Finishes, MayRun
 pub use Rattle.vcd_engine.specs.Sample.{AreSampled, asked_in, is_due, lent_to as lent_to_sample, SameSample}
 pub use Rattle.vcd_engine.specs.Selection.{AreSelected, ChoosesMore, IsFirstUnmatched, IsUnmatched}
 pub use Rattle.vcd_engine.specs.Step.{MayStep, Steps, StepsAhead, StepsOn, StepsOver}
-pub use Rattle.vcd_engine.specs.Values.{AreHeld, HasValues}
+pub use Rattle.vcd_body.specs.Current.{AreHeld, HasValues}

@@ -24,7 +24,7 @@ use Rattle.vcd_engine.specs.Edges.{room_in_edges}
 use Rattle.vcd_engine.specs.Engine.{CountsStop, StopsUnread, request_in}
 use Rattle.vcd_body.specs.declared.answer.Stop.{Stop}
 use Rattle.vcd_engine.specs.Sample.{lent_to as lent_to_sample}
-use Rattle.vcd_engine.specs.Values.{table_bytes}
+use Rattle.vcd_body.specs.Current.{table_bytes}
 use Rattle.vcd_engine.specs.declared.task.Task.TheVariants.{Check, Pick, Cut, Sample, Edges}
 
 -- how many bytes of values a task works with

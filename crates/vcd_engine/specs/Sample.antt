@@ -9,7 +9,7 @@ use Rattle.vcd_model.specs.Outcome.{Request}
 use Rattle.vcd_model.specs.Sample.{is_settled}
 use Rattle.vcd_body.specs.Contents.{bytes_in, codes_in}
 use Rattle.vcd_engine.specs.Leads.{LeadOn}
-use Rattle.vcd_engine.specs.Values.{AreHeld}
+use Rattle.vcd_body.specs.Current.{AreHeld}
 use Rattle.vcd_engine.specs.declared.task_state.sample.Sample.{Sample}
 
 -- the names that were asked for

@@ -34,7 +34,6 @@
 //! - `selection`: the variables that names select, as flags and as chosen codes
 //! - `report`, `rows`, `tally`: the seven lines of `check`; `list`; the counters of `edges`, and
 //!   its rows
-//! - `values`: the values of codes, with one more item
 //! - `sample_lines`: the lines of a sample; `leads`: the flags that lead from one row with a line
 //!   to the next
 //!
@@ -65,7 +64,6 @@ mod selection;
 mod tally;
 mod task;
 mod task_state;
-mod values;
 
 pub use commands::{check, cut, edges, pick, sample};
 pub use engine::{Begun, Engine, run_task, step};

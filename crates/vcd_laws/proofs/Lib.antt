@@ -17,6 +17,8 @@ mod PickRows
 mod CutRows
 mod MergeRows
 mod UnlikeRows
+pub mod CompareRows
+mod WithinRows
 mod SafeRows
 pub mod WordLemmas
 pub mod OpenedBodies

@@ -38,7 +38,7 @@ times_within b (x ∷ q) = (
 )
 
 -- a test that all times pass
-all_pass : (c : IdCode) (test : ℕ → Bool) (t : ℕ) → ((u : ℕ) → u ≤ t → test u ≡ true) → (es : List Entry) → AllByRecursion (λ e. e.time ≤ t) es → AllByRecursion (λ e. gives_at c test e ≡ gives_at c (λ u. true) e) es
+pub all_pass : (c : IdCode) (test : ℕ → Bool) (t : ℕ) → ((u : ℕ) → u ≤ t → test u ≡ true) → (es : List Entry) → AllByRecursion (λ e. e.time ≤ t) es → AllByRecursion (λ e. gives_at c test e ≡ gives_at c (λ u. true) e) es
 all_pass c test t passes [] h = tt
 all_pass c test t passes (e ∷ es) h = (ap (λ (b : Bool). gives_to c e.item && b) (passes e.time h.0), all_pass c test t passes es h.1)
 

@@ -6,7 +6,7 @@ use Rattle.vcd_model.specs.Sample.{is_settled}
 use Rattle.vcd_view.specs.Shown.{parts}
 use Rattle.vcd_view.specs.Views.{Views}
 use Rattle.vcd_engine.specs.Leads.{LeadOn}
-use Rattle.vcd_engine.specs.Values.{AreHeld}
+use Rattle.vcd_body.specs.Current.{AreHeld}
 use Rattle.vcd_engine.proofs.SampleLines.{line_at}
 use Rattle.vcd_engine.proofs.SelectedLines.{rows_before}
 use Rattle.vcd_engine.proofs.sample_lines.put_lines.Given as goal

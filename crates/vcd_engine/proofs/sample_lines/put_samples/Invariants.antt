@@ -7,7 +7,7 @@ use Rattle.vcd_model.specs.Sample.{is_settled, sample_lines}
 use Rattle.vcd_model.specs.Selection.{selected}
 use Rattle.vcd_view.specs.Views.{IsViewOf}
 use Rattle.vcd_engine.specs.Leads.{LeadOn}
-use Rattle.vcd_engine.specs.Values.{AreHeld}
+use Rattle.vcd_body.specs.Current.{AreHeld}
 use Rattle.vcd_engine.proofs.sample_lines.put_samples.Given as goal
 
 abbrev pub invariant-loop-time : goal.invariant-loop-time

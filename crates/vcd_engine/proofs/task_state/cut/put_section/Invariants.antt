@@ -8,7 +8,7 @@ use Rattle.vcd_model.specs.ItemText.{time_line}
 use Rattle.vcd_model.specs.Keywords.{Keyword, keyword_text}
 use Rattle.vcd_view.specs.Views.{IsViewOf}
 use Rattle.vcd_engine.specs.Cut.{values_text}
-use Rattle.vcd_engine.specs.Values.{HasValues}
+use Rattle.vcd_body.specs.Current.{HasValues}
 use Rattle.vcd_engine.proofs.task_state.cut.put_section.Given as goal
 
 abbrev pub invariant-loop-code : goal.invariant-loop-code

@@ -6,7 +6,7 @@ use Rattle.vcd_model.specs.Outcome.{Request}
 use Rattle.vcd_engine.specs.Engine.{CanRun}
 use Rattle.vcd_body.specs.declared.answer.Stop.TheVariants.{Write}
 use Rattle.vcd_engine.proofs.CutLemmas.{begun_at, open_begun, open_plain, open_some, plain_at, starts_begun, starts_plain, values_none}
-use Rattle.vcd_engine.proofs.ValuesLemmas.{new_holds, room_enough}
+use Rattle.vcd_body.proofs.CurrentLemmas.{new_holds, room_enough}
 use Rattle.vcd_engine.proofs.task_state.cut.Cut.start.Goals as goal
 
 -- nothing has begun, so its time is later

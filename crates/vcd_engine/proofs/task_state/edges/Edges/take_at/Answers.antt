@@ -6,7 +6,7 @@ use Rattle.vcd_view.specs.declared.view.Code.{Code}
 use Rattle.vcd_body.specs.Given.{IsText}
 use Rattle.vcd_body.specs.Items.{model_form}
 use Rattle.vcd_engine.proofs.TallyLemmas.{shown_there}
-use Rattle.vcd_engine.proofs.ValuesLemmas.{good_text}
+use Rattle.vcd_body.proofs.CurrentLemmas.{good_text}
 use Rattle.vcd_engine.proofs.task_state.edges.Edges.take_at.Goals as goal
 
 -- what is read if there is no code

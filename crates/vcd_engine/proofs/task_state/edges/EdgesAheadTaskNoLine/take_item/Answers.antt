@@ -10,7 +10,7 @@ use Rattle.vcd_engine.specs.Edges.{AreEdges, AreTallied}
 use Rattle.vcd_engine.proofs.ItemTextLemmas.{section_is}
 use Rattle.vcd_engine.proofs.PieceLemmas.{none_on}
 use Rattle.vcd_engine.proofs.TallyLemmas.{sized_there, still_tallied}
-use Rattle.vcd_engine.proofs.ValuesLemmas.{good_text, other_gives}
+use Rattle.vcd_body.proofs.CurrentLemmas.{good_text, other_gives}
 use Rattle.vcd_engine.proofs.task_state.edges.EdgesAheadTaskNoLine.take_item.Goals as goal
 
 pub returns-in_default-clause-takes : goal.returns-in_default-clause-takes

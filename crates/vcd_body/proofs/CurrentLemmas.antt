@@ -31,7 +31,7 @@ use Rattle.vcd_body.specs.declared.item.Item.TheVariants.{Time, Begin, End, Chan
 use Rattle.vcd_body.specs.declared.table.Table.{Table}
 use Rattle.vcd_body.proofs.TableLemmas.{room_needed}
 use Rattle.vcd_body.specs.Given.{IsItem}
-use Rattle.vcd_engine.specs.Values.{AreHeld, HasShares, table_bytes}
+use Rattle.vcd_body.specs.Current.{AreHeld, HasShares, table_bytes}
 use Rattle.std.proofs.lemmas.Option.{same_Some}
 
 -- ---- a new table

@@ -1,13 +1,16 @@
 //! The current values of codes after one more item.
 ghost use Rattle.std.specs.Prelude.{◌∷◌, ◌++◌, [], List};
-ghost use Rattle.vcd_engine.specs.Names.{AreHeld, BodyItem, HasBits, HasGoodText, Header, HeadView, IsItem, IsViewOf, KeepsTable};
+ghost use Rattle.vcd_body.specs.Names.{AreHeld, BodyItem, HasBits, HasGoodText, Header, HeadView, IsItem, IsViewOf, KeepsTable};
 
-use vcd_body::{Bits, Item, Table, Value};
+use crate::bits::Bits;
+use crate::item::Item;
+use crate::table::Table;
+use crate::value::Value;
 
 /// Sets the value of a change's code in the table: to `bits`, the digits of the text as a number,
 /// or to the text if `bits` is `None`. Any other item changes nothing.
 #[inline(always)]
-pub(crate) fn set_item(table: &mut Table<'_>, item: Item, text: &[u8], bits: Option<Bits>)
+pub fn set_item(table: &mut Table<'_>, item: Item, text: &[u8], bits: Option<Bits>)
     requires bits { HasBits item text.now bits }
     ensures held { (view : HeadView) (h : Header) (items : List BodyItem) (x : BodyItem)
         → IsViewOf view h → HasGoodText view.codes.now text.now item → IsItem h.codes text.now item x

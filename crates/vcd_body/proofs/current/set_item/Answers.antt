@@ -4,9 +4,9 @@ use Rattle.vcd_view.specs.declared.view.Code.{Code}
 use Rattle.vcd_body.specs.Ahead.{HasBits}
 use Rattle.vcd_body.specs.Given.{HasGoodText, IsItem, IsText}
 use Rattle.vcd_body.specs.declared.item.Item.{Item}
-use Rattle.vcd_engine.specs.Values.{AreHeld}
-use Rattle.vcd_engine.proofs.ValuesLemmas.{bits_hold, good_text, held_still, other_gives, set_holds}
-use Rattle.vcd_engine.proofs.values.set_item.Goals as goal
+use Rattle.vcd_body.specs.Current.{AreHeld}
+use Rattle.vcd_body.proofs.CurrentLemmas.{bits_hold, good_text, held_still, other_gives, set_holds}
+use Rattle.vcd_body.proofs.current.set_item.Goals as goal
 
 pub returns-in_default : goal.returns-in_default
 returns-in_default c = record {

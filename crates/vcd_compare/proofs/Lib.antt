@@ -1,0 +1,4 @@
+pub mod TimesLemmas
+pub mod StateLemmas
+pub mod DueLemmas
+pub mod MatchLemmas

@@ -1,0 +1,75 @@
+-- Two parts of one dump compared, and what `merge` wrote: worked rows.
+use Rattle.std.proofs.Common.{◌≡◌, List, [], ◌∷◌, codes, refl}
+use Prim.Native.String.{String}
+use Rattle.vcd_laws.proofs.Computing.{model}
+use Rattle.vcd_laws.proofs.CompareRows.{all}
+use Rattle.vcd_laws.proofs.RowText.{clean, dump, gives, limit}
+use Rattle.vcd_model.specs.Input.{Mark}
+use Rattle.vcd_model.specs.Outcome.{Outcome}
+use Rattle.vcd_model.specs.Job.{Want, outcome}
+use Rattle.vcd_model.specs.Compare.{Asked, Extent, compared}
+use Rattle.vcd_model.specs.Within.{Names, within}
+
+abbrev cores : List Names
+cores = (codes "t.a", codes "t.b") ∷ []
+
+-- two parts; `n` is only in the first
+abbrev two : String
+two = "$scope module t $end $scope module a $end $var reg 4 ! q $end $var wire 1 \" c $end $var wire 1 # n $end $upscope $end $scope module b $end $var reg 4 $ q $end $var wire 1 % c $end $upscope $end $upscope $end $enddefinitions $end;"
+
+abbrev on_two : Asked → String → Outcome
+on_two q body = within q limit cores (codes "(stdin)") (dump two body)
+
+by_scopes : on_two all "#0;b0 !;b0 $;1\";1%;#3;b1 !;#4;b1 $;0%;" ≡ gives "alone A t.a.n;differs 3 t.a.q 0001 0000;differs 4 t.a.c 1 0;compared 2;" "" 1
+unfolding model
+by_scopes = refl
+
+-- a part compared with itself
+with_itself : within all limit ((codes "t.a", codes "t.a") ∷ []) (codes "(stdin)") (dump two "#0;b0 !;#3;b1 !;x\";") ≡ gives "compared 3;" "" 0
+unfolding model
+with_itself = refl
+
+-- names that select nothing
+nothing : within all limit ((codes "t.x", codes "t.y") ∷ []) (codes "(stdin)") (dump two "#0;b0 !;b0 $;") ≡ gives "compared 0;" "" 1
+unfolding model
+nothing = refl
+
+-- several names: a variable may be in several pairs
+several : within all limit ((codes "t.a.q", codes "t.b.q") ∷ (codes "t.b", codes "t.a") ∷ (codes "t.a.c", codes "t.b.q") ∷ []) (codes "(stdin)") (dump two "#0;b0 !;b1 $;1\";1%;")
+    ≡ gives "alone B t.a.n;size t.a.c 1 4;differs 0 t.a.q 0000 0001;differs 0 t.b.q 0001 0000;compared 3;" "" 1
+unfolding model
+several = refl
+
+-- what ends early sees no fault that comes later
+early : on_two (record all { extent = Extent.First }) "#0;1\";1%;#3;0\";#4;1\";0%;?" ≡ gives "alone A t.a.n;differs 3 t.a.c 0 1;compared 2;" "" 1
+unfolding model
+early = refl
+
+-- a fault: what is settled before it is due
+fault : on_two all "#0;1\";0%;#3;b1 !;?" ≡ gives "alone A t.a.n;differs 0 t.a.c 1 0;" "vcdkit: (stdin):7: unknown command;" 2
+unfolding model
+fault = refl
+
+-- nothing is due at a time at which nothing is known to follow, until the dump ends
+to_the_last : on_two (record all { from = 1; to = 3 }) "#0;1\";0%;#3;b1 !;#4;b1 $;" ≡ gives "alone A t.a.n;differs 1 t.a.c 1 0;differs 3 t.a.q 0001 -;compared 2;" "" 1
+unfolding model
+to_the_last = refl
+
+-- what `merge` wrote of two dumps, compared up to the end of the shorter one: the lines of values
+-- are those of the two dumps, under the first scope
+first : String
+first = "$timescale 1 ns $end $var wire 4 ! q $end $var wire 1 a c $end $enddefinitions $end #0 b0 ! 1a #1 b1 ! #3 b0 ! 0a #9 1a"
+
+second : String
+second = "$timescale 100 ps $end $var wire 1 ! c $end $var wire 4 \" q $end $enddefinitions $end #0 1! b0 \" #10 b1 \" #25 b0 \" #40 0! #60"
+
+of_merge : within (record all { to = 60 }) limit ((codes "in1", codes "in2") ∷ []) (codes "(stdin)")
+    (record { bytes = (outcome Want.Merge limit (codes "a.vcd" ∷ codes "b.vcd" ∷ []) (clean first ∷ clean second ∷ [])).output; mark = Mark.Clean })
+    ≡ gives "differs 25 in1.q 0001 0000;differs 30 in1.c 0 1;compared 2;" "" 1
+unfolding model first second
+of_merge = refl
+
+of_dumps : compared all limit (codes "a.vcd" ∷ codes "b.vcd" ∷ []) (clean first ∷ clean second ∷ [])
+    ≡ gives "timescale 1ns 100ps;differs 2 q 0001 0000;differs 3 c 0 1;ends 9 60;compared 2;" "" 1
+unfolding model first second
+of_dumps = refl
