@@ -2,5 +2,7 @@
 #![tactic(auto)]
 
 mod flags;
+mod pairs;
 
 pub use flags::mark;
+pub use pairs::{NamePair, Pairs};
