@@ -35,7 +35,7 @@ selects-front (x ∷ front) path name =
     selects-byte x x (front ++ path) (front ++ name) ∙ ap (λ b. b && selects_path (front ++ path) (front ++ name)) (eq-eqb x x refl) ∙ selects-front front path name
 
 -- a path that is selected begins with the name
-selected_begins : (path name : List ℕ) → selects_path path name ≡ true → (rest : List ℕ) × (path ≡ name ++ rest)
+pub selected_begins : (path name : List ℕ) → selects_path path name ≡ true → (rest : List ℕ) × (path ≡ name ++ rest)
 selected_begins path [] h = (path, refl)
 selected_begins [] (y ∷ name) h = cc
 selected_begins (x ∷ path) (y ∷ name) h =
@@ -53,7 +53,7 @@ selects-longer (x ∷ path) (y ∷ name) text h =
     selects_from_byte x y (path ++ 46 ∷ text) name both.0 (selects-longer path name text both.1)
 
 -- a path is selected by its front up to a point, or the name continues after that point
-selects_split : (path name text : List ℕ) → selects_path (path ++ 46 ∷ text) name ≡ true → (selects_path path name ≡ true) ⊎ ((rest : List ℕ) × (name ≡ path ++ 46 ∷ rest))
+pub selects_split : (path name text : List ℕ) → selects_path (path ++ 46 ∷ text) name ≡ true → (selects_path path name ≡ true) ⊎ ((rest : List ℕ) × (name ≡ path ++ 46 ∷ rest))
 selects_split [] [] text h = inl refl
 selects_split [] (y ∷ name) text h = let both = selects_behind_byte 46 y text name h in inr (name, ap (λ b. b ∷ name) (sym both.0))
 selects_split (x ∷ path) [] text h = inl h
