@@ -2,3 +2,4 @@ pub mod TimesLemmas
 pub mod StateLemmas
 pub mod DueLemmas
 pub mod MatchLemmas
+pub mod PathTexts

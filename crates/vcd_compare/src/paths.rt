@@ -1,4 +1,6 @@
 // The paths of a header by number, each stored as the path around it and its last part.
+ghost use Rattle.std.specs.Prelude.{◌≡◌, ◌≤◌, ◌++◌, ◌∷◌, [], ℕ, List, None, false, length, IfOk, IfSome};
+ghost use Rattle.vcd_compare.specs.Paths.{EntersPath, EntersText, HasTexts, has_dot, joined};
 
 use indexmap::IndexSet;
 use std::alloc::{AllocError, Global};
@@ -16,7 +18,9 @@ pub(crate) struct Paths {
 
 impl Paths {
     /// Returns no paths. Those that are entered are hashed with `seed`.
-    pub(crate) fn new(alloc: Global, seed: CodeSeed) -> Self {
+    pub(crate) fn new(alloc: Global, seed: CodeSeed) -> Self
+        ensures { HasTexts result [] }
+    {
         Paths {
             parts: IndexSet::with_hasher(alloc, seed),
             nodes: IndexSet::with_hasher(alloc, seed),
@@ -32,7 +36,11 @@ pub(crate) fn enter_path(
     paths: &mut Paths,
     around: usize,
     name: &[u8],
-) -> Result<usize, AllocError> {
+) -> Result<usize, AllocError>
+    ensures { IfOk result (λ number. (texts : List (List ℕ)) → HasTexts paths.old texts
+        → around ≤ length texts
+        → EntersPath texts paths.new (joined texts around name.now) number) }
+{
     let mut number = around;
     let mut rest = name;
     while let Some((part, more)) = split_at_dot(rest) {
@@ -43,9 +51,17 @@ pub(crate) fn enter_path(
 }
 
 /// Returns what is before the first dot of a text and what is after it; `None` if it has no dot.
-fn split_at_dot(text: &[u8]) -> Option<(&[u8], &[u8])> {
-    let dot = text.iter().position(|byte| *byte == b'.')?;
-    Some((&text[..dot], &text[dot + 1..]))
+fn split_at_dot(text: &[u8]) -> Option<(&[u8], &[u8])>
+    ensures some { IfSome result (λ r. text.now ≡ r.0.now ++ 46 ∷ r.1.now) }
+    ensures first { IfSome result (λ r. has_dot r.0.now ≡ false) }
+    ensures none { result ≡ None → has_dot text.now ≡ false }
+{
+    for (index, byte) in text.iter().enumerate() {
+        if *byte == b'.' {
+            return Some((&text[..index], &text[index + 1..]));
+        }
+    }
+    None
 }
 
 /// Returns the number of the path that consists of the path with number `around`, a dot and `part`,
@@ -55,12 +71,19 @@ fn enter_part(
     paths: &mut Paths,
     around: usize,
     part: &[u8],
-) -> Result<usize, AllocError> {
+) -> Result<usize, AllocError>
+    ensures { IfOk result (λ number. (texts : List (List ℕ)) → HasTexts paths.old texts
+        → around ≤ length texts → has_dot part.now ≡ false
+        → EntersPath texts paths.new (joined texts around part.now) number) }
+{
     let part = enter_text(alloc, &mut paths.parts, part)?;
-    match paths.nodes.insert_full((around, part)) {
-        Ok((index, _)) => Ok(index + 1),
-        Err(_) => Err(AllocError),
-    }
+    let Ok((index, _)) = paths.nodes.insert_full((around, part)) else {
+        return Err(AllocError);
+    };
+    let Some(number) = index.checked_add(1) else {
+        return Err(AllocError);
+    };
+    Ok(number)
 }
 
 /// Returns the index of a text among `texts`, after which it is put if it is new.
@@ -68,12 +91,14 @@ fn enter_text(
     alloc: Global,
     texts: &mut IndexSet<Vec<u8>, CodeSeed>,
     text: &[u8],
-) -> Result<usize, AllocError> {
+) -> Result<usize, AllocError>
+    ensures { IfOk result (λ index. EntersText texts.old texts.new text.now index) }
+{
     if let Some(index) = texts.get_index_of(text) {
         return Ok(index);
     }
-    match texts.insert_full(Vec::from_slice(alloc, text)?) {
-        Ok((index, _)) => Ok(index),
-        Err(_) => Err(AllocError),
-    }
+    let Ok((index, _)) = texts.insert_full(Vec::from_slice(alloc, text)?) else {
+        return Err(AllocError);
+    };
+    Ok(index)
 }
