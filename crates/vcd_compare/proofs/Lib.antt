@@ -3,3 +3,5 @@ pub mod StateLemmas
 pub mod DueLemmas
 pub mod MatchLemmas
 pub mod PathTexts
+pub mod VariableLemmas
+pub mod RowPaths

@@ -22,7 +22,7 @@ use Rattle.vcd_view.specs.declared.code_hash.CodeSeed.{CodeSeed}
 dotted : (u p : List ℕ) → has_dot (u ++ 46 ∷ p) ≡ true
 dotted u p = list_any-append (λ b. b == 46) u (46 ∷ p) ∙ or-true (has_dot u)
 
-no_dot : (p u q : List ℕ) → has_dot p ≡ false → p ≢ u ++ 46 ∷ q
+pub no_dot : (p u q : List ℕ) → has_dot p ≡ false → p ≢ u ++ 46 ∷ q
 no_dot p u q plain e = let d = ap has_dot e ∙ dotted u q in cc
 
 pub last_dot : (u w p q : List ℕ) → has_dot p ≡ false → has_dot q ≡ false → u ++ 46 ∷ p ≡ w ++ 46 ∷ q → (u ≡ w) × (p ≡ q)
@@ -84,13 +84,13 @@ pub apart_more : (texts : List (List ℕ)) (t : List ℕ) → AreApart texts →
 apart_more texts t apart new i j x at other =
     elim (at_most texts t x i at) [
       | inl a ↦ elim (at_most texts t x j other) [
-          | inl b ↦ apart i j x a b
-          | inr b ↦ absurd (new i (a ∙ ap Some b.1))
-        ]
+        | inl b ↦ apart i j x a b
+        | inr b ↦ absurd (new i (a ∙ ap Some b.1))
+      ]
       | inr a ↦ elim (at_most texts t x j other) [
-          | inl b ↦ absurd (new j (b ∙ ap Some a.1))
-          | inr b ↦ a.0 ∙ sym b.0
-        ]
+        | inl b ↦ absurd (new j (b ∙ ap Some a.1))
+        | inr b ↦ a.0 ∙ sym b.0
+      ]
     ]
 
 -- further parts
@@ -106,10 +106,10 @@ parts_more parts more nodes texts apart are = record {
 abbrev pub same_node : ℕ × ℕ → ℕ × ℕ → Bool
 same_node x y = nat_eq x.0 y.0 && nat_eq x.1 y.1
 
-same_is : (x y : ℕ × ℕ) → same_node x y ≡ true → x ≡ y
+pub same_is : (x y : ℕ × ℕ) → same_node x y ≡ true → x ≡ y
 same_is x y e = let both = and_parts (nat_eq x.0 y.0) (nat_eq x.1 y.1) e in λ z. (eqb-true x.0 y.0 both.0 z, eqb-true x.1 y.1 both.1 z)
 
-is_same : (x : ℕ × ℕ) → same_node x x ≡ true
+pub is_same : (x : ℕ × ℕ) → same_node x x ≡ true
 is_same x = and_from (nat_eq x.0 x.0) (nat_eq x.1 x.1) (eq-eqb x.0 x.0 refl) (eq-eqb x.1 x.1 refl)
 
 -- what passes no test is not there
@@ -157,16 +157,19 @@ module _ (parts : List (List ℕ)) (nodes : List (ℕ × ℕ)) (texts : List (Li
               let is = are.each i node old in
               let within = slice_get_within nodes i node old in
               record {
-                around = is.around; part = is.part; part_is = is.part_is; plain = is.plain;
+                around = is.around;
+                part = is.part;
+                part_is = is.part_is;
+                plain = is.plain;
                 text_is = slice_get-front texts (t ∷ []) i _ is.text_is ∙ ap Some (sym (joined_more texts (t ∷ []) node.0 is.part (let m = is.around in omega (arith, m, within, same_len))));
               }
           | inr last ↦ record {
-              around = let first : node.0 ≡ a = ap (λ (n : ℕ × ℕ). n.0) last.1 in omega (arith, first, l, last.0, same_len);
-              part = p;
-              part_is = ap (slice_get parts) (ap (λ (n : ℕ × ℕ). n.1) last.1) ∙ part;
-              plain = plain;
-              text_is = ap (slice_get (texts ++ t ∷ [])) (last.0 ∙ sym same_len) ∙ slice_get-seam texts t [] ∙ ap Some (sym (joined_more texts (t ∷ []) a p l) ∙ ap (λ n. joined (texts ++ t ∷ []) n p) (sym (ap (λ (n : ℕ × ℕ). n.0) last.1)));
-            }
+            around = let first : node.0 ≡ a = ap (λ (n : ℕ × ℕ). n.0) last.1 in omega (arith, first, l, last.0, same_len);
+            part = p;
+            part_is = ap (slice_get parts) (ap (λ (n : ℕ × ℕ). n.1) last.1) ∙ part;
+            plain = plain;
+            text_is = ap (slice_get (texts ++ t ∷ [])) (last.0 ∙ sym same_len) ∙ slice_get-seam texts t [] ∙ ap Some (sym (joined_more texts (t ∷ []) a p l) ∙ ap (λ n. joined (texts ++ t ∷ []) n p) (sym (ap (λ (n : ℕ × ℕ). n.0) last.1)));
+          }
         ];
         apart = apart_more texts t are.apart (λ i at. let b = not_there (same_node (a, k)) nodes i (a, k) none (node_of parts nodes texts are i a k p at l plain part) in let c = is_same (a, k) in cc);
         parts_apart = are.parts_apart;
@@ -207,8 +210,7 @@ text_entered old new v t index same e at = by_test (list_any (same_text v) old.k
     by_test true q =
         let first = first_passes (same_text v) old.keys q in
         let keys : new.keys ≡ old.keys = e ∙ rw q refl in
-        let text : first.0.items ≡ t = sym ((bytes_eq-Decides v.items first.0.items).0 first.2) ∙ same in
-        (
+        let text : first.0.items ≡ t = sym ((bytes_eq-Decides v.items first.0.items).0 first.2) ∙ same in (
           [],
           ap (map items_of) keys ∙ sym (append-nil (texts_in old)),
           ap (λ ks. slice_get (map items_of ks) index) keys ∙ slice_get-map items_of old.keys index ∙ ap (option_map items_of) (ap (slice_get old.keys) at ∙ first.1) ∙ ap Some text,
@@ -217,8 +219,7 @@ text_entered old new v t index same e at = by_test (list_any (same_text v) old.k
     by_test false q =
         let keys : new.keys ≡ old.keys ++ v ∷ [] = e ∙ rw q refl in
         let texts : texts_in new ≡ texts_in old ++ t ∷ [] = ap (map items_of) keys ∙ map-append items_of old.keys (v ∷ []) ∙ ap (λ x. texts_in old ++ x ∷ []) same in
-        let last : index ≡ length (texts_in old) = at ∙ none_first (same_text v) old.keys q ∙ sym (length-map old.keys items_of) in
-        (
+        let last : index ≡ length (texts_in old) = at ∙ none_first (same_text v) old.keys q ∙ sym (length-map old.keys items_of) in (
           t ∷ [],
           texts,
           ap (λ ts. slice_get ts index) texts ∙ ap (slice_get (texts_in old ++ t ∷ [])) last ∙ slice_get-seam (texts_in old) t [],
@@ -263,8 +264,7 @@ position_none test xs e = by_any (list_any test xs) refl
 -- a text that was found
 pub text_found : (set : HashSet (Vec ℕ) CodeSeed) (t : List ℕ) (index : ℕ) → position (λ (k : Vec ℕ). bytes_eq t k.items) set.keys ≡ Some index → EntersText set set t index
 text_found set t index e =
-    let found = position_passes (λ (k : Vec ℕ). bytes_eq t k.items) set.keys index e in
-    (
+    let found = position_passes (λ (k : Vec ℕ). bytes_eq t k.items) set.keys index e in (
       [],
       sym (append-nil (texts_in set)),
       slice_get-map items_of set.keys index ∙ ap (option_map items_of) found.1 ∙ ap Some (sym ((bytes_eq-Decides t found.0.items).0 found.2)),
@@ -279,8 +279,7 @@ path_entered old mid new part around k index number text nodes parts keys at is 
     let apart = subst AreApart text.1 (text.3 has.parts_apart) in
     let more = parts_more (texts_in old.parts) text.0 old.nodes.keys texts apart has in
     let are : AreTexts (texts_in mid.parts) mid.nodes.keys texts = rw (text.1, nodes) more in
-    let e = entered (texts_in mid.parts) mid.nodes.keys texts are around k part text.2 plain l new.nodes.keys index keys at in
-    (
+    let e = entered (texts_in mid.parts) mid.nodes.keys texts are around k part text.2 plain l new.nodes.keys index keys at in (
       e.more,
       subst (λ ts. AreTexts ts new.nodes.keys (texts ++ e.more)) (sym (ap (map items_of) parts)) e.new_are,
       (index, is, e.at),
@@ -330,8 +329,7 @@ entering_more texts around name old new number next rest part more e split p =
 pub entering_last : (texts : List (List ℕ)) (around : ℕ) (name : List ℕ) (old new : Paths) (number last : ℕ) (rest : List ℕ) (e : IsEntering texts around name old number rest)
     → EntersPath (texts ++ e.more) new (joined (texts ++ e.more) number rest) last → EntersPath texts new (joined texts around name) last
 entering_last texts around name old new number last rest e p =
-    let same : (texts ++ e.more) ++ p.0 ≡ texts ++ (e.more ++ p.0) = append_assoc texts e.more p.0 in
-    (
+    let same : (texts ++ e.more) ++ p.0 ≡ texts ++ (e.more ++ p.0) = append_assoc texts e.more p.0 in (
       e.more ++ p.0,
       subst (HasTexts new) same p.1,
       subst (λ ts. IsNumberOf ts last (joined texts around name)) same (subst (IsNumberOf ((texts ++ e.more) ++ p.0) last) e.is p.2),

@@ -1,3 +1,4 @@
 pub mod Flags
-pub mod Pairs
 pub mod Paths
+pub mod Variables
+pub mod Pairs

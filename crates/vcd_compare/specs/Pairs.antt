@@ -5,6 +5,7 @@ use Rattle.vcd_model.specs.Declarations.{Declaration, Variable, code_of, path_of
 use Rattle.vcd_model.specs.Header.{Header}
 use Rattle.vcd_model.specs.Compare.{Asked, Named, Pair, is_fit}
 use Rattle.vcd_model.specs.Within.{Names, alone_in, compared_in, turned, unlike_in}
+pub use Rattle.vcd_compare.specs.Variables.{IsAt, IsNamedAt}
 use Rattle.vcd_compare.specs.declared.pairs.End.{End}
 use Rattle.vcd_compare.specs.declared.pairs.NamePair.{NamePair}
 use Rattle.vcd_compare.specs.declared.pairs.PairRow.{PairRow}
@@ -14,11 +15,6 @@ use Rattle.vcd_compare.specs.declared.pairs.UnlikeRows.{UnlikeRows}
 -- the names of a request
 abbrev pub names_in : List NamePair → List Names
 names_in ns = map (λ n. (n.one.items, n.other.items)) ns
-
--- the variable is declared at this row, and has this path
-pub record IsAt (h : Header) (row : ℕ) (path : List ℕ) (v : Variable) : Type 0 where
-  pub declared : slice_get h.declarations row ≡ Some (Declaration.Var v)
-  pub path_is : path_of (take row h.declarations) (Declaration.Var v) ≡ path
 
 -- the end at this index has the code of the variable
 abbrev pub HasEnd : Header → List End → ℕ → Variable → Type 0
@@ -38,10 +34,6 @@ pub record IsPairAt (h : Header) (ends : List End) (r : PairRow) (p : Pair) : Ty
 pub record IsUnlikeAt (h : Header) (r : UnlikeRows) (p : Pair) : Type 0 where
   pub at : IsAt h r.one p.path p.one
   pub other : slice_get h.declarations r.other ≡ Some (Declaration.Var p.other)
-
--- the row is that of the variable
-abbrev pub IsNamedAt : Header → ℕ → Named → Type 0
-IsNamedAt h row v = IsAt h row v.path v.variable
 
 -- n is 1 plus the greatest index below a bound at which an end has the code, or 0 if there is none
 pub record IsLastEnd (ends : List End) (below code n : ℕ) : Type 0 where
@@ -64,4 +56,6 @@ pub record ArePairs (ps : Pairs) (h : Header) (q : Asked) (ns : List Names) : Ty
   pub linked : AreLinked ps.ends.items ps.last.items
   pub codes : length ps.last.items ≡ length h.codes
   pub classes : ps.classes * 2 ≡ length ps.ends.items
+  -- each class is that of two variables of one kind, and of some row
   pub fit : (class : ℕ) → class < ps.classes → (p : Pair) × (is_fit p ≡ true) × IsClassOf h ps.ends.items class p
+  pub covered : (class : ℕ) → class < ps.classes → (n : ℕ) × (r : PairRow) × (slice_get ps.rows.items n ≡ Some r) × (r.class ≡ class)
