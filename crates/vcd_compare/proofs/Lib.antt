@@ -5,3 +5,8 @@ pub mod MatchLemmas
 pub mod PathTexts
 pub mod VariableLemmas
 pub mod RowPaths
+pub mod PlaceLemmas
+pub mod KindLemmas
+pub mod ClassLemmas
+pub mod PairSteps
+pub mod PairLoops

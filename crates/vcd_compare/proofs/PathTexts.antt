@@ -1,5 +1,5 @@
 -- The texts of paths: which parts they consist of, and one path more.
-use Rattle.std.proofs.Common.{◌≡◌, ◌≢◌, ℕ, zero, suc, ◌<◌, ◌≤◌, ◌==◌, ◌&&◌, ◌||◌, nat_eq, Bool, true, false, if◌then◌else◌, cond, bytes_eq, position, map, Option, not, ◌+◌, add-one, List, [], ◌∷◌, ◌++◌, length, get_or, slice_get, Some, None, inl, inr, refl, sym, ap, subst, ◌∙◌, arith}
+use Rattle.std.proofs.Common.{◌≡◌, ◌≢◌, ℕ, zero, suc, ◌<◌, ◌≤◌, ◌==◌, ◌&&◌, ◌||◌, nat_eq, nat_lt, Bool, true, false, if◌then◌else◌, cond, bytes_eq, position, map, Option, not, ◌+◌, add-one, List, [], ◌∷◌, ◌++◌, length, get_or, slice_get, Some, None, inl, inr, refl, sym, ap, subst, ◌∙◌, arith}
 use Rattle.std.specs.List.{list_any, position_or_len}
 use Rattle.std.proofs.lemmas.Bool.{le-ltb, lt-ltb, eq-eqb, eqb-true, and_parts, and_from, or_parts}
 use Rattle.std.specs.Prelude.{option_map}
@@ -248,6 +248,14 @@ position_passes test xs i e = by_any (list_any test xs) refl
         let past = le-ltb (position_or_len test xs) (length xs) (let n = none_first test xs q in omega (arith, n)) in
         let no = sym (ap (λ b. cond b (Some (position_or_len test xs)) None) past) ∙ e in
         cc
+
+-- it is the first
+pub position_first : {X : Type 0} (test : X → Bool) (xs : List X) (i : ℕ) → position test xs ≡ Some i → position_or_len test xs ≡ i
+position_first test xs i e = by_within (nat_lt (position_or_len test xs) (length xs)) refl
+  where
+    by_within : (b : Bool) → nat_lt (position_or_len test xs) (length xs) ≡ b → position_or_len test xs ≡ i
+    by_within true q = same_Some _ _ (sym (ap (λ b. cond b (Some (position_or_len test xs)) None) q) ∙ e)
+    by_within false q = let no = sym (ap (λ b. cond b (Some (position_or_len test xs)) None) q) ∙ e in absurd (cc)
 
 -- and where it has found nothing, nothing passes
 pub position_none : {X : Type 0} (test : X → Bool) (xs : List X) → position test xs ≡ None → list_any test xs ≡ false

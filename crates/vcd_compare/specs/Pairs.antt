@@ -46,16 +46,20 @@ pub record AreLinked (ends : List End) (last : List ℕ) : Type 0 where
   pub each : (i : ℕ) (e : End) → slice_get ends i ≡ Some e → IsLastEnd ends i e.code e.next
   pub from : (code n : ℕ) → slice_get last code ≡ Some n → IsLastEnd ends (length ends) code n
 
--- the pairs of these names in the header: their rows, and of each two codes that are compared one
--- class, whose number is half that of its first end
-pub record ArePairs (ps : Pairs) (h : Header) (q : Asked) (ns : List Names) : Type 0 where
-  pub rows : AllZip (IsPairAt h ps.ends.items) ps.rows.items (compared_in q h ns)
-  pub alone_one : AllZip (IsNamedAt h) ps.alone_one.items (flat_map (alone_in q h) ns)
-  pub alone_other : AllZip (IsNamedAt h) ps.alone_other.items (flat_map (λ n. alone_in q h (turned n)) ns)
-  pub unlike : AllZip (IsUnlikeAt h) ps.unlike.items (unlike_in q h ns)
+-- The pairs that are compared, those of different kinds, and the variables without a counterpart. Of
+-- each two codes that are compared there is one class, whose number is half that of its first end.
+pub record HoldsPairs (ps : Pairs) (h : Header) (compared other_kinds : List Pair) (ones others : List Named) : Type 0 where
+  pub rows : AllZip (IsPairAt h ps.ends.items) ps.rows.items compared
+  pub alone_one : AllZip (IsNamedAt h) ps.alone_one.items ones
+  pub alone_other : AllZip (IsNamedAt h) ps.alone_other.items others
+  pub unlike : AllZip (IsUnlikeAt h) ps.unlike.items other_kinds
   pub linked : AreLinked ps.ends.items ps.last.items
   pub codes : length ps.last.items ≡ length h.codes
   pub classes : ps.classes * 2 ≡ length ps.ends.items
   -- each class is that of two variables of one kind, and of some row
   pub fit : (class : ℕ) → class < ps.classes → (p : Pair) × (is_fit p ≡ true) × IsClassOf h ps.ends.items class p
   pub covered : (class : ℕ) → class < ps.classes → (n : ℕ) × (r : PairRow) × (slice_get ps.rows.items n ≡ Some r) × (r.class ≡ class)
+
+-- the pairs of these names in the header
+abbrev pub ArePairs : Pairs → Header → Asked → List Names → Type 0
+ArePairs ps h q ns = HoldsPairs ps h (compared_in q h ns) (unlike_in q h ns) (flat_map (alone_in q h) ns) (flat_map (λ n. alone_in q h (turned n)) ns)
