@@ -113,3 +113,10 @@ some_row h texts old new numbers row n d at s p =
 pub ok_then : {X E : Type 0} (r : Result X E) (P Q : X → Type 0) → ((x : X) → P x → Q x) → IfOk r P → IfOk r Q
 ok_then (Ok x) P Q f p = f x p
 ok_then (Err e) P Q f p = tt
+
+-- so many rows keep their numbers
+pub numbered_stay : (h : Header) (texts more : List (List ℕ)) (numbers : List ℕ) (rows : ℕ) → AreNumbered h texts numbers rows → AreNumbered h (texts ++ more) numbers rows
+numbered_stay h texts more numbers rows are = record {
+  len = are.len;
+  each = λ i d l at. let n = are.each i d l at in (n.0, n.1, numbers_stay texts more n.0 (path_of (take i h.declarations) d) n.2);
+}
