@@ -109,7 +109,7 @@ module _ (q : Asked) (items : List BodyItem) (x : BodyItem) (other : marks (x �
   pub settled_other : filter (is_settled (items ++ x ∷ [])) (times_in q (items ++ x ∷ [])) ≡ filter (is_settled items) (times_in q items)
   settled_other = ap (λ ms. filter (λ t. list_any (nat_lt t) ms) (filter (λ t. nat_le q.from t && nat_le t q.to) (in_order (q.from ∷ ms)))) same_marks
 
-  any_settled : (f g : ℕ → Bool) (ts : List ℕ) → ((t : ℕ) → is_settled items t ≡ true → f t ≡ g t) → list_any f (filter (is_settled items) ts) ≡ list_any g (filter (is_settled items) ts)
+  pub any_settled : (f g : ℕ → Bool) (ts : List ℕ) → ((t : ℕ) → is_settled items t ≡ true → f t ≡ g t) → list_any f (filter (is_settled items) ts) ≡ list_any g (filter (is_settled items) ts)
   any_settled f g [] same = refl
   any_settled f g (t ∷ ts) same = by_test (is_settled items t) refl (any_settled f g ts same)
     where
@@ -119,7 +119,7 @@ module _ (q : Asked) (items : List BodyItem) (x : BodyItem) (other : marks (x �
       by_test false e rest = rest
 
   module _ (a b : IdCode) where
-    differed_same : (t : ℕ) → is_settled items t ≡ true → codes_differ q.rule (items ++ x ∷ []) a b t ≡ codes_differ q.rule items a b t
+    pub differed_same : (t : ℕ) → is_settled items t ≡ true → codes_differ q.rule (items ++ x ∷ []) a b t ≡ codes_differ q.rule items a b t
     differed_same t e =
         let low = below_greatest t 0 (marks items) e in
         rw (state_stays 1 t items (x ∷ []) a (omega arith), state_stays 1 t items (x ∷ []) b (omega arith)) refl
@@ -178,10 +178,10 @@ module _ (q : Asked) (items : List BodyItem) (t : ℕ) (up : DoNotFall 0 (marks 
   abbrev last : ℕ
   last = time_compared q items
 
-  compared_after : time_compared q after ≡ t
+  pub compared_after : time_compared q after ≡ t
   compared_after = ap (fold max q.from) (marks-append items (BodyItem.Time t ∷ [])) ∙ fold-append max q.from (marks items) (t ∷ []) ∙ omega arith
 
-  settled_after : filter (is_settled after) (times_in q after) ≡ filter (is_settled items) (times_in q items) ++ last ∷ []
+  pub settled_after : filter (is_settled after) (times_in q after) ≡ filter (is_settled items) (times_in q items) ++ last ∷ []
   settled_after =
       settled_times q after up'
       ∙ ap (filter (λ u. nat_le u q.to)) (ap (past q.from) (marks-append items (BodyItem.Time t ∷ [])) ∙ past_more q.from (marks items) t ∙ rw (lt-ltb last t high) refl)

@@ -2,6 +2,8 @@ pub mod TimesLemmas
 pub mod PastTimes
 pub mod OpenGrows
 pub mod FlagLemmas
+pub mod DueFlags
+pub mod QuietLemmas
 pub mod StateLemmas
 pub mod DueLemmas
 pub mod MatchLemmas

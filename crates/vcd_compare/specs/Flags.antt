@@ -8,3 +8,7 @@ differing flags = count_by (λ f. f == 1) flags
 -- the flags once it is known whether a pair differs now
 abbrev pub marked : List ℕ → ℕ → Bool → List ℕ
 marked flags pair differs = cond (get_or flags pair 0 == 2) flags (slice_set flags pair (cond differs 1 0))
+
+-- a flag once its line was written, if it was 1
+abbrev pub settled_as : ℕ → ℕ → ℕ
+settled_as after f = cond (f == 1) after f

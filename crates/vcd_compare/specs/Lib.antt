@@ -1,3 +1,5 @@
+pub mod Asked
+pub mod Comparing
 pub mod Flags
-pub mod Pairs
 pub mod Lines
+pub mod Pairs

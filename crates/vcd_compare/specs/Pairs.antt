@@ -65,3 +65,5 @@ pub record ArePairs (ps : Pairs) (h : Header) (q : Asked) (ns : List Names) : Ty
   pub codes : length ps.last.items ≡ length h.codes
   pub classes : ps.classes * 2 ≡ length ps.ends.items
   pub fit : (class : ℕ) → class < ps.classes → (p : Pair) × (is_fit p ≡ true) × IsClassOf h ps.ends.items class p
+  -- each class is that of some row
+  pub covered : (class : ℕ) → class < ps.classes → (n : ℕ) × (r : PairRow) × (slice_get ps.rows.items n ≡ Some r) × (r.class ≡ class)

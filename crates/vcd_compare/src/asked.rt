@@ -14,11 +14,12 @@ pub enum Extent {
 /// What is asked for, besides the names.
 #[derive(Clone, Copy, PartialEq, Eq, Debug)]
 pub struct Asked {
-    /// The first time at which values are compared.
+    /// The first time at which values are compared, in ticks.
     pub from: u64,
-    /// The last time at which values are compared.
+    /// The last time at which values are compared, in ticks.
     pub to: u64,
-    /// Whether an x of the first variable matches every digit, and no value every value.
+    /// Whether an x of the first variable matches every digit. Then the variable also matches if it
+    /// has no value yet.
     pub x_of_one: bool,
     /// The same of the second variable.
     pub x_of_other: bool,

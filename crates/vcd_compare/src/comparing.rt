@@ -1,156 +1,149 @@
 //! The comparison between two items of a body.
+ghost use Rattle.std.specs.Prelude.{◌≡◌, ◌<◌, ℕ, List, Some, length, slice_get};
+ghost use Rattle.vcd_body.specs.Ahead.{HasBits};
+ghost use Rattle.vcd_body.specs.Given.{HasGoodText};
+ghost use Rattle.vcd_body.specs.declared.item.Item.TheVariants as item;
+ghost use Rattle.vcd_model.specs.Compare.{Asked as ModelAsked};
+ghost use Rattle.vcd_model.specs.Declarations.{IdCode};
+ghost use Rattle.vcd_model.specs.Header.{Header};
+ghost use Rattle.vcd_model.specs.Items.{BodyItem};
+ghost use Rattle.vcd_view.specs.Views.{IsViewOf};
+ghost use Rattle.vcd_compare.specs.Comparing.{ComparesOn, IsCounted, MarksChange, SameRequest, partner};
+ghost use Rattle.vcd_compare.specs.Flags.{differing, marked};
 
-use crate::asked::{Asked, Extent};
-use crate::flags::{mark, settle};
-use crate::lines::put_lines;
-use crate::pairs::{Class, Pairs};
-use crate::values::values_match;
-use vcd_body::{Bits, Form, Item, Regs, ScannedItem, Table, Value, Visit};
+use crate::current::{Current, NewValue};
+use crate::flags::mark;
+use vcd_body::{Bits, Item, Regs, ScannedItem, Visit, set_item};
 use vcd_text::{Sink, WriteFailed};
 use vcd_view::HeadView;
 
-/// What a comparison keeps between two items: the values of all codes, when each event was last
-/// triggered, and a flag for each class of pairs.
+/// What a comparison keeps between two items: the current states, and a flag for each class.
 #[derive(Drop)]
 pub(crate) struct Comparison<'p, 'r> {
-    pub pairs: &'p Pairs,
-    pub asked: Asked,
-    pub table: Table<'r>,
-    pub triggers: &'r mut [Option<u64>],
+    pub current: Current<'p, 'r>,
     pub flags: &'r mut [u8],
 }
 
 /// What a walk keeps in registers.
-#[derive(Clone, Copy, Drop)]
+#[derive(Clone, Copy)]
 pub(crate) struct Watched {
-    /// The time at which values are compared next: the last time, or the first that is asked for if
-    /// that is greater.
+    /// The time at which values are compared next: that of the last timestamp, or the first time
+    /// that is asked for if that is greater.
     pub at: u64,
     /// How many flags are 1.
     pub differing: usize,
 }
 
+/// Returns the index of the other end of the class of the end at this index.
+#[inline(always)]
+fn partner_of(index: usize) -> usize
+    ensures { result ≡ partner index }
+{
+    if index % 2 == 0 { index + 1 } else { index - 1 }
+}
+
+/// Sets the flags of all classes of a code that has just got this new value. `at` is the time at
+/// which values are compared next, and `count` is how many flags are 1; returns how many are after
+/// it.
+#[inline(always)]
+fn mark_ends(
+    current: &Current<'_, '_>,
+    flags: &mut [u8],
+    view: HeadView<'_>,
+    new: NewValue<'_>,
+    at: u64,
+    count: usize,
+) -> usize
+    requires count { count ≡ differing flags.old }
+    ensures count { result ≡ differing flags.new }
+    ensures marks { MarksChange view.entry current.now new at flags.old flags.new }
+{
+    let mut count = count;
+    let mut left = current.pairs.last.get(new.code).copied().unwrap_or(0);
+    'ends: while let Some(index) = left.checked_sub(1) {
+        let (Some(end), Some(other)) = (
+            current.pairs.ends.get(index),
+            current.pairs.ends.get(partner_of(index)),
+        ) else {
+            return count;
+        };
+        let differs = current.differs(view, new, other.code, index % 2 == 0, at);
+        count = mark(flags, index / 2, differs, count);
+        left = end.next.min(index);
+    }
+    count
+}
+
 impl Comparison<'_, '_> {
-    /// Returns whether the two variables of a class differ at this time, to which all items so far
-    /// belong. One of their codes, that at index `code`, was changed to this text.
-    #[inline(always)]
-    fn differ(
-        &self,
-        view: HeadView<'_>,
-        class: Class,
-        at: u64,
-        code: usize,
-        form: Form,
-        text: &[u8],
-    ) -> bool {
-        let one = class.one as usize;
-        let other = class.other as usize;
-        if class.size_or_zero != 0 {
-            let partner = if one == code { other } else { one };
-            if !self
-                .table
-                .is_other(partner, class.size_or_zero as usize, form, text)
-            {
-                return false;
-            }
-            if !self.asked.x_of_one && !self.asked.x_of_other {
-                return true;
-            }
-        }
-        self.differ_in_any_way(view, one, other, at)
-    }
-
-    #[cold]
-    #[inline(never)]
-    fn differ_in_any_way(&self, view: HeadView<'_>, one: usize, other: usize, at: u64) -> bool {
-        if view.is_event(one) {
-            return (self.triggers[one] == Some(at)) != (self.triggers[other] == Some(at));
-        }
-        !values_match(&self.table, view, &self.asked, one, other)
-    }
-
-    /// Handles a change of the code at index `code`, and returns how many flags are 1 after it.
-    /// `inside` says whether a section is open, and `time` is the last timestamp.
+    /// Handles an item that is no timestamp: sets the value of a change, compares it with those of
+    /// its counterparts, and returns how many flags are 1 after it. Any other item changes nothing.
+    /// `regs` are the registers, `text` is the text of a change, and `bits` its digits as a number,
+    /// if that is known.
     #[inline(always)]
     pub(crate) fn take(
         &mut self,
+        watched: Watched,
         view: HeadView<'_>,
         regs: Regs,
-        code: usize,
-        form: Form,
+        item: Item,
         text: &[u8],
         bits: Option<Bits>,
-        watched: Watched,
-    ) -> usize {
-        match bits {
-            Some(bits) => self.table.set_value(code, Value::Bits(bits)),
-            None => self.table.set(code, form, text),
-        }
-        let from = self.pairs.starts[code] as usize;
-        let to = self.pairs.starts[code + 1] as usize;
-        let mut count = watched.differing;
-        if from == to {
-            return count;
-        }
-        if view.is_event(code) && regs.section.is_none() {
-            self.triggers[code] = Some(regs.time);
-        }
-        for link in from..to {
-            let class = self.pairs.links[link] as usize;
-            let its = self.pairs.classes[class];
-            let differs = self.differ(view, its, watched.at, code, form, text);
-            count = mark(self.flags, class, differs, count);
-        }
-        count
-    }
-
-    /// Writes the lines of the time at which values were compared, `at`, if it is asked for.
-    /// Returns whether it wrote some.
-    pub(crate) fn put_due<W: Sink>(
-        &self,
-        view: HeadView<'_>,
-        watched: Watched,
-        out: &mut W,
-    ) -> Result<bool, WriteFailed> {
-        if watched.differing == 0 || self.asked.to < watched.at {
-            return Ok(false);
-        }
-        put_lines(self, view, watched.at, out)?;
-        Ok(true)
-    }
-
-    /// Sets the flags after the lines of a time were written.
-    pub(crate) fn settle(&mut self) {
-        let after = match self.asked.extent {
-            Extent::Always => 0,
-            Extent::First | Extent::EachPair => 2,
+    ) -> usize
+        requires counted { IsCounted watched self.old }
+        requires sound { HasGoodText view.codes.now text.now item }
+        requires bits { HasBits item text.now bits }
+        requires other { (time : ℕ) → item ≡ item.Time time → ⊥ }
+        ensures counted { result ≡ differing self.new.flags.now }
+        ensures same { SameRequest self.old self.new }
+        ensures on { ComparesOn view.entry text.now item regs self.old self.new watched
+            (record watched { differing = result }) }
+    {
+        let Item::Change { code, form } = item else {
+            return watched.differing;
         };
-        settle(self.flags, after);
+        set_item(&mut self.current.table, item, text, bits);
+        let Some(declared) = view.code_at(code) else {
+            return watched.differing;
+        };
+        if declared.event && regs.section.is_none() && code < self.current.triggers.len() {
+            self.current.triggers[code] = Some(regs.time);
+        }
+        let new = NewValue {
+            code,
+            size: declared.size,
+            form,
+            text,
+        };
+        mark_ends(&self.current, self.flags, view, new, watched.at, watched.differing)
     }
 }
 
 impl<'p, 'r> Visit<Comparison<'p, 'r>> for Watched {
-    ghost stands = { λ _ _ _ _. ⊤ };
+    ghost use Rattle.std.specs.Prelude.{false};
+    ghost use Rattle.vcd_compare.specs.Comparing.{ComparesOne, IsCounted, stops_before};
 
-    ghost takes = { λ _ _ _ _. ⊤ };
+    ghost stands = { λ watched comparison _ _. IsCounted watched comparison };
 
-    ghost stops_before = { λ _ _ _. false };
+    ghost takes = { λ view s t result. ComparesOne view s t result };
+
+    ghost stops_before = { λ watched comparison time. stops_before watched comparison time };
 
     ghost over = { λ _. false };
 
-    /// Returns whether lines are due before a timestamp of this time, or whether it ends the run.
+    /// Returns whether a timestamp of this time ends the run, or settles a time at which lines are
+    /// due.
     #[inline(always)]
     fn ends_before(&self, comparison: &Comparison<'p, 'r>, time: u64) -> bool {
-        comparison.asked.to < time || self.differing != 0 && self.at < time
+        comparison.current.asked.to < time || (0 < self.differing && self.at < time)
     }
 
-    /// Returns false.
+    /// Returns false: only `ends_before` ends such a walk.
     #[inline(always)]
     fn is_over(&self) -> bool {
         false
     }
 
-    /// Goes on to this time.
+    /// Goes on to this time, if it is greater.
     #[inline(always)]
     fn take_timestamp(
         &mut self,
@@ -163,7 +156,8 @@ impl<'p, 'r> Visit<Comparison<'p, 'r>> for Watched {
         self.at = self.at.max(time);
     }
 
-    /// Compares the value of the change with those of its counterparts.
+    /// Sets the value of the change, and compares it with those of its counterparts. It writes
+    /// nothing, and never fails.
     #[inline(always)]
     fn take_change<W: Sink>(
         &mut self,
@@ -173,13 +167,11 @@ impl<'p, 'r> Visit<Comparison<'p, 'r>> for Watched {
         change: ScannedItem<'_>,
         _out: &mut W,
     ) -> Result<(), WriteFailed> {
-        if let Item::Change { code, form } = change.item {
-            self.differing = comparison.take(view, regs, code, form, change.text, change.bits, *self);
-        }
+        self.differing = comparison.take(*self, view, regs, change.item, change.text, change.bits);
         Ok(())
     }
 
-    /// Does nothing.
+    /// Does nothing, and never fails.
     #[inline(always)]
     fn take_section<W: Sink>(
         &mut self,

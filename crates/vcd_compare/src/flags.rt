@@ -1,26 +1,40 @@
-//! A byte for each pair: 0 if its two values match, 1 if they differ now, 2 if it has had its line.
-ghost use Rattle.std.specs.Prelude.{◌≡◌, ◌<◌, length};
-ghost use Rattle.vcd_compare.specs.Flags.{differing, marked};
+//! A byte for each class of pairs: 1 if a line is due at the time that is compared, 2 if the class
+//! has had its only line, otherwise 0.
+ghost use Rattle.std.specs.Prelude.{◌≡◌, ◌<◌, length, map};
+ghost use Rattle.vcd_compare.specs.Flags.{differing, marked, settled_as};
 
-/// Says whether the values of the pair at index `pair` differ now, unless it has had its line.
-/// `count` is how many pairs differ now; returns how many do after it.
+/// Says whether the two of a class differ now, unless the class has had its line. `count` is how
+/// many flags are 1; returns how many are after it. Nothing changes if there is no such class.
 #[inline(always)]
-pub fn mark(flags: &mut [u8], pair: usize, differs: bool, count: usize) -> usize
-    requires pair { pair < length flags.old }
+pub(crate) fn mark(flags: &mut [u8], class: usize, differs: bool, count: usize) -> usize
     requires count { count ≡ differing flags.old }
-    ensures flags { flags.new ≡ marked flags.old pair differs }
+    ensures flags { flags.new ≡ marked flags.old class differs }
     ensures count { result ≡ differing flags.new }
 {
-    let was = flags[pair];
+    if class >= flags.len() {
+        return count;
+    }
+    let was = flags[class];
     if was == 2 {
         return count;
     }
-    flags[pair] = u8::from(differs);
+    flags[class] = u8::from(differs);
     if was == 1 {
         if differs { count } else { count - 1 }
     } else if differs {
         count + 1
     } else {
         count
+    }
+}
+
+/// Sets each flag that is 1 to `after`, once its line was written.
+pub(crate) fn settle(flags: &mut [u8], after: u8)
+    ensures { flags.new ≡ map (settled_as after) flags.old }
+{
+    for flag in flags {
+        if *flag == 1 {
+            *flag = after;
+        }
     }
 }

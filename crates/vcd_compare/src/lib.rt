@@ -1,13 +1,16 @@
-//! Two parts of a dump compared: so far only the pairs of variables, the flags, and lemmas about
-//! the definitions.
+//! Two parts of a dump compared.
 #![tactic(auto)]
 
+mod asked;
+mod comparing;
 mod counterparts;
+mod current;
 mod flags;
 mod kinds;
 mod pairs;
 mod paths;
+mod values;
 mod variables;
 
-pub use flags::mark;
+pub use asked::{Asked, Extent};
 pub use pairs::{NamePair, Pairs, pairs_of};
