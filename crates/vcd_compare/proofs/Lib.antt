@@ -3,6 +3,7 @@ pub mod PastTimes
 pub mod OpenGrows
 pub mod FlagLemmas
 pub mod DueFlags
+pub mod PairLemmas
 pub mod QuietLemmas
 pub mod StateLemmas
 pub mod DueLemmas

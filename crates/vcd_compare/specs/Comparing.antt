@@ -1,5 +1,5 @@
 -- What a comparison keeps between two items.
-use Rattle.std.specs.Prelude.{◌≡◌, ◌≢◌, ◌⊎◌, ℕ, suc, ◌*◌, ◌+◌, ◌-◌, ◌/◌, ◌%◌, ◌<◌, ◌≤◌, Bool, true, false, cond, ◌&&◌, ◌||◌, ◌==◌, nat_lt, List, [], ◌∷◌, ◌++◌, length, slice_get, Option, Some, None, IfSome, Result, Ok}
+use Rattle.std.specs.Prelude.{◌≡◌, ◌≢◌, ◌⊎◌, ℕ, suc, ◌*◌, ◌+◌, ◌-◌, ◌/◌, ◌%◌, ◌<◌, ◌≤◌, Bool, true, false, cond, ◌&&◌, ◌||◌, ◌==◌, nat_lt, List, [], ◌∷◌, ◌++◌, length, slice_get, get_or, Option, Some, None, IfSome, Result, Ok}
 use Rattle.std.specs.List.{list_any}
 use Rattle.vcd_model.specs.Declarations.{IdCode, code_of}
 use Rattle.vcd_model.specs.Header.{Header}
@@ -54,7 +54,7 @@ AreTriggers ts h items = (index : ℕ) (c : IdCode) → slice_get h.codes index 
 -- these are the flags of the classes
 pub record AreFlags (ps : Pairs) (h : Header) (q : ModelAsked) (items : List BodyItem) (flags : List ℕ) : Type 0 where
   pub many : length flags ≡ ps.classes
-  pub each : (class : ℕ) (p : Pair) → IsClassOf h ps.ends.items class p → slice_get flags class ≡ Some (flag_of q items (code_of p.one) (code_of p.other))
+  pub each : (class : ℕ) (p : Pair) → class < ps.classes → IsClassOf h ps.ends.items class p → get_or flags class 0 ≡ flag_of q items (code_of p.one) (code_of p.other)
 
 -- none of the ends from an index on that are of this class has the code at an index
 abbrev pub HasNoEnd : List End → (code class low : ℕ) → Type 0
@@ -65,9 +65,9 @@ HasNoEnd ends code class low = (i : ℕ) (e : End) → low ≤ i → i / 2 ≡ c
 -- of the items.
 pub record AreMarked (ps : Pairs) (h : Header) (q : ModelAsked) (before items : List BodyItem) (code low : ℕ) (flags : List ℕ) : Type 0 where
   pub many : length flags ≡ ps.classes
-  pub each : (class : ℕ) (p : Pair) → IsClassOf h ps.ends.items class p
-      → (slice_get flags class ≡ Some (flag_of q items (code_of p.one) (code_of p.other)))
-      ⊎ ((slice_get flags class ≡ Some (flag_of q before (code_of p.one) (code_of p.other))) × HasNoEnd ps.ends.items code class low)
+  pub each : (class : ℕ) (p : Pair) → class < ps.classes → IsClassOf h ps.ends.items class p
+      → (get_or flags class 0 ≡ flag_of q items (code_of p.one) (code_of p.other))
+      ⊎ ((get_or flags class 0 ≡ flag_of q before (code_of p.one) (code_of p.other)) × HasNoEnd ps.ends.items code class low)
 
 -- the index of the other end of a class
 abbrev pub partner : ℕ → ℕ
@@ -140,8 +140,20 @@ pub record ComparesOne (v : HeadView) (s t : Stage Watched Comparison) (result :
   pub same : SameRequest s.command t.command
   pub on : ComparesOn v scanned.text.now scanned.item s.regs s.command t.command s.visit t.visit
 
--- The flags of the classes of a code that has got a new value are those after the item that gave it.
+-- an item that is no timestamp gave the code at an index a new value, and these are the flags before
+-- it
+pub record GivesNew (v : HeadView) (c : Current) (n : NewValue) (at : ℕ) (flags : List ℕ) (h : Header) (exceptions : List (List ℕ)) (ns : List Names) (items : List BodyItem) (x : BodyItem) (a : IdCode) : Type 0 where
+  pub views : IsViewOf v h
+  pub there : slice_get h.codes n.code ≡ Some a
+  pub gives : gives_to a x ≡ true
+  pub other : marks (x ∷ []) ≡ []
+  pub pairs : ArePairs c.pairs.now h (model_asked c.asked exceptions) ns
+  pub current : AreCurrent c h (items ++ x ∷ [])
+  pub new : IsNew (items ++ x ∷ []) a n
+  pub at_is : at ≡ time_compared (model_asked c.asked exceptions) items
+  pub flags : AreFlags c.pairs.now h (model_asked c.asked exceptions) items flags
+
+-- the flags are those after it
 abbrev pub MarksChange : HeadView → Current → NewValue → ℕ → (old new : List ℕ) → Type 0
-MarksChange v c n at old new = (h : Header) (exceptions : List (List ℕ)) (ns : List Names) (items : List BodyItem) (x : BodyItem) (a : IdCode) → IsViewOf v h → slice_get h.codes n.code ≡ Some a → gives_to a x ≡ true → marks (x ∷ []) ≡ []
-    → ArePairs c.pairs.now h (model_asked c.asked exceptions) ns → AreCurrent c h (items ++ x ∷ []) → IsNew (items ++ x ∷ []) a n → at ≡ time_compared (model_asked c.asked exceptions) items
-    → AreFlags c.pairs.now h (model_asked c.asked exceptions) items old → AreFlags c.pairs.now h (model_asked c.asked exceptions) (items ++ x ∷ []) new
+MarksChange v c n at old new = (h : Header) (exceptions : List (List ℕ)) (ns : List Names) (items : List BodyItem) (x : BodyItem) (a : IdCode) → GivesNew v c n at old h exceptions ns items x a
+    → AreFlags c.pairs.now h (model_asked c.asked exceptions) (items ++ x ∷ []) new

@@ -2,4 +2,5 @@ pub mod Asked
 pub mod Comparing
 pub mod Flags
 pub mod Lines
+pub mod LineTexts
 pub mod Pairs

@@ -139,7 +139,9 @@ impl<'p, 'r> Visit<Comparison<'p, 'r>> for Watched {
 
     /// Returns false: only `ends_before` ends such a walk.
     #[inline(always)]
-    fn is_over(&self) -> bool {
+    fn is_over(&self) -> bool
+        ensures { result ≡ false }
+    {
         false
     }
 

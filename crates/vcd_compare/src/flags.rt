@@ -1,6 +1,6 @@
 //! A byte for each class of pairs: 1 if a line is due at the time that is compared, 2 if the class
 //! has had its only line, otherwise 0.
-ghost use Rattle.std.specs.Prelude.{◌≡◌, ◌<◌, length, map};
+ghost use Rattle.std.specs.Prelude.{◌≡◌, ◌<◌, ℕ, get_or, length};
 ghost use Rattle.vcd_compare.specs.Flags.{differing, marked, settled_as};
 
 /// Says whether the two of a class differ now, unless the class has had its line. `count` is how
@@ -30,11 +30,13 @@ pub(crate) fn mark(flags: &mut [u8], class: usize, differs: bool, count: usize) 
 
 /// Sets each flag that is 1 to `after`, once its line was written.
 pub(crate) fn settle(flags: &mut [u8], after: u8)
-    ensures { flags.new ≡ map (settled_as after) flags.old }
+    ensures length { length flags.new ≡ length flags.old }
+    ensures each { (k : ℕ) → k < length flags.old
+        → get_or flags.new k 0 ≡ settled_as after (get_or flags.old k 0) }
 {
-    for flag in flags {
-        if *flag == 1 {
-            *flag = after;
+    for index in 0..flags.len() {
+        if flags[index] == 1 {
+            flags[index] = after;
         }
     }
 }

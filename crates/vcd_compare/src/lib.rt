@@ -7,6 +7,7 @@ mod counterparts;
 mod current;
 mod flags;
 mod kinds;
+mod lines;
 mod pairs;
 mod paths;
 mod values;

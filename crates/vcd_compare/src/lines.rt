@@ -1,95 +1,185 @@
 //! The lines of a comparison.
+ghost use Rattle.std.specs.Prelude.{◌≡◌, ◌-◌, ◌^◌, ◌<◌, ◌≤◌, ℕ, List, [], ◌∷◌, Some, cond, codes, flat_map, slice_get, ◌==◌, get_or, not};
+ghost use Rattle.std.specs.List.{AllZip};
+ghost use Rattle.vcd_model.specs.Bytes.{is_empty};
+ghost use Rattle.vcd_model.specs.Compare.{Asked, Named, Pair, alone_lines, kind_of as kind_of_variable, kind_shown, state_at, unlike_lines, value_line};
+ghost use Rattle.vcd_model.specs.Declarations.{Declaration, IdCode, Variable};
+ghost use Rattle.vcd_model.specs.Header.{Header};
+ghost use Rattle.vcd_model.specs.Items.{BodyItem, time_after};
+ghost use Rattle.vcd_model.specs.Sample.{shown};
+ghost use Rattle.vcd_model.specs.Within.{Names, side, within_head};
+ghost use Rattle.vcd_text.specs.Device.{Counts, PutsWhere, Takes};
+ghost use Rattle.vcd_view.specs.Views.{IsViewOf};
+ghost use Rattle.vcd_compare.specs.Comparing.{AreCurrent};
+ghost use Rattle.vcd_compare.specs.LineTexts.{ArePairLines, AtCode, AtPair, AtUnlike};
+ghost use Rattle.vcd_compare.specs.Pairs.{ArePairs, IsNamedAt, IsUnlikeAt};
 
-use crate::comparing::Comparison;
-use crate::pairs::{Pairs, kind_of};
+use crate::current::Current;
+use crate::kinds::{VariableKind, kind_of};
+use crate::pairs::{PairRow, Pairs, UnlikeRows};
 use vcd_body::put_full;
 use vcd_head::put_path;
 use vcd_text::{Sink, WriteFailed, put, put_number};
 use vcd_view::HeadView;
 
-/// Writes the state of the code at index `code` at this time: its value, or for an event 1 if it is
-/// triggered, otherwise `-`.
+/// Writes the state of the code at index `code` at this time, which is not before the last
+/// timestamp: its value, or `-` if it has none; for an event `1` if it is triggered, otherwise `-`.
+/// Fails if a write does.
 fn put_state<W: Sink>(
-    comparison: &Comparison<'_, '_>,
+    current: &Current<'_, '_>,
     view: HeadView<'_>,
     code: usize,
     time: u64,
     out: &mut W,
-) -> Result<(), WriteFailed> {
-    if view.is_event(code) {
-        let triggered = comparison.triggers[code] == Some(time);
-        return put(out, if triggered { b"1" } else { b"-" });
+) -> Result<(), WriteFailed>
+    requires failures { (W.device out.old).failures < 2 ^ 64 - 1 }
+    ensures { PutsWhere W.device out.old out.new result (λ takes.
+        AtCode view.entry current.now code time (λ items c. takes (shown (state_at 1 items c time)))) }
+{
+    if !view.is_event(code) {
+        return put_full(view, &current.table, code, out);
     }
-    put_full(view, &comparison.table, code, out)
+    if current.is_triggered(code, time) {
+        put(out, b"1")
+    } else {
+        put(out, b"-")
+    }
 }
 
-/// Writes the lines of a time: one for each pair whose flag is 1.
-pub(crate) fn put_lines<W: Sink>(
-    comparison: &Comparison<'_, '_>,
+/// Writes the line of a pair at this time, which is not before the last timestamp. Fails if a write
+/// does.
+fn put_line<W: Sink>(
+    current: &Current<'_, '_>,
     view: HeadView<'_>,
+    pair: PairRow,
     time: u64,
     out: &mut W,
-) -> Result<(), WriteFailed> {
-    for pair in &comparison.pairs.rows {
-        if comparison.flags[pair.class as usize] == 1 {
-            let class = comparison.pairs.classes[pair.class as usize];
-            put(out, b"differs ")?;
-            put_number(out, time)?;
-            put(out, b" ")?;
-            put_path(view, pair.row as usize, out)?;
-            put(out, b" ")?;
-            put_state(comparison, view, class.one as usize, time, out)?;
-            put(out, b" ")?;
-            put_state(comparison, view, class.other as usize, time, out)?;
-            put(out, b"\n")?;
+) -> Result<(), WriteFailed>
+    requires failures { (W.device out.old).failures < 2 ^ 64 - 1 }
+    ensures { PutsWhere W.device out.old out.new result (λ takes.
+        AtPair view.entry current.now pair time (λ items p.
+        takes (value_line (side items) (side items) p time))) }
+{
+    let first = pair.class.saturating_mul(2);
+    let (Some(one), Some(other)) = (
+        current.pairs.ends.get(first),
+        current.pairs.ends.get(first.saturating_add(1)),
+    ) else {
+        return Ok(());
+    };
+    put(out, b"differs ")?;
+    put_number(out, time)?;
+    put(out, b" ")?;
+    put_path(view, pair.row, out)?;
+    put(out, b" ")?;
+    put_state(current, view, one.code, time, out)?;
+    put(out, b" ")?;
+    put_state(current, view, other.code, time, out)?;
+    put(out, b"\n")
+}
+
+/// Writes the lines of this time, which is not before the last timestamp: one for each pair whose
+/// class has the flag 1. Fails if a write does.
+pub(crate) fn put_lines<W: Sink>(
+    current: &Current<'_, '_>,
+    view: HeadView<'_>,
+    flags: &[u8],
+    time: u64,
+    out: &mut W,
+) -> Result<(), WriteFailed>
+    requires failures { (W.device out.old).failures < 2 ^ 64 - 1 }
+    ensures { PutsWhere W.device out.old out.new result (λ takes.
+        ArePairLines view.entry current.now flags.now time takes) }
+{
+    for pair in &current.pairs.rows {
+        if flags.get(pair.class) == Some(&1) {
+            put_line(current, view, *pair, time, out)?;
         }
     }
     Ok(())
 }
 
-/// Writes a line for each of these rows: `alone`, the letter and the path.
+/// Writes a line for each of these rows: `alone`, the letter, and the path. Fails if a write does.
 fn put_alone<W: Sink>(
     view: HeadView<'_>,
     letter: &[u8],
-    rows: &[u32],
+    rows: &[usize],
     out: &mut W,
-) -> Result<(), WriteFailed> {
+) -> Result<(), WriteFailed>
+    requires failures { (W.device out.old).failures < 2 ^ 64 - 1 }
+    ensures { PutsWhere W.device out.old out.new result (λ takes.
+        (h : Header) (vs : List Named) → IsViewOf view.entry h → AllZip (IsNamedAt h) rows.now vs
+        → takes (alone_lines letter.now vs)) }
+{
     for row in rows {
         put(out, b"alone ")?;
         put(out, letter)?;
         put(out, b" ")?;
-        put_path(view, *row as usize, out)?;
+        put_path(view, *row, out)?;
         put(out, b"\n")?;
     }
     Ok(())
 }
 
-/// Writes what two variables need to have in common: `event`, `real` or the size.
-fn put_kind<W: Sink>(view: HeadView<'_>, row: usize, out: &mut W) -> Result<(), WriteFailed> {
+/// Writes the kind of the variable at index `row`: `event`, `real`, or the size. Fails if a write
+/// does.
+fn put_kind<W: Sink>(view: HeadView<'_>, row: usize, out: &mut W) -> Result<(), WriteFailed>
+    requires failures { (W.device out.old).failures < 2 ^ 64 - 1 }
+    ensures { PutsWhere W.device out.old out.new result (λ takes.
+        (h : Header) (v : Variable) → IsViewOf view.entry h
+        → slice_get h.declarations row ≡ Some (Declaration.Var v)
+        → takes (kind_shown (kind_of_variable v))) }
+{
     match kind_of(view, row) {
-        0 => put(out, b"event"),
-        1 => put(out, b"real"),
-        n => put_number(out, n as u64 - 2),
+        VariableKind::Event => put(out, b"event"),
+        VariableKind::Real => put(out, b"real"),
+        VariableKind::Digits(size) => put_number(out, size as u64),
     }
 }
 
+/// Writes the line of two variables of different kinds. Fails if a write does.
+fn put_unlike<W: Sink>(
+    view: HeadView<'_>,
+    rows: UnlikeRows,
+    out: &mut W,
+) -> Result<(), WriteFailed>
+    requires failures { (W.device out.old).failures < 2 ^ 64 - 1 }
+    ensures { PutsWhere W.device out.old out.new result (λ takes.
+        AtUnlike view.entry rows (λ p. takes (unlike_lines (p ∷ [])))) }
+{
+    put(out, b"size ")?;
+    put_path(view, rows.one, out)?;
+    put(out, b" ")?;
+    put_kind(view, rows.one, out)?;
+    put(out, b" ")?;
+    put_kind(view, rows.other, out)?;
+    put(out, b"\n")
+}
+
 /// Writes the lines about the header: of the variables without a counterpart, and of those whose
-/// counterpart is of another kind. Returns whether there are some.
+/// counterpart is of another kind. Fails if a write does.
 pub(crate) fn put_header_lines<W: Sink>(
     view: HeadView<'_>,
     pairs: &Pairs,
     out: &mut W,
-) -> Result<bool, WriteFailed> {
-    put_alone(view, b"A", &pairs.alone[0], out)?;
-    put_alone(view, b"B", &pairs.alone[1], out)?;
-    for [one, other] in &pairs.unlike {
-        put(out, b"size ")?;
-        put_path(view, *one as usize, out)?;
-        put(out, b" ")?;
-        put_kind(view, *one as usize, out)?;
-        put(out, b" ")?;
-        put_kind(view, *other as usize, out)?;
-        put(out, b"\n")?;
+) -> Result<(), WriteFailed>
+    requires failures { (W.device out.old).failures < 2 ^ 64 - 1 }
+    ensures { PutsWhere W.device out.old out.new result (λ takes.
+        (h : Header) (q : Asked) (ns : List Names) → IsViewOf view.entry h
+        → ArePairs pairs.now h q ns → takes (within_head q h ns)) }
+{
+    put_alone(view, b"A", &pairs.alone_one, out)?;
+    put_alone(view, b"B", &pairs.alone_other, out)?;
+    for rows in &pairs.unlike {
+        put_unlike(view, *rows, out)?;
     }
-    Ok(!(pairs.alone[0].is_empty() && pairs.alone[1].is_empty() && pairs.unlike.is_empty()))
+    Ok(())
+}
+
+/// Returns whether there are lines about the header.
+pub(crate) fn has_header_lines(pairs: &Pairs) -> bool
+    ensures { (h : Header) (q : Asked) (ns : List Names) → ArePairs pairs.now h q ns
+        → result ≡ not (is_empty (within_head q h ns)) }
+{
+    !(pairs.alone_one.is_empty() && pairs.alone_other.is_empty() && pairs.unlike.is_empty())
 }
