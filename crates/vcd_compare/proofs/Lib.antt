@@ -5,6 +5,8 @@ pub mod FlagLemmas
 pub mod DueFlags
 pub mod PairLemmas
 pub mod QuietLemmas
+pub mod EndLemmas
+pub mod StatesNow
 pub mod StateLemmas
 pub mod DueLemmas
 pub mod MatchLemmas

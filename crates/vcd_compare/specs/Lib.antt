@@ -4,3 +4,4 @@ pub mod Flags
 pub mod Lines
 pub mod LineTexts
 pub mod Pairs
+pub mod Run

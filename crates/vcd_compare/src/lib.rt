@@ -12,6 +12,8 @@ mod pairs;
 mod paths;
 mod values;
 mod variables;
+mod whole;
 
 pub use asked::{Asked, Extent};
 pub use pairs::{NamePair, Pairs, pairs_of};
+pub use whole::{Answer, Room, compare};
