@@ -142,7 +142,12 @@ module _ (v : HeadView) (c : Current) (n : NewValue) (at : ℕ) (old : List ℕ)
           record { one_is = g.there; other_is = second pair.0 pair.2; same = ap (λ (y : IdCode). y.event) (first pair.0 pair.2) ∙ fit_events pair.0 pair.1 },
           λ p is.
               let same : code_of pair.0.other ≡ code_of p.other = same_Some (code_of pair.0.other) (code_of p.other) (sym (second pair.0 pair.2) ∙ second p is) in
-              (rw (even, first p is, same) refl, inl (rw (← (first p is)) g.gives)),
+              (
+                ap (λ t. differ_from t (rule_of c.asked) (items ++ x ∷ []) a (code_of pair.0.other) at) even
+                    ∙ ap (λ (y : IdCode). codes_differ (rule_of c.asked) (items ++ x ∷ []) y (code_of pair.0.other) at) (first p is)
+                    ∙ ap (λ (y : IdCode). codes_differ (rule_of c.asked) (items ++ x ∷ []) (code_of p.one) y at) same,
+                inl (subst (λ (y : IdCode). gives_to y x ≡ true) (first p is) g.gives),
+              ),
         )
     other_there (inr (at_is, its_at, odd)) =
         let second : (p : Pair) → IsClassOf h ends class p → a ≡ code_of p.other = λ p is. same_Some a (code_of p.other) (sym g.there ∙ ap (slice_get h.codes) (sym code) ∙ other_code h ps class p e is (rw at_is at there)) in
@@ -152,7 +157,12 @@ module _ (v : HeadView) (c : Current) (n : NewValue) (at : ℕ) (old : List ℕ)
           record { one_is = g.there; other_is = first pair.0 pair.2; same = ap (λ (y : IdCode). y.event) (second pair.0 pair.2) ∙ sym (fit_events pair.0 pair.1) },
           λ p is.
               let same : code_of pair.0.one ≡ code_of p.one = same_Some (code_of pair.0.one) (code_of p.one) (sym (first pair.0 pair.2) ∙ first p is) in
-              (rw (odd, second p is, same) refl, inr (rw (← (second p is)) g.gives)),
+              (
+                ap (λ t. differ_from t (rule_of c.asked) (items ++ x ∷ []) a (code_of pair.0.one) at) odd
+                    ∙ ap (λ (y : IdCode). codes_differ (rule_of c.asked) (items ++ x ∷ []) (code_of pair.0.one) y at) (second p is)
+                    ∙ ap (λ (y : IdCode). codes_differ (rule_of c.asked) (items ++ x ∷ []) y (code_of p.other) at) same,
+                inr (subst (λ (y : IdCode). gives_to y x ≡ true) (second p is) g.gives),
+              ),
         )
 
     pub its_code : (b : IdCode) × AreCodes h n.code f.code a b × TellsOf b

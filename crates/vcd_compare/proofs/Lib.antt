@@ -7,6 +7,7 @@ pub mod PairLemmas
 pub mod QuietLemmas
 pub mod EndLemmas
 pub mod StatesNow
+pub mod CompareSteps
 pub mod StateLemmas
 pub mod DueLemmas
 pub mod MatchLemmas

@@ -82,6 +82,16 @@ pair_of_class ps h q ns class are below =
     found None e is = absurd is
     found (Some p) e is = (p, kept is_fit (flat_map (λ n. filter_map pair_at (places_of q h n)) ns) (are.covered class below).0 p e, subst (λ (k : ℕ). IsClassOf h ps.ends.items k p) (are.covered class below).3 is.class)
 
+-- all pairs of a class are of the same codes
+pub class_events : (ps : Pairs) (h : Header) (q : Asked) (ns : List Names) (class : ℕ) (p : Pair) → ArePairs ps h q ns → class < ps.classes → IsClassOf h ps.ends.items class p → (code_of p.one).event ≡ (code_of p.other).event
+class_events ps h q ns class p are below is =
+    let (o, fit, its) = pair_of_class ps h q ns class are below in
+    let one : its.one.0 ≡ is.one.0 = same_Some its.one.0 is.one.0 (sym its.one.1 ∙ is.one.1) in
+    let other : its.other.0 ≡ is.other.0 = same_Some its.other.0 is.other.0 (sym its.other.1 ∙ is.other.1) in
+    let first : code_of o.one ≡ code_of p.one = same_Some (code_of o.one) (code_of p.one) (sym its.one.2 ∙ ap (λ (e : End). slice_get h.codes e.code) one ∙ is.one.2) in
+    let second : code_of o.other ≡ code_of p.other = same_Some (code_of o.other) (code_of p.other) (sym its.other.2 ∙ ap (λ (e : End). slice_get h.codes e.code) other ∙ is.other.2) in
+    ap (λ (c : IdCode). c.event) (sym first) ∙ fit_events o fit ∙ ap (λ (c : IdCode). c.event) second
+
 -- ---- flags
 
 pub marked_there : (flags : List ℕ) (class : ℕ) (differs : Bool) → class < length flags → get_or (marked flags class differs) class 0 ≡ cond (get_or flags class 0 == 2) 2 (cond differs 1 0)

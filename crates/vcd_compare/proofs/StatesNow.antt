@@ -1,7 +1,7 @@
 -- What the current states say of the definitions' states.
-use Rattle.std.proofs.Common.{◌≡◌, ◌≢◌, ℕ, ◌<◌, ◌≤◌, ◌==◌, Bool, true, false, not, cond, ◌&&◌, ◌||◌, List, [], ◌∷◌, ◌++◌, codes, slice_get, Option, Some, None, refl, sym, ap, subst, ◌∙◌, arith}
+use Rattle.std.proofs.Common.{◌≡◌, ◌≢◌, ℕ, ◌<◌, ◌≤◌, ◌==◌, Bool, true, false, not, cond, ◌&&◌, ◌||◌, List, [], ◌∷◌, ◌++◌, suc, ◌+◌, drop, length, codes, slice_get, Option, Some, None, refl, sym, ap, subst, ◌∙◌, arith}
 use Rattle.std.specs.Prelude.{bytes_eq, option_and_then, IfSome}
-use Rattle.std.proofs.lemmas.Bool.{eqb-true, eq-eqb, ne_eqb}
+use Rattle.std.proofs.lemmas.Bool.{and_right, eqb-true, eq-eqb, ne_eqb}
 use Rattle.std.proofs.lemmas.Slice.Eq.{bytes_eq-Decides}
 use Rattle.std.proofs.Math.Bool.{or-false, or_self, or-true}
 use Rattle.vcd_model.specs.Declarations.{IdCode}
@@ -52,11 +52,11 @@ all_same_match : (r : Rule) (ds es : List ℕ) → bytes_eq ds es ≡ true → a
 all_same_match r [] [] e = refl
 all_same_match r [] (y ∷ ys) e = cc
 all_same_match r (x ∷ xs) [] e = cc
-all_same_match r (x ∷ xs) (y ∷ ys) e = by_test (x == y) refl e
+all_same_match r (x ∷ xs) (y ∷ ys) e = by_test (x == y) refl e (all_same_match r xs ys)
   where
-    by_test : (b : Bool) → (x == y) ≡ b → (b && bytes_eq xs ys) ≡ true → digits_match r x y && all_match r xs ys ≡ true
-    by_test true f g = rw (f, all_same_match r xs ys g) refl
-    by_test false f g = cc
+    by_test : (b : Bool) → (x == y) ≡ b → (b && bytes_eq xs ys) ≡ true → (bytes_eq xs ys ≡ true → all_match r xs ys ≡ true) → (digits_match r x y && all_match r xs ys) ≡ true
+    by_test true f g more = rw (f, more g) refl
+    by_test false f g more = cc
 
 -- the same value matches by any rule
 pub same_match : (r : Rule) (v w : Value) → same_value v w ≡ true → values_match r v w ≡ true
@@ -86,19 +86,25 @@ not_other r (Some u) v e = (same_match r u v (same (same_value u v) e), same_mat
     same true e = refl
     same false e = cc
 
-pub other_exactly : (r : Rule) → r.x_of_one ≡ false → r.x_of_other ≡ false → r.same_real ≡ bytes_eq → (o : Option Value) (v : Value) → is_other o v ≡ true → (match r o (Some v) ≡ false) × (match r (Some v) o ≡ false)
-other_exactly r one other real o v e = by_rule r (rule_is r one other real) o v e
+pub other_exactly : (a : Asked) → a.x_of_one ≡ false → a.x_of_other ≡ false → (o : Option Value) (v : Value) → is_other o v ≡ true → (match (rule_of a) o (Some v) ≡ false) × (match (rule_of a) (Some v) o ≡ false)
+other_exactly a one other o v e = rw (one, other) (by_value o e)
   where
-    rule_is : (r : Rule) → r.x_of_one ≡ false → r.x_of_other ≡ false → r.same_real ≡ bytes_eq → r ≡ exactly
-    rule_is r one other real = cc
+    no : (b : Bool) → not b ≡ true → b ≡ false
+    no true e = cc
+    no false e = refl
 
-    by_value : (o : Option Value) (v : Value) → is_other o v ≡ true → (match exactly o (Some v) ≡ false) × (match exactly (Some v) o ≡ false)
-    by_value None v e = (refl, refl)
-    by_value (Some u) v e = (values_same u v ∙ no (same_value u v) e, values_same v u ∙ turned_value v u ∙ no (same_value u v) e)
-      where
-        no : (b : Bool) → not b ≡ true → b ≡ false
-        no true e = cc
-        no false e = refl
+    by_value : (o : Option Value) → is_other o v ≡ true → (match exactly o (Some v) ≡ false) × (match exactly (Some v) o ≡ false)
+    by_value None e = (refl, refl)
+    by_value (Some u) e = (values_same u v ∙ no (same_value u v) e, values_same v u ∙ turned_value v u ∙ no (same_value u v) e)
 
-    by_rule : (r : Rule) → r ≡ exactly → (o : Option Value) (v : Value) → is_other o v ≡ true → (match r o (Some v) ≡ false) × (match r (Some v) o ≡ false)
-    by_rule r same o v e = rw same (by_value o v e)
+-- ---- digit by digit
+
+-- lists of two lengths do not match
+pub lengths_match : (r : Rule) (ds es : List ℕ) → length ds ≢ length es → all_match r ds es ≡ false
+lengths_match r [] [] apart = absurd (apart refl)
+lengths_match r [] (y ∷ ys) apart = refl
+lengths_match r (x ∷ xs) [] apart = refl
+lengths_match r (x ∷ xs) (y ∷ ys) apart = and_right (digits_match r x y) (all_match r xs ys) (lengths_match r xs ys (λ e. apart (ap suc e)))
+
+pub next_digit : (ds : List ℕ) (i d : ℕ) → slice_get ds i ≡ Some d → drop i ds ≡ d ∷ drop (i + 1) ds
+next_digit ds i d e = ?

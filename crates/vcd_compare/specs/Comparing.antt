@@ -142,7 +142,7 @@ pub record ComparesOne (v : HeadView) (s t : Stage Watched Comparison) (result :
 
 -- an item that is no timestamp gave the code at an index a new value, and these are the flags before
 -- it
-pub record GivesNew (v : HeadView) (c : Current) (n : NewValue) (at : ℕ) (flags : List ℕ) (h : Header) (exceptions : List (List ℕ)) (ns : List Names) (items : List BodyItem) (x : BodyItem) (a : IdCode) : Type 0 where
+pub record GivesNew (v : HeadView) (c : Current) (n : NewValue) (at : ℕ) (old : List ℕ) (h : Header) (exceptions : List (List ℕ)) (ns : List Names) (items : List BodyItem) (x : BodyItem) (a : IdCode) : Type 0 where
   pub views : IsViewOf v h
   pub there : slice_get h.codes n.code ≡ Some a
   pub gives : gives_to a x ≡ true
@@ -151,7 +151,7 @@ pub record GivesNew (v : HeadView) (c : Current) (n : NewValue) (at : ℕ) (flag
   pub current : AreCurrent c h (items ++ x ∷ [])
   pub new : IsNew (items ++ x ∷ []) a n
   pub at_is : at ≡ time_compared (model_asked c.asked exceptions) items
-  pub flags : AreFlags c.pairs.now h (model_asked c.asked exceptions) items flags
+  pub flags : AreFlags c.pairs.now h (model_asked c.asked exceptions) items old
 
 -- the flags are those after it
 abbrev pub MarksChange : HeadView → Current → NewValue → ℕ → (old new : List ℕ) → Type 0

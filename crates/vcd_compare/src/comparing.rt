@@ -2,7 +2,7 @@
 ghost use Rattle.std.specs.Prelude.{◌≡◌, ◌<◌, ℕ, List, Some, length, slice_get};
 ghost use Rattle.vcd_body.specs.Ahead.{HasBits};
 ghost use Rattle.vcd_body.specs.Given.{HasGoodText};
-ghost use Rattle.vcd_body.specs.declared.item.Item.TheVariants as item;
+ghost use Rattle.vcd_body.specs.declared.item.Item.TheVariants as body_item;
 ghost use Rattle.vcd_model.specs.Compare.{Asked as ModelAsked};
 ghost use Rattle.vcd_model.specs.Declarations.{IdCode};
 ghost use Rattle.vcd_model.specs.Header.{Header};
@@ -56,7 +56,7 @@ fn mark_ends(
 ) -> usize
     requires count { count ≡ differing flags.old }
     ensures count { result ≡ differing flags.new }
-    ensures marks { MarksChange view.entry current.now new at flags.old flags.new }
+    ensures marks { MarksChange view.entry current.now new.entry at flags.old flags.new }
 {
     let mut count = count;
     let mut left = current.pairs.last.get(new.code).copied().unwrap_or(0);
@@ -92,7 +92,7 @@ impl Comparison<'_, '_> {
         requires counted { IsCounted watched self.old }
         requires sound { HasGoodText view.codes.now text.now item }
         requires bits { HasBits item text.now bits }
-        requires other { (time : ℕ) → item ≡ item.Time time → ⊥ }
+        requires other { (time : ℕ) → item ≡ body_item.Time time → ⊥ }
         ensures counted { result ≡ differing self.new.flags.now }
         ensures same { SameRequest self.old self.new }
         ensures on { ComparesOn view.entry text.now item regs self.old self.new watched

@@ -69,7 +69,8 @@ impl Current<'_, '_> {
     #[inline(always)]
     fn is_other(&self, view: HeadView<'_>, new: NewValue<'_>, other: usize) -> Option<bool>
         ensures { (h : Header) (items : List BodyItem) (a b : IdCode) → IsViewOf view.entry h
-            → AreCurrent self.now h items → AreCodes h new.code other a b → IsNew items a new
+            → AreCurrent self.now h items → AreCodes h new.entry.code other a b
+            → IsNew items a new.entry
             → TellsOther items a b result }
     {
         let declared = view.code_at(other)?;
@@ -95,7 +96,8 @@ impl Current<'_, '_> {
         at: u64,
     ) -> bool
         ensures { (h : Header) (items : List BodyItem) (a b : IdCode) → IsViewOf view.entry h
-            → AreCurrent self.now h items → AreCodes h new.code other a b → IsNew items a new
+            → AreCurrent self.now h items → AreCodes h new.entry.code other a b
+            → IsNew items a new.entry
             → time_after items ≤ at
             → result ≡ differ_from is_first (rule_of self.now.asked) items a b at }
     {
