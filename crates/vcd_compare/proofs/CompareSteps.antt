@@ -1,9 +1,11 @@
 -- How a comparison stands with one item more.
-use Rattle.std.proofs.Common.{◌≡◌, ◌≢◌, ◌⊎◌, inl, inr, ℕ, ◌<◌, ◌≤◌, ◌*◌, ◌==◌, max, Bool, true, false, not, cond, ◌&&◌, ◌||◌, nat_lt, nat_le, List, [], ◌∷◌, ◌++◌, length, fold, filter, flat_map, slice_get, get_or, Option, Some, None, refl, sym, ap, subst, ◌∙◌, append-nil, arith}
+use Prim.Native.Nat.{zero}
+use Rattle.std.proofs.Common.{◌≡◌, ◌≢◌, ◌⊎◌, inl, inr, ℕ, suc, ◌+◌, ◌<◌, ◌≤◌, ◌*◌, ◌==◌, max, Bool, true, false, not, cond, ◌&&◌, ◌||◌, nat_lt, nat_le, List, [], ◌∷◌, ◌++◌, length, fold, filter, flat_map, slice_get, get_or, Option, Some, None, refl, sym, ap, subst, ◌∙◌, append-nil, arith}
 use Rattle.std.specs.Prelude.{IfSome, count_by}
 use Rattle.std.specs.List.{AllByRecursion, AllZip, list_any}
-use Rattle.std.proofs.lemmas.Bool.{eqb-true, le-ltb, ltb-false, leb-true, lt-leb, le-leb, or_from, or_parts}
+use Rattle.std.proofs.lemmas.Bool.{cases_lt, eqb-true, le-ltb, lt-ltb, ltb-false, leb-true, lt-leb, le-leb, or_from, or_parts}
 use Rattle.std.proofs.lemmas.List.Folds.{list_any-append}
+use Rattle.std.proofs.lemmas.Option.{slice_get_cases}
 use Rattle.vcd_model.specs.Declarations.{IdCode, code_of}
 use Rattle.vcd_model.specs.Header.{Header}
 use Rattle.vcd_model.specs.History.{gives_to}
@@ -14,18 +16,23 @@ use Rattle.vcd_model.specs.Cut.{is_mark_above}
 use Rattle.vcd_model.specs.Within.{Names, compared_in, side, times_in, within_open}
 use Rattle.vcd_model.proofs.Times.{fold-append, marks-append, time_after-append}
 use Rattle.vcd_body.specs.Current.{AreHeld}
+use Rattle.vcd_body.specs.Given.{IsItem}
+use Rattle.vcd_body.specs.Taken.{IsSection}
+use Rattle.vcd_body.specs.declared.item.Item.{Item}
+use Rattle.vcd_body.specs.declared.item.Item.TheVariants.{Time, Begin, End, Change, Finish}
 use Rattle.vcd_body.proofs.CurrentLemmas.{held_still}
 use Rattle.vcd_compare.specs.Asked.{model_asked}
-use Rattle.vcd_compare.specs.Comparing.{AreCurrent, AreFlags, AreTriggers, Compares, IsLastTrigger, is_last}
+use Rattle.vcd_compare.specs.Comparing.{AreCurrent, AreFlags, Compares, IsCounted, IsLastTrigger, is_last, stops_before}
 use Rattle.vcd_compare.specs.Flags.{differing}
 use Rattle.vcd_compare.specs.Lines.{DoNotFall, IsQuiet, codes_differ, flag_of, had_line, lines_due, time_compared}
 use Rattle.vcd_compare.specs.Pairs.{ArePairs, IsClassOf, IsPairAt}
 use Rattle.vcd_compare.specs.declared.comparing.Comparison.{Comparison}
 use Rattle.vcd_compare.specs.declared.comparing.Watched.{Watched}
 use Rattle.vcd_compare.specs.declared.current.Current.{Current}
+use Rattle.vcd_compare.specs.declared.pairs.End.{End as PairEnd}
 use Rattle.vcd_compare.specs.declared.pairs.PairRow.{PairRow}
 use Rattle.vcd_compare.specs.declared.pairs.Pairs.{Pairs}
-use Rattle.vcd_compare.proofs.DueFlags.{flag_for, none_due}
+use Rattle.vcd_compare.proofs.DueFlags.{flag_for, none_due, none_had}
 use Rattle.vcd_compare.proofs.FlagLemmas.{compared_is, compared_other, flag_after, flag_same, settled_flag, settled_other}
 use Rattle.vcd_compare.proofs.OpenGrows.{changes_other, later_compared, open_again, open_later, open_other, state_other, triggered_other}
 use Rattle.vcd_compare.proofs.PairLemmas.{class_events}
@@ -171,3 +178,98 @@ module _ (h : Header) (exceptions : List (List ℕ)) (ns : List Names) (items : 
 
   pub open_grows : w.at < t → within_open asked h ns after ≡ within_open asked h ns items ++ lines_due asked h ns items
   open_grows high = open_later asked h ns items t stands.up up_after (rw (← (stands.at)) high)
+
+-- ---- a section
+
+pub section_quiet : (codes : List IdCode) (text : List ℕ) (item : Item) (x : BodyItem) → IsSection item → IsItem codes text item x → (marks (x ∷ []) ≡ []) × ((d : IdCode) → gives_to d x ≡ false)
+section_quiet codes text (Time t) x section is = absurd section
+section_quiet codes text (Begin s) x section is = rw is (refl, λ d. refl)
+section_quiet codes text End x section is = rw is (refl, λ d. refl)
+section_quiet codes text (Change place form) x section is = absurd section
+section_quiet codes text Finish x section is = absurd section
+
+-- ---- flags of which none is 1
+
+pub none_flagged : (flags : List ℕ) (k : ℕ) → differing flags ≡ 0 → (get_or flags k 0 == 1) ≡ false
+none_flagged [] k e = refl
+none_flagged (f ∷ fs) zero e = by_test (f == 1) e
+  where
+    by_test : (b : Bool) → cond b 1 0 + differing fs ≡ 0 → b ≡ false
+    by_test true e = absurd (omega arith)
+    by_test false e = refl
+none_flagged (f ∷ fs) (suc k) e = none_flagged fs k (by_test (f == 1) e)
+  where
+    by_test : (b : Bool) → cond b 1 0 + differing fs ≡ 0 → differing fs ≡ 0
+    by_test true e = absurd (omega arith)
+    by_test false e = omega arith
+
+flag_now : (q : ModelAsked) (items : List BodyItem) (a b : IdCode) → q.extent ≡ Extent.First → had_line q items a b ≡ false → (flag_of q items a b == 1) ≡ codes_differ q.rule items a b (time_compared q items)
+unfolding flag_of
+flag_now q items a b e none = rw (e, none) (by_now (codes_differ q.rule items a b (time_compared q items)))
+  where
+    by_now : (b : Bool) → (cond {A = ℕ} b 1 0 == 1) ≡ b
+    by_now true = refl
+    by_now false = refl
+
+-- the flags of all pairs
+module _ (ps : Pairs) (h : Header) (q : ModelAsked) (ns : List Names) (items : List BodyItem) (flags : List ℕ) (pairs : ArePairs ps h q ns) (are : AreFlags ps h q items flags) where
+  class_below : (r : PairRow) (p : Pair) → IsPairAt h ps.ends.items r p → r.class < ps.classes
+  class_below r p at = by_case (slice_get_cases ps.ends.items (2 * r.class)).1
+    where
+      by_case : ((y : PairEnd) × (2 * r.class < length ps.ends.items) × (slice_get ps.ends.items (2 * r.class) ≡ Some y) × (get_or ps.ends.items (2 * r.class) y ≡ y)) ⊎ ((length ps.ends.items ≤ 2 * r.class) × (slice_get ps.ends.items (2 * r.class) ≡ None)) → r.class < ps.classes
+      by_case (inl within) = let l = within.1 in let all = pairs.classes in omega arith
+      by_case (inr past) = let no = sym past.1 ∙ at.class.one.1 in cc
+
+  pub row_flag : (r : PairRow) (p : Pair) → IsPairAt h ps.ends.items r p → get_or flags r.class 0 ≡ flag_for q items p
+  row_flag r p at = are.each r.class p (class_below r p at) at.class
+
+  each_row : (rows : List PairRow) (all : List Pair) → AllZip (IsPairAt h ps.ends.items) rows all → differing flags ≡ 0 → AllByRecursion (λ p. (flag_for q items p == 1) ≡ false) all
+  each_row [] [] zip none = tt
+  each_row [] (p ∷ all) zip none = absurd zip
+  each_row (r ∷ rows) [] zip none = absurd zip
+  each_row (r ∷ rows) (p ∷ all) zip none = (ap (λ f. f == 1) (sym (row_flag r p zip.0)) ∙ none_flagged flags r.class none, each_row rows all zip.1 none)
+
+  pub none_for_all : differing flags ≡ 0 → AllByRecursion (λ p. (flag_for q items p == 1) ≡ false) (compared_in q h ns)
+  none_for_all none = each_row ps.rows.items (compared_in q h ns) pairs.rows none
+
+none_differ : (q : ModelAsked) (items : List BodyItem) (ps : List Pair) → q.extent ≡ Extent.First → AllByRecursion (λ p. (flag_for q items p == 1) ≡ false) ps → AllByRecursion (λ p. had_line q items (code_of p.one) (code_of p.other) ≡ false) ps
+    → list_any (λ p. differs q.rule (side items) (side items) p (time_compared q items)) ps ≡ false
+none_differ q items [] e flags had = refl
+none_differ q items (p ∷ ps) e flags had = or_from _ _ (sym (flag_now q items (code_of p.one) (code_of p.other) e had.0) ∙ flags.0) (none_differ q items ps e flags.1 had.1)
+
+-- ---- a timestamp before which the walk does not stop
+
+module _ (h : Header) (exceptions : List (List ℕ)) (ns : List Names) (items : List BodyItem) (t : ℕ) (c : Comparison) (w : Watched) (stands : Compares h exceptions ns items c w) (forth : time_after items ≤ t) (counted : IsCounted w c) (on : stops_before w c t ≡ false) where
+  abbrev its : ModelAsked
+  its = model_asked c.current.asked exceptions
+
+  within_window : nat_lt c.current.asked.to t ≡ false
+  within_window = (or_parts (nat_lt c.current.asked.to t) (nat_lt 0 w.differing && nat_lt w.at t) on).0
+
+  none_one : w.at < t → differing c.flags.now ≡ 0
+  none_one high =
+      let second = (or_parts (nat_lt c.current.asked.to t) (nat_lt 0 w.differing && nat_lt w.at t) on).1 in
+      let first : nat_lt 0 w.differing ≡ false = by_test (nat_lt 0 w.differing) (rw (lt-ltb w.at t high) at second) in
+      let zero = ltb-false 0 w.differing first in
+      sym counted ∙ omega arith
+    where
+      by_test : (b : Bool) → (b && true) ≡ false → b ≡ false
+      by_test true e = cc
+      by_test false e = refl
+
+  pub timestamp_on : (w' : Watched) → w'.at ≡ max w.at t → Compares h exceptions ns (items ++ BodyItem.Time t ∷ []) c w' × (within_open its h ns (items ++ BodyItem.Time t ∷ []) ≡ within_open its h ns items)
+  timestamp_on w' at = by_order (cases_lt w.at t)
+    where
+      by_order : (w.at < t) ⊎ (t ≤ w.at) → Compares h exceptions ns (items ++ BodyItem.Time t ∷ []) c w' × (within_open its h ns (items ++ BodyItem.Time t ∷ []) ≡ within_open its h ns items)
+      by_order (inl high) =
+          let none = none_one high in
+          let flags = none_for_all c.current.pairs.now h its ns items c.flags.now stands.pairs stands.flags none in
+          (
+            compares_later h exceptions ns items t c w stands forth high within_window c w' refl (at ∙ omega arith) refl (λ k below. rw (none_flagged c.flags.now k none) refl)
+              (λ e. none_differ its items (compared_in its h ns) e flags (none_had its items (compared_in its h ns) (filter (is_settled items) (times_in its items)) (stands.quiet e))),
+            open_grows h exceptions ns items t c w stands forth high
+                ∙ ap (λ l. within_open its h ns items ++ l) (none_due its h ns items stands.up stands.quiet flags)
+                ∙ append-nil (within_open its h ns items),
+          )
+      by_order (inr low) =
+          (compares_again h exceptions ns items t c w stands forth low within_window w' (at ∙ omega arith), open_stays h exceptions ns items t c w stands forth low)

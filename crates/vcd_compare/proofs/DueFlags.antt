@@ -104,7 +104,7 @@ module _ (q : Asked) (items : List BodyItem) (up : DoNotFall 0 (marks items)) wh
 -- ---- all pairs
 
 -- if no pair differed before, none of them had a line
-none_had : (q : Asked) (items : List BodyItem) (ps : List Pair) (ts : List ℕ) → list_any (λ u. list_any (λ o. differs q.rule (side items) (side items) o u) ps) ts ≡ false
+pub none_had : (q : Asked) (items : List BodyItem) (ps : List Pair) (ts : List ℕ) → list_any (λ u. list_any (λ o. differs q.rule (side items) (side items) o u) ps) ts ≡ false
     → AllByRecursion (λ p. list_any (codes_differ q.rule items (code_of p.one) (code_of p.other)) ts ≡ false) ps
 none_had q items [] ts e = tt
 none_had q items (p ∷ ps) ts e = (first ts e, none_had q items ps ts (others ts e))

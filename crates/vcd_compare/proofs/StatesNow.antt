@@ -1,7 +1,9 @@
 -- What the current states say of the definitions' states.
+use Prim.Native.Nat.{zero}
 use Rattle.std.proofs.Common.{◌≡◌, ◌≢◌, ℕ, ◌<◌, ◌≤◌, ◌==◌, Bool, true, false, not, cond, ◌&&◌, ◌||◌, List, [], ◌∷◌, ◌++◌, suc, ◌+◌, drop, length, codes, slice_get, Option, Some, None, refl, sym, ap, subst, ◌∙◌, arith}
 use Rattle.std.specs.Prelude.{bytes_eq, option_and_then, IfSome}
 use Rattle.std.proofs.lemmas.Bool.{and_right, eqb-true, eq-eqb, ne_eqb}
+use Rattle.std.proofs.lemmas.Option.{same_Some}
 use Rattle.std.proofs.lemmas.Slice.Eq.{bytes_eq-Decides}
 use Rattle.std.proofs.Math.Bool.{or-false, or_self, or-true}
 use Rattle.vcd_model.specs.Declarations.{IdCode}
@@ -107,4 +109,6 @@ lengths_match r (x ∷ xs) [] apart = refl
 lengths_match r (x ∷ xs) (y ∷ ys) apart = and_right (digits_match r x y) (all_match r xs ys) (lengths_match r xs ys (λ e. apart (ap suc e)))
 
 pub next_digit : (ds : List ℕ) (i d : ℕ) → slice_get ds i ≡ Some d → drop i ds ≡ d ∷ drop (i + 1) ds
-next_digit ds i d e = ?
+next_digit [] i d e = cc
+next_digit (x ∷ xs) zero d e = ap (λ y. y ∷ xs) (same_Some x d e)
+next_digit (x ∷ xs) (suc i) d e = let one : suc i + 1 ≡ suc (i + 1) = omega arith in rw one (next_digit xs i d e)

@@ -63,12 +63,21 @@ pub(crate) fn values_match(
         (value_in (codes_shown view.entry) table.now one)
         (value_in (codes_shown view.entry) table.now other) }
 {
-    match (table.get(one), table.get(other)) {
-        (Shown::Unset, Shown::Unset) => true,
-        (Shown::Unset, Shown::Bits | Shown::Real) => asked.x_of_one,
-        (Shown::Bits | Shown::Real, Shown::Unset) => asked.x_of_other,
-        (Shown::Real, Shown::Real) => table.real(one) == table.real(other),
-        (Shown::Bits, Shown::Bits) => all_match(table, view, asked, one, other),
-        (Shown::Bits, Shown::Real) | (Shown::Real, Shown::Bits) => false,
+    match table.get(one) {
+        Shown::Unset => match table.get(other) {
+            Shown::Unset => true,
+            Shown::Bits => asked.x_of_one,
+            Shown::Real => asked.x_of_one,
+        },
+        Shown::Bits => match table.get(other) {
+            Shown::Unset => asked.x_of_other,
+            Shown::Bits => all_match(table, view, asked, one, other),
+            Shown::Real => false,
+        },
+        Shown::Real => match table.get(other) {
+            Shown::Unset => asked.x_of_other,
+            Shown::Bits => false,
+            Shown::Real => table.real(one) == table.real(other),
+        },
     }
 }
