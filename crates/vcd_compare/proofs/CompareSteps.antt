@@ -190,18 +190,24 @@ section_quiet codes text Finish x section is = absurd section
 
 -- ---- flags of which none is 1
 
+abbrev ones_from : ℕ → List ℕ → ℕ
+ones_from n flags = fold (λ a f. a + cond (f == 1) 1 0) n flags
+
+ones_grow : (n : ℕ) (flags : List ℕ) → n ≤ ones_from n flags
+ones_grow n [] = omega arith
+ones_grow n (f ∷ fs) = let more = ones_grow (n + cond (f == 1) 1 0) fs in omega arith
+
+none_from : (n : ℕ) (flags : List ℕ) (k : ℕ) → ones_from n flags ≡ 0 → (get_or flags k 0 == 1) ≡ false
+none_from n [] k e = refl
+none_from n (f ∷ fs) zero e = let more = ones_grow (n + cond (f == 1) 1 0) fs in by_test (f == 1) (omega arith)
+  where
+    by_test : (b : Bool) → n + cond b 1 0 ≤ 0 → b ≡ false
+    by_test true l = absurd (omega arith)
+    by_test false l = refl
+none_from n (f ∷ fs) (suc k) e = none_from (n + cond (f == 1) 1 0) fs k e
+
 pub none_flagged : (flags : List ℕ) (k : ℕ) → differing flags ≡ 0 → (get_or flags k 0 == 1) ≡ false
-none_flagged [] k e = refl
-none_flagged (f ∷ fs) zero e = by_test (f == 1) e
-  where
-    by_test : (b : Bool) → cond b 1 0 + differing fs ≡ 0 → b ≡ false
-    by_test true e = absurd (omega arith)
-    by_test false e = refl
-none_flagged (f ∷ fs) (suc k) e = none_flagged fs k (by_test (f == 1) e)
-  where
-    by_test : (b : Bool) → cond b 1 0 + differing fs ≡ 0 → differing fs ≡ 0
-    by_test true e = absurd (omega arith)
-    by_test false e = omega arith
+none_flagged flags k e = none_from 0 flags k e
 
 flag_now : (q : ModelAsked) (items : List BodyItem) (a b : IdCode) → q.extent ≡ Extent.First → had_line q items a b ≡ false → (flag_of q items a b == 1) ≡ codes_differ q.rule items a b (time_compared q items)
 unfolding flag_of

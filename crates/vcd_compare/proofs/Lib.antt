@@ -8,6 +8,7 @@ pub mod QuietLemmas
 pub mod EndLemmas
 pub mod StatesNow
 pub mod CompareSteps
+pub mod TriggerLemmas
 pub mod StateLemmas
 pub mod DueLemmas
 pub mod MatchLemmas

@@ -11,11 +11,13 @@ use Rattle.vcd_model.specs.Header.{Header}
 use Rattle.vcd_model.specs.History.{final_value}
 use Rattle.vcd_model.specs.Items.{BodyItem, time_after}
 use Rattle.vcd_model.specs.Compare.{Rule, all_match, digits_match, exactly, is_triggered, match, state_at, values_match}
-use Rattle.vcd_model.specs.Values.{Value, same_value}
+use Rattle.vcd_model.specs.Values.{Value, extend, same_value}
 use Rattle.vcd_view.specs.Views.{IsViewOf}
 use Rattle.vcd_view.specs.declared.view.HeadView.{HeadView}
-use Rattle.vcd_body.specs.Contents.{codes_shown, held_at, value_in}
-use Rattle.vcd_body.specs.Kept.{value_at_size}
+use Rattle.vcd_body.specs.Contents.{codes_shown, held_at, shown_as, value_in}
+use Rattle.vcd_body.specs.Kept.{Held, real_text, value_at_size}
+use Rattle.vcd_body.specs.declared.slot.Shown.{Shown}
+use Rattle.vcd_body.specs.declared.slot.Shown.TheVariants as shown
 use Rattle.vcd_body.specs.Other.{is_other}
 use Rattle.vcd_body.proofs.TableLemmas.{shown_are}
 use Rattle.vcd_compare.specs.Asked.{rule_of}
@@ -112,3 +114,38 @@ pub next_digit : (ds : List ℕ) (i d : ℕ) → slice_get ds i ≡ Some d → d
 next_digit [] i d e = cc
 next_digit (x ∷ xs) zero d e = ap (λ y. y ∷ xs) (same_Some x d e)
 next_digit (x ∷ xs) (suc i) d e = let one : suc i + 1 ≡ suc (i + 1) = omega arith in rw one (next_digit xs i d e)
+
+-- ---- what a table shows of two values
+
+pub unset_some : (r : Rule) (m n : ℕ) (g h : Held) (s : Shown) → shown_as g ≡ shown.Unset → shown_as h ≡ s → (s ≡ shown.Unset → ⊥) → match r (value_at_size m g) (value_at_size n h) ≡ r.x_of_one
+unset_some r m n Held.Unset Held.Unset s e f none = absurd (none (sym f))
+unset_some r m n Held.Unset (Held.Digits ds) s e f none = refl
+unset_some r m n Held.Unset (Held.Text text) s e f none = refl
+unset_some r m n (Held.Digits ds) h s e f none = cc
+unset_some r m n (Held.Text text) h s e f none = cc
+
+pub some_unset : (r : Rule) (m n : ℕ) (g h : Held) (s : Shown) → shown_as g ≡ s → shown_as h ≡ shown.Unset → (s ≡ shown.Unset → ⊥) → match r (value_at_size m g) (value_at_size n h) ≡ r.x_of_other
+some_unset r m n Held.Unset Held.Unset s e f none = absurd (none (sym e))
+some_unset r m n (Held.Digits ds) Held.Unset s e f none = refl
+some_unset r m n (Held.Text text) Held.Unset s e f none = refl
+some_unset r m n g (Held.Digits ds) s e f none = cc
+some_unset r m n g (Held.Text text) s e f none = cc
+
+pub bits_real : (r : Rule) (m n : ℕ) (g h : Held) → shown_as g ≡ shown.Bits → shown_as h ≡ shown.Real → (match r (value_at_size m g) (value_at_size n h) ≡ false) × (match r (value_at_size n h) (value_at_size m g) ≡ false)
+bits_real r m n (Held.Digits ds) (Held.Text text) e f = (refl, refl)
+bits_real r m n Held.Unset h e f = cc
+bits_real r m n (Held.Text text) h e f = cc
+bits_real r m n (Held.Digits ds) Held.Unset e f = cc
+bits_real r m n (Held.Digits ds) (Held.Digits es) e f = cc
+
+pub both_real : (a : Asked) (m n : ℕ) (g h : Held) → shown_as g ≡ shown.Real → shown_as h ≡ shown.Real → match (rule_of a) (value_at_size m g) (value_at_size n h) ≡ bytes_eq (real_text g) (real_text h)
+both_real a m n (Held.Text one) (Held.Text other) e f = or_self (bytes_eq one other)
+both_real a m n Held.Unset h e f = cc
+both_real a m n (Held.Digits ds) h e f = cc
+both_real a m n (Held.Text one) Held.Unset e f = cc
+both_real a m n (Held.Text one) (Held.Digits es) e f = cc
+
+pub bits_there : (m : ℕ) (g : Held) → shown_as g ≡ shown.Bits → (ds : List ℕ) × (value_at_size m g ≡ Some (Value.Bits ds))
+bits_there m Held.Unset e = cc
+bits_there m (Held.Digits ds) e = (extend ds m, refl)
+bits_there m (Held.Text text) e = cc

@@ -52,6 +52,22 @@ pub struct Answer {
     pub done: Done,
 }
 
+impl Pairs {
+    /// Returns how many pairs are compared.
+    pub fn count(&self) -> usize
+        ensures { result ≡ length self.now.rows.items }
+    {
+        self.rows.len()
+    }
+
+    /// Returns how many bytes `Room::flags` has to have.
+    pub fn flag_count(&self) -> usize
+        ensures { result ≡ self.now.classes }
+    {
+        self.classes
+    }
+}
+
 /// A comparison between two items of a body.
 #[derive(Drop)]
 pub(crate) struct Run<'p, 'r> {
@@ -135,8 +151,10 @@ impl Run<'_, '_> {
         );
         self.watched = walked.visit;
         self.regs = walked.regs;
-        pass_items(feed, walked.ahead.passed());
-        match walked.ended {
+        let passed = walked.ahead.passed();
+        let ended = walked.ended;
+        pass_items(feed, passed);
+        match ended {
             Ok(_) => Ok(()),
             Err(failed) => Err(failed),
         }

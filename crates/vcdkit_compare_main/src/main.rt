@@ -6,7 +6,7 @@ mod names;
 mod run;
 
 use crate::command::{asked_of, command_of};
-use crate::names::{NamesFault, add_file, add_words};
+use crate::names::{NamesFault, add_file, add_words, bytes_of};
 use crate::run::{Request, compared, report, say};
 use clap::ArgMatches;
 use clap::error::ErrorKind;
@@ -47,7 +47,7 @@ fn request_of<E: Sink>(
     }
     if let Some(words) = matches.get_strs("except") {
         for word in words {
-            let Ok(name) = String::from_str(alloc, word) else {
+            let Ok(name) = bytes_of(alloc, word.as_bytes()) else {
                 return Err(say(err, "out of memory", "", 3));
             };
             if exceptions.push(name).is_err() {

@@ -2,7 +2,15 @@
 
 use clap::ArgMatches;
 use std::alloc::{AllocError, AllocFailed, Global};
+use vcd_compare::NamePair;
 use vcd_text::{Feed, Next, Source};
+
+/// Returns a copy of these bytes. Fails if memory runs out.
+pub(crate) fn bytes_of(alloc: Global, bytes: &[u8]) -> Result<Vec<u8>, AllocError> {
+    let mut copy = vec![in alloc; 0u8; bytes.len()]?;
+    copy.copy_from_slice(bytes);
+    Ok(copy)
+}
 
 /// Returns the two names of the argument `X=Y`. `None` if it has no `=`, or if one name is empty.
 fn two_names(word: &str) -> Option<(&str, &str)> {
@@ -37,7 +45,7 @@ impl<T: Drop> From<AllocFailed<T>> for NamesFault {
 pub(crate) fn add_words(
     alloc: Global,
     matches: &ArgMatches<'_>,
-    names: &mut Vec<[String; 2]>,
+    names: &mut Vec<NamePair>,
 ) -> Result<(), NamesFault> {
     let Some(words) = matches.get_strs("names") else {
         return Ok(());
@@ -46,7 +54,10 @@ pub(crate) fn add_words(
         let Some((one, other)) = two_names(word) else {
             return Err(NamesFault::Bad);
         };
-        names.push([String::from_str(alloc, one)?, String::from_str(alloc, other)?])?;
+        names.push(NamePair {
+            one: bytes_of(alloc, one.as_bytes())?,
+            other: bytes_of(alloc, other.as_bytes())?,
+        })?;
     }
     Ok(())
 }
@@ -55,12 +66,9 @@ pub(crate) fn add_words(
 fn next_word<S: Source>(
     alloc: Global,
     feed: &mut Feed<'_, '_, '_, '_, S>,
-) -> Result<Option<String>, NamesFault> {
+) -> Result<Option<Vec<u8>>, NamesFault> {
     match feed.next() {
-        Ok(Next::Token) => match str::from_utf8(feed.token()) {
-            Ok(text) => Ok(Some(String::from_str(alloc, text)?)),
-            Err(_) => Err(NamesFault::Bad),
-        },
+        Ok(Next::Token) => Ok(Some(bytes_of(alloc, feed.token())?)),
         Ok(Next::Finish) => Ok(None),
         Err(_) => Err(NamesFault::Unread),
     }
@@ -70,7 +78,7 @@ fn next_word<S: Source>(
 pub(crate) fn add_file<S: Source>(
     alloc: Global,
     reader: &mut S,
-    names: &mut Vec<[String; 2]>,
+    names: &mut Vec<NamePair>,
 ) -> Result<(), NamesFault> {
     let mut chunk = vec![in alloc; 0u8; 65_536]?;
     let mut token = vec![in alloc; 0u8; 1_048_576]?;
@@ -83,6 +91,6 @@ pub(crate) fn add_file<S: Source>(
         let Some(other) = next_word(alloc, &mut feed)? else {
             return Err(NamesFault::Bad);
         };
-        names.push([one, other])?;
+        names.push(NamePair { one, other })?;
     }
 }

@@ -3,7 +3,7 @@
 use std::alloc::{AllocError, Global};
 use std::hash::BuildHasher;
 use vcd_body::{Share, Slot, Stop};
-use vcd_compare::{Answer, Asked, Room, compare, pairs_of};
+use vcd_compare::{Answer, Asked, NamePair, Room, compare, pairs_of};
 use vcd_head::{HeadFault, read_head_with_hasher};
 use vcd_text::{Feed, Sink, Source, WriteFailed, put, put_number, text_of};
 use vcd_view::need;
@@ -36,8 +36,8 @@ impl From<WriteFailed> for Failure {
 /// What is compared.
 #[derive(Drop)]
 pub(crate) struct Request {
-    pub names: Vec<[String; 2]>,
-    pub exceptions: Vec<String>,
+    pub names: Vec<NamePair>,
+    pub exceptions: Vec<Vec<u8>>,
     pub asked: Asked,
 }
 
@@ -89,7 +89,7 @@ pub(crate) fn compared<S: Source, W: Sink, B: BuildHasher>(
     let mut slots = vec![in alloc; Slot::new(); need.slots]?;
     let mut shares = vec![in alloc; Share::new(); need.slots]?;
     let mut triggers = vec![in alloc; None; need.slots]?;
-    let mut flags = vec![in alloc; 0u8; pairs.classes.len()]?;
+    let mut flags = vec![in alloc; 0u8; pairs.flag_count()]?;
     let room = Room {
         values: &mut values,
         slots: &mut slots,
@@ -98,8 +98,8 @@ pub(crate) fn compared<S: Source, W: Sink, B: BuildHasher>(
         flags: &mut flags,
     };
     let answer: Answer = compare(view, &mut feed, room, &pairs, request.asked, out)?;
-    put_count(pairs.rows.len(), out)?;
-    Ok(answer.differs || pairs.rows.is_empty())
+    put_count(pairs.count(), out)?;
+    Ok(answer.differs || pairs.count() == 0)
 }
 
 fn put_fault<E: Sink>(err: &mut E, name: &str, line: u64, text: &str) -> Result<(), WriteFailed> {

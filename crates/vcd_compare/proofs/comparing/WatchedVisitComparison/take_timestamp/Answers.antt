@@ -6,6 +6,7 @@ use Rattle.vcd_body.specs.Items.{AreRegsAfter, regs_after}
 use Rattle.vcd_body.specs.declared.item.Item.{Item}
 use Rattle.vcd_compare.specs.Asked.{model_asked}
 use Rattle.vcd_compare.specs.Comparing.{Compares}
+use Rattle.vcd_compare.specs.declared.comparing.Watched.{Watched}
 use Rattle.vcd_compare.proofs.CompareSteps.{time_more, timestamp_on}
 use Rattle.vcd_compare.proofs.comparing.WatchedVisitComparison.take_timestamp.Goals as goal
 
@@ -25,7 +26,7 @@ returns-clause-takes c = λ a a' out item. record {
       let grown : t ≡ max (time_after items) t = time ∙ ap (λ (y : BodyItem). time_after (items ++ y ∷ [])) mark ∙ time_more items t in
       let forth : time_after items ≤ t = omega arith in
       let comparison = c.args._comparison.now in
-      let watched = record { at = c.max-self.result; differing = c.args.self.now.differing } in
+      let watched : Watched = record { at = c.max-self.result; differing = c.args.self.now.differing } in
       subst (λ (y : BodyItem). Compares h exceptions ns (items ++ y ∷ []) comparison watched × (within_open (model_asked comparison.current.asked exceptions) h ns (items ++ y ∷ []) ≡ within_open (model_asked comparison.current.asked exceptions) h ns items)) (sym mark)
       (timestamp_on h exceptions ns items t comparison c.args.self.now stands forth c.requires.stands c.requires.no_stop watched c.max-self.ensures);
 }
