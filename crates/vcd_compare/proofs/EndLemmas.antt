@@ -1,5 +1,6 @@
 -- The flags of the classes of a code, end by end.
 use Rattle.std.proofs.Common.{◌≡◌, ◌≢◌, ◌⊎◌, inl, inr, ℕ, suc, ◌<◌, ◌≤◌, ◌*◌, ◌+◌, ◌-◌, ◌/◌, ◌%◌, ◌==◌, min, Bool, true, false, not, cond, List, [], ◌∷◌, ◌++◌, length, slice_get, get_or, Option, Some, None, refl, sym, ap, subst, ◌∙◌, arith}
+use Rattle.std.specs.Prelude.{unwrap_or}
 use Rattle.std.proofs.lemmas.Bool.{cases_lt, eqb-true, eqb-false, eq-eqb, ne_eqb}
 use Rattle.std.proofs.lemmas.Option.{same_Some, slice_get-get_or, slice_get_cases}
 use Rattle.std.proofs.lemmas.Slice.Eq.{bytes_eq-Decides}
@@ -71,8 +72,32 @@ module _ (v : HeadView) (c : Current) (n : NewValue) (at : ℕ) (old : List ℕ)
 
   -- ---- where it begins
 
-  pub marked_first : (low : ℕ) → ((i : ℕ) (e : End) → low ≤ i → slice_get ends i ≡ Some e → e.code ≢ n.code) → AreMarked ps h q items (items ++ x ∷ []) n.code low old
-  marked_first low none = record { many = g.flags.many; each = λ class p below is. inr (g.flags.each class p below is, λ i e le half there. none i e le there) }
+  in_codes : n.code < length h.codes
+  in_codes = by_case (slice_get_cases h.codes n.code).1
+    where
+      by_case : ((y : IdCode) × (n.code < length h.codes) × (slice_get h.codes n.code ≡ Some y) × (get_or h.codes n.code y ≡ y)) ⊎ ((length h.codes ≤ n.code) × (slice_get h.codes n.code ≡ None)) → n.code < length h.codes
+      by_case (inl within) = within.1
+      by_case (inr past) = let no = sym past.1 ∙ g.there in cc
+
+  end_below : (i : ℕ) (e : End) → slice_get ends i ≡ Some e → i < length ends
+  end_below i e there = by_case (slice_get_cases ends i).1
+    where
+      by_case : ((y : End) × (i < length ends) × (slice_get ends i ≡ Some y) × (get_or ends i y ≡ y)) ⊎ ((length ends ≤ i) × (slice_get ends i ≡ None)) → i < length ends
+      by_case (inl within) = within.1
+      by_case (inr past) = let no = sym past.1 ∙ there in cc
+
+  pub marked_first : (low : ℕ) → low ≡ unwrap_or (slice_get ps.last.items n.code) 0 → AreMarked ps h q items (items ++ x ∷ []) n.code low old
+  marked_first low is = record {
+    many = g.flags.many;
+    next = λ i e at there. let its = linked.is i at in let same : its.0 ≡ e = same_Some its.0 e (sym its.1 ∙ there) in ap (λ (f : End). f.code) (sym same) ∙ its.2;
+    each = λ class p below its. inr (g.flags.each class p below its, λ i e le half there. linked.none i e le (end_below i e there) there);
+  }
+    where
+      linked : IsLastEnd ends (length ends) n.code low
+      linked =
+          let all = g.pairs.codes in let less = in_codes in
+          let last : slice_get ps.last.items n.code ≡ Some (get_or ps.last.items n.code 0) = slice_get-get_or ps.last.items n.code 0 (omega arith) in
+          g.pairs.linked.from n.code low (last ∙ ap Some (sym (is ∙ ap (λ o. unwrap_or o 0) last)))
 
   -- ---- where it ends
 
@@ -199,7 +224,7 @@ module _ (v : HeadView) (c : Current) (n : NewValue) (at : ℕ) (old : List ℕ)
               again (inr back) = let same : j ≡ i = omega arith in absurd (apart (sym half ∙ ap (λ (m : ℕ). m / 2) same))
 
       pub marked_on : AreMarked ps h q items (items ++ x ∷ []) n.code (min e.next i) (marked flags class d)
-      marked_on = record { many = marked_many flags class d ∙ m.many; each = λ k p low is. by_class k p low is (k == class) refl }
+      marked_on = record { many = marked_many flags class d ∙ m.many; next = λ j y at at_j. let within = linked.within in let its = linked.is j (omega arith) in let same : its.0 ≡ y = same_Some its.0 y (sym its.1 ∙ at_j) in ap (λ (z : End). z.code) (sym same) ∙ its.2 ∙ code; each = λ k p low is. by_class k p low is (k == class) refl }
         where
           by_class : (k : ℕ) (p : Pair) → k < ps.classes → IsClassOf h ends k p → (b : Bool) → (k == class) ≡ b
               → (get_or (marked flags class d) k 0 ≡ flag_of q (items ++ x ∷ []) (code_of p.one) (code_of p.other))

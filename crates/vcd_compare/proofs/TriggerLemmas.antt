@@ -36,9 +36,9 @@ module _ (items : List BodyItem) (x : BodyItem) (c : IdCode) (gives : gives_to c
 
   -- inside a section nothing is triggered
   pub trigger_stays : (o : Option ℕ) → leaves_open items ≡ true → time_after (items ++ x ∷ []) ≡ time_after items → IsLastTrigger items c o → IsLastTrigger (items ++ x ∷ []) c o
-  trigger_stays o open same is = record {
+  trigger_stays o inside same is = record {
     low = rw same is.low;
-    is = λ t le. triggered_more t ∙ rw open (or-false (is_triggered 1 items c t) ∙ is.is t (rw (← same) le));
+    is = λ t le. triggered_more t ∙ rw inside (or-false (is_triggered 1 items c t) ∙ is.is t (rw (← same) le));
   }
 
   -- outside of sections it is

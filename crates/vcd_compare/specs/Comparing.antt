@@ -62,9 +62,10 @@ HasNoEnd ends code class low = (i : ℕ) (e : End) → low ≤ i → i / 2 ≡ c
 
 -- Some of the ends that have the code at an index were compared, those from an index on. So the
 -- flags of their classes are those after the items, and all others are still those before the last
--- of the items.
+-- of the items. The next end that is compared has the code too.
 pub record AreMarked (ps : Pairs) (h : Header) (q : ModelAsked) (before items : List BodyItem) (code low : ℕ) (flags : List ℕ) : Type 0 where
   pub many : length flags ≡ ps.classes
+  pub next : (i : ℕ) (e : End) → low ≡ suc i → slice_get ps.ends.items i ≡ Some e → e.code ≡ code
   pub each : (class : ℕ) (p : Pair) → class < ps.classes → IsClassOf h ps.ends.items class p
       → (get_or flags class 0 ≡ flag_of q items (code_of p.one) (code_of p.other))
       ⊎ ((get_or flags class 0 ≡ flag_of q before (code_of p.one) (code_of p.other)) × HasNoEnd ps.ends.items code class low)

@@ -1,5 +1,5 @@
 //! The comparison between two items of a body.
-ghost use Rattle.std.specs.Prelude.{◌≡◌, ◌<◌, ℕ, List, Some, length, slice_get};
+ghost use Rattle.std.specs.Prelude.{◌≡◌, ◌<◌, ℕ, List, Some, length, slice_get, unwrap_or};
 ghost use Rattle.vcd_body.specs.Ahead.{HasBits};
 ghost use Rattle.vcd_body.specs.Given.{HasGoodText};
 ghost use Rattle.vcd_body.specs.declared.item.Item.TheVariants as body_item;
@@ -13,6 +13,7 @@ ghost use Rattle.vcd_compare.specs.Flags.{differing, marked};
 
 use crate::current::{Current, NewValue};
 use crate::flags::mark;
+use crate::pairs::End;
 use vcd_body::{Bits, Item, Regs, ScannedItem, Visit, set_item};
 use vcd_text::{Sink, WriteFailed};
 use vcd_view::HeadView;
@@ -42,6 +43,22 @@ fn partner_of(index: usize) -> usize
     if index % 2 == 0 { index + 1 } else { index - 1 }
 }
 
+/// Returns the end at this index; `None` if there is no such index.
+#[inline(always)]
+fn end_at(ends: &[End], index: usize) -> Option<End>
+    ensures { result ≡ slice_get ends.now index }
+{
+    ends.get(index).copied()
+}
+
+/// Returns 1 plus the index of the last end that has the code at index `code`; 0 if there is none.
+#[inline(always)]
+fn last_end(last: &[usize], code: usize) -> usize
+    ensures { result ≡ unwrap_or (slice_get last.now code) 0 }
+{
+    last.get(code).copied().unwrap_or(0)
+}
+
 /// Sets the flags of all classes of a code that has just got this new value. `at` is the time at
 /// which values are compared next, and `count` is how many flags are 1; returns how many are after
 /// it.
@@ -59,11 +76,11 @@ fn mark_ends(
     ensures marks { MarksChange view.entry current.now new.entry at flags.old flags.new }
 {
     let mut count = count;
-    let mut left = current.pairs.last.get(new.code).copied().unwrap_or(0);
+    let mut left = last_end(&current.pairs.last, new.code);
     'ends: while let Some(index) = left.checked_sub(1) {
         let (Some(end), Some(other)) = (
-            current.pairs.ends.get(index),
-            current.pairs.ends.get(partner_of(index)),
+            end_at(&current.pairs.ends, index),
+            end_at(&current.pairs.ends, partner_of(index)),
         ) else {
             return count;
         };

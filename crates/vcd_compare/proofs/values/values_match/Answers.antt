@@ -1,8 +1,9 @@
 use Rattle.std.proofs.Common.{◌≡◌, Option, Some, sym, ap, ◌∙◌}
+use Rattle.std.specs.Prelude.{bytes_eq}
 use Rattle.vcd_model.specs.Compare.{match}
 use Rattle.vcd_model.specs.Values.{Value}
 use Rattle.vcd_body.specs.Contents.{codes_shown, held_at, value_in}
-use Rattle.vcd_body.specs.Kept.{value_at_size}
+use Rattle.vcd_body.specs.Kept.{real_text, value_at_size}
 use Rattle.vcd_body.proofs.TableLemmas.{value_there}
 use Rattle.vcd_compare.specs.Asked.{rule_of}
 use Rattle.vcd_compare.proofs.StatesNow.{bits_real, bits_there, both_real, some_unset, unset_some}
@@ -97,4 +98,4 @@ returns-in-Real-get-3 c = λ k d laid there its.
     let first = sym c.get.ensures ∙ c.in-Real.is in
     let second = sym c.get-in-Real.ensures ∙ c.in-Real-get-3.is in
     let values = ap (λ (o : Option Value). match r o (value_in (codes_shown c.args.view) t c.args.other)) (value_there c.args.view t c.args.one k there) ∙ ap (λ (o : Option Value). match r (value_at_size k.size one) o) (value_there c.args.view t c.args.other d its) in
-    ? ∙ sym (values ∙ both_real c.args.asked k.size d.size one other first second)
+    c.eq.ensures ∙ ap (λ l. bytes_eq l c.real-in-Real-get-3.result.now) (c.real.ensures laid) ∙ ap (λ l. bytes_eq (real_text one) l) (c.real-in-Real-get-3.ensures laid) ∙ sym (values ∙ both_real c.args.asked k.size d.size one other first second)
