@@ -269,10 +269,9 @@ module _ (h : Header) (exceptions : List (List ℕ)) (ns : List Names) (items : 
       by_order : (w.at < t) ⊎ (t ≤ w.at) → Compares h exceptions ns (items ++ BodyItem.Time t ∷ []) c w' × (within_open its h ns (items ++ BodyItem.Time t ∷ []) ≡ within_open its h ns items)
       by_order (inl high) =
           let none = none_one high in
-          let flags = none_for_all c.current.pairs.now h its ns items c.flags.now stands.pairs stands.flags none in
-          (
+          let flags = none_for_all c.current.pairs.now h its ns items c.flags.now stands.pairs stands.flags none in (
             compares_later h exceptions ns items t c w stands forth high within_window c w' refl (at ∙ omega arith) refl (λ k below. rw (none_flagged c.flags.now k none) refl)
-              (λ e. none_differ its items (compared_in its h ns) e flags (none_had its items (compared_in its h ns) (filter (is_settled items) (times_in its items)) (stands.quiet e))),
+                (λ e. none_differ its items (compared_in its h ns) e flags (none_had its items (compared_in its h ns) (filter (is_settled items) (times_in its items)) (stands.quiet e))),
             open_grows h exceptions ns items t c w stands forth high
                 ∙ ap (λ l. within_open its h ns items ++ l) (none_due its h ns items stands.up stands.quiet flags)
                 ∙ append-nil (within_open its h ns items),

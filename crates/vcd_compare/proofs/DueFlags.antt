@@ -24,7 +24,7 @@ regroup false true b = refl
 regroup false false b = refl
 
 by_flag : (e : Extent) (now was any changes : Bool) → (e ≡ First → (was ≡ false) × (any ≡ false))
-    → ◌≡◌ {A = Bool} (now && elim e [ | First ↦ not any | EachPair ↦ not was | Always ↦ changes ]) (cond (is_always e) (cond (now && changes) 1 0) (cond was 2 (cond now 1 0)) == 1)
+    → ◌≡◌ {A = Bool} (now && elim e [ First ↦ not any | EachPair ↦ not was | Always ↦ changes ]) (cond (is_always e) (cond (now && changes) 1 0) (cond was 2 (cond now 1 0)) == 1)
 by_flag First now was any changes none = let h = none refl in rw (h.0, h.1) (by_now now)
   where
     by_now : (b : Bool) → (b && true) ≡ (cond {A = ℕ} b 1 0 == 1)
@@ -85,10 +85,10 @@ module _ (q : Asked) (items : List BodyItem) (up : DoNotFall 0 (marks items)) wh
     changes = last == q.from || changed_at items (code_of p.one) (code_of p.other) last
 
     same_tests : (ps : List Pair) (e : Extent) → ◌≡◌ {A = Bool} (elim e [
-          | First ↦ not (list_any (λ u. nat_lt u last && list_any (λ o. differs q.rule (side items) (side items) o u) ps) (times_in q items))
-          | EachPair ↦ not (list_any (λ u. nat_lt u last && differs q.rule (side items) (side items) p u) (times_in q items))
-          | Always ↦ last == 1 * q.from || changes_at (side items) (code_of p.one) last || changes_at (side items) (code_of p.other) last
-        ]) (elim e [ | First ↦ not (any ps) | EachPair ↦ not had | Always ↦ changes ])
+      | First ↦ not (list_any (λ u. nat_lt u last && list_any (λ o. differs q.rule (side items) (side items) o u) ps) (times_in q items))
+      | EachPair ↦ not (list_any (λ u. nat_lt u last && differs q.rule (side items) (side items) p u) (times_in q items))
+      | Always ↦ last == 1 * q.from || changes_at (side items) (code_of p.one) last || changes_at (side items) (code_of p.other) last
+    ]) (elim e [ First ↦ not (any ps) | EachPair ↦ not had | Always ↦ changes ])
     same_tests ps First = ap not (before_last (λ u. list_any (λ o. differs q.rule (side items) (side items) o u) ps))
     same_tests ps EachPair = ap not (before_last (λ u. differs q.rule (side items) (side items) p u))
     same_tests ps Always =

@@ -161,13 +161,11 @@ module _ (v : HeadView) (c : Current) (n : NewValue) (at : ℕ) (old : List ℕ)
     other_there : IsEnd i class → (b : IdCode) × AreCodes h n.code f.code a b × TellsOf b
     other_there (inl (at_is, its_at, even)) =
         let first : (p : Pair) → IsClassOf h ends class p → a ≡ code_of p.one = λ p is. same_Some a (code_of p.one) (sym g.there ∙ ap (slice_get h.codes) (sym code) ∙ first_code h ps class p e is (rw at_is at there)) in
-        let second : (p : Pair) → IsClassOf h ends class p → slice_get h.codes f.code ≡ Some (code_of p.other) = λ p is. other_code h ps class p f is (rw its_at at its) in
-        (
+        let second : (p : Pair) → IsClassOf h ends class p → slice_get h.codes f.code ≡ Some (code_of p.other) = λ p is. other_code h ps class p f is (rw its_at at its) in (
           code_of pair.0.other,
           record { one_is = g.there; other_is = second pair.0 pair.2; same = ap (λ (y : IdCode). y.event) (first pair.0 pair.2) ∙ fit_events pair.0 pair.1 },
           λ p is.
-              let same : code_of pair.0.other ≡ code_of p.other = same_Some (code_of pair.0.other) (code_of p.other) (sym (second pair.0 pair.2) ∙ second p is) in
-              (
+              let same : code_of pair.0.other ≡ code_of p.other = same_Some (code_of pair.0.other) (code_of p.other) (sym (second pair.0 pair.2) ∙ second p is) in (
                 ap (λ t. differ_from t (rule_of c.asked) (items ++ x ∷ []) a (code_of pair.0.other) at) even
                     ∙ ap (λ (y : IdCode). codes_differ (rule_of c.asked) (items ++ x ∷ []) y (code_of pair.0.other) at) (first p is)
                     ∙ ap (λ (y : IdCode). codes_differ (rule_of c.asked) (items ++ x ∷ []) (code_of p.one) y at) same,
@@ -176,13 +174,11 @@ module _ (v : HeadView) (c : Current) (n : NewValue) (at : ℕ) (old : List ℕ)
         )
     other_there (inr (at_is, its_at, odd)) =
         let second : (p : Pair) → IsClassOf h ends class p → a ≡ code_of p.other = λ p is. same_Some a (code_of p.other) (sym g.there ∙ ap (slice_get h.codes) (sym code) ∙ other_code h ps class p e is (rw at_is at there)) in
-        let first : (p : Pair) → IsClassOf h ends class p → slice_get h.codes f.code ≡ Some (code_of p.one) = λ p is. first_code h ps class p f is (rw its_at at its) in
-        (
+        let first : (p : Pair) → IsClassOf h ends class p → slice_get h.codes f.code ≡ Some (code_of p.one) = λ p is. first_code h ps class p f is (rw its_at at its) in (
           code_of pair.0.one,
           record { one_is = g.there; other_is = first pair.0 pair.2; same = ap (λ (y : IdCode). y.event) (second pair.0 pair.2) ∙ sym (fit_events pair.0 pair.1) },
           λ p is.
-              let same : code_of pair.0.one ≡ code_of p.one = same_Some (code_of pair.0.one) (code_of p.one) (sym (first pair.0 pair.2) ∙ first p is) in
-              (
+              let same : code_of pair.0.one ≡ code_of p.one = same_Some (code_of pair.0.one) (code_of p.one) (sym (first pair.0 pair.2) ∙ first p is) in (
                 ap (λ t. differ_from t (rule_of c.asked) (items ++ x ∷ []) a (code_of pair.0.one) at) odd
                     ∙ ap (λ (y : IdCode). codes_differ (rule_of c.asked) (items ++ x ∷ []) (code_of pair.0.one) y at) (second p is)
                     ∙ ap (λ (y : IdCode). codes_differ (rule_of c.asked) (items ++ x ∷ []) y (code_of p.other) at) same,
@@ -201,7 +197,7 @@ module _ (v : HeadView) (c : Current) (n : NewValue) (at : ℕ) (old : List ℕ)
           let told : d ≡ codes_differ (rule_of c.asked) (items ++ x ∷ []) (code_of p.one) (code_of p.other) (time_compared q items) = d_is ∙ tells.0 ∙ ap (codes_differ (rule_of c.asked) (items ++ x ∷ []) (code_of p.one) (code_of p.other)) g.at_is in
           marked_there flags class d (let many = m.many in let low = below in omega arith)
           ∙ new_flag (flag_of q items (code_of p.one) (code_of p.other)) (flag_of q (items ++ x ∷ []) (code_of p.one) (code_of p.other)) d (changed ∙ ap (λ b. cond (flag_of q items (code_of p.one) (code_of p.other) == 2) 2 (cond b 1 0)) (sym told)) (get_or flags class 0)
-            (was (m.each class p below is))
+          (was (m.each class p below is))
         where
           was : (get_or flags class 0 ≡ flag_of q (items ++ x ∷ []) (code_of p.one) (code_of p.other)) ⊎ ((get_or flags class 0 ≡ flag_of q items (code_of p.one) (code_of p.other)) × HasNoEnd ends n.code class (suc i))
               → (get_or flags class 0 ≡ flag_of q (items ++ x ∷ []) (code_of p.one) (code_of p.other)) ⊎ (get_or flags class 0 ≡ flag_of q items (code_of p.one) (code_of p.other))

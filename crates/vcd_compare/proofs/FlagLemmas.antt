@@ -223,4 +223,4 @@ module _ (q : Asked) (items : List BodyItem) (t : ℕ) (up : DoNotFall 0 (marks 
         let late : (t == q.from) ≡ false = ne_eqb t q.from (λ e. omega arith) in
         ap (λ u. cond (is_always q.extent) (cond (codes_differ q.rule after a b u && (u == q.from || changed_at after a b u)) 1 0) (cond (had_line q after a b) 2 (cond (codes_differ q.rule after a b u) 1 0))) compared_after
         ∙ rw (had_after, late, changes_other items (BodyItem.Time t) a refl t ∙ changes_after a items t low, changes_other items (BodyItem.Time t) b refl t ∙ changes_after b items t low)
-          (parts_after (is_always q.extent) (had_line q items a b) (codes_differ q.rule items a b last) (codes_differ q.rule after a b t) (last == q.from || changed_at items a b last) differ_after)
+        (parts_after (is_always q.extent) (had_line q items a b) (codes_differ q.rule items a b last) (codes_differ q.rule after a b t) (last == q.from || changed_at items a b last) differ_after)

@@ -75,14 +75,14 @@ module _ (q : Asked) (items items' : List BodyItem) (u : ℕ) (same : SameUpTo u
     due_same p = rw (differs_same p u (omega arith)) (ap (λ b. differs q.rule (side items) (side items) p u && b) (by_extent q.extent))
       where
         by_extent : (e : Extent) → ◌≡◌ {A = Bool} (elim e [
-              | First ↦ not (list_any (λ v. nat_lt v u && list_any (λ o. differs q.rule (side items') (side items') o v) all) ts')
-              | EachPair ↦ not (list_any (λ v. nat_lt v u && differs q.rule (side items') (side items') p v) ts')
-              | Always ↦ u == 1 * q.from || changes_at (side items') (code_of p.one) u || changes_at (side items') (code_of p.other) u
-            ]) (elim e [
-              | First ↦ not (list_any (λ v. nat_lt v u && list_any (λ o. differs q.rule (side items) (side items) o v) all) ts)
-              | EachPair ↦ not (list_any (λ v. nat_lt v u && differs q.rule (side items) (side items) p v) ts)
-              | Always ↦ u == 1 * q.from || changes_at (side items) (code_of p.one) u || changes_at (side items) (code_of p.other) u
-            ])
+          | First ↦ not (list_any (λ v. nat_lt v u && list_any (λ o. differs q.rule (side items') (side items') o v) all) ts')
+          | EachPair ↦ not (list_any (λ v. nat_lt v u && differs q.rule (side items') (side items') p v) ts')
+          | Always ↦ u == 1 * q.from || changes_at (side items') (code_of p.one) u || changes_at (side items') (code_of p.other) u
+        ]) (elim e [
+          | First ↦ not (list_any (λ v. nat_lt v u && list_any (λ o. differs q.rule (side items) (side items) o v) all) ts)
+          | EachPair ↦ not (list_any (λ v. nat_lt v u && differs q.rule (side items) (side items) p v) ts)
+          | Always ↦ u == 1 * q.from || changes_at (side items) (code_of p.one) u || changes_at (side items) (code_of p.other) u
+        ])
         by_extent First = ap not (before (λ v. list_any (λ o. differs q.rule (side items') (side items') o v) all) ∙ any_below u _ _ ts (any_same all))
         by_extent EachPair = ap not (before (λ v. differs q.rule (side items') (side items') p v) ∙ any_below u _ _ ts (differs_same p))
         by_extent Always = rw (same.changes (code_of p.one), same.changes (code_of p.other)) refl
@@ -155,7 +155,7 @@ module _ (q : Asked) (h : Header) (ns : List Names) (items : List BodyItem) wher
       ap (λ l. within_head q h ns ++ l)
       (ap (λ ms. lines_by (items ++ x ∷ []) (window ms) (filter (λ t. list_any (nat_lt t) ms) (window ms))) same
       ∙ flat_map_same _ _ (filter (is_settled items) (times_in q items))
-        (all_filtered _ (is_settled items) (times_in q items) (λ t e. lines_same q items (items ++ x ∷ []) t (up_to_past t items (x ∷ []) (below_greatest t 0 (marks items) e)) (compared_in q h ns) (times_in q items) (times_in q items) (λ f. refl) (compared_in q h ns))))
+      (all_filtered _ (is_settled items) (times_in q items) (λ t e. lines_same q items (items ++ x ∷ []) t (up_to_past t items (x ∷ []) (below_greatest t 0 (marks items) e)) (compared_in q h ns) (times_in q items) (times_in q items) (λ f. refl) (compared_in q h ns))))
 
   -- the times up to the last one that is asked for
   abbrev kept : List ℕ → List ℕ

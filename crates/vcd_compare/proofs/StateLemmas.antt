@@ -41,22 +41,28 @@ value_stays k t p q c l =
 triggered_stays : (k t : ℕ) (p q : List BodyItem) (c : IdCode) → t < k * time_after p → is_triggered k (p ++ q) c t ≡ is_triggered k p c t
 triggered_stays k t p q c l =
     let test = λ (e : Entry). gives_to c e.item && not e.inside && k * e.time == t in
-    rw (entries-append p q, list_any-append test (entries p) (each_after entry_after p q),
-    none_passes test (time_after p) p q
-    (λ e h. let m = scaled_on k t (time_after p) e.time l h in
-        and_right (gives_to c e.item && not e.inside) (k * e.time == t) (ne_eqb (k * e.time) t (λ i. omega (arith, m, i))))
-    (omega arith))
+    rw (
+      entries-append p q,
+      list_any-append test (entries p) (each_after entry_after p q),
+      none_passes test (time_after p) p q
+          (λ e h. let m = scaled_on k t (time_after p) e.time l h in
+          and_right (gives_to c e.item && not e.inside) (k * e.time == t) (ne_eqb (k * e.time) t (λ i. omega (arith, m, i))))
+          (omega arith),
+    )
     (or-false (list_any test (entries p)))
 
 -- nor does whether it has a change then
 pub changes_stay : (k t : ℕ) (p q : List BodyItem) (c : IdCode) → t < k * time_after p → list_any (λ e. gives_to c e.item && k * e.time == t) (entries (p ++ q)) ≡ list_any (λ e. gives_to c e.item && k * e.time == t) (entries p)
 changes_stay k t p q c l =
     let test = λ (e : Entry). gives_to c e.item && k * e.time == t in
-    rw (entries-append p q, list_any-append test (entries p) (each_after entry_after p q),
-    none_passes test (time_after p) p q
-    (λ e h. let m = scaled_on k t (time_after p) e.time l h in
-        and_right (gives_to c e.item) (k * e.time == t) (ne_eqb (k * e.time) t (λ i. omega (arith, m, i))))
-    (omega arith))
+    rw (
+      entries-append p q,
+      list_any-append test (entries p) (each_after entry_after p q),
+      none_passes test (time_after p) p q
+          (λ e h. let m = scaled_on k t (time_after p) e.time l h in
+          and_right (gives_to c e.item) (k * e.time == t) (ne_eqb (k * e.time) t (λ i. omega (arith, m, i))))
+          (omega arith),
+    )
     (or-false (list_any test (entries p)))
 
 pub state_stays : (k t : ℕ) (p q : List BodyItem) (c : IdCode) → t < k * time_after p → state_at k (p ++ q) c t ≡ state_at k p c t

@@ -131,7 +131,14 @@ impl Comparison<'_, '_> {
             form,
             text,
         };
-        mark_ends(&self.current, self.flags, view, new, watched.at, watched.differing)
+        mark_ends(
+            &self.current,
+            self.flags,
+            view,
+            new,
+            watched.at,
+            watched.differing,
+        )
     }
 }
 

@@ -77,10 +77,7 @@ impl Current<'_, '_> {
         if declared.event || declared.size != new.size {
             return None;
         }
-        Some(
-            self.table
-                .is_other(other, new.size, new.form, new.text),
-        )
+        Some(self.table.is_other(other, new.size, new.form, new.text))
     }
 
     /// Returns whether the states of a code that has just got this new value and of the code at

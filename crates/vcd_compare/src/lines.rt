@@ -138,11 +138,7 @@ fn put_kind<W: Sink>(view: HeadView<'_>, row: usize, out: &mut W) -> Result<(), 
 }
 
 /// Writes the line of two variables of different kinds. Fails if a write does.
-fn put_unlike<W: Sink>(
-    view: HeadView<'_>,
-    rows: UnlikeRows,
-    out: &mut W,
-) -> Result<(), WriteFailed>
+fn put_unlike<W: Sink>(view: HeadView<'_>, rows: UnlikeRows, out: &mut W) -> Result<(), WriteFailed>
     requires failures { (W.device out.old).failures < 2 ^ 64 - 1 }
     ensures { PutsWhere W.device out.old out.new result (λ takes.
         AtUnlike view.entry rows (λ p. takes (unlike_lines (p ∷ [])))) }

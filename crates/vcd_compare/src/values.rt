@@ -20,13 +20,7 @@ fn digits_match(asked: Asked, one: u8, other: u8) -> bool
 
 /// Returns whether the digits that the codes at these indexes have in the table match: there are as
 /// many, and each matches. Both codes have digits.
-fn all_match(
-    table: &Table<'_>,
-    view: HeadView<'_>,
-    asked: Asked,
-    one: usize,
-    other: usize,
-) -> bool
+fn all_match(table: &Table<'_>, view: HeadView<'_>, asked: Asked, one: usize, other: usize) -> bool
     ensures { (ds es : List ℕ) → IsLaidOut table.now
         → value_in (codes_shown view.entry) table.now one ≡ Some (Value.Bits ds)
         → value_in (codes_shown view.entry) table.now other ≡ Some (Value.Bits es)

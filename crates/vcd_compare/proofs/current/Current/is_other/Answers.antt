@@ -19,8 +19,7 @@ returns c = λ h items a b views current codes new.
     let same : m.0 ≡ declared = same_Some m.0 declared (sym m.1 ∙ sym c.code_at.ensures ∙ c.in_ok-declared.was) in
     let no_event : b.event ≡ false = sym m.2.event_is ∙ ap (λ (k : Code). k.event) same ∙ c.if-declared.false in
     let size : b.size ≡ n.size = sym m.2.size_is ∙ ap (λ (k : Code). k.size) same ∙ c.if-declared-new.false in
-    let value = new.1 (codes.same ∙ no_event) in
-    (
+    let value = new.1 (codes.same ∙ no_event) in (
       no_event,
       sym new.0 ∙ sym size,
       value_with a.size (model_form n.form) n.text.now,
