@@ -49,7 +49,7 @@ def rows_of(window: Surroundings, sides: Sides, pairs: Sequence[Named], same: Sa
     reader, streams = Reader(keeps_texts=True), []
     for at, side in enumerate(sides):
         signals = [its[at] for _, its in pairs]
-        part = side.picked([one.path for one in signals]) or side.dump
+        part = side.picked([one.path for one in signals])
         streams.append(reader.read(part, signals, window.parts[at], partial(window.time, at)))
     rows = []
     for (name, both), *its in zip(pairs, *streams):

@@ -3,22 +3,28 @@
 A value is as a body has it: the fewest digits, or r and a real number. So equal values of one size
 have equal digits."""
 import contextlib
+import heapq
+import itertools
+import re
+import shutil
+import tempfile
 from math import gcd, isclose, isnan
-from typing import (Callable, Dict, Generator, Iterator, List, NamedTuple, Optional,
-                    Sequence, Set, Tuple, Union)
+from typing import (BinaryIO, Dict, Generator, Iterator, List, NamedTuple, Optional, Sequence, Set,
+                    Tuple, Union, cast)
 
 from ..errors import UnknownName, UsageError
 from ..model.names import bare, fronts, full_names, hint, names_for, places_of
 from ..model.signals import Signal
 from ..model.times import Timescale
 from ..model.values import full, real_of
-from ..reading import body
-from ..reading.source import Source, merge
+from ..reading import body, header
+from ..reading.comparing import Differing, differing
+from ..reading.source import Source
+from ..reading.texts import File
 from .picked import MAX_NAMES
 
-BLOCK = 1 << 16
+FIRST, EACH_PAIR, ALWAYS = "--first", "", "--always"
 Values = Tuple[Optional[bytes], Optional[bytes]]
-Same = Callable[[Optional[bytes], Optional[bytes]], bool]
 
 
 class Pair(NamedTuple):
@@ -41,12 +47,7 @@ class Difference(NamedTuple):
     values: Values
 
 
-class Moment(NamedTuple):
-    """The changes that count as one: a number that both dumps have in common, and the time."""
-
-    at: int
-    time: int
-    changes: Dict[bytes, bytes]
+Edge = Tuple[int, Dict[bytes, bytes]]  # its time, and the changes from it to the next one
 
 
 def kind(signal: Signal) -> Union[str, int]:
@@ -122,13 +123,14 @@ class Side:
             count[name] = count.get(name, 0) + len(self.of_name[path])
         return list(count.items())
 
-    def picked(self, paths: Sequence[str]) -> Optional[Source]:
-        """Returns a dump that has these paths, and only these if their names are UTF-8; None if a
-        command line has no room for the names."""
+    def picked(self, paths: Sequence[str], dump: Optional[Source] = None) -> Source:
+        """Returns what a dump with these signals, else that of this side, has of these paths: all
+        if a command line has no room for the names, and more if a name is not UTF-8."""
+        whole = dump or self.dump
         if len(set(paths)) == len({one.path for one in self.signals}):
-            return self.dump
+            return whole
         names = names_for(paths, (one.path for one in self.signals))
-        return self.dump.part(names) if sum(map(len, names)) <= MAX_NAMES else None
+        return whole.part(names) if sum(map(len, names)) <= MAX_NAMES else whole
 
 
 Sides = Tuple[Side, Side]
@@ -211,12 +213,16 @@ def factors_of(scales: Sequence[Optional[Timescale]]) -> Tuple[int, int]:
     return one // gcd(one, other), other // gcd(one, other)
 
 
-def same_within(tolerance: float, x_matches: bool = False) -> Same:
-    """Returns whether two values are the same. Real numbers are if they differ by at most the
-    tolerance, or the tolerance times the larger one; NaN is NaN. If x matches, digits that are x or
-    z in one of them may be anything in the other one."""
-    def same(one: Optional[bytes], other: Optional[bytes]) -> bool:
-        if x_matches and one and other and not b"r" in one[:1] + other[:1]:
+class Same:
+    """Whether two values are the same. Real numbers are if they differ by at most the tolerance, or
+    the tolerance times the larger one; NaN is NaN. If x matches, digits that are x or z in one of
+    them may be anything in the other one."""
+
+    def __init__(self, tolerance: float, x_matches: bool = False):
+        self._tolerance, self.x_matches = tolerance, x_matches
+
+    def __call__(self, one: Optional[bytes], other: Optional[bytes]) -> bool:
+        if self.x_matches and one and other and not b"r" in one[:1] + other[:1]:
             size = max(len(one), len(other))
             pairs = zip(*(full(text.decode(), size) for text in (one, other)))
             return all({*pair} != {"0", "1"} for pair in pairs)
@@ -225,78 +231,42 @@ def same_within(tolerance: float, x_matches: bool = False) -> Same:
         mine, its = real_of(one), real_of(other)
         if isinstance(mine, str) or isinstance(its, str):  # a text that is no number
             return False
-        return isclose(mine, its, rel_tol=tolerance, abs_tol=tolerance) or (
+        return isclose(mine, its, rel_tol=self._tolerance, abs_tol=self._tolerance) or (
             isnan(mine) and isnan(its))
-    return same
 
 
-# Texts that are alike are read at the speed of `cut`.
+# Dumps side by side.
 
-def _count_alike(one: bytes, other: bytes) -> int:
-    """Returns how many bytes two texts have alike at their begin."""
-    pairs = enumerate(zip(one, other))
-    return next((at for at, (mine, its) in pairs if mine != its), min(len(one), len(other)))
-
-
-def _alike_until(dumps: Sequence[Source]) -> Optional[int]:
-    """Returns the last timestamp before the bodies of two dumps differ; None if they do not."""
-    time, tail = 0, b"\n"
-    with dumps[0].body() as one, dumps[1].body() as other:
-        while True:
-            mine, its = one.read(BLOCK), other.read(BLOCK)
-            is_alike = mine == its
-            if is_alike and not mine:
-                return None
-            text = tail + (mine if is_alike else mine[:_count_alike(mine, its)])
-            found = body.last_time(text)
-            time = time if found is None else found
-            if not is_alike:
-                return time
-            tail = text[-32:]  # longer than a timestamp
+def _unscaled(dump: Source, to: BinaryIO) -> Source:
+    """Returns a dump without its time scale, which is written to a file that has a name."""
+    with dump.cut().open() as text:
+        front: List[bytes] = []
+        for line in text:
+            front.append(line)
+            if line == header.BODY:
+                break
+        to.write(re.sub(rb"(?m)^\$timescale\n.*\n\$end\n", b"", b"".join(front), 1))
+        shutil.copyfileobj(text, to, 1 << 16)
+    to.flush()
+    return Source(File(to.name))
 
 
-def _of_one_code(sides: Sides, pairs: Sequence[Pair]) -> Optional[List[Source]]:
-    """Returns dumps of the pairs in which both signals of each have one code; None if there are
-    none, as the order of declaration differs."""
-    counts = {len(pairs), *(len(side.signals) for side in sides)}
-    if len(counts) == 1 and all(a == b for a, b in (pair.codes for pair in pairs)):
-        return [side.dump.cut() for side in sides]
-    orders = [sorted(pairs, key=lambda pair: pair.places[side]) for side in (0, 1)]
-    if orders[0] != orders[1]:
-        return None
-    parts = [side.picked([pair.signals[at].path for pair in pairs])
-             for at, side in enumerate(sides)]
-    made = [merge(part) for part in parts if part]  # it gives codes anew
-    if len(made) < 2:
-        return None
-    codes = []
-    for at, dump in enumerate(made):
-        paths, _, _, its = dump.signals.columns()
-        if paths != ["in1." + pair.signals[at].path for pair in orders[at]]:
-            return None
-        codes.append(its)
-    return made if codes[0] == codes[1] else None
-
-
-# Bodies that are not alike.
-
-def _together(steps: Sequence[Iterator[Moment]]) -> Iterator[List[Optional[Moment]]]:
-    """Returns the steps of two dumps in order; None for one that has no step with this number."""
-    heads = [next(step, None) for step in steps]
-    while any(heads):
-        now = min(head.at for head in heads if head)
-        taken = [head if head and head.at == now else None for head in heads]
-        yield taken
-        heads = [next(step, None) if one else head
-                 for step, one, head in zip(steps, taken, heads)]
+def _places_in(part: Source, dump: Source) -> List[int]:
+    """Returns the places of the signals of a part among those of the dump."""
+    if part is dump:
+        return list(range(len(dump.signals)))
+    left = enumerate(zip(*dump.signals.columns()))
+    return [next(at for at, its in left if its == one) for one in zip(*part.signals.columns())]
 
 
 class Comparison:
-    """The comparison of pairs: at each time, or at the edges of a clock that both have."""
+    """The comparison of pairs: at each time, or at the edges of a clock that both have. It finds
+    the differences of the first time that has one (`FIRST`), the first one of each pair
+    (`EACH_PAIR`), or those at each time at which one of a pair has a change (`ALWAYS`)."""
 
-    def __init__(self, sides: Sides, pairs: List[Pair], same: Same,
+    def __init__(self, sides: Sides, pairs: List[Pair], same: Same, extent: str,
                  clocks: Sequence[Signal] = (), edge: Tuple[bytes, bytes] = (b"", b"")):
-        self._sides, self._pairs, self._same = sides, pairs, same
+        self._sides, self._pairs, self._same, self._extent = sides, pairs, same, extent
         self._clocks, self._edge = clocks, edge
         self.factors = factors_of([side.scale for side in sides])
         self.counts = [0, 0]  # of edges, up to now
@@ -309,60 +279,103 @@ class Comparison:
                         if kind(pair.signals[0]) == "event"}
 
     def differences(self) -> Iterator[List[Difference]]:
-        """Returns the first difference of each pair, those of one time together."""
-        begin: Optional[int] = 0
-        if not self._clocks and self.factors[0] == self.factors[1]:
-            alike = _of_one_code(self._sides, self._pairs)
-            begin = _alike_until(alike) if alike else 0
-        if begin is not None:
-            with contextlib.ExitStack() as stack:
+        """Returns the differences of each time together."""
+        with contextlib.ExitStack() as stack:
+            if self._clocks:
                 yield from self._compared([stack.enter_context(contextlib.closing(
-                    self._steps_of(at, begin))) for at in (0, 1)])
+                    self._edges_of(at))) for at in (0, 1)])
+                return
+            dumps = self._dumps(stack)
+            found = [stack.enter_context(contextlib.closing(its)) for its in self._found(dumps)]
+            in_order = heapq.merge(*found, key=lambda one: one.at)
+            for at, its in itertools.groupby(in_order, key=lambda one: one.at):
+                times = at // self.factors[0], at // self.factors[1]
+                yield [Difference(times, self._pairs[one.number], one.values) for one in its]
 
-    def _steps_of(self, at: int, begin: int) -> Generator[Moment, None, None]:
-        """Returns the changes of each time of one side, or from each edge of its clock to the time
-        before the next one."""
-        side, factor, codes = self._sides[at], self.factors[at], set(self._tables[at])
-        clocks = [self._clocks[at]] if self._clocks else []
-        part = side.picked([*(pair.signals[at].path for pair in self._pairs),
-                            *(clock.path for clock in clocks)]) or side.dump
-        for clock in clocks:
-            edges = body.at_edges(part, [], codes, [(clock.code.encode(), *self._edge)])
-            for number, (time, changes) in enumerate(edges):
-                yield Moment(number, time, dict(changes))
-        for time, before, changes in () if clocks else body.steps(
-                part.cut(begin, self._end() // factor), codes):
-            yield Moment(time * factor, time, dict(before + changes))
+    # Without a clock.
+
+    def _dumps(self, stack: contextlib.ExitStack) -> List[Source]:
+        """Returns the two dumps; without their time scales if one of them has none, since a merge
+        takes it for one of seconds."""
+        dumps = [side.dump for side in self._sides]
+        if sum(side.scale is None for side in self._sides) != 1:
+            return dumps
+        return [dump if side.scale is None else _unscaled(
+            dump, cast(BinaryIO, stack.enter_context(tempfile.NamedTemporaryFile(suffix=".vcd"))))
+            for dump, side in zip(dumps, self._sides)]
+
+    def _found(self, dumps: Sequence[Source]) -> Iterator[Generator[Differing, None, None]]:
+        """Returns the differences of values that are compared as they are, and of those that have
+        to be looked at."""
+        loose = {number for number, pair in enumerate(self._pairs)
+                 if kind(pair.signals[0]) == "real" or self._same.x_matches}
+        for numbers in (loose, set(range(len(self._pairs))) - loose):
+            if numbers:
+                yield self._among(dumps, sorted(numbers), numbers is loose)
+
+    def _among(self, dumps: Sequence[Source], numbers: List[int], is_loose: bool
+               ) -> Generator[Differing, None, None]:
+        """Returns the differences of some pairs. If the same values may be written in different
+        ways, all that differ are looked at."""
+        parts = [side.picked([self._pairs[number].signals[at].path for number in numbers], dump)
+                 if 2 * len(numbers) < len(side.signals) else dump
+                 for at, (side, dump) in enumerate(zip(self._sides, dumps))]
+        known = [{place: at for at, place in enumerate(_places_in(part, dump))}
+                 for part, dump in zip(parts, dumps)]
+        pairs = [(known[0][self._pairs[number].places[0]], known[1][self._pairs[number].places[1]])
+                 for number in numbers]
+        extent = ALWAYS if is_loose else self._extent
+        words = [extent] if extent else []
+        had: Set[int] = set()
+        for one in differing(parts, pairs, [*words, "--to", str(self._end())]):
+            number = numbers[one.number]
+            if is_loose and (number in had or self._same(*one.values)):
+                continue
+            if self._extent != ALWAYS:
+                had.add(number)
+            yield one._replace(number=number)
 
     def _end(self) -> int:
         """Returns the last time that both have, in ticks of both."""
         return min((side.report.last or 0) * factor
                    for side, factor in zip(self._sides, self.factors))
 
-    def _compared(self, steps: Sequence[Iterator[Moment]]) -> Iterator[List[Difference]]:
+    # With a clock.
+
+    def _edges_of(self, at: int) -> Generator[Edge, None, None]:
+        """Returns the edges of the clock of one side."""
+        side, codes = self._sides[at], set(self._tables[at])
+        clock = self._clocks[at]
+        part = side.picked([*(pair.signals[at].path for pair in self._pairs), clock.path])
+        edges = body.at_edges(part, [], codes, [(clock.code.encode(), *self._edge)])
+        for time, changes in edges:
+            yield time, dict(changes)
+
+    def _compared(self, steps: Sequence[Iterator[Edge]]) -> Iterator[List[Difference]]:
         left = set(range(len(self._pairs)))
         states: List[Dict[bytes, bytes]] = [{}, {}]
-        for taken in _together(steps):
+        for taken in itertools.zip_longest(*steps):
             self.counts = [count + bool(one) for count, one in zip(self.counts, taken)]
-            if self._clocks and None in taken:
+            if None in taken:
                 continue
             touched: Set[int] = set()
-            for step, table, state in zip(taken, self._tables, states):
-                if step:
-                    state.update(step.changes)
-                    touched.update(*(table.get(code, ()) for code in step.changes))
-            found = self._differing(touched & left, taken, states)
+            for (_, changes), table, state in zip(taken, self._tables, states):
+                state.update(changes)
+                touched.update(*(table.get(code, ()) for code in changes))
+            triggered = [changes for _, changes in taken]
+            found = self._differing(touched & left, triggered, states)
             if found:
-                left.difference_update(number for number, _ in found)
-                times = self._times(taken)
-                yield [Difference(times, self._pairs[number], values) for number, values in found]
+                if self._extent != ALWAYS:
+                    left.difference_update(number for number, _ in found)
+                (one, _), (other, _) = taken
+                yield [Difference((one, other), self._pairs[number], values)
+                       for number, values in found]
 
-    def _differing(self, numbers: Set[int], taken: Sequence[Optional[Moment]],
+    def _differing(self, numbers: Set[int], triggered: Sequence[Dict[bytes, bytes]],
                    states: Sequence[Dict[bytes, bytes]]) -> List[Tuple[int, Values]]:
         """Returns those of the pairs whose values differ, with these; of events whether they are
         triggered."""
         mine, its = states
-        triggered = [step.changes if step else {} for step in taken]
         codes, others = self._codes
         found = []
         suspects = {number for number in numbers
@@ -373,10 +386,3 @@ class Comparison:
             if not self._same(*values):
                 found.append((number, values))
         return found
-
-    def _times(self, taken: Sequence[Optional[Moment]]) -> Tuple[int, int]:
-        """Returns the time of a step in the ticks of each."""
-        at = next(step.at for step in taken if step)
-        one, other = (step.time if step else at // factor
-                      for step, factor in zip(taken, self.factors))
-        return one, other
