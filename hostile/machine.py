@@ -140,9 +140,10 @@ def little_memory(program, least, case):
 
 
 def transcript():
-    """The command lines of the crate run_words, and what each leaves: output, message, status."""
+    """The command lines of the crate run_words, and what each leaves: output, message, status. The
+    last run is left out: it has the crate's own arguments, and only counts what it writes."""
     with open(os.path.join(CRATES, "run_words", "stdout"), "rb") as f:
-        parts = (b"\n" + f.read()[:-1]).split(b"\n$ ")[1:]
+        parts = (b"\n" + f.read()[:-1]).split(b"\n$ ")[1:-1]
     for part in parts:
         line, left = (part + b"\n").split(b"\n", 1)
         output, _, rest = (b"\n" + left).partition(b"\nstatus ")
