@@ -42,7 +42,7 @@ pub use Rattle.vcd_body.specs.Given.{AreRegsPast, GivesItem, HasGoodText, GivesP
 pub use Rattle.vcd_body.specs.Held.{HasDigits, digits_of, held_in, held_or}
 pub use Rattle.vcd_body.specs.Id.{id_text}
 pub use Rattle.vcd_body.specs.Items.{AreRegsAfter, AreRegsWith, model_form, regs_after}
-pub use Rattle.vcd_body.specs.Kept.{AreTwo, Held, IsStep, Kept, are_two, as_chosen, bytes_for, counts_if, counts_with, differs, digit_in, goes_from, last_bit, last_digit_in, one_more, real_text, unset, value_at_size, with_change, with_held, with_number, with_number_change, with_step, with_text}
+pub use Rattle.vcd_body.specs.Kept.{AreTwo, Held, IsStep, Kept, are_two, as_chosen, bytes_for, count_digits, counts_if, counts_with, differs, digit_in, goes_from, last_bit, last_digit_in, one_more, real_text, unset, value_at_size, with_change, with_held, with_number, with_number_change, with_step, with_text}
 pub use Rattle.vcd_body.specs.Lines.{IsDigitLine, IsFront, IsTextLine, LeavesFront, LeavesLine, LeavesShortest, LeavesText, MayBe}
 pub use Rattle.vcd_body.specs.Other.{is_other}
 pub use Rattle.vcd_body.specs.Packed.{ArePacked, HasFour, two_bits_at, two_bits_of, two_bits_or, digit_of, digits_in, packed_byte, held_digit, quarter_of, shifted}

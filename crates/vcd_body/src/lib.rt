@@ -58,8 +58,8 @@
 //!
 //! The table keeps values:
 //!
-//! - `table`: `Table`; `value`: `Value`, the value of a change; `current`: `set_item`, the values of
-//!   codes with one more item
+//! - `table`: `Table`; `value`: `Value`, the value of a change; `current`: `set_item`, the values
+//!   of codes with one more item
 //! - `slot`: `Slot`, `Share`, `Shown`; `store`: how slots and shares are set; `counters`: the
 //!   counters of a code, which are in parts in its slot and its share
 //! - `bits`: `Bits`, up to 32 binary digits as a number, and how a slot holds them; `packed`:

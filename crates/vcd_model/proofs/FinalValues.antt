@@ -30,7 +30,7 @@ final_new c p d e =
 -- ---- a time after all items
 
 -- no entry is later than all items
-times_within : (b q : List BodyItem) → AllByRecursion (λ e. e.time ≤ time_after (b ++ q)) (each_after entry_after b q)
+pub times_within : (b q : List BodyItem) → AllByRecursion (λ e. e.time ≤ time_after (b ++ q)) (each_after entry_after b q)
 times_within b [] = tt
 times_within b (x ∷ q) = (
   time_after-append b (x ∷ q),
@@ -42,7 +42,7 @@ pub all_pass : (c : IdCode) (test : ℕ → Bool) (t : ℕ) → ((u : ℕ) → u
 all_pass c test t passes [] h = tt
 all_pass c test t passes (e ∷ es) h = (ap (λ (b : Bool). gives_to c e.item && b) (passes e.time h.0), all_pass c test t passes es h.1)
 
-value_by : (c : IdCode) (test : ℕ → Bool) (p : List BodyItem) → ((u : ℕ) → u ≤ time_after p → test u ≡ true) → last_value c test p ≡ final_value p c
+pub value_by : (c : IdCode) (test : ℕ → Bool) (p : List BodyItem) → ((u : ℕ) → u ≤ time_after p → test u ≡ true) → last_value c test p ≡ final_value p c
 value_by c test p passes =
     last_value_is c test p ∙ latest_agree (gives_at c test) (gives_at c (λ u. true)) (entries p) (all_pass c test (time_after p) passes (entries p) (times_within [] p)) ∙ sym (last_value_is c (λ u. true) p)
 
