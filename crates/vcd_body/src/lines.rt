@@ -89,8 +89,8 @@ fn needless_before_lower(digits: &[u8]) -> Option<usize>
 /// Returns how many leading zeros of binary digits can be left out: all of them, but never the last
 /// digit. The digits begin at offset `at` in `bytes`. `None` if there are no digits, or if there
 /// are at most 32 of them and fewer than 32 bytes are left from `at` on.
-// It counts them in the bytes. From the number of the digits, `pick` of five of 27,505 codes takes
-// 6 % more.
+// It looks at 32 bytes in one load, or at 64 digits in two: from the number of the digits, `pick`
+// of five of 27,505 codes takes 6 % more, and without the arm for 64, `merge` of Verilator's 5 %.
 #[inline(always)]
 fn left_out_of_binary(bytes: &[u8], at: usize, digits: &[u8]) -> Option<usize>
     requires { StandsAt bytes.now at digits.now }

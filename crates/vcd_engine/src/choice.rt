@@ -22,8 +22,7 @@ pub(crate) fn set_chosen(flags: &mut [u8], code: usize)
 }
 
 /// Returns whether the flag of the code at index `code` is 1; false if there is no such code.
-// A byte for each code: with a flag in a record of 48 bytes, `pick` of 27,505 codes took half as
-// much time again.
+// A byte for each code, so that the flags of many codes fit into the cache.
 #[inline]
 pub(crate) fn is_chosen(flags: &[u8], code: usize) -> bool
     ensures { result ≡ is_chosen flags.now code }

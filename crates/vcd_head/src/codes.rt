@@ -7,8 +7,7 @@ use indexmap::IndexSet;
 use std::alloc::Global;
 use vcd_view::{Code, CodeSeed};
 
-// The codes in order of first declaration, found by their bytes. With a table and a tree of 800
-// lines instead of the kit's set, `check` of 184,002 codes took some 12 % less.
+// The codes in order of first declaration, found by their bytes.
 #[derive(Drop)]
 pub(crate) struct Codes {
     pub(crate) list: Vec<Code>,

@@ -204,7 +204,7 @@ impl<'n> Group<'n> {
     /// continues with, and one more if there is one. Neither `run` nor `bytes` is empty. Returns
     /// the names that continue with all of these, and how many bytes were followed. Sets the flags
     /// in `matched` of the names that end just before a dot in them, and so select every such path.
-    // Without this, 30,000 names with a dot each over 30,000 variables took eight times as long.
+    // It follows many bytes in one call, because names and paths mostly share long beginnings.
     #[inline(always)]
     fn hop(&self, run: NameRun, bytes: &[u8], matched: &mut [bool; GROUP_NAMES]) -> (NameRun, usize)
         ensures some { 0 < length bytes.now → 0 < result.1 }
