@@ -1,6 +1,6 @@
 // A rival for the benches, unverified and using only std: it counts what `vcdkit check` counts, on
 // dumps without faults. It looks at tokens where they lie in the chunk, and finds short codes in a
-// table by their number. At a fault it stops with status 1, without a message. check_speed.sh
+// table by their number. At a fault it stops with status 1, without a message. speed.py
 // builds it with `rustc -O`.
 use std::collections::HashMap;
 use std::io::Read;
