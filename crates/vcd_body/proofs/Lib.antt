@@ -28,6 +28,7 @@ pub mod CurrentLemmas
 pub mod CompareLemmas
 pub mod EndLemmas
 pub mod StepLemmas
+pub mod SameLemmas
 pub mod NumberLemmas
 pub mod AheadLemmas
 pub mod LeftOut

@@ -72,12 +72,6 @@ digit_in None position = None
 digit_in (Some (Value.Bits ds)) position = slice_get ds position
 digit_in (Some (Value.Real text)) position = None
 
--- how many digits a value has: 0 if it is a real number, or if there is no value
-abbrev pub count_digits : Option Value → ℕ
-count_digits None = 0
-count_digits (Some (Value.Bits ds)) = length ds
-count_digits (Some (Value.Real text)) = 0
-
 -- the last digit of a value
 abbrev pub last_digit_in : Option Value → Option ℕ
 last_digit_in None = None

@@ -18,7 +18,6 @@ pub mod Stored
 pub mod Held
 pub mod Values
 pub mod Current
-pub mod Other
 pub mod Steps
 pub mod Ahead
 pub mod Spelled

@@ -42,14 +42,13 @@ pub use Rattle.vcd_body.specs.Given.{AreRegsPast, GivesItem, HasGoodText, GivesP
 pub use Rattle.vcd_body.specs.Held.{HasDigits, digits_of, held_in, held_or}
 pub use Rattle.vcd_body.specs.Id.{id_text}
 pub use Rattle.vcd_body.specs.Items.{AreRegsAfter, AreRegsWith, model_form, regs_after}
-pub use Rattle.vcd_body.specs.Kept.{AreTwo, Held, IsStep, Kept, are_two, as_chosen, bytes_for, count_digits, counts_if, counts_with, differs, digit_in, goes_from, last_bit, last_digit_in, one_more, real_text, unset, value_at_size, with_change, with_held, with_number, with_number_change, with_step, with_text}
+pub use Rattle.vcd_body.specs.Kept.{AreTwo, Held, IsStep, Kept, are_two, as_chosen, bytes_for, counts_if, counts_with, differs, digit_in, goes_from, last_bit, last_digit_in, one_more, real_text, unset, value_at_size, with_change, with_held, with_number, with_number_change, with_step, with_text}
 pub use Rattle.vcd_body.specs.Lines.{IsDigitLine, IsFront, IsTextLine, LeavesFront, LeavesLine, LeavesShortest, LeavesText, MayBe}
-pub use Rattle.vcd_body.specs.Other.{is_other}
 pub use Rattle.vcd_body.specs.Packed.{ArePacked, HasFour, two_bits_at, two_bits_of, two_bits_or, digit_of, digits_in, packed_byte, held_digit, quarter_of, shifted}
 pub use Rattle.vcd_body.specs.Reads.{AsksForCode, Begun, Fails, FailsAfter, GaveItems, Looks, OpensPhrase, Passes, PassesScalar, Reads, ReadsAll, ReadsChange, ReadsPhrase, Refuses}
 pub use Rattle.vcd_body.specs.Spelled.{HasChange, HasTimestamp, HasPlaces, IsSpelled, IsSpelledAs, Names, StandsAt, bytes_without, line_without}
 pub use Rattle.vcd_body.specs.Steps.{ChangesRoomy, LeavesNumber, LeavesSteps, LeavesFlip, StepsTo, TellsStep, FlipsTo, counts_after, counts_plus, counts_plus_if, with_steps}
-pub use Rattle.vcd_body.specs.Stored.{AreLaidOut, ChangesAt, ChangesSlot, IsHeldAs, IsUnset, SlotsKeepLaid, end_at, held_from, held_line, text_bytes, len_of, one_digit, room_of, set_whole, share_from, share_of, some_by, start_of, state_in, used, whole}
+pub use Rattle.vcd_body.specs.Stored.{AreLaidOut, ChangesAt, ChangesSlot, IsHeldAs, IsUnset, SlotsKeepLaid, digits_held, end_at, held_from, held_line, text_bytes, len_of, one_digit, room_of, set_whole, share_from, share_of, some_by, start_of, state_in, used, whole}
 pub use Rattle.vcd_body.specs.Taken.{HasTime, IsChangeBy, IsFound, IsFoundScalar, IsSection, LeavesRegs, Opens, OpensVector, TakesItem, TakesOpened, TakesOpenedAfter}
 pub use Rattle.vcd_body.specs.Values.{by_text, form_in, text_in, with_value, with_value_change}
 pub use Rattle.vcd_body.specs.Whole.{HoldsItem, IsPrompt}

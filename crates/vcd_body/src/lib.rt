@@ -65,7 +65,8 @@
 //! - `bits`: `Bits`, up to 32 binary digits as a number, and how a slot holds them; `packed`:
 //!   digits in a share, four to a byte
 //! - `held`: the digits of a held value; `compare`: whether that of a change differs; `several`:
-//!   several digits that are set over several others; `step`: `Step`, what became of a value
+//!   several digits that are set over several others; `step`: `Step`, what became of a value;
+//!   `same`: whether two codes hold the same
 //!
 //! Lines are written:
 //!
@@ -113,6 +114,7 @@ mod phrases;
 mod put_line;
 mod read;
 mod renamed;
+mod same;
 mod several;
 mod slot;
 mod step;

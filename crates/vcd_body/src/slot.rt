@@ -28,6 +28,9 @@ pub(crate) enum State {
 /// The number of `State::Bits` with no digit. The number of a state with n digits is n more.
 pub(crate) const BITS: u8 = 7;
 
+/// The number of `State::High`: up to it a state has no value or one digit.
+pub(crate) const HIGH: u8 = 4;
+
 /// What each change of a code looks at: its value if it is short, and how it is held. It has 8
 /// bytes, so that many slots fit into the cache.
 // With one record of 48 bytes instead, `cut` of 27,505 codes before its window takes 16 % more

@@ -1,11 +1,11 @@
 //! The current values of the codes of a header, in lent slices.
 ghost use Rattle.std.specs.Prelude.{◌≡◌, ℕ, ◌<◌, ◌≤◌, length, false};
-ghost use Rattle.vcd_body.specs.Names.{ChangesCode, ChangesRoomy, GivesShares, GivesText, GivesValue, IsLaidOut, IsStep, KeepsTable, SetsCode, SetsNumber, as_chosen, by_text, bytes_in, codes_in, codes_shown, count_digits, counts_at, digit_in, held_at, is_chosen, is_other, kept_at, model_form, new_at, one_more, real_text, shown_as, value_at_size, value_in, value_with, with_change, with_number_change, with_step, with_text, with_value, with_value_change};
+ghost use Rattle.vcd_body.specs.Names.{ChangesCode, ChangesRoomy, GivesShares, GivesText, GivesValue, IsLaidOut, IsStep, KeepsTable, SetsCode, SetsNumber, as_chosen, by_text, bytes_in, codes_in, codes_shown, counts_at, digit_in, held_at, is_chosen, kept_at, model_form, new_at, one_more, real_text, shown_as, value_at_size, value_in, value_with, with_change, with_number_change, with_step, with_text, with_value, with_value_change};
 
 use crate::bits::{Bits, put_digits};
 use crate::compare::value_differs;
 use crate::counters::{CARRY, count_more, counts_of};
-use crate::held::{digit_count, digit_shown, last_held};
+use crate::held::{digit_shown, last_held};
 use crate::item::Form;
 use crate::slot::{Share, Shown, Slot, State, number_of_digit, state_in};
 use crate::step::{Step, step_to_text, way_of};
@@ -199,23 +199,6 @@ impl<'a> Table<'a> {
         )
     }
 
-    /// Returns whether the value of a change of this form and text is another one than the code at
-    /// index `code` has, both taken at `size` bits; true if the code has no value.
-    #[inline(never)]
-    pub fn is_other(&self, code: usize, size: usize, form: Form, text: &[u8]) -> bool
-        ensures { IsLaidOut self.now
-            → result ≡ is_other (value_at_size size (held_at self.now code))
-            (value_with size (model_form form) text.now) }
-    {
-        let Some(held) = self.held(code) else {
-            return true;
-        };
-        if held.holding.state == State::Unset {
-            return true;
-        }
-        value_differs(held, size, form, text)
-    }
-
     /// Returns which kind of value the code at index `code` has: digits, a real number, or none. It
     /// is `Unset` too if there is no such code.
     #[inline]
@@ -242,22 +225,6 @@ impl<'a> Table<'a> {
     {
         let declared = view.code_at(code)?;
         digit_shown(self.held(code)?, declared.size, index)
-    }
-
-    /// Returns how many digits `digit` returns for the code at index `code`: 0 if its value has
-    /// none, or if there is no such code. `view` is the header of the table.
-    #[inline]
-    pub fn digit_count(&self, view: HeadView<'_>, code: usize) -> usize
-        ensures { IsLaidOut self.now
-            → result ≡ count_digits (value_in (codes_shown view.entry) self.now code) }
-    {
-        let (Some(declared), Some(held)) = (view.code_at(code), self.held(code)) else {
-            return 0;
-        };
-        match self.get(code) {
-            Shown::Bits => declared.size.max(digit_count(held)),
-            Shown::Unset | Shown::Real => 0,
-        }
     }
 
     /// Returns the text of the real number that is the value of the code at index `code`; an empty
