@@ -1,0 +1,145 @@
+-- Items that a run takes ahead in a feed's chunk, one after the other.
+use Rattle.std.proofs.Common.{◌≡◌, ℕ, Bool, true, false, not, List, [], ◌∷◌, ◌++◌, Result, Ok, Err, refl, sym, ap, subst, ◌∙◌, append-nil, append_assoc}
+use Rattle.vcd_model.specs.Bytes.{is_empty}
+use Rattle.vcd_model.specs.Header.{Header}
+use Rattle.vcd_model.specs.Items.{BodyItem}
+use Rattle.vcd_model.specs.Compare.{Asked as ModelAsked}
+use Rattle.vcd_model.specs.Tokens.{Token}
+use Rattle.vcd_model.specs.Within.{Names, within_open}
+use Rattle.vcd_text.specs.Ahead.{ahead_of, bytes_of, lines_of, longest_of, passed_of}
+use Rattle.vcd_text.specs.Device.{Device, Writes}
+use Rattle.vcd_text.specs.Feed.{limit_of}
+use Rattle.vcd_text.specs.Passed.{Passed}
+use Rattle.vcd_text.specs.declared.ahead.Ahead.{Ahead}
+use Rattle.vcd_text.specs.declared.device.Source.{Ghosts}
+use Rattle.vcd_text.specs.declared.device.WriteFailed.{WriteFailed}
+use Rattle.vcd_text.specs.declared.feed.Feed.{Feed}
+use Rattle.vcd_view.specs.Views.{IsViewOf}
+use Rattle.vcd_view.specs.declared.view.HeadView.{HeadView}
+use Rattle.vcd_body.specs.Ahead.{GaveAhead, GivesAhead, LooksOver, PassesNoItem}
+use Rattle.vcd_body.specs.Items.{AreRegsAfter, regs_after}
+use Rattle.vcd_body.specs.Walk.{Begins, Further, Past, Stage, Trail, Walks, stage_at}
+use Rattle.vcd_body.specs.declared.item.Regs.{Regs}
+use Rattle.vcd_body.proofs.CallerLemmas.{gave_none_ahead}
+use Rattle.vcd_body.proofs.WalkLemmas.{walk_passes}
+use Rattle.vcd_compare.specs.Asked.{model_asked}
+use Rattle.vcd_compare.specs.Comparing.{Compares, ComparesOne, IsCounted, SameRequest}
+use Rattle.vcd_compare.specs.Run.{StepsAhead}
+use Rattle.vcd_compare.specs.declared.asked.Asked.{Asked}
+use Rattle.vcd_compare.specs.declared.comparing.Comparison.{Comparison}
+use Rattle.vcd_compare.specs.declared.comparing.Watched.{Watched}
+use Rattle.vcd_compare.specs.declared.whole.Run.{Run}
+
+abbrev pub Counted : Watched → Comparison → List ℕ → Regs → Type 0
+Counted w c bytes r = IsCounted w c
+
+module _ (v : HeadView) (s : Stage Watched Comparison) where
+  -- after the items before, some that lie ahead were taken, and nothing was due with them
+  record Taken (h : Header) (exceptions : List (List ℕ)) (ns : List Names) (lines : ℕ) (before : List BodyItem) (z : Stage Watched Comparison) : Type 0 where
+    pub more : List BodyItem
+    pub gave : GaveAhead h.codes (longest_of s.ahead) lines (bytes_of s.ahead) (passed_of z.ahead) before more
+    pub known : AreRegsAfter (before ++ more) z.regs
+    pub compares : Compares h exceptions ns (before ++ more) z.command z.visit
+    pub same_open : within_open (model_asked s.command.current.asked exceptions) h ns (before ++ more) ≡ within_open (model_asked s.command.current.asked exceptions) h ns before
+
+  -- the same after any items
+  record HasTaken (z : Stage Watched Comparison) : Type 0 where
+    pub over : LooksOver (longest_of s.ahead) (bytes_of s.ahead) z.ahead
+    pub same : SameRequest s.command z.command
+    pub takes : (h : Header) (exceptions : List (List ℕ)) (ns : List Names) (lines : ℕ) (before : List BodyItem) → IsViewOf v h → AreRegsAfter before s.regs → Compares h exceptions ns before s.command s.visit → Taken h exceptions ns lines before z
+
+  taken_on : (b c : Stage Watched Comparison) → HasTaken b → ComparesOne v b c (Ok tt) → HasTaken c
+  taken_on b c so_far one = record {
+    over = (one.item.same.1 ∙ so_far.over.0, one.item.same.0 ∙ so_far.over.1);
+    same = record { pairs = one.same.pairs ∙ so_far.same.pairs; asked = one.same.asked ∙ so_far.same.asked };
+    takes = λ h exceptions ns lines before views known compares.
+        let t = so_far.takes h exceptions ns lines before views known compares in
+        let n = one.item.gives h (longest_of s.ahead) lines (bytes_of s.ahead) before t.more views so_far.over t.known t.gave in
+        let assoc = append_assoc before t.more (n.0 ∷ []) in
+        let on = one.on h exceptions ns (before ++ t.more) n.0 views n.1 t.known (subst (λ (l : List BodyItem). AreRegsAfter l (regs_after b.regs one.scanned.item)) (sym assoc) n.3) t.compares in
+        let open_is = subst (λ (a : Asked). within_open (model_asked a exceptions) h ns ((before ++ t.more) ++ n.0 ∷ []) ≡ within_open (model_asked a exceptions) h ns (before ++ t.more)) so_far.same.asked on.1 in
+        record {
+          more = t.more ++ n.0 ∷ [];
+          gave = n.2;
+          known = subst (AreRegsAfter (before ++ (t.more ++ n.0 ∷ []))) (sym one.regs) n.3;
+          compares = subst (λ (l : List BodyItem). Compares h exceptions ns l c.command c.visit) assoc on.0;
+          same_open = ap (within_open (model_asked s.command.current.asked exceptions) h ns) (sym assoc) ∙ open_is ∙ t.same_open;
+        };
+  }
+
+  taken_past : (b : Stage Watched Comparison) (there : Ahead) → HasTaken b → PassesNoItem b.ahead there → HasTaken (stage_at there b.regs b.visit b.command b.out)
+  taken_past b there so_far none = record {
+    over = (none.same.1 ∙ so_far.over.0, none.same.0 ∙ so_far.over.1);
+    same = record { pairs = so_far.same.pairs; asked = so_far.same.asked };
+    takes = λ h exceptions ns lines before views known compares.
+        let t = so_far.takes h exceptions ns lines before views known compares in
+        record {
+          more = t.more;
+          gave = none.gives h.codes (longest_of s.ahead) lines (bytes_of s.ahead) before t.more so_far.over t.gave;
+          known = t.known;
+          compares = t.compares;
+          same_open = t.same_open;
+        };
+  }
+
+  module _ (first : passed_of s.ahead ≡ 0) where
+    taken_none : HasTaken s
+    taken_none = record {
+      over = (refl, refl);
+      same = record { pairs = refl; asked = refl };
+      takes = λ h exceptions ns lines before views known compares.
+          let nil = sym (append-nil before) in
+          record {
+            more = [];
+            gave = subst (λ (n : ℕ). GaveAhead h.codes (longest_of s.ahead) lines (bytes_of s.ahead) n before []) (sym first) (gave_none_ahead h.codes (longest_of s.ahead) lines (bytes_of s.ahead) before);
+            known = subst (λ (l : List BodyItem). AreRegsAfter l s.regs) nil known;
+            compares = subst (λ (l : List BodyItem). Compares h exceptions ns l s.command s.visit) nil compares;
+            same_open = ap (within_open (model_asked s.command.current.asked exceptions) h ns) (append-nil before);
+          };
+    }
+
+    along : (z : Stage Watched Comparison) → Trail ComparesOne Counted (λ _. false) v s z → HasTaken z
+    along z Begins = taken_none
+    along _ (Further b c so_far one on) = taken_on b c (along b so_far) one.did
+    along _ (Past b c so_far there none is) = rw is (taken_past b there (along b so_far) none)
+
+    -- no write fails, and no walk is over
+    all_taken : (z : Stage Watched Comparison) (ended : Result Bool WriteFailed) → Walks ComparesOne Counted (λ _. false) v s z ended → HasTaken z × IsCounted z.visit z.command
+    all_taken z (Ok false) on = (along z on.trail, on.on)
+    all_taken z (Ok true) on = let e = on.3 in absurd (cc)
+    all_taken z (Err f) on = let e = on.2.did.done in absurd (cc)
+
+module _ (v : HeadView) (a a' : Ahead) (run run' : Run) (out out' : Device) (ended : Result Bool WriteFailed) (first : passed_of a ≡ 0) (walks : Walks ComparesOne Counted (λ _. false) v (stage_at a run.regs run.watched run.comparison out) (stage_at a' run'.regs run'.watched run'.comparison out') ended) where
+  abbrev begin : Stage Watched Comparison
+  begin = stage_at a run.regs run.watched run.comparison out
+
+  abbrev end : Stage Watched Comparison
+  end = stage_at a' run'.regs run'.watched run'.comparison out'
+
+  taken : HasTaken v begin end × IsCounted run'.watched run'.comparison
+  taken = all_taken v begin first end ended walks
+
+  pub counted_ahead : IsCounted run'.watched run'.comparison
+  counted_ahead = taken.1
+
+  -- whole tokens were passed
+  pub passes_ahead : (lines : ℕ) → (ts : List Token) × Passed (longest_of a) lines (bytes_of a) (passed_of a') ts
+  passes_ahead lines = (walk_passes ComparesOne Counted (λ _. false) v begin (longest_of a) lines (bytes_of a) [] (refl, refl) first end ended walks).1
+
+  -- a feed that has passed them has come further
+  pub come_ahead : {X : Type 0} {g : Ghosts X} (f f' : Feed X g) → longest_of a ≡ limit_of f → bytes_of a ≡ ahead_of f → GivesAhead (passed_of a') f f' → run'.differs ≡ run.differs → StepsAhead v run run' f f'
+  come_ahead f f' limit bytes gives differs q exceptions h ns i front begin items out views come =
+      let all = taken.0 in
+      let t = all.takes h exceptions ns (lines_of f) items views come.gave.known come.stands.compares in
+      let gave = subst (λ (bs : List ℕ). GaveAhead h.codes (limit_of f) (lines_of f) bs (passed_of a') items t.more) bytes (subst (λ (n : ℕ). GaveAhead h.codes n (lines_of f) (bytes_of a) (passed_of a') items t.more) limit t.gave) in (
+        items ++ t.more,
+        record {
+          asked = ap (λ (x : Asked). model_asked x exceptions) all.same.asked ∙ come.asked;
+          gave = gives h.codes i front items t.more run.regs run'.regs come.gave gave t.known;
+          stands = record {
+            compares = t.compares;
+            differs = differs ∙ come.stands.differs ∙ ap (λ l. not (is_empty l)) (sym t.same_open) ∙ ap (λ (x : Asked). not (is_empty (within_open (model_asked x exceptions) h ns (items ++ t.more)))) (sym all.same.asked);
+          };
+          written = subst (Writes begin out) (sym (subst (λ (x : ModelAsked). within_open x h ns (items ++ t.more) ≡ within_open x h ns items) come.asked t.same_open)) come.written;
+        },
+      )

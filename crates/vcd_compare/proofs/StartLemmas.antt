@@ -1,0 +1,94 @@
+-- How a run stands before the first item.
+use Prim.Native.Nat.{zero}
+use Rattle.std.proofs.Common.{◌≡◌, ℕ, suc, ◌<◌, ◌==◌, Bool, true, false, cond, List, [], ◌∷◌, length, filter, slice_get, Option, Some, None, refl, sym, ap, ◌∙◌, append-nil, arith}
+use Rattle.std.specs.Prelude.{replicate}
+use Rattle.std.specs.List.{list_any}
+use Rattle.std.proofs.lemmas.List.{get_or-replicate, length-replicate}
+use Rattle.std.proofs.lemmas.Option.{slice_get-get_or}
+use Rattle.vcd_model.specs.Declarations.{IdCode, code_of}
+use Rattle.vcd_model.specs.Header.{Header}
+use Rattle.vcd_model.specs.Values.{Value}
+use Rattle.vcd_model.specs.Sample.{is_settled}
+use Rattle.vcd_model.specs.Compare.{Asked as ModelAsked, state_at}
+use Rattle.vcd_model.specs.Within.{Names, times_in, within_head, within_open}
+use Rattle.vcd_view.specs.Views.{IsViewOf}
+use Rattle.vcd_view.specs.declared.view.HeadView.{HeadView}
+use Rattle.vcd_view.proofs.LookUpLemmas.{codes_len}
+use Rattle.vcd_body.specs.Current.{AreHeld}
+use Rattle.vcd_compare.specs.Asked.{model_asked}
+use Rattle.vcd_compare.specs.Comparing.{AreFlags, AreTriggers, Compares}
+use Rattle.vcd_compare.specs.Flags.{differing}
+use Rattle.vcd_compare.specs.Lines.{codes_differ, flag_of, had_line, is_always, time_compared}
+use Rattle.vcd_compare.specs.Pairs.{ArePairs}
+use Rattle.vcd_compare.specs.declared.comparing.Comparison.{Comparison}
+use Rattle.vcd_compare.specs.declared.comparing.Watched.{Watched}
+use Rattle.vcd_compare.specs.declared.pairs.Pairs.{Pairs}
+use Rattle.vcd_compare.proofs.DueSome.{none_one}
+
+-- ---- nothing is settled, and nothing differs
+
+none_pass : (f : ℕ → Bool) (ts : List ℕ) → ((t : ℕ) → f t ≡ false) → filter f ts ≡ []
+none_pass f [] none = refl
+none_pass f (t ∷ ts) none = rw (none t, none_pass f ts none) refl
+
+none_settled : (q : ModelAsked) → filter (is_settled []) (times_in q []) ≡ []
+none_settled q = none_pass (is_settled []) (times_in q []) (λ t. refl)
+
+no_state : (c : IdCode) (t : ℕ) → state_at 1 [] c t ≡ None
+no_state c t = by_event c.event
+  where
+    by_event : (e : Bool) → ◌≡◌ {A = Option Value} (cond e None None) None
+    by_event true = refl
+    by_event false = refl
+
+no_flag : (q : ModelAsked) (a b : IdCode) → flag_of q [] a b ≡ 0
+unfolding flag_of
+no_flag q a b =
+    let same : codes_differ q.rule [] a b (time_compared q []) ≡ false = rw (no_state a (time_compared q []), no_state b (time_compared q [])) refl in
+    let none : had_line q [] a b ≡ false = ap (list_any (codes_differ q.rule [] a b)) (none_settled q) in
+    rw (same, none) (by_extent (is_always q.extent))
+  where
+    by_extent : (b : Bool) → ◌≡◌ {A = ℕ} (cond b 0 0) 0
+    by_extent true = refl
+    by_extent false = refl
+
+-- ---- lists of the same item
+
+same_there : {A : Type 0} (n k : ℕ) (x : A) → k < n → slice_get (replicate n x) k ≡ Some x
+same_there n k x low = let many : length (replicate n x) ≡ n = length-replicate n x in slice_get-get_or (replicate n x) k x (omega arith) ∙ ap (λ y. Some y) (get_or-replicate n k x x low)
+
+pub counted_first : (n : ℕ) → 0 ≡ differing (replicate n 0)
+counted_first n = sym (none_one (replicate n 0) (λ k low. let many : length (replicate {A = ℕ} n 0) ≡ n = length-replicate n 0 in ap (λ f. f == 1) (get_or-replicate n k 0 0 (omega arith))))
+
+flags_first : (ps : Pairs) (h : Header) (q : ModelAsked) → AreFlags ps h q [] (replicate ps.classes 0)
+flags_first ps h q = record { many = length-replicate ps.classes 0; each = λ class p below is. get_or-replicate ps.classes class 0 0 below ∙ sym (no_flag q (code_of p.one) (code_of p.other)) }
+
+there_below : (cs : List IdCode) (index : ℕ) (c : IdCode) → slice_get cs index ≡ Some c → index < length cs
+there_below [] index c at = cc
+there_below (x ∷ cs) zero c at = omega arith
+there_below (x ∷ cs) (suc index) c at = let low = there_below cs index c at in omega arith
+
+triggers_first : (v : HeadView) (h : Header) → IsViewOf v h → AreTriggers (replicate (length v.codes.now) None) h []
+triggers_first v h views index c at event =
+    let low = there_below h.codes index c at in
+    let many = codes_len v.text.now v.codes.now h.codes views.codes in
+    (None, same_there (length v.codes.now) index None (omega arith), record { low = tt; is = λ t le. refl })
+
+-- ---- a comparison
+
+pub compares_first : (v : HeadView) (h : Header) (exceptions : List (List ℕ)) (ns : List Names) (c : Comparison) (w : Watched) → IsViewOf v h → ArePairs c.current.pairs.now h (model_asked c.current.asked exceptions) ns → AreHeld c.current.table h []
+    → c.current.triggers.now ≡ replicate (length v.codes.now) None → c.flags.now ≡ replicate c.current.pairs.now.classes 0 → w.at ≡ c.current.asked.from → Compares h exceptions ns [] c w
+compares_first v h exceptions ns c w views pairs held triggers flags at = record {
+  pairs = pairs;
+  current = record { held = held; triggers = rw triggers (triggers_first v h views) };
+  flags = rw flags (flags_first c.current.pairs.now h (model_asked c.current.asked exceptions));
+  at = at;
+  up = tt;
+  quiet = λ first. let q = model_asked c.current.asked exceptions in rw (none_settled q) refl;
+  on = refl;
+}
+
+-- what is written before the first item
+pub open_first : (q : ModelAsked) (h : Header) (ns : List Names) → within_open q h ns [] ≡ within_head q h ns
+unfolding within_open
+open_first q h ns = rw (none_settled q) (append-nil (within_head q h ns))

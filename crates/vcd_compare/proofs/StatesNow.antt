@@ -1,0 +1,185 @@
+-- What the current states say of the definitions' states.
+use Prim.Native.Nat.{zero}
+use Rattle.std.proofs.Common.{◌≡◌, ◌≢◌, inl, inr, ℕ, ◌<◌, ◌≤◌, Bool, true, false, not, cond, ◌&&◌, List, [], ◌∷◌, ◌++◌, suc, ◌+◌, ◌-◌, max, min, replicate, drop, length, codes, slice_get, Option, Some, None, refl, sym, ap, ap₂, subst, ◌∙◌, arith}
+use Rattle.std.specs.Prelude.{◌⊎◌, bytes_eq, option_and_then}
+use Rattle.std.specs.Bool.{Decides}
+use Rattle.std.proofs.lemmas.Bool.{and_left, and_right, cases_lt}
+use Rattle.std.proofs.lemmas.Option.{same_Some}
+use Rattle.std.proofs.Math.Bool.{or_self}
+use Rattle.vcd_model.specs.Declarations.{IdCode}
+use Rattle.vcd_model.specs.Header.{Header}
+use Rattle.vcd_model.specs.History.{final_value}
+use Rattle.vcd_model.specs.Items.{BodyItem, time_after}
+use Rattle.vcd_model.specs.Compare.{Rule, all_match, digits_match, exactly, is_triggered, match, state_at}
+use Rattle.vcd_model.specs.Values.{Value, extend, extension}
+use Rattle.vcd_view.specs.Views.{IsViewOf}
+use Rattle.vcd_view.specs.declared.view.HeadView.{HeadView}
+use Rattle.vcd_body.specs.Contents.{codes_shown, held_at, shown_as, value_in}
+use Rattle.vcd_body.specs.Kept.{Held, real_text, value_at_size}
+use Rattle.vcd_body.specs.declared.slot.Shown.{Shown}
+use Rattle.vcd_body.specs.declared.slot.Shown.TheVariants as shown
+use Rattle.vcd_body.specs.Stored.{digits_held}
+use Rattle.vcd_body.specs.declared.table.Table.{Table}
+use Rattle.vcd_body.proofs.CompareLemmas.{length_extended}
+use Rattle.vcd_body.proofs.TableLemmas.{shown_are}
+use Rattle.vcd_compare.specs.Asked.{rule_of}
+use Rattle.vcd_compare.specs.Comparing.{AreCurrent, differ_from, is_last}
+use Rattle.vcd_compare.specs.Lines.{codes_differ}
+use Rattle.vcd_compare.specs.declared.asked.Asked.{Asked}
+use Rattle.vcd_compare.specs.declared.current.Current.{Current}
+use Rattle.vcd_compare.proofs.FlagLemmas.{value_final}
+use Rattle.vcd_compare.proofs.MatchLemmas.{match_other, match_self}
+
+module _ (v : HeadView) (c : Current) (h : Header) (items : List BodyItem) (views : IsViewOf v h) (current : AreCurrent c h items) (code : ℕ) (a : IdCode) (there : slice_get h.codes code ≡ Some a) where
+  -- a value that is held is the last one
+  pub held_final : a.event ≡ false → value_in (codes_shown v) c.table code ≡ final_value items a
+  held_final e =
+      ap (λ cs. value_in cs c.table code) (shown_are v h views)
+      ∙ ap (option_and_then (λ (d : IdCode). value_at_size d.size (held_at c.table code))) there
+      ∙ current.held.values.each code a there e
+
+  pub held_state : (t : ℕ) → time_after items ≤ t → a.event ≡ false → value_in (codes_shown v) c.table code ≡ state_at 1 items a t
+  held_state t le e = held_final e ∙ sym (value_final a items t le e)
+
+  -- an event is triggered if its last trigger is at the time
+  pub triggered_now : (t : ℕ) → time_after items ≤ t → (e : a.event ≡ true) → is_triggered 1 items a t ≡ is_last (current.triggers code a there e).0 t
+  triggered_now t le e = (current.triggers code a there e).2.is t le
+
+-- ---- matches
+
+-- two events match if both are triggered, or neither is
+pub events_match : (x y : Bool) → not (match exactly (cond x (Some (Value.Bits (codes "1"))) None) (cond y (Some (Value.Bits (codes "1"))) None)) ≡ cond x (not y) y
+events_match true true = refl
+events_match true false = refl
+events_match false true = refl
+events_match false false = refl
+
+-- where it is told whether two values are the same, and no rule is asked for or they are the same
+pub told_same : (k : Asked) (items : List BodyItem) (a b : IdCode) (t : ℕ) → time_after items ≤ t → a.event ≡ b.event → b.event ≡ false → (same : Bool) → Decides same (final_value items a ≡ final_value items b)
+    → (same ≡ true) ⊎ ((k.x_of_one ≡ false) × (k.x_of_other ≡ false)) → (is_first : Bool) → not same ≡ differ_from is_first (rule_of k) items a b t
+told_same k items a b t le alike event same told either is_first = by_order is_first
+  where
+    first : state_at 1 items a t ≡ final_value items a
+    first = value_final a items t le (alike ∙ event)
+
+    second : state_at 1 items b t ≡ final_value items b
+    second = value_final b items t le event
+
+    by_same : (s : Bool) → Decides s (final_value items a ≡ final_value items b) → (s ≡ true) ⊎ ((k.x_of_one ≡ false) × (k.x_of_other ≡ false))
+        → (match (rule_of k) (final_value items a) (final_value items b) ≡ s) × (match (rule_of k) (final_value items b) (final_value items a) ≡ s)
+    by_same true d e = (match_self (rule_of k) _ _ (d.0 refl), match_self (rule_of k) _ _ (sym (d.0 refl)))
+    by_same false d (inl e) = cc
+    by_same false d (inr (one, other)) = rw (one, other) (match_other _ _ (λ e. let no = d.1 e in cc), match_other _ _ (λ e. let no = d.1 (sym e) in cc))
+
+    by_order : (f : Bool) → not same ≡ cond f (codes_differ (rule_of k) items a b t) (codes_differ (rule_of k) items b a t)
+    by_order true = rw (first, second, alike ∙ event) (ap not (sym (by_same same told either).0))
+    by_order false = rw (first, second, event) (ap not (sym (by_same same told either).1))
+
+-- ---- digit by digit
+
+-- lists of two lengths do not match
+pub lengths_match : (r : Rule) (ds es : List ℕ) → length ds ≢ length es → all_match r ds es ≡ false
+lengths_match r [] [] apart = absurd (apart refl)
+lengths_match r [] (y ∷ ys) apart = refl
+lengths_match r (x ∷ xs) [] apart = refl
+lengths_match r (x ∷ xs) (y ∷ ys) apart = and_right (digits_match r x y) (all_match r xs ys) (lengths_match r xs ys (λ e. apart (ap suc e)))
+
+pub next_digit : (ds : List ℕ) (i d : ℕ) → slice_get ds i ≡ Some d → drop i ds ≡ d ∷ drop (i + 1) ds
+next_digit [] i d e = cc
+next_digit (x ∷ xs) zero d e = ap (λ y. y ∷ xs) (same_Some x d e)
+next_digit (x ∷ xs) (suc i) d e = let one : suc i + 1 ≡ suc (i + 1) = omega arith in rw one (next_digit xs i d e)
+
+pub apart_at : (r : Rule) (ds es : List ℕ) (i a b : ℕ) → slice_get ds i ≡ Some a → slice_get es i ≡ Some b → digits_match r a b ≡ false → all_match r ds es ≡ false
+apart_at r [] es i a b e f wrong = cc
+apart_at r (x ∷ xs) [] i a b e f wrong = refl
+apart_at r (x ∷ xs) (y ∷ ys) zero a b e f wrong = rw (same_Some x a e, same_Some y b f) (and_left _ _ wrong)
+apart_at r (x ∷ xs) (y ∷ ys) (suc i) a b e f wrong = and_right (digits_match r x y) (all_match r xs ys) (apart_at r xs ys i a b e f wrong)
+
+pub drop_all : (ds : List ℕ) (n : ℕ) → length ds ≤ n → drop n ds ≡ []
+drop_all [] zero le = refl
+drop_all [] (suc n) le = refl
+drop_all (d ∷ ds) zero le = absurd (omega arith)
+drop_all (d ∷ ds) (suc n) le = drop_all ds n (omega arith)
+
+-- the digits of extended ones from an index on that is before all that are extended
+far_digits : (p q n e : ℕ) (xs : List ℕ) → n ≡ p + suc q → (drop p (replicate n e ++ xs) ≡ e ∷ (replicate q e ++ xs)) × (replicate n e ++ xs ≡ replicate p e ++ (e ∷ (replicate q e ++ xs)))
+far_digits zero q n e xs is = let same : n ≡ suc q = omega (arith, is) in rw same (refl, refl)
+far_digits (suc p) q zero e xs is = absurd (omega (arith, is))
+far_digits (suc p) q (suc n) e xs is = let more = far_digits p q n e xs (omega (arith, is)) in (more.0, ap (λ (l : List ℕ). e ∷ l) more.1)
+
+-- if they match from there on, all match
+far_match : (r : Rule) (k e f : ℕ) (ds es : List ℕ) → all_match r (e ∷ ds) (f ∷ es) ≡ true → all_match r (replicate k e ++ (e ∷ ds)) (replicate k f ++ (f ∷ es)) ≡ true
+far_match r zero e f ds es all = all
+far_match r (suc k) e f ds es all = rw (first (digits_match r e f) (all_match r ds es) all, far_match r k e f ds es all) refl
+  where
+    first : (a b : Bool) → (a && b) ≡ true → a ≡ true
+    first true b e = refl
+    first false b e = cc
+
+pub all_from_last : (r : Rule) (xs ys : List ℕ) (m n held count back : ℕ) → length xs ≤ held → length ys ≤ held → count ≡ length (extend xs m) → count ≡ length (extend ys n) → back ≡ min count (held + 1)
+    → all_match r (drop (count - back) (extend xs m)) (drop (count - back) (extend ys n)) ≡ true → all_match r (extend xs m) (extend ys n) ≡ true
+all_from_last r xs ys m n held count back few less one other back_is all = by_order (cases_lt (held + 1) count)
+  where
+    first : length (extend xs m) ≡ max m (length xs)
+    first = length_extended xs m
+
+    second : length (extend ys n) ≡ max n (length ys)
+    second = length_extended ys n
+
+    by_order : (held + 1 < count) ⊎ (count ≤ held + 1) → all_match r (extend xs m) (extend ys n) ≡ true
+    by_order (inr short) =
+        let none : count - back ≡ 0 = omega (arith, back_is, short) in
+        subst (λ k. all_match r (drop k (extend xs m)) (drop k (extend ys n)) ≡ true) none all
+    by_order (inl long) =
+        let p = count - back in
+        let a = far_digits p (held - length xs) (m - length xs) (extension xs) xs (omega (arith, few, one, first, back_is, long)) in
+        let b = far_digits p (held - length ys) (n - length ys) (extension ys) ys (omega (arith, less, other, second, back_is, long)) in
+        rw (a.1, b.1) (far_match r p (extension xs) (extension ys) (replicate (held - length xs) (extension xs) ++ xs) (replicate (held - length ys) (extension ys) ++ ys) (ap₂ (all_match r) (sym a.0) (sym b.0) ∙ all))
+
+-- the digits of a value are those that are held, extended
+pub shown_digits : (v : HeadView) (t : Table) (code : ℕ) (ds : List ℕ) → value_in (codes_shown v) t code ≡ Some (Value.Bits ds) → (m : ℕ) × (ds ≡ extend (digits_held (held_at t code)) m)
+shown_digits v t code ds e = by_code (slice_get (codes_shown v) code) e
+  where
+    by_held : (h : Held) (m : ℕ) → value_at_size m h ≡ Some (Value.Bits ds) → ds ≡ extend (digits_held h) m
+    by_held Held.Unset m e = cc
+    by_held (Held.Digits xs) m e = cc
+    by_held (Held.Text text) m e = cc
+
+    by_code : (o : Option IdCode) → option_and_then (λ (c : IdCode). value_at_size c.size (held_at t code)) o ≡ Some (Value.Bits ds) → (m : ℕ) × (ds ≡ extend (digits_held (held_at t code)) m)
+    by_code None e = cc
+    by_code (Some c) e = (c.size, by_held (held_at t code) c.size e)
+
+-- ---- what a table shows of two values
+
+pub unset_some : (r : Rule) (m n : ℕ) (g h : Held) (s : Shown) → shown_as g ≡ shown.Unset → shown_as h ≡ s → (s ≡ shown.Unset → ⊥) → match r (value_at_size m g) (value_at_size n h) ≡ r.x_of_one
+unset_some r m n Held.Unset Held.Unset s e f none = absurd (none (sym f))
+unset_some r m n Held.Unset (Held.Digits ds) s e f none = refl
+unset_some r m n Held.Unset (Held.Text text) s e f none = refl
+unset_some r m n (Held.Digits ds) h s e f none = cc
+unset_some r m n (Held.Text text) h s e f none = cc
+
+pub some_unset : (r : Rule) (m n : ℕ) (g h : Held) (s : Shown) → shown_as g ≡ s → shown_as h ≡ shown.Unset → (s ≡ shown.Unset → ⊥) → match r (value_at_size m g) (value_at_size n h) ≡ r.x_of_other
+some_unset r m n Held.Unset Held.Unset s e f none = absurd (none (sym e))
+some_unset r m n (Held.Digits ds) Held.Unset s e f none = refl
+some_unset r m n (Held.Text text) Held.Unset s e f none = refl
+some_unset r m n g (Held.Digits ds) s e f none = cc
+some_unset r m n g (Held.Text text) s e f none = cc
+
+pub bits_real : (r : Rule) (m n : ℕ) (g h : Held) → shown_as g ≡ shown.Bits → shown_as h ≡ shown.Real → (match r (value_at_size m g) (value_at_size n h) ≡ false) × (match r (value_at_size n h) (value_at_size m g) ≡ false)
+bits_real r m n (Held.Digits ds) (Held.Text text) e f = (refl, refl)
+bits_real r m n Held.Unset h e f = cc
+bits_real r m n (Held.Text text) h e f = cc
+bits_real r m n (Held.Digits ds) Held.Unset e f = cc
+bits_real r m n (Held.Digits ds) (Held.Digits es) e f = cc
+
+pub both_real : (a : Asked) (m n : ℕ) (g h : Held) → shown_as g ≡ shown.Real → shown_as h ≡ shown.Real → match (rule_of a) (value_at_size m g) (value_at_size n h) ≡ bytes_eq (real_text g) (real_text h)
+both_real a m n (Held.Text one) (Held.Text other) e f = or_self (bytes_eq one other)
+both_real a m n Held.Unset h e f = cc
+both_real a m n (Held.Digits ds) h e f = cc
+both_real a m n (Held.Text one) Held.Unset e f = cc
+both_real a m n (Held.Text one) (Held.Digits es) e f = cc
+
+pub bits_there : (m : ℕ) (g : Held) → shown_as g ≡ shown.Bits → (ds : List ℕ) × (value_at_size m g ≡ Some (Value.Bits ds))
+bits_there m Held.Unset e = cc
+bits_there m (Held.Digits ds) e = (extend ds m, refl)
+bits_there m (Held.Text text) e = cc

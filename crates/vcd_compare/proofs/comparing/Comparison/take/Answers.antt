@@ -1,0 +1,51 @@
+use Rattle.std.proofs.Common.{◌≡◌, ℕ, true, List, [], ◌∷◌, ◌++◌, Option, refl, sym, ap, subst, ◌∙◌}
+use Rattle.std.proofs.lemmas.Option.{same_Some}
+use Rattle.std.proofs.lemmas.Slice.Eq.{bytes_eq-Decides}
+use Rattle.vcd_model.specs.History.{gives_to}
+use Rattle.vcd_model.specs.Items.{BodyItem, marks}
+use Rattle.vcd_view.specs.declared.view.Code.{Code}
+use Rattle.vcd_view.proofs.RowLemmas.{code_at}
+use Rattle.vcd_body.specs.Given.{HasGoodText, IsItem}
+use Rattle.vcd_body.specs.declared.item.Item.{Item}
+use Rattle.vcd_compare.specs.Comparing.{AreTriggers}
+use Rattle.vcd_compare.proofs.CompareSteps.{compares_still, compares_with, open_same, other_quiet, same_time}
+use Rattle.vcd_compare.proofs.TriggerLemmas.{triggers_after}
+use Rattle.vcd_compare.proofs.comparing.Comparison.take.Goals as goal
+
+pub returns-in_default : goal.returns-in_default
+returns-in_default c = record {
+  counted = c.requires.counted;
+  same = record { pairs = refl; asked = refl };
+  on = λ h exceptions ns items x views is before after stands.
+      let quiet = other_quiet h.codes c.args.text.now c.args.item x c.requires.other c.in_default.not-Change is in
+      (compares_still h exceptions ns items x c.args.self.now c.args.watched stands quiet.0 quiet.1, open_same h exceptions ns items x c.args.self.now c.args.watched stands quiet.0);
+}
+
+pub returns-clause-on : goal.returns-clause-on
+returns-clause-on c = λ h exceptions ns items x views is before after stands.
+    let v = c.args.view in
+    let own = c.args.self.now in
+    let code = c.in-Change.code in
+    let change = subst (λ (i : Item). IsItem h.codes c.args.text.now i x) c.in-Change.is is in
+    let a = change.0 in
+    let other : marks (x ∷ []) ≡ [] = ap (λ (y : BodyItem). marks (y ∷ [])) change.2 in
+    let gives : gives_to a x ≡ true = ap (gives_to a) change.2 ∙ (bytes_eq-Decides a.text a.text).1 refl in
+    let m = code_at v.text.now v.codes.now h.codes code a views.codes change.1 in
+    let declared : m.0 ≡ c.in-Some.declared = same_Some m.0 c.in-Some.declared (sym m.1 ∙ sym c.in-Some.ensures) in
+    let event = ap (λ (k : Code). k.event) (sym declared) ∙ m.2.event_is in
+    let triggers = subst (λ (ts : List (Option ℕ)). AreTriggers ts h (items ++ x ∷ [])) (sym c.note_trigger.ensures)
+    (triggers_after v h views items x code a change.1 gives (same_time items x other) c.args.regs before own.current.triggers.now c.in-Some.declared.event event stands.current.triggers) in
+    let held = c.set_item.ensures.held v h items x views (subst (λ (i : Item). HasGoodText v.codes.now c.args.text.now i) c.in-Change.is c.requires.sound) change stands.current.held in (
+      compares_with h exceptions ns items x own c.args.watched stands other _ _ refl refl refl (record { held = held; triggers = triggers })
+          (c.mark_ends.ensures.marks h exceptions ns items x a (record {
+            views = views;
+            there = change.1;
+            gives = gives;
+            other = other;
+            pairs = stands.pairs;
+            current = record { held = held; triggers = triggers };
+            at_is = stands.at;
+            flags = stands.flags;
+          })),
+      open_same h exceptions ns items x own c.args.watched stands other,
+    )

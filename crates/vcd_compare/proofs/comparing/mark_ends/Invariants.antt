@@ -1,0 +1,19 @@
+use Rattle.std.proofs.Common.{◌≡◌, ℕ, List, [], ◌∷◌, ◌++◌}
+use Rattle.vcd_model.specs.Declarations.{IdCode}
+use Rattle.vcd_model.specs.Header.{Header}
+use Rattle.vcd_model.specs.Items.{BodyItem}
+use Rattle.vcd_model.specs.Within.{Names}
+use Rattle.vcd_compare.specs.Asked.{model_asked}
+use Rattle.vcd_compare.specs.Comparing.{AreMarked, GivesNew}
+use Rattle.vcd_compare.specs.Flags.{differing}
+use Rattle.vcd_compare.proofs.comparing.mark_ends.Given as goal
+
+-- the ends of the code from an index on were compared
+abbrev pub invariant-ends : goal.invariant-ends
+invariant-ends l =
+    (l.count ≡ differing l.flags)
+    × ((h : Header) (exceptions : List (List ℕ)) (ns : List Names) (items : List BodyItem) (x : BodyItem) (a : IdCode) → GivesNew l.view l.current l.code l.at l.fn.flags h exceptions ns items x a
+    → AreMarked l.current.pairs.now h (model_asked l.current.asked exceptions) items (items ++ x ∷ []) l.code l.left l.flags)
+
+abbrev pub decreases-ends : goal.decreases-ends
+decreases-ends l = l.left

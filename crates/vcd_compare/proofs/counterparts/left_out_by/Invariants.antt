@@ -1,0 +1,8 @@
+use Rattle.std.proofs.Common.{ℕ, List}
+use Rattle.std.specs.List.{AllZip}
+use Rattle.vcd_compare.specs.Counterparts.{AreLeftOut}
+use Rattle.vcd_compare.specs.Paths.{HasTexts, IsNumberOf}
+use Rattle.vcd_compare.proofs.counterparts.left_out_by.Given as goal
+
+abbrev pub invariant-loop-index : goal.invariant-loop-index
+invariant-loop-index l = (texts es : List (List ℕ)) → HasTexts l.paths texts → AllZip (IsNumberOf texts) l.exceptions es → AreLeftOut texts es l.index l.left_out.items

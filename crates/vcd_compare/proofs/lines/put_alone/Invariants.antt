@@ -1,0 +1,14 @@
+use Rattle.std.proofs.Common.{◌≡◌, List, take}
+use Rattle.std.specs.Io.KnownBytes.{Appends}
+use Rattle.std.specs.List.{AllZip}
+use Rattle.vcd_model.specs.Header.{Header}
+use Rattle.vcd_model.specs.Compare.{Named, alone_lines}
+use Rattle.vcd_view.specs.Views.{IsViewOf}
+use Rattle.vcd_compare.specs.Pairs.{IsNamedAt}
+use Rattle.vcd_compare.proofs.lines.put_alone.Given as goal
+
+abbrev pub invariant-loop-row : goal.invariant-loop-row
+invariant-loop-row g l = record {
+  same : (g.W.Sink.device l.out).failures ≡ (g.W.Sink.device l.fn.out).failures;
+  lines : (h : Header) (vs : List Named) → IsViewOf l.view h → AllZip (IsNamedAt h) l.rows vs → Appends (g.W.Sink.device l.fn.out).held (g.W.Sink.device l.out).held (alone_lines l.letter (take l.row-index vs));
+}

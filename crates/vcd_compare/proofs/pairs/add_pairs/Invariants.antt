@@ -1,0 +1,16 @@
+use Rattle.std.proofs.Common.{ℕ, List, length}
+use Rattle.vcd_model.specs.Compare.{Asked, Named, Pair}
+use Rattle.vcd_model.specs.Header.{Header}
+use Rattle.vcd_model.specs.Within.{Names}
+use Rattle.vcd_view.specs.Views.{IsViewOf}
+use Rattle.vcd_compare.specs.Counterparts.{AreCounterparts, AreLeftOut}
+use Rattle.vcd_compare.specs.HasPairs.{HasPairs}
+use Rattle.vcd_compare.specs.Paths.{AreApart}
+use Rattle.vcd_compare.specs.Variables.{AreVariables}
+use Rattle.vcd_compare.proofs.PairLoops.{HeldBefore}
+use Rattle.vcd_compare.proofs.pairs.add_pairs.Given as goal
+
+abbrev pub invariant-loop-index : goal.invariant-loop-index
+invariant-loop-index l = (q : Asked) (h : Header) (n : Names) (texts : List (List ℕ)) (compared other_kinds : List Pair) (ones others : List Named) → IsViewOf l.view h → AreApart texts → AreVariables h texts l.variables
+    → AreCounterparts texts n (length texts) l.places → AreLeftOut texts q.exceptions (length texts) l.left_out → HasPairs l.initial.keys.keys l.initial.pairs h compared other_kinds ones others
+    → HeldBefore l.keys.keys l.pairs q h n compared other_kinds ones others l.index

@@ -1,0 +1,10 @@
+use Rattle.std.proofs.Common.{◌≤◌, ℕ, List, length}
+use Rattle.vcd_compare.specs.Paths.{HasTexts}
+use Rattle.vcd_compare.proofs.PathTexts.{IsEntering}
+use Rattle.vcd_compare.proofs.paths.enter_path.Given as goal
+
+abbrev pub invariant-loop-part : goal.invariant-loop-part
+invariant-loop-part l = (texts : List (List ℕ)) → HasTexts l.initial.paths texts → l.around ≤ length texts → IsEntering texts l.around l.name l.paths l.number l.rest
+
+abbrev pub decreases-loop-part : goal.decreases-loop-part
+decreases-loop-part l = length l.rest

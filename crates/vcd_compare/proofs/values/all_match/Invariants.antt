@@ -1,0 +1,11 @@
+use Rattle.std.proofs.Common.{◌≡◌, ℕ, ◌-◌, true, List, Some, drop}
+use Rattle.vcd_model.specs.Compare.{all_match}
+use Rattle.vcd_model.specs.Values.{Value}
+use Rattle.vcd_body.specs.Contents.{IsLaidOut, codes_shown, value_in}
+use Rattle.vcd_compare.specs.Asked.{rule_of}
+use Rattle.vcd_compare.proofs.values.all_match.Given as goal
+
+-- so many digits match, counted from the last one
+abbrev pub invariant-loop-back : goal.invariant-loop-back
+invariant-loop-back l = (ds es : List ℕ) → IsLaidOut l.table → value_in (codes_shown l.view) l.table l.one ≡ Some (Value.Bits ds) → value_in (codes_shown l.view) l.table l.other ≡ Some (Value.Bits es)
+    → all_match (rule_of l.asked) (drop (l.count - l.back) ds) (drop (l.count - l.back) es) ≡ true

@@ -1,0 +1,19 @@
+use Rattle.std.proofs.Common.{◌≡◌, ◌∙◌, Err, rules, sym}
+use Rattle.vcd_compare.proofs.TimeSteps.{differs_none, differs_some, left_due}
+use Rattle.vcd_compare.proofs.whole.Run.close.Goals as goal
+
+pub returns-in_err-put_due-clause-closes : goal.returns-in_err-put_due-clause-closes
+returns-in_err-put_due-clause-closes g c = λ h exceptions ns items views stands.
+    let failed = c.in_err-put_due.field-0.0 in
+    let e : c.from_residual.result ≡ Err failed = search rules in
+    rw e (rw (left_due h exceptions ns items c.args.self.now stands c.requires.counted) (c.in_err-put_due.ensures.puts h exceptions ns items views stands.compares), tt)
+
+pub returns-then-not-branch-clause-closes : goal.returns-then-not-branch-clause-closes
+returns-then-not-branch-clause-closes g c = λ h exceptions ns items views stands.
+    let none = sym c.in_ok-put_due.ensures.tells ∙ c.if-not-branch.true in
+    (rw (left_due h exceptions ns items c.args.self.now stands c.requires.counted) (c.in_ok-put_due.ensures.puts h exceptions ns items views stands.compares), differs_none h exceptions ns items c.args.self.now stands c.requires.counted none)
+
+pub returns-clause-closes : goal.returns-clause-closes
+returns-clause-closes g c = λ h exceptions ns items views stands.
+    let due = sym c.in_ok-put_due.ensures.tells ∙ c.if-not-branch.false in
+    (rw (left_due h exceptions ns items c.args.self.now stands c.requires.counted) (c.in_ok-put_due.ensures.puts h exceptions ns items views stands.compares), differs_some h exceptions ns items c.args.self.now stands c.requires.counted due)

@@ -1,0 +1,91 @@
+use Rattle.std.proofs.Common.{◌≡◌, ◌∙◌, ◌+◌, ℕ, Result, Ok, Err, inl, inr, refl, sym, ap, subst, rules, arith}
+use Rattle.vcd_text.specs.Advances.{Advances, CallEnd}
+use Rattle.vcd_text.specs.Device.{Device}
+use Rattle.vcd_text.specs.Feed.{limit_of, seen}
+use Rattle.vcd_text.proofs.AdvancesLemmas.{advances_nowhere, advances_on}
+use Rattle.vcd_body.specs.declared.answer.More.{More}
+use Rattle.vcd_body.specs.declared.answer.Stop.{Stop}
+use Rattle.vcd_body.specs.declared.answer.Stop.TheVariants.{Read, Write}
+use Rattle.vcd_compare.specs.Run.{BodyGives, StepGives, step_end}
+use Rattle.vcd_compare.proofs.RunSteps.{come_passed, pass_fails}
+use Rattle.vcd_compare.proofs.whole.Run.run_to_end.Goals as goal
+
+not_one_more : (n : ℕ) → n ≡ n + 1 → ⊥
+not_one_more n e = omega (arith, e)
+
+pub items-init : goal.items-init
+items-init g c = (
+  advances_nowhere g.S.Source.failures c.args.feed.now,
+  c.requires.counted,
+  refl,
+  λ q exceptions h ns i front begin items views come. (items, come),
+)
+
+pub returns-in_err-pass_on_before_read-clause-runs : goal.returns-in_err-pass_on_before_read-clause-runs
+returns-in_err-pass_on_before_read-clause-runs g c = λ q exceptions h ns i front begin items views come.
+    let s = c.items.invariant.3 q exceptions h ns i front begin items views come in
+    let out : Device = (g.W.Sink.device c.items.out) in
+    let new : Device = (g.W.Sink.device c.pass_on_before_read.new.out) in
+    let a = c.advance_ahead.ensures.steps q exceptions h ns i front begin s.0 out views s.1 in
+    let e : c.from_residual.result ≡ Err Write = search rules in
+    let f = c.advance_ahead.new.feed in
+    let limit : limit_of f ≡ limit_of c.args.feed.now = c.advance_ahead.ensures.advances.limit ∙ c.items.invariant.0.limit in
+    rw e (subst (λ (n : ℕ). BodyGives q h ns i front n (seen f) begin new (Err Write)) limit (pass_fails q exceptions h ns i front begin a.0 c.advance_ahead.new.self f out a.1 c.advance_ahead.new.self f new c.in_err-pass_on_before_read.ensures.puts))
+
+pub returns-in_err-step-clause-runs : goal.returns-in_err-step-clause-runs
+returns-in_err-step-clause-runs g c = λ q exceptions h ns i front begin items views come.
+    let s = c.items.invariant.3 q exceptions h ns i front begin items views come in
+    let out : Device = (g.W.Sink.device c.items.out) in
+    let mid : Device = (g.W.Sink.device c.pass_on_before_read.new.out) in
+    let new : Device = (g.W.Sink.device c.step.new.out) in
+    let a = c.advance_ahead.ensures.steps q exceptions h ns i front begin s.0 out views s.1 in
+    let stop = c.in_err-step.field-0.0 in
+    let e : c.from_residual-in_err-step.result ≡ Err stop = search rules in
+    let f = c.advance_ahead.new.feed in
+    let passed = come_passed q exceptions h ns i front begin a.0 c.advance_ahead.new.self f out a.1 mid c.in_ok-pass_on_before_read.ensures.puts in
+    let limit : limit_of c.step.new.feed ≡ limit_of c.args.feed.now = c.in_err-step.ensures.over.advances.limit ∙ c.advance_ahead.ensures.advances.limit ∙ c.items.invariant.0.limit in
+    rw e (subst (λ (n : ℕ). BodyGives q h ns i front n (seen c.step.new.feed) begin new (Err stop)) limit (c.in_err-step.ensures.steps q exceptions h ns i front begin a.0 views passed))
+
+pub returns-in_err-step-clause-passed_on : goal.returns-in_err-step-clause-passed_on
+returns-in_err-step-clause-passed_on g c = λ input is.
+    let stop = c.in_err-step.field-0.0 in
+    let e : c.from_residual-in_err-step.result ≡ Err stop = search rules in
+    let named : stop ≡ Read input = cc in
+    let read : ◌≡◌ {A = Result More Stop} (Err stop) (Err (Read input)) = ap (λ (s : Stop). Err s) named in
+    let unfailed = c.advance_ahead.ensures.advances.goes refl (c.items.invariant.0.goes refl c.requires.open) in
+    let s = c.in_err-step.ensures in
+    elim c.in_ok-pass_on_before_read.ensures.prompt [
+      | inl none ↦ ap g.W.Sink.kept_back (s.sink input read) ∙ none
+      | inr holds ↦ absurd (not_one_more _ (sym (ap g.S.Source.failures (s.ahead holds)) ∙ s.over.advances.failed (ap step_end read) unfailed))
+    ]
+
+pub returns-in-Ended-clause-runs : goal.returns-in-Ended-clause-runs
+returns-in-Ended-clause-runs g c = λ q exceptions h ns i front begin items views come.
+    let s = c.items.invariant.3 q exceptions h ns i front begin items views come in
+    let out : Device = (g.W.Sink.device c.items.out) in
+    let mid : Device = (g.W.Sink.device c.pass_on_before_read.new.out) in
+    let new : Device = (g.W.Sink.device c.step.new.out) in
+    let a = c.advance_ahead.ensures.steps q exceptions h ns i front begin s.0 out views s.1 in
+    let f = c.advance_ahead.new.feed in
+    let passed = come_passed q exceptions h ns i front begin a.0 c.advance_ahead.new.self f out a.1 mid c.in_ok-pass_on_before_read.ensures.puts in
+    let limit : limit_of c.step.new.feed ≡ limit_of c.args.feed.now = c.in_ok-step.ensures.over.advances.limit ∙ c.advance_ahead.ensures.advances.limit ∙ c.items.invariant.0.limit in
+    let ended = subst (λ (m : More). StepGives q exceptions h ns i front begin c.step.new.self c.step.new.feed new (Ok m)) c.in-Ended.is (c.in_ok-step.ensures.steps q exceptions h ns i front begin a.0 views passed) in
+    subst (λ (n : ℕ). BodyGives q h ns i front n (seen c.step.new.feed) begin new (Ok (record { differs = c.step.new.self.differs; done = c.in-Ended.done }))) limit ended
+
+pub items-preserved : goal.items-preserved
+items-preserved g c =
+    let again = ap (λ (m : More). Ok m) c.in-Again.is in
+    let over = c.in_ok-step.ensures.over in
+    let ahead = advances_on g.S.Source.failures c.args.feed.now c.items.feed c.advance_ahead.new.feed CallEnd.GoesOn c.items.invariant.0 c.advance_ahead.ensures.advances in (
+      advances_on g.S.Source.failures c.args.feed.now c.advance_ahead.new.feed c.step.new.feed CallEnd.GoesOn ahead (subst (λ (m : More). Advances g.S.Source.failures c.advance_ahead.new.feed c.step.new.feed (step_end (Ok m))) c.in-Again.is over.advances),
+      over.counted again,
+      over.writes again ∙ c.in_ok-pass_on_before_read.ensures.puts.1 ∙ c.items.invariant.2,
+      λ q exceptions h ns i front begin items views come.
+          let s = c.items.invariant.3 q exceptions h ns i front begin items views come in
+          let out : Device = (g.W.Sink.device c.items.out) in
+          let mid : Device = (g.W.Sink.device c.pass_on_before_read.new.out) in
+          let new : Device = (g.W.Sink.device c.step.new.out) in
+          let a = c.advance_ahead.ensures.steps q exceptions h ns i front begin s.0 out views s.1 in
+          let passed = come_passed q exceptions h ns i front begin a.0 c.advance_ahead.new.self c.advance_ahead.new.feed out a.1 mid c.in_ok-pass_on_before_read.ensures.puts in
+          subst (λ (m : More). StepGives q exceptions h ns i front begin c.step.new.self c.step.new.feed new (Ok m)) c.in-Again.is (c.in_ok-step.ensures.steps q exceptions h ns i front begin a.0 views passed),
+    )

@@ -1,0 +1,25 @@
+use Rattle.std.proofs.Common.{◌≡◌, ◌-◌, ◌^◌, ℕ, List}
+use Rattle.vcd_model.specs.Compare.{Asked as ModelAsked}
+use Rattle.vcd_model.specs.Header.{Header}
+use Rattle.vcd_model.specs.Input.{Input}
+use Rattle.vcd_model.specs.Items.{BodyItem}
+use Rattle.vcd_model.specs.Tokens.{Token}
+use Rattle.vcd_model.specs.Within.{Names}
+use Rattle.vcd_text.specs.Advances.{Advances, CallEnd}
+use Rattle.vcd_text.specs.Device.{Device}
+use Rattle.vcd_text.specs.Feed.{seen}
+use Rattle.vcd_view.specs.Views.{IsViewOf}
+use Rattle.vcd_compare.specs.Comparing.{IsCounted}
+use Rattle.vcd_compare.specs.Run.{HasCome}
+use Rattle.vcd_compare.proofs.whole.Run.run_to_end.Given as goal
+
+-- the run has come past some more items, and nothing failed
+abbrev pub invariant-items : goal.invariant-items
+invariant-items g l = Advances g.S.Source.failures l.fn.feed l.feed CallEnd.GoesOn
+    × IsCounted l.self.watched l.self.comparison
+    × ((g.W.Sink.device l.out).failures ≡ (g.W.Sink.device l.fn.out).failures)
+    × ((q : ModelAsked) (exceptions : List (List ℕ)) (h : Header) (ns : List Names) (i : Input) (front : List Token) (begin : Device) (items : List BodyItem) → IsViewOf l.view h → HasCome q exceptions h ns i front begin items l.fn.self l.fn.feed (g.W.Sink.device l.fn.out)
+    → (more : List BodyItem) × HasCome q exceptions h ns i front begin more l.self l.feed (g.W.Sink.device l.out))
+
+abbrev pub decreases-items : goal.decreases-items
+decreases-items g l = 2 ^ 63 - seen l.feed

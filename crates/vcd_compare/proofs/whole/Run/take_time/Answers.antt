@@ -1,0 +1,64 @@
+use Rattle.std.proofs.Common.{◌≡◌, ◌∙◌, ◌<◌, get_or, length, ℕ, Err, refl, sym, ap, subst, rules}
+use Rattle.vcd_text.specs.Device.{Device}
+use Rattle.vcd_text.proofs.Writes.{appends-none}
+use Rattle.vcd_compare.specs.Asked.{model_extent}
+use Rattle.vcd_model.specs.Compare.{Extent as ModelExtent}
+use Rattle.vcd_compare.specs.Flags.{settled_as}
+use Rattle.vcd_compare.specs.declared.asked.Extent.{Extent}
+use Rattle.vcd_compare.specs.declared.asked.Extent.TheVariants as extent
+use Rattle.vcd_compare.proofs.TimeSteps.{counted_none, settles_due, settles_none, tells_again, tells_first, tells_later, tells_none}
+use Rattle.vcd_compare.proofs.whole.Run.take_time.Goals as goal
+
+pub returns-then-time-self-clause-takes : goal.returns-then-time-self-clause-takes
+returns-then-time-self-clause-takes g c = λ h exceptions ns items views forth stands.
+    let run = c.args.self.now in
+    let out : Device = (g.W.Sink.device c.args.out.now) in
+    let low = c.if-time-self.true in
+    (rw (settles_none h exceptions ns items c.args.time run stands forth low) (appends-none out.held), tells_again h exceptions ns items c.args.time run stands forth low)
+
+pub returns-in_err-put_due-clause-takes : goal.returns-in_err-put_due-clause-takes
+returns-in_err-put_due-clause-takes g c = λ h exceptions ns items views forth stands.
+    let failed = c.in_err-put_due.field-0.0 in
+    let e : c.from_residual.result ≡ Err failed = search rules in
+    rw e (rw (settles_due h exceptions ns items c.args.time c.args.self.now stands forth c.if-time-self.false c.requires.counted) (c.in_err-put_due.ensures.puts h exceptions ns items views stands.compares), tt)
+
+pub returns-then-not-branch-clause-takes : goal.returns-then-not-branch-clause-takes
+returns-then-not-branch-clause-takes g c = λ h exceptions ns items views forth stands.
+    let run = c.args.self.now in
+    let t = c.args.time in
+    let none = sym c.in_ok-put_due.ensures.tells ∙ c.if-not-branch.true in (
+      rw (settles_due h exceptions ns items t run stands forth c.if-time-self.false c.requires.counted) (c.in_ok-put_due.ensures.puts h exceptions ns items views stands.compares),
+      tells_none h exceptions ns items t run stands forth c.if-time-self.false c.requires.counted none _ refl refl refl,
+    )
+
+pub returns-in-First-clause-takes : goal.returns-in-First-clause-takes
+returns-in-First-clause-takes g c = λ h exceptions ns items views forth stands.
+    let run = c.args.self.now in
+    let t = c.args.time in
+    let due = sym c.in_ok-put_due.ensures.tells ∙ c.if-not-branch.false in (
+      rw (settles_due h exceptions ns items t run stands forth c.if-time-self.false c.requires.counted) (c.in_ok-put_due.ensures.puts h exceptions ns items views stands.compares),
+      tells_first h exceptions ns items t run stands forth c.if-time-self.false c.requires.counted due _ (ap model_extent c.in-First.is) refl,
+    )
+
+others : (e : Extent) → (e ≡ extent.First → ⊥) → model_extent e ≡ ModelExtent.First → ⊥
+others extent.First other is = other refl
+others extent.EachPair other is = cc
+others extent.Always other is = cc
+
+pub returns-clause-takes : goal.returns-clause-takes
+returns-clause-takes g c = λ h exceptions ns items views forth stands.
+    let run = c.args.self.now in
+    let t = c.args.time in
+    let due = sym c.in_ok-put_due.ensures.tells ∙ c.if-not-branch.false in
+    let asked = run.comparison.current.asked in
+    let flags = run.comparison.flags.now in
+    let each = subst (λ (a : ℕ). (k : ℕ) → k < length flags → get_or c.settle.new.flags k 0 ≡ settled_as a (get_or flags k 0)) c.flag_after.ensures c.settle.ensures.each in (
+      rw (settles_due h exceptions ns items t run stands forth c.if-time-self.false c.requires.counted) (c.in_ok-put_due.ensures.puts h exceptions ns items views stands.compares),
+      tells_later h exceptions ns items t run stands forth c.if-time-self.false c.requires.counted due _ refl refl c.settle.ensures.length each (others asked.extent c.in_default.not-First) refl,
+    )
+
+pub returns-clause-counted : goal.returns-clause-counted
+returns-clause-counted g c = λ goes.
+    let asked = c.args.self.now.comparison.current.asked in
+    let flags = c.args.self.now.comparison.flags.now in
+    counted_none (model_extent asked.extent) flags c.settle.new.flags c.settle.ensures.length (subst (λ (a : ℕ). (k : ℕ) → k < length flags → get_or c.settle.new.flags k 0 ≡ settled_as a (get_or flags k 0)) c.flag_after.ensures c.settle.ensures.each)

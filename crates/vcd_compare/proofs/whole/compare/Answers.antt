@@ -1,0 +1,33 @@
+use Rattle.std.proofs.Common.{◌≡◌, [], Err, inl, sym, ap, subst, rules}
+use Rattle.vcd_text.specs.Device.{Device, Writes, WritesSome}
+use Rattle.vcd_model.specs.Within.{within_open}
+use Rattle.vcd_body.specs.declared.answer.Stop.TheVariants.{Write}
+use Rattle.vcd_body.proofs.CallerLemmas.{gave_nothing}
+use Rattle.vcd_compare.specs.Asked.{model_asked}
+use Rattle.vcd_compare.proofs.RunSteps.{begins_none}
+use Rattle.vcd_compare.proofs.StartLemmas.{open_first}
+use Rattle.vcd_compare.proofs.whole.compare.Goals as goal
+
+pub returns-in_err-put_header_lines-clause-gives : goal.returns-in_err-put_header_lines-clause-gives
+returns-in_err-put_header_lines-clause-gives g c = λ h exceptions ns i front views pairs given.
+    let e : c.from_residual.result ≡ Err Write = search rules in
+    let q = model_asked c.args.asked exceptions in
+    let out : Device = (g.W.Sink.device c.args.out.now) in
+    let new : Device = (g.W.Sink.device c.put_header_lines.new.out) in
+    let puts = c.in_err-put_header_lines.ensures in
+    let some : WritesSome out new (within_open q h ns []) = subst (WritesSome out new) (sym (open_first q h ns)) (puts.0 h q ns views pairs, puts.1) in
+    rw e (inl ([], begins_none h i front c.args.feed.now given, some))
+
+pub returns-clause-gives : goal.returns-clause-gives
+returns-clause-gives g c = λ h exceptions ns i front views pairs given.
+    let q = model_asked c.args.asked exceptions in
+    let out : Device = (g.W.Sink.device c.args.out.now) in
+    let mid : Device = (g.W.Sink.device c.put_header_lines.new.out) in
+    let puts = c.in_ok-put_header_lines.ensures in
+    let run = c.new-run.ensures in
+    c.run_to_end.ensures.runs q exceptions h ns i front out [] views (record {
+      asked = ap (λ a. model_asked a exceptions) run.asked;
+      gave = gave_nothing h.codes i front c.args.feed.now c.new-run.result.regs given run.regs;
+      stands = run.stands h exceptions ns views pairs;
+      written = subst (Writes out mid) (sym (open_first q h ns)) (puts.0 h q ns views pairs, puts.1);
+    })

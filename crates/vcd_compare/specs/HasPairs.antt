@@ -1,0 +1,51 @@
+-- The pairs while they are made: what is held of some places, and the classes by their codes.
+use Rattle.std.specs.Prelude.{◌≡◌, ℕ, not, cond, is_none, List, [], ◌∷◌, ◌++◌, filter, filter_map, length, Option, Some, None}
+use Rattle.std.specs.List.{AllZip}
+use Rattle.vcd_model.specs.Header.{Header}
+use Rattle.vcd_model.specs.Compare.{Named, Pair, is_fit}
+use Rattle.vcd_model.specs.Within.{Names, pair_at}
+use Rattle.vcd_compare.specs.Classes.{HasClasses}
+use Rattle.vcd_compare.specs.Pairs.{HoldsPairs}
+use Rattle.vcd_compare.specs.Paths.{HasTexts, IsNumberOf}
+use Rattle.vcd_compare.specs.declared.pairs.Pairs.{Pairs}
+use Rattle.vcd_compare.specs.declared.paths.Paths.{Paths}
+
+-- a pair, if it is compared, and if it is not
+abbrev pub compared_of : Pair → List Pair
+compared_of p = filter is_fit (p ∷ [])
+
+abbrev pub unlike_of : Pair → List Pair
+unlike_of p = filter (λ x. not (is_fit x)) (p ∷ [])
+
+-- a place that may not be there
+abbrev pub places_with : Option (Named × Option Named) → List (Named × Option Named)
+places_with None = []
+places_with (Some p) = p ∷ []
+
+-- what it adds
+abbrev pub compared_with : Option (Named × Option Named) → List Pair
+compared_with e = filter is_fit (filter_map pair_at (places_with e))
+
+abbrev pub unlike_with : Option (Named × Option Named) → List Pair
+unlike_with e = filter (λ p. not (is_fit p)) (filter_map pair_at (places_with e))
+
+abbrev pub alone_with : Option (Named × Option Named) → List Named
+alone_with e = filter_map (λ p. cond (is_none p.1) (Some p.0) None) (places_with e)
+
+-- these pairs are held, and the classes have these codes
+pub record HasPairs (keys : List (ℕ × ℕ)) (ps : Pairs) (h : Header) (compared unlike : List Pair) (ones others : List Named) : Type 0 where
+  pub holds : HoldsPairs ps h compared unlike ones others
+  pub has : HasClasses keys ps.ends.items ps.last.items
+  pub count : length keys ≡ ps.classes
+
+-- these are the numbers of two names
+abbrev pub AreNumbersOf : List (List ℕ) → ℕ × ℕ → Names → Type 0
+AreNumbersOf texts m n = IsNumberOf texts m.0 n.0 × IsNumberOf texts m.1 n.1
+
+-- the names have these numbers, and some may be new
+abbrev pub EntersNames : List (List ℕ) → Paths → List Names → List (ℕ × ℕ) → Type 0
+EntersNames texts new ns numbers = (more : List (List ℕ)) × HasTexts new (texts ++ more) × AllZip (AreNumbersOf (texts ++ more)) numbers ns
+
+-- so have these texts
+abbrev pub EntersTexts : List (List ℕ) → Paths → List (List ℕ) → List ℕ → Type 0
+EntersTexts texts new ts numbers = (more : List (List ℕ)) × HasTexts new (texts ++ more) × AllZip (IsNumberOf (texts ++ more)) numbers ts

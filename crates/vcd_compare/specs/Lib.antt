@@ -1,0 +1,14 @@
+pub mod Asked
+pub mod Comparing
+pub mod Flags
+pub mod Lines
+pub mod LineTexts
+pub mod Pairs
+pub mod Run
+pub mod Paths
+pub mod Variables
+pub mod Counterparts
+pub mod Kinds
+pub mod Classes
+pub mod HasPairs
+pub mod Outcomes

@@ -1,0 +1,208 @@
+//! The comparison between two items of a body.
+ghost use Rattle.std.specs.Prelude.{◌≡◌, ◌<◌, ℕ, List, Some, length, slice_get, unwrap_or};
+ghost use Rattle.vcd_body.specs.Ahead.{HasBits};
+ghost use Rattle.vcd_body.specs.Given.{HasGoodText};
+ghost use Rattle.vcd_body.specs.declared.item.Item.TheVariants as body_item;
+ghost use Rattle.vcd_model.specs.Compare.{Asked as ModelAsked};
+ghost use Rattle.vcd_model.specs.Declarations.{IdCode};
+ghost use Rattle.vcd_model.specs.Header.{Header};
+ghost use Rattle.vcd_model.specs.Items.{BodyItem};
+ghost use Rattle.vcd_view.specs.Views.{IsViewOf};
+ghost use Rattle.vcd_compare.specs.Comparing.{ComparesOn, IsCounted, MarksChange, SameRequest, partner};
+ghost use Rattle.vcd_compare.specs.Flags.{differing, marked};
+
+use crate::current::{Current, note_trigger};
+use crate::flags::mark;
+use crate::pairs::End;
+use vcd_body::{Bits, Item, Regs, ScannedItem, Visit, set_item};
+use vcd_text::{Sink, WriteFailed};
+use vcd_view::{Code, HeadView};
+
+/// What a comparison keeps between two items: the current states, and a flag for each class.
+#[derive(Drop)]
+pub(crate) struct Comparison<'p, 'r> {
+    pub current: Current<'p, 'r>,
+    pub flags: &'r mut [u8],
+}
+
+/// What a walk keeps in registers.
+#[derive(Clone, Copy)]
+pub(crate) struct Watched {
+    /// The time at which values are compared next: that of the last timestamp, or the first time
+    /// that is asked for if that is greater.
+    pub at: u64,
+    /// How many flags are 1.
+    pub differing: usize,
+}
+
+/// Returns the index of the other end of the class of the end at this index.
+#[inline(always)]
+fn partner_of(index: usize) -> usize
+    ensures { result ≡ partner index }
+{
+    if index % 2 == 0 { index + 1 } else { index - 1 }
+}
+
+/// Returns the end at this index; `None` if there is no such index.
+#[inline(always)]
+fn end_at(ends: &[End], index: usize) -> Option<End>
+    ensures { result ≡ slice_get ends.now index }
+{
+    ends.get(index).copied()
+}
+
+/// Returns 1 plus the index of the last end that has the code at index `code`; 0 if there is none.
+#[inline(always)]
+fn last_end(last: &[usize], code: usize) -> usize
+    ensures { result ≡ unwrap_or (slice_get last.now code) 0 }
+{
+    last.get(code).copied().unwrap_or(0)
+}
+
+/// Sets the flags of all classes of the code at index `code`, which is declared so and has just got
+/// a new value. `at` is the time at which values are compared next, and `count` is how many flags
+/// are 1; returns how many are after it.
+#[inline(always)]
+fn mark_ends(
+    current: &Current<'_, '_>,
+    flags: &mut [u8],
+    view: HeadView<'_>,
+    code: usize,
+    declared: Code,
+    at: u64,
+    count: usize,
+) -> usize
+    requires declared { slice_get view.codes.now code ≡ Some declared }
+    requires count { count ≡ differing flags.old }
+    ensures count { result ≡ differing flags.new }
+    ensures marks { MarksChange view.entry current.now code at flags.old flags.new }
+{
+    let mut count = count;
+    let mut left = last_end(&current.pairs.last, code);
+    'ends: while let Some(index) = left.checked_sub(1) {
+        let Some(end) = end_at(&current.pairs.ends, index) else {
+            return count;
+        };
+        let Some(other) = end_at(&current.pairs.ends, partner_of(index)) else {
+            return count;
+        };
+        let differs = current.differs(view, code, declared, other.code, index % 2 == 0, at);
+        count = mark(flags, index / 2, differs, count);
+        left = end.next.min(index);
+    }
+    count
+}
+
+impl Comparison<'_, '_> {
+    /// Handles an item that is no timestamp: sets the value of a change, compares it with those of
+    /// its counterparts, and returns how many flags are 1 after it. Any other item changes nothing.
+    /// `regs` are the registers, `text` is the text of a change, and `bits` its digits as a number,
+    /// if that is known.
+    #[inline(always)]
+    pub(crate) fn take(
+        &mut self,
+        watched: Watched,
+        view: HeadView<'_>,
+        regs: Regs,
+        item: Item,
+        text: &[u8],
+        bits: Option<Bits>,
+    ) -> usize
+        requires counted { IsCounted watched self.old }
+        requires sound { HasGoodText view.codes.now text.now item }
+        requires bits { HasBits item text.now bits }
+        requires other { (time : ℕ) → item ≡ body_item.Time time → ⊥ }
+        ensures counted { result ≡ differing self.new.flags.now }
+        ensures same { SameRequest self.old self.new }
+        ensures on { ComparesOn view.entry text.now item regs self.old self.new watched
+            (record watched { differing = result }) }
+    {
+        let Item::Change { code, .. } = item else {
+            return watched.differing;
+        };
+        set_item(&mut self.current.table, item, text, bits);
+        let Some(declared) = view.code_at(code) else {
+            return watched.differing;
+        };
+        note_trigger(self.current.triggers, code, declared, regs);
+        mark_ends(
+            &self.current,
+            self.flags,
+            view,
+            code,
+            declared,
+            watched.at,
+            watched.differing,
+        )
+    }
+}
+
+impl<'p, 'r> Visit<Comparison<'p, 'r>> for Watched {
+    ghost use Rattle.std.specs.Prelude.{false};
+    ghost use Rattle.vcd_compare.specs.Comparing.{ComparesOne, IsCounted, stops_before};
+
+    ghost stands = { λ watched comparison _ _. IsCounted watched comparison };
+
+    ghost takes = { λ view s t result. ComparesOne view s t result };
+
+    ghost stops_before = { λ watched comparison time. stops_before watched comparison time };
+
+    ghost over = { λ _. false };
+
+    /// Returns whether a timestamp of this time ends the run, or settles a time at which lines are
+    /// due.
+    #[inline(always)]
+    fn ends_before(&self, comparison: &Comparison<'p, 'r>, time: u64) -> bool {
+        comparison.current.asked.to < time || (0 < self.differing && self.at < time)
+    }
+
+    /// Returns false: only `ends_before` ends such a walk.
+    #[inline(always)]
+    fn is_over(&self) -> bool
+        ensures { result ≡ false }
+    {
+        false
+    }
+
+    /// Goes on to this time, if it is greater.
+    #[inline(always)]
+    fn take_timestamp(
+        &mut self,
+        _comparison: &mut Comparison<'p, 'r>,
+        _view: HeadView<'_>,
+        _regs: Regs,
+        time: u64,
+        _timestamp: ScannedItem<'_>,
+    ) {
+        self.at = self.at.max(time);
+    }
+
+    /// Sets the value of the change, and compares it with those of its counterparts. It writes
+    /// nothing, and never fails.
+    #[inline(always)]
+    fn take_change<W: Sink>(
+        &mut self,
+        comparison: &mut Comparison<'p, 'r>,
+        view: HeadView<'_>,
+        regs: Regs,
+        change: ScannedItem<'_>,
+        _out: &mut W,
+    ) -> Result<(), WriteFailed> {
+        self.differing = comparison.take(*self, view, regs, change.item, change.text, change.bits);
+        Ok(())
+    }
+
+    /// Does nothing, and never fails.
+    #[inline(always)]
+    fn take_section<W: Sink>(
+        &mut self,
+        _comparison: &mut Comparison<'p, 'r>,
+        _view: HeadView<'_>,
+        _before: Regs,
+        _after: Regs,
+        _section: ScannedItem<'_>,
+        _out: &mut W,
+    ) -> Result<(), WriteFailed> {
+        Ok(())
+    }
+}

@@ -1,0 +1,37 @@
+//! Two parts of a dump compared, such as the two inputs in what `merge` wrote.
+//!
+//! `pairs_of` finds the variables that are compared, and `compare` writes the lines about them and
+//! about their values while it reads the body. It takes no memory: what it keeps is in a `Room`
+//! that is lent.
+//!
+//! # The modules
+//!
+//! - `asked`: `Asked`, `Extent`
+//! - `paths`, `variables`: the paths of a header by number, and its variables by their paths
+//! - `counterparts`, `kinds`: what a variable is compared with, and whether it is of the same kind
+//! - `pairs`: `Pairs`, `pairs_of`
+//! - `current`, `values`: the current states of all codes, and whether two of them match
+//! - `flags`: a flag for each two codes that are compared
+//! - `comparing`: what an item changes; the visit of the walk over the items ahead
+//! - `lines`: how the lines are written
+//! - `whole`: `compare`, `Room`, `Answer`
+//! - `laws`: what `compare` leaves, and the definitions' outcome
+#![tactic(auto)]
+
+mod asked;
+mod comparing;
+mod counterparts;
+mod current;
+mod flags;
+mod kinds;
+pub mod laws;
+mod lines;
+mod pairs;
+mod paths;
+mod values;
+mod variables;
+mod whole;
+
+pub use asked::{Asked, Extent};
+pub use pairs::{NamePair, Pairs, pairs_of};
+pub use whole::{Answer, Room, compare};

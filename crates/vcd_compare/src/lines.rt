@@ -1,0 +1,245 @@
+//! The lines of a comparison.
+ghost use Rattle.std.specs.Prelude.{◌≡◌, ◌-◌, ◌^◌, ◌<◌, ◌≤◌, ℕ, List, [], ◌∷◌, Some, IsSomeAnd, cond, codes, flat_map, slice_get, ◌==◌, get_or, not};
+ghost use Rattle.std.specs.List.{AllZip};
+ghost use Rattle.vcd_model.specs.Bytes.{is_empty};
+ghost use Rattle.vcd_model.specs.Compare.{Asked, Named, Pair, alone_lines, kind_of as kind_of_variable, kind_shown, state_at, unlike_lines, value_line};
+ghost use Rattle.vcd_model.specs.Declarations.{Declaration, IdCode, Variable};
+ghost use Rattle.vcd_model.specs.Header.{Header};
+ghost use Rattle.vcd_model.specs.Items.{BodyItem, time_after};
+ghost use Rattle.vcd_model.specs.Sample.{shown};
+ghost use Rattle.vcd_model.specs.Within.{Names, side, within_head};
+ghost use Rattle.vcd_text.specs.Device.{Counts, PutsWhere, Takes};
+ghost use Rattle.vcd_view.specs.Views.{IsViewOf};
+ghost use Rattle.vcd_compare.specs.Comparing.{AreCurrent};
+ghost use Rattle.vcd_compare.specs.LineTexts.{ArePairLines, AtAlone, AtClass, AtCode, AtPair, AtUnlike, HasCodes, states_of};
+ghost use Rattle.vcd_compare.specs.Pairs.{ArePairs, IsClassOf, IsNamedAt, IsUnlikeAt};
+
+use crate::current::Current;
+use crate::kinds::{VariableKind, kind_of};
+use crate::pairs::{PairRow, Pairs, UnlikeRows};
+use vcd_body::put_full;
+use vcd_head::put_path;
+use vcd_text::{Sink, WriteFailed, put, put_number};
+use vcd_view::HeadView;
+
+/// Writes the state of the code at index `code` at this time, which is not before the last
+/// timestamp: its value, or `-` if it has none; for an event `1` if it is triggered, otherwise `-`.
+/// Fails if a write does.
+fn put_state<W: Sink>(
+    current: &Current<'_, '_>,
+    view: HeadView<'_>,
+    code: usize,
+    time: u64,
+    out: &mut W,
+) -> Result<(), WriteFailed>
+    requires failures { (W.device out.old).failures < 2 ^ 64 - 1 }
+    ensures { PutsWhere W.device out.old out.new result (λ takes.
+        AtCode view.entry current.now code time (λ items c. takes (shown (state_at 1 items c time)))) }
+{
+    if !view.is_event(code) {
+        return put_full(view, &current.table, code, out);
+    }
+    if current.is_triggered(code, time) {
+        put(out, b"1")
+    } else {
+        put(out, b"-")
+    }
+}
+
+/// Returns the indexes of the two codes of a class; `None` if there is no such class.
+fn codes_of(pairs: &Pairs, class: usize) -> Option<(usize, usize)>
+    ensures { (h : Header) (p : Pair) → IsClassOf h pairs.now.ends.items class p
+        → IsSomeAnd result (λ codes. HasCodes h codes p) }
+{
+    let first = class.saturating_mul(2);
+    let one = pairs.ends.get(first)?;
+    let other = pairs.ends.get(first.saturating_add(1))?;
+    Some((one.code, other.code))
+}
+
+/// Writes the states of the two of a class at this time, which is not before the last timestamp,
+/// with a blank between, and ends the line. Fails if a write does.
+fn put_states<W: Sink>(
+    current: &Current<'_, '_>,
+    view: HeadView<'_>,
+    class: usize,
+    time: u64,
+    out: &mut W,
+) -> Result<(), WriteFailed>
+    requires failures { (W.device out.old).failures < 2 ^ 64 - 1 }
+    ensures { PutsWhere W.device out.old out.new result (λ takes.
+        AtClass view.entry current.now class time (λ items p. takes (states_of items p time))) }
+{
+    let Some((one, other)) = codes_of(current.pairs, class) else {
+        return Ok(());
+    };
+    put_state(current, view, one, time, out)?;
+    put(out, b" ")?;
+    put_state(current, view, other, time, out)?;
+    put(out, b"\n")
+}
+
+/// Writes the line of a pair at this time, which is not before the last timestamp. Fails if a write
+/// does.
+fn put_line<W: Sink>(
+    current: &Current<'_, '_>,
+    view: HeadView<'_>,
+    pair: PairRow,
+    time: u64,
+    out: &mut W,
+) -> Result<(), WriteFailed>
+    requires failures { (W.device out.old).failures < 2 ^ 64 - 1 }
+    ensures { PutsWhere W.device out.old out.new result (λ takes.
+        AtPair view.entry current.now pair time (λ items p.
+        takes (value_line (side items) (side items) p time))) }
+{
+    put(out, b"differs ")?;
+    put_number(out, time)?;
+    put(out, b" ")?;
+    put_path(view, pair.row, out)?;
+    put(out, b" ")?;
+    put_states(current, view, pair.class, time, out)
+}
+
+/// Returns the flag of this class; 0 if there is no such class.
+fn flag_at(flags: &[u8], class: usize) -> u8
+    ensures { result ≡ get_or flags.now class 0 }
+{
+    flags.get(class).copied().unwrap_or(0)
+}
+
+/// Writes the lines of this time, which is not before the last timestamp: one for each pair whose
+/// class has the flag 1. Fails if a write does.
+pub(crate) fn put_lines<W: Sink>(
+    current: &Current<'_, '_>,
+    view: HeadView<'_>,
+    flags: &[u8],
+    time: u64,
+    out: &mut W,
+) -> Result<(), WriteFailed>
+    requires failures { (W.device out.old).failures < 2 ^ 64 - 1 }
+    ensures { PutsWhere W.device out.old out.new result (λ takes.
+        ArePairLines view.entry current.now flags.now time takes) }
+{
+    for pair in &current.pairs.rows {
+        if flag_at(flags, pair.class) == 1 {
+            put_line(current, view, *pair, time, out)?;
+        }
+    }
+    Ok(())
+}
+
+/// Writes the line of a variable without a counterpart: `alone`, the letter, and the path. Fails if
+/// a write does.
+fn put_alone_line<W: Sink>(
+    view: HeadView<'_>,
+    letter: &[u8],
+    row: usize,
+    out: &mut W,
+) -> Result<(), WriteFailed>
+    requires failures { (W.device out.old).failures < 2 ^ 64 - 1 }
+    ensures { PutsWhere W.device out.old out.new result (λ takes.
+        AtAlone view.entry row (λ v. takes (alone_lines letter.now (v ∷ [])))) }
+{
+    put(out, b"alone ")?;
+    put(out, letter)?;
+    put(out, b" ")?;
+    put_path(view, row, out)?;
+    put(out, b"\n")
+}
+
+/// Writes a line for each of these variables without a counterpart. Fails if a write does.
+fn put_alone<W: Sink>(
+    view: HeadView<'_>,
+    letter: &[u8],
+    rows: &[usize],
+    out: &mut W,
+) -> Result<(), WriteFailed>
+    requires failures { (W.device out.old).failures < 2 ^ 64 - 1 }
+    ensures { PutsWhere W.device out.old out.new result (λ takes.
+        (h : Header) (vs : List Named) → IsViewOf view.entry h → AllZip (IsNamedAt h) rows.now vs
+        → takes (alone_lines letter.now vs)) }
+{
+    for row in rows {
+        put_alone_line(view, letter, *row, out)?;
+    }
+    Ok(())
+}
+
+/// Writes the kind of the variable at index `row`: `event`, `real`, or the size. Fails if a write
+/// does.
+fn put_kind<W: Sink>(view: HeadView<'_>, row: usize, out: &mut W) -> Result<(), WriteFailed>
+    requires failures { (W.device out.old).failures < 2 ^ 64 - 1 }
+    ensures { PutsWhere W.device out.old out.new result (λ takes.
+        (h : Header) (v : Variable) → IsViewOf view.entry h
+        → slice_get h.declarations row ≡ Some (Declaration.Var v)
+        → takes (kind_shown (kind_of_variable v))) }
+{
+    match kind_of(view, row) {
+        VariableKind::Event => put(out, b"event"),
+        VariableKind::Real => put(out, b"real"),
+        VariableKind::Digits(size) => put_number(out, size as u64),
+    }
+}
+
+/// Writes the line of two variables of different kinds. Fails if a write does.
+fn put_unlike_line<W: Sink>(
+    view: HeadView<'_>,
+    rows: UnlikeRows,
+    out: &mut W,
+) -> Result<(), WriteFailed>
+    requires failures { (W.device out.old).failures < 2 ^ 64 - 1 }
+    ensures { PutsWhere W.device out.old out.new result (λ takes.
+        AtUnlike view.entry rows (λ p. takes (unlike_lines (p ∷ [])))) }
+{
+    put(out, b"size ")?;
+    put_path(view, rows.one, out)?;
+    put(out, b" ")?;
+    put_kind(view, rows.one, out)?;
+    put(out, b" ")?;
+    put_kind(view, rows.other, out)?;
+    put(out, b"\n")
+}
+
+/// Writes a line for each two of these variables, which are of different kinds. Fails if a write
+/// does.
+fn put_unlike<W: Sink>(
+    view: HeadView<'_>,
+    rows: &[UnlikeRows],
+    out: &mut W,
+) -> Result<(), WriteFailed>
+    requires failures { (W.device out.old).failures < 2 ^ 64 - 1 }
+    ensures { PutsWhere W.device out.old out.new result (λ takes.
+        (h : Header) (ps : List Pair) → IsViewOf view.entry h → AllZip (IsUnlikeAt h) rows.now ps
+        → takes (unlike_lines ps)) }
+{
+    for unlike in rows {
+        put_unlike_line(view, *unlike, out)?;
+    }
+    Ok(())
+}
+
+/// Writes the lines about the header: of the variables without a counterpart, and of those whose
+/// counterpart is of another kind. Fails if a write does.
+pub(crate) fn put_header_lines<W: Sink>(
+    view: HeadView<'_>,
+    pairs: &Pairs,
+    out: &mut W,
+) -> Result<(), WriteFailed>
+    requires failures { (W.device out.old).failures < 2 ^ 64 - 1 }
+    ensures { PutsWhere W.device out.old out.new result (λ takes.
+        (h : Header) (q : Asked) (ns : List Names) → IsViewOf view.entry h
+        → ArePairs pairs.now h q ns → takes (within_head q h ns)) }
+{
+    put_alone(view, b"A", &pairs.alone_one, out)?;
+    put_alone(view, b"B", &pairs.alone_other, out)?;
+    put_unlike(view, &pairs.unlike, out)
+}
+
+/// Returns whether there are lines about the header.
+pub(crate) fn has_header_lines(pairs: &Pairs) -> bool
+    ensures { (h : Header) (q : Asked) (ns : List Names) → ArePairs pairs.now h q ns
+        → result ≡ not (is_empty (within_head q h ns)) }
+{
+    !(pairs.alone_one.is_empty() && pairs.alone_other.is_empty() && pairs.unlike.is_empty())
+}

@@ -1,0 +1,299 @@
+//! Which variables are compared: the pairs that names make of a header's variables.
+ghost use Rattle.std.specs.Prelude.{◌≡◌, ◌<◌, ◌++◌, ◌∷◌, [], ℕ, List, Some, length, map, slice_get, IfOk};
+ghost use Rattle.std.specs.List.{AllZip};
+ghost use Rattle.vcd_model.specs.Compare.{Asked, Named, Pair, all_named};
+ghost use Rattle.vcd_model.specs.Declarations.{Declaration};
+ghost use Rattle.vcd_model.specs.Header.{Header};
+ghost use Rattle.vcd_model.specs.Within.{Names, alone_in, compared_in, unlike_in};
+ghost use Rattle.vcd_view.specs.Views.{IsViewOf};
+ghost use Rattle.vcd_compare.specs.Classes.{AddsEnd, EntersClass, HasClasses};
+ghost use Rattle.vcd_compare.specs.Counterparts.{AreCounterparts, AreLeftOut, place_of};
+ghost use Rattle.vcd_compare.specs.Paths.{AreApart, HasTexts};
+ghost use Rattle.vcd_compare.specs.Pairs.{ArePairs, IsAt, IsNamedAt, names_in};
+ghost use Rattle.vcd_compare.specs.HasPairs.{EntersNames, EntersTexts, HasPairs, alone_with, compared_of, compared_with, unlike_of, unlike_with};
+ghost use Rattle.vcd_compare.specs.Variables.{AreVariables};
+
+use crate::counterparts::{Counterpart, counterpart_of, counterparts_of, left_out_by};
+use crate::kinds::{code_of, is_same_kind, kind_of};
+use crate::paths::{Paths, enter_path};
+use crate::variables::{Variables, number_at, number_rows, variables_of};
+use indexmap::IndexSet;
+use std::alloc::{AllocError, Global};
+use vcd_view::{CodeSeed, HeadView};
+
+/// Two names: of a variable and of what it is compared with, or of two scopes whose variables are
+/// compared.
+#[derive(Drop)]
+pub struct NamePair {
+    pub one: Vec<u8>,
+    pub other: Vec<u8>,
+}
+
+/// A pair of variables that are compared.
+#[derive(Clone, Copy)]
+pub(crate) struct PairRow {
+    // The row of the first of the two.
+    pub(crate) row: usize,
+    // The number of the two codes among all such pairs of codes.
+    pub(crate) class: usize,
+}
+
+/// A code of a class: the first code of class k is end 2k, and the other one is end 2k + 1.
+#[derive(Clone, Copy)]
+pub(crate) struct End {
+    pub(crate) code: usize,
+    // 1 plus the index of the last end before this one that has the same code, or 0.
+    pub(crate) next: usize,
+}
+
+/// The rows of two variables of different kinds.
+#[derive(Clone, Copy)]
+pub(crate) struct UnlikeRows {
+    pub(crate) one: usize,
+    pub(crate) other: usize,
+}
+
+/// The variables that are compared, and those that are not although a name selects them.
+#[derive(Drop)]
+pub struct Pairs {
+    // The pairs, in the order of the names, and of each in that of declaration.
+    pub(crate) rows: Vec<PairRow>,
+    // The two ends of each class.
+    pub(crate) ends: Vec<End>,
+    // How many classes there are.
+    pub(crate) classes: usize,
+    // For each code, 1 plus the index of its last end, or 0.
+    pub(crate) last: Vec<usize>,
+    // The rows of the variables without a counterpart, of the first names and of the others.
+    pub(crate) alone_one: Vec<usize>,
+    pub(crate) alone_other: Vec<usize>,
+    // The variables whose counterpart is of another kind.
+    pub(crate) unlike: Vec<UnlikeRows>,
+}
+
+/// Returns the pairs that these names make of the variables of a header. The variables that one of
+/// `exceptions` selects are left out. Fails if there is no memory.
+pub fn pairs_of(
+    alloc: Global,
+    view: HeadView<'_>,
+    names: &[NamePair],
+    exceptions: &[Vec<u8>],
+) -> Result<Pairs, AllocError>
+    ensures { IfOk result (λ ps. (h : Header) (q : Asked) → IsViewOf view.entry h
+        → q.exceptions ≡ map (λ e. e.items) exceptions.now
+        → ArePairs ps h q (names_in names.now)) }
+{
+    let mut paths = Paths::new(alloc, view.seed);
+    let rows = number_rows(alloc, view, &mut paths)?;
+    let numbers = number_names(alloc, names, &mut paths)?;
+    let exceptions = number_texts(alloc, exceptions, &mut paths)?;
+    let variables = variables_of(alloc, view, &rows, paths.nodes.len())?;
+    let left_out = left_out_by(alloc, &paths, &exceptions)?;
+    let mut pairs = no_pairs(alloc, view.codes.len())?;
+    let mut keys = IndexSet::with_hasher(alloc, view.seed);
+    for (one, other) in &numbers {
+        let places = counterparts_of(alloc, &paths, *one, *other)?;
+        add_pairs(view, &variables, &places, &left_out, &mut keys, &mut pairs)?;
+        let places = counterparts_of(alloc, &paths, *other, *one)?;
+        add_alone(&variables, &places, &left_out, &mut pairs.alone_other)?;
+    }
+    Ok(pairs)
+}
+
+/// Returns no pairs, of a header with so many codes.
+fn no_pairs(alloc: Global, codes: usize) -> Result<Pairs, AllocError>
+    ensures { IfOk result (λ ps. (h : Header) → codes ≡ length h.codes
+        → HasPairs [] ps h [] [] [] []) }
+{
+    Ok(Pairs {
+        rows: Vec::new(alloc),
+        ends: Vec::new(alloc),
+        classes: 0,
+        last: vec![in alloc; 0usize; codes]?,
+        alone_one: Vec::new(alloc),
+        alone_other: Vec::new(alloc),
+        unlike: Vec::new(alloc),
+    })
+}
+
+/// Returns the numbers of these names among `paths`. Those that are new are entered.
+fn number_names(
+    alloc: Global,
+    names: &[NamePair],
+    paths: &mut Paths,
+) -> Result<Vec<(usize, usize)>, AllocError>
+    ensures { IfOk result (λ numbers. (texts : List (List ℕ)) → HasTexts paths.old texts
+        → EntersNames texts paths.new (names_in names.now) numbers.items) }
+{
+    let mut numbers = Vec::with_capacity(alloc, names.len())?;
+    for name in names {
+        let one = enter_path(alloc, paths, 0, &name.one)?;
+        let other = enter_path(alloc, paths, 0, &name.other)?;
+        numbers.push((one, other))?;
+    }
+    Ok(numbers)
+}
+
+/// Returns the numbers of these texts among `paths`. Those that are new are entered.
+fn number_texts(
+    alloc: Global,
+    texts: &[Vec<u8>],
+    paths: &mut Paths,
+) -> Result<Vec<usize>, AllocError>
+    ensures { IfOk result (λ numbers. (known : List (List ℕ)) → HasTexts paths.old known
+        → EntersTexts known paths.new (map (λ t. t.items) texts.now) numbers.items) }
+{
+    let mut numbers = Vec::with_capacity(alloc, texts.len())?;
+    for text in texts {
+        numbers.push(enter_path(alloc, paths, 0, text)?)?;
+    }
+    Ok(numbers)
+}
+
+/// Adds the variables that the first of two names selects, each with its counterpart: `places` are
+/// the counterparts of paths.
+fn add_pairs(
+    view: HeadView<'_>,
+    variables: &Variables,
+    places: &[Counterpart],
+    left_out: &[bool],
+    keys: &mut IndexSet<(usize, usize), CodeSeed>,
+    pairs: &mut Pairs,
+) -> Result<(), AllocError>
+    ensures { IfOk result (λ _. (q : Asked) (h : Header) (n : Names) (texts : List (List ℕ))
+        (compared unlike : List Pair) (ones others : List Named) → IsViewOf view.entry h
+        → AreApart texts → AreVariables h texts variables.now
+        → AreCounterparts texts n (length texts) places.now
+        → AreLeftOut texts q.exceptions (length texts) left_out.now
+        → HasPairs keys.old.keys pairs.old h compared unlike ones others
+        → HasPairs keys.new.keys pairs.new h (compared ++ compared_in q h (n ∷ []))
+        (unlike ++ unlike_in q h (n ∷ [])) (ones ++ alone_in q h n) others) }
+{
+    for index in 0..variables.rows.len() {
+        take_variable(view, variables, places, left_out, index, keys, pairs)?;
+    }
+    Ok(())
+}
+
+/// Adds the variable at this index with its counterpart, if the first of two names selects it:
+/// `places` are the counterparts of paths.
+fn take_variable(
+    view: HeadView<'_>,
+    variables: &Variables,
+    places: &[Counterpart],
+    left_out: &[bool],
+    index: usize,
+    keys: &mut IndexSet<(usize, usize), CodeSeed>,
+    pairs: &mut Pairs,
+) -> Result<(), AllocError>
+    ensures { IfOk result (λ _. (q : Asked) (h : Header) (n : Names) (texts : List (List ℕ))
+        (v : Named) (compared unlike : List Pair) (ones others : List Named)
+        → IsViewOf view.entry h → AreApart texts → AreVariables h texts variables.now
+        → AreCounterparts texts n (length texts) places.now
+        → AreLeftOut texts q.exceptions (length texts) left_out.now
+        → slice_get (all_named h) index ≡ Some v
+        → HasPairs keys.old.keys pairs.old h compared unlike ones others
+        → HasPairs keys.new.keys pairs.new h (compared ++ compared_with (place_of q h n v))
+        (unlike ++ unlike_with (place_of q h n v)) (ones ++ alone_with (place_of q h n v))
+        others) }
+{
+    let row = number_at(&variables.rows, index);
+    match counterpart_of(variables, places, left_out, index) {
+        Counterpart::Unselected => Ok(()),
+        Counterpart::Missing => {
+            pairs.alone_one.push(row)?;
+            Ok(())
+        }
+        Counterpart::At(other) => {
+            add_pair(view, row, number_at(&variables.rows, other), keys, pairs)
+        }
+    }
+}
+
+/// Adds the variables that a name selects and that have no counterpart to `alone`.
+fn add_alone(
+    variables: &Variables,
+    places: &[Counterpart],
+    left_out: &[bool],
+    alone: &mut Vec<usize>,
+) -> Result<(), AllocError>
+    ensures { IfOk result (λ _. (q : Asked) (h : Header) (n : Names) (texts : List (List ℕ))
+        (others : List Named) → AreApart texts → AreVariables h texts variables.now
+        → AreCounterparts texts n (length texts) places.now
+        → AreLeftOut texts q.exceptions (length texts) left_out.now
+        → AllZip (IsNamedAt h) alone.old.items others
+        → AllZip (IsNamedAt h) alone.new.items (others ++ alone_in q h n)) }
+{
+    for index in 0..variables.rows.len() {
+        if let Counterpart::Missing = counterpart_of(variables, places, left_out, index) {
+            alone.push(number_at(&variables.rows, index))?;
+        }
+    }
+    Ok(())
+}
+
+/// Adds the pair of the variables at these rows: to the pairs that are compared, or to those of
+/// different kinds.
+fn add_pair(
+    view: HeadView<'_>,
+    one: usize,
+    other: usize,
+    keys: &mut IndexSet<(usize, usize), CodeSeed>,
+    pairs: &mut Pairs,
+) -> Result<(), AllocError>
+    ensures { IfOk result (λ _. (h : Header) (p : Pair) (compared unlike : List Pair)
+        (ones others : List Named) → IsViewOf view.entry h → IsAt h one p.path p.one
+        → slice_get h.declarations other ≡ Some (Declaration.Var p.other)
+        → HasPairs keys.old.keys pairs.old h compared unlike ones others
+        → HasPairs keys.new.keys pairs.new h (compared ++ compared_of p) (unlike ++ unlike_of p)
+        ones others) }
+{
+    if !is_same_kind(kind_of(view, one), kind_of(view, other)) {
+        pairs.unlike.push(UnlikeRows { one, other })?;
+        return Ok(());
+    }
+    let codes = (code_of(view, one), code_of(view, other));
+    let class = enter_class(codes, keys, &mut pairs.ends, &mut pairs.last)?;
+    pairs.classes = keys.len();
+    pairs.rows.push(PairRow { row: one, class })?;
+    Ok(())
+}
+
+/// Returns the number of the class of two codes. If it is new, its ends are added.
+fn enter_class(
+    codes: (usize, usize),
+    keys: &mut IndexSet<(usize, usize), CodeSeed>,
+    ends: &mut Vec<End>,
+    last: &mut Vec<usize>,
+) -> Result<usize, AllocError>
+    ensures { IfOk result (λ class. (codes.0 < length last.old.items)
+        → (codes.1 < length last.old.items)
+        → HasClasses keys.old.keys ends.old.items last.old.items
+        → EntersClass keys.old.keys keys.new.keys ends.old.items ends.new.items
+        last.old.items last.new.items codes class) }
+{
+    let Ok((class, new)) = keys.insert_full(codes) else {
+        return Err(AllocError);
+    };
+    if new {
+        add_end(codes.0, ends, last)?;
+        add_end(codes.1, ends, last)?;
+    }
+    Ok(class)
+}
+
+/// Adds an end with this code.
+fn add_end(code: usize, ends: &mut Vec<End>, last: &mut Vec<usize>) -> Result<(), AllocError>
+    ensures { IfOk result (λ _. code < length last.old.items
+        → AddsEnd ends.old.items ends.new.items last.old.items last.new.items code) }
+{
+    if code >= last.len() {
+        return Ok(());
+    }
+    ends.push(End {
+        code,
+        next: last[code],
+    })?;
+    last[code] = ends.len();
+    Ok(())
+}
