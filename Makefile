@@ -76,6 +76,7 @@ hostile: vcdkit
 	hostile/machine.py ./vcdkit $$devices && hostile/streams.py ./vcdkit $$devices && \
 	hostile/random_runs.py ./vcdkit --devices $$devices --runs 50000 && \
 	hostile/crafted.py ./vcdkit && \
+	hostile/compare.py ./vcdkit ./vcdkit-compare $$devices && \
 	VCDKIT=./vcdkit python/tests/test_every_small_dump.py && \
 	python/tests/second_reader/ask.py --seconds 120 && \
 	{ [ ! -e libvcdkit.so ] || hostile/library.py ./vcdkit ./libvcdkit.so; }; \

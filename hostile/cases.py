@@ -1,4 +1,6 @@
-"""Small dumps, each with a command. Together they use every part of the program."""
+"""Small dumps, each with a command. Together they use every part of the programs."""
+import comparison
+import evaluator
 
 A = (b"$timescale 1ns $end\n$scope module tb $end\n$var wire 1 ! clk $end\n"
      b"$var reg 4 \" q [3:0] $end\n$upscope $end\n$enddefinitions $end\n")
@@ -32,6 +34,8 @@ TENS = (b"$timescale 10ns $end\n$var wire 1 ! a $end\n$enddefinitions $end\n"
 
 
 class Case:
+    program = b"vcdkit"
+
     def __init__(self, name, command, inputs, options=(), names=(), known_code=False):
         self.name, self.command = name, command
         # Whether the fault is that of a long code which was declared before.
@@ -50,6 +54,42 @@ class Case:
         if self.command == "sample":
             words += ["--at", ",".join(spelled)]
         return words + [n.decode() for n in self.names]
+
+    def line(self, text):
+        """A line on the error stream of its program."""
+        return b"%s: %s\n" % (self.program, text)
+
+    def outcome(self, files, inputs):
+        """What the evaluator gives for inputs with these names."""
+        options = [(n, None if u is None else evaluator.UNITS[u.encode()]) for n, u in self.options]
+        return evaluator.run(self.command, options, self.names, list(zip(files, inputs)))
+
+
+class Comparison(Case):
+    """A case of vcdkit-compare. Its names come in pairs, and may be in a file."""
+    program = b"vcdkit-compare"
+
+    def __init__(self, name, text, names, asked=comparison.Asked()):
+        super().__init__(name, "compare", [text], names=names)
+        self.asked = asked
+
+    def words(self, files, pairs_file=None):
+        asked = self.asked
+        words = {comparison.FIRST: ["--first"], comparison.ALWAYS: ["--always"]}.get(
+            asked.extent, [])
+        words = words + ["--from", str(asked.begin), "--to", str(asked.end)]
+        words += [word for word, one in zip(("--x-of-a", "--x-of-b"), asked.loose) if one]
+        words += ["--except=" + name.decode() for name in asked.exceptions]
+        words += ["-i", *files] if files else []
+        if pairs_file is not None:
+            return words + ["--pairs", pairs_file]
+        return words + ["--"] + ["%s=%s" % (one.decode(), other.decode())
+                                 for one, other in self.names]
+
+    def outcome(self, files, inputs):
+        output, message, status = comparison.within(self.asked, self.names, files[0], inputs[0])
+        # The definitions begin each line with the name of the other program.
+        return output, message.replace(Case.program, self.program, 1), status
 
 
 CASES = [
@@ -84,6 +124,35 @@ CASES = [
     Case("merge_fault", "merge", [ON_B, BAD, WIDE]),
 ]
 
+PARTS = (b"$timescale 1ns $end\n$scope module a $end\n$var wire 1 ! c $end\n"
+         b"$var reg 8 \" q [7:0] $end\n$var event 1 # e $end\n$var real 64 % r $end\n"
+         b"$var wire 1 & n $end\n$upscope $end\n$scope module b $end\n$var event 1 ' e $end\n"
+         b"$var reg 8 ( q $end\n$var wire 1 ) c $end\n$var real 1 * r $end\n$var reg 1 + n $end\n"
+         b"$var reg 4 , q $end\n$upscope $end\n$enddefinitions $end\n")
+ON_PARTS = PARTS + (
+    b"#0\n$dumpvars\n0!\n0)\nb0 \"\nbx (\nr0 %\nr0 *\n1#\n$end\n#2\n1!\n1#\n1'\n#3\n1)\n"
+    b"b1 \"\nb1 (\n1&\n#5\nr1.5 %\nr1.50 *\n1'\n#9\nbx1 \"\n0+\n#12\n")
+WHOLE = [(b"a", b"b")]
+
+# A comparison of what a merge wrote.
+OF_MERGE = Case("", "merge", [ON_A, CLOCK]).outcome([b"a", b"b"], [ON_A, CLOCK])[0]
+
+COMPARISONS = [
+    Comparison("each_pair", ON_PARTS, WHOLE),
+    Comparison("first", ON_PARTS, WHOLE, comparison.Asked(extent=comparison.FIRST)),
+    Comparison("always", ON_PARTS, WHOLE, comparison.Asked(extent=comparison.ALWAYS)),
+    Comparison("window", ON_PARTS, WHOLE, comparison.Asked(begin=1, end=5)),
+    Comparison("a_late_window", ON_PARTS, WHOLE, comparison.Asked(begin=13)),
+    Comparison("x_of_both", ON_PARTS, WHOLE,
+               comparison.Asked(exceptions=[b"a.e", b"b.n"], loose=(True, True))),
+    Comparison("same", ON_PARTS, [(b"a", b"a")]),
+    Comparison("several", ON_PARTS, [(b"a.c", b"b.n"), (b"b.q", b"a.q"), (b"a", b"b")]),
+    Comparison("nothing", ON_PARTS, [(b"c", b"d")]),
+    Comparison("damaged", ON_PARTS + b"1!\n#10\n", WHOLE),
+    Comparison("damaged_header", PARTS[:-25], WHOLE),
+    Comparison("of_merge", OF_MERGE, [(b"in1", b"in2")]),
+]
+
 
 def base_94(n):
     """The code of a number, of one to three bytes."""
@@ -106,3 +175,7 @@ LARGE = [
     Case("pick_many", "pick", [MANY + b"#0\nb1010 !\n#5\nb1 \"\n"], names=[b"s0.v0", b"s8333"]),
     Case("merge_many", "merge", [MANY + b"#0\nb1010 !\n", CLOCK]),
 ]
+
+LARGE_COMPARISONS = [Comparison("compare_many", b"".join(
+    b"$scope module %s $end\n" % part + MANY[:-len(b"$enddefinitions $end\n")] + b"$upscope $end\n"
+    for part in (b"a", b"b")) + b"$enddefinitions $end\n#0\nb1010 !\n#5\nb1 \"\n", WHOLE)]

@@ -20,14 +20,15 @@ devices  Each read and write transfers 1, 2, 3, 5 or 7 bytes: the whole outcome.
          signal interrupts call number 1 to 5 of each: the whole outcome, since the call is made
          again.
 cut_off  Each dump is read in whole chunks and byte by byte.
-pipes    `pick`, `cut`, `sample` and `merge` read pipes that get one line at a time. Before the next
-         line is given, all output that the lines so far determine has come, and no more."""
+pipes    `pick`, `cut`, `sample`, `merge` and vcdkit-compare read pipes that get one line at a time.
+         Before the next line is given, all output that the lines so far determine has come, and no
+         more."""
 import os, select, subprocess, sys, tempfile, time
 from concurrent.futures import ThreadPoolExecutor
 from itertools import zip_longest
 
 import evaluator
-from cases import CASES, LARGE
+from cases import CASES, COMPARISONS, LARGE, LARGE_COMPARISONS
 
 LITTLE = [1, 2, 3, 5, 7]
 
@@ -63,9 +64,7 @@ class Place:
 
 
 def wanted(case, files, inputs):
-    options = [(n, None if u is None else evaluator.UNITS[u.encode()]) for n, u in case.options]
-    return evaluator.run(case.command, options, case.names,
-                         list(zip([f.encode() for f in files], inputs)))
+    return case.outcome([f.encode() for f in files], inputs)
 
 
 def say(case, what, want, got):
@@ -120,7 +119,7 @@ def memory(place, case):
     for n in range(requests):
         # A library sometimes asks for more than it needs, or to give some back, and continues if
         # that is refused.
-        if got[n] not in ((b"", b"vcdkit: out of memory\n", 3), whole):
+        if got[n] not in ((b"", case.line(b"out of memory"), 3), whole):
             yield say(case, "request %d of %d refused" % (n + 1, requests), whole, got[n])
     # The last is for the code as a key.
     if case.known_code and got[-1] != whole:
@@ -175,7 +174,7 @@ def devices(place, case):
             # If a write brings less, as one before a read may, there are more of them.
             got = out, message, status
             whole = call > -(-len(want[0]) // most) and got == want
-            line = b"" if whole or want[2] == 3 else b"vcdkit: write failed\n"
+            line = b"" if whole or want[2] == 3 else case.line(b"write failed")
             if not (want[0].startswith(out) and message in (line, want[1] + line)
                     and status == (want[2] if whole else 3)):
                 yield say(case, "write %d of %d bytes each fails" % (call, most), want, got)
@@ -259,7 +258,7 @@ class Live:
 
 
 def pipes(place, case):
-    if case.command not in ("pick", "cut", "sample", "merge"):
+    if case.command not in ("pick", "cut", "sample", "merge", "compare"):
         yield 0
         return
     live, given = Live(place, case), [b""] * len(case.inputs)
@@ -286,25 +285,27 @@ def results(place, part, case):
     return list(PARTS[part](place, case))
 
 
-def main():
-    program, devices_ = map(os.path.abspath, sys.argv[1:3])
-    parts = sys.argv[3:]
-    only = os.environ.get("COMMANDS")
-    cases = [c for c in CASES if only is None or c.command in only.split(",")]
+def work(program, devices_, parts, commands):
+    """Runs the parts over the cases of these commands, and returns how many runs differ."""
     bad = 0
     for part in parts:
-        runs = 0
+        runs, every = 0, LARGE + LARGE_COMPARISONS if part == "large" else CASES + COMPARISONS
+        cases = [case for case in every if case.command in commands]
         with tempfile.TemporaryDirectory() as folder, ThreadPoolExecutor(os.cpu_count()) as pool:
-            place = Place(program, devices_, folder)
-            for found in pool.map(lambda case: results(place, part, case),
-                                  LARGE if part == "large" else cases):
+            place = Place(os.path.abspath(program), os.path.abspath(devices_), folder)
+            for found in pool.map(lambda case: results(place, part, case), cases):
                 runs += found[-1]
                 bad += len(found) - 1
                 for text in found[:-1][:3]:
                     print(text)
-        print("%s: %d runs of %d cases" % (part, runs, len(LARGE if part == "large" else cases)))
+        print("%s: %d runs of %d cases" % (part, runs, len(cases)))
     print("%d differ" % bad)
-    return 1 if bad else 0
+    return bad
+
+
+def main():
+    commands = os.environ.get("COMMANDS", "check,list,pick,cut,sample,edges,merge").split(",")
+    return 1 if work(sys.argv[1], sys.argv[2], sys.argv[3:], commands) else 0
 
 
 if __name__ == "__main__":

@@ -131,11 +131,12 @@ def least_memory(program):
 def little_memory(program, least, case):
     with tempfile.TemporaryDirectory() as folder:
         for words, given, want in ways_of(folder, case):
+            refused = b"", case.line(b"out of memory"), 3
             for size in range(least, least + (1 << 20), STEP):
                 got = program.run(words, folder, given, shell=in_memory(size))
-                yield ("%s with %d KB of memory" % (" ".join(words)[:100], size), [MEMORY, want],
+                yield ("%s with %d KB of memory" % (" ".join(words)[:100], size), [refused, want],
                        got)
-                if got != MEMORY:
+                if got != refused:
                     break
 
 

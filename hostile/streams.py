@@ -60,20 +60,20 @@ def named(case):
 
 # ---- streams that are closed, and outputs that fail
 
-def where_output_fails(outcome):
-    """The outcomes that a run may have whose first write fails. The fault may come before that
-    write, and then it is written too, or after it."""
+def where_output_fails(outcome, line=WRITE_LINE):
+    """The outcomes that a run may have whose first write fails, which leaves this line. The fault
+    may come before that write, and then it is written too, or after it."""
     output, message, status = outcome
     if not output:
         return [outcome]
-    lines = {WRITE_LINE, message + WRITE_LINE} if status < 3 else {message, WRITE_LINE}
+    lines = {line, message + line} if status < 3 else {message, line}
     return [(b"", line, 3) for line in sorted(lines)]
 
 
-def where_closed(outcome, streams):
+def where_closed(outcome, streams, line=WRITE_LINE):
     """The outcomes that a run may have with these streams closed, by the one without an output that
     fails."""
-    wants = where_output_fails(outcome) if 1 in streams else [outcome]
+    wants = where_output_fails(outcome, line) if 1 in streams else [outcome]
     return [(out, b"" if 2 in streams else message, status) for out, message, status in wants]
 
 
@@ -94,7 +94,8 @@ def closed(program, case):
                 read = [evaluator.Failed(b"") if 0 in streams and k == place else text
                         for k, text in enumerate(case.inputs)]
                 yield ("%s with %s" % (" ".join(case.words(words)), shell),
-                       where_closed(wanted(case, names, read), streams),
+                       where_closed(wanted(case, names, read), streams,
+                                    case.line(b"write failed")),
                        program.run(case.words(words), folder, given, shell=shell))
 
 
@@ -145,7 +146,7 @@ def failing_outputs(program, case):
     """The device of the output is full, or the reader of the output has ended."""
     with files_with(named(case)) as folder:
         files = list(named(case))
-        wants = where_output_fails(wanted(case, files, case.inputs))
+        wants = where_output_fails(wanted(case, files, case.inputs), case.line(b"write failed"))
         with open("/dev/full", "wb") as full:
             yield ("%s > /dev/full" % case.name, wants,
                    program.run(case.words(files), folder, out=full))
