@@ -15,7 +15,8 @@ pipe     The pipe from a merge breaks after each byte, and a byte that no dump m
          it, as vcdkit-diff writes it if the merge fails: status 2, and only lines that the whole
          dump has. The same with a shell, for a merge that is killed, and one whose device fails.
 streams  Standard streams are closed; the output fails; standard input does not wait.
-machine  The stack has 112 KB, and memory is limited, in steps of 16 KB.
+machine  The stack has 112 KB, and memory is limited, in steps of 16 KB; words ask for no
+         comparison.
 headers  A header of twice as many declarations takes at most three times the CPU time: in any
          order, with deep scopes, with one path or one code for all, with dots in names.
 flat     Two streams of 64 MB are merged and compared, each program in 32 MB of memory. FLAT=2048
@@ -75,8 +76,9 @@ def small_pairs(job):
         trials.put(texts)
         extent = EXTENTS[at % 3]
         merged = evaluator.run("merge", [], [], list(zip([b"a", b"b"], texts)))
+        begin = r.choice([0, 1, 2, 3])
         case = Comparison("small", merged[0], [(b"in1", b"in2")], Asked(
-            begin=r.choice([0, 1, 2, 3]), end=r.choice([2, 3, 2**64 - 1]), extent=extent))
+            begin=begin, end=r.choice([3, max(begin, 2), 2**64 - 1]), extent=extent))
         want, got = case.outcome([b"(stdin)"], [merged[0]]), trials.merged(case)[0]
         runs += 1
         if got != want:
@@ -196,11 +198,30 @@ def on_streams(programs):
         streams.closed, streams.failing_outputs, streams.without_waiting)])
 
 
+# Words that ask for no comparison, and their status.
+ANSWERED = [(["--help"], 0), (["--version"], 0), ([], 2), (["a"], 2), (["a=b", "--from", "x"], 2),
+            (["a=b", "--from", "5", "--to", "3"], 2), (["a=b", "--first", "--always"], 2),
+            (["--pairs", "nowhere"], 3), (["a=b", "-i", "nowhere"], 3), (["a=b", "-i", "/"], 3),
+            (["--except=b", "--pairs", "/dev/null"], 2), ([b"\xff=a"], 2)]
+
+
+def without_a_comparison(program):
+    """Words that ask for no comparison, or for a file that is not there: the status, and a message
+    in one write."""
+    for words, status in ANSWERED:
+        whole = program.run(words)
+        yield "%r" % words, [status], whole[2]
+        yield "%r in one write" % words, [whole], program.run(words, error_fails=2)
+
+
 def on_machine(programs):
     program = Program(*programs[1:])
     least = machine.least_memory(program)
+    refused = b"", Comparison.program + b": out of memory\n", 3
     jobs = [partial(machine.small_stack, program, case) for case in COMPARISONS]
     jobs += [partial(machine.little_memory, program, least, case) for case in COMPARISONS]
+    jobs += [partial(machine.no_memory_for_words, program, words, refused) for words, _ in ANSWERED]
+    jobs.append(partial(without_a_comparison, program))
     return compare("machine", jobs)
 
 

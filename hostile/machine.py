@@ -77,17 +77,18 @@ def messages_in_one_write(program):
                program.run(words, error_fails=2))
 
 
-def no_memory_for_words(program, words):
-    """Each request for memory is refused in turn, up to the first that is not made."""
+def no_memory_for_words(program, words, outcome=MEMORY):
+    """Each request for memory is refused in turn, up to the first that is not made. A refused one
+    has this outcome."""
     whole = program.run(words)
     refused = 0
     for n in range(1, 100_000):
         got = program.run(words, refuse=n)
-        if got == MEMORY:
+        if got == outcome:
             refused = n
         elif n > refused + 20:
             break
-        yield "%r, request %d refused" % (words, n), [MEMORY, whole], got
+        yield "%r, request %d refused" % (words, n), [outcome, whole], got
     yield "%r, refused at all" % words, [True], refused > 0
 
 
