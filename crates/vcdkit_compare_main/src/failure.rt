@@ -1,0 +1,108 @@
+//! Why the program ends without an answer, and the line that says so.
+ghost use Rattle.std.specs.Prelude.{◌-◌, ◌^◌, ◌<◌};
+
+use std::alloc::{AllocError, AllocFailed};
+use std::io;
+use std::io::ErrorKind;
+use vcd_body::Stop;
+use vcd_text::{Sink, WriteFailed, put, put_number, text_of};
+
+/// Why the program ends without an answer.
+#[derive(Drop)]
+pub(crate) enum Failure<'a> {
+    /// The command line is refused, with this text.
+    Refused(String),
+    /// What is wrong with the command line, and the argument or the file that is wrong.
+    Usage(&'static str, &'a str),
+    /// The file with this name cannot be opened.
+    Unopened(&'a str),
+    /// A read of the file with this name failed.
+    Unread(&'a str),
+    /// The dump with this name has a fault in this line.
+    Dump(&'a str, u64, u8),
+    /// A write failed.
+    Unwritten,
+    /// Memory ran out.
+    OutOfMemory,
+}
+
+impl<'a> Failure<'a> {
+    /// Returns why the comparison of the dump with this name stopped.
+    pub(crate) fn of_stop(stop: Stop, name: &'a str) -> Failure<'a> {
+        match stop {
+            Stop::Dump { line, fault, .. } => Failure::Dump(name, line, fault),
+            Stop::Read { .. } => Failure::Unread(name),
+            Stop::Write | Stop::Unmatched { .. } => Failure::Unwritten,
+        }
+    }
+
+    /// Returns `OutOfMemory` if this error is one of memory, otherwise `failure`.
+    pub(crate) fn of_error(error: &io::Error, failure: Failure<'a>) -> Failure<'a> {
+        match error.kind() {
+            ErrorKind::OutOfMemory => Failure::OutOfMemory,
+            _ => failure,
+        }
+    }
+}
+
+impl From<AllocError> for Failure<'_> {
+    fn from(_error: AllocError) -> Self {
+        Failure::OutOfMemory
+    }
+}
+
+impl<T: Drop> From<AllocFailed<T>> for Failure<'_> {
+    fn from(_error: AllocFailed<T>) -> Self {
+        Failure::OutOfMemory
+    }
+}
+
+impl From<WriteFailed> for Failure<'_> {
+    fn from(_failed: WriteFailed) -> Self {
+        Failure::Unwritten
+    }
+}
+
+/// Writes one line of `vcdkit-compare: ` and these two texts. Fails if a write does.
+fn put_both<E: Sink>(err: &mut E, first: &str, second: &str) -> Result<(), WriteFailed>
+    requires { (E.device err.old).failures < 2 ^ 64 - 1 }
+{
+    put(err, b"vcdkit-compare: ")?;
+    put(err, first.as_bytes())?;
+    put(err, second.as_bytes())?;
+    put(err, b"\n")
+}
+
+/// Writes the line `vcdkit-compare: NAME:LINE: TEXT`, about a fault of the dump with this name.
+/// Fails if a write does.
+fn put_fault<E: Sink>(err: &mut E, name: &str, line: u64, text: &str) -> Result<(), WriteFailed>
+    requires { (E.device err.old).failures < 2 ^ 64 - 1 }
+{
+    put(err, b"vcdkit-compare: ")?;
+    put(err, name.as_bytes())?;
+    put(err, b":")?;
+    put_number(err, line)?;
+    put(err, b": ")?;
+    put(err, text.as_bytes())?;
+    put(err, b"\n")
+}
+
+/// Writes why there is no answer, and returns the exit status: 3 if a read or a
+/// write failed or memory ran out, otherwise 2. A failed write to `err` is ignored.
+pub(crate) fn report<E: Sink>(failure: Failure<'_>, err: &mut E) -> u8
+    requires { (E.device err.old).failures < 2 ^ 64 - 1 }
+{
+    let _ = match &failure {
+        Failure::Refused(text) => put(err, text.as_bytes()),
+        Failure::Usage(what, word) => put_both(err, what, word),
+        Failure::Unopened(name) => put_both(err, name, ": cannot be opened"),
+        Failure::Unread(name) => put_both(err, name, ": read failed"),
+        Failure::Dump(name, line, fault) => put_fault(err, name, *line, text_of(*fault)),
+        Failure::Unwritten => put_both(err, "write failed", ""),
+        Failure::OutOfMemory => put_both(err, "out of memory", ""),
+    };
+    match failure {
+        Failure::Refused(_) | Failure::Usage(..) | Failure::Dump(..) => 2,
+        _ => 3,
+    }
+}
