@@ -1,37 +1,39 @@
-# make         proves the program and the crates that it uses, builds it as ./vcdkit, and runs it on
-#     a sample. An idle processor proves vcd_changes too, which `make library` needs
-# make CPU=x86-64-v3    the same for newer processors, whose instructions the program may use. On a
-#     processor without them, it says so and ends
-# make trial   builds the program as ./vcdkit-unproved, for trying code. Nothing of it is proved: two
-#     CPU minutes
-# make test    the gate: all proofs, the must-fail edits, the tests, and the program as two compilers
-#     build it: half an hour to an hour
-# make hostile runs the program while memory, reads and writes fail, with closed streams, and on
+# make         proves the programs and the crates that they use, builds them as ./vcdkit and
+#     ./vcdkit-compare, and runs them on a sample. An idle processor proves vcd_changes too, which
+#     `make library` needs
+# make CPU=x86-64-v3    the same for newer processors, whose instructions the programs may use. On a
+#     processor without them, they say so and end
+# make trial   builds the programs as ./vcdkit-unproved and ./vcdkit-compare-unproved, for trying
+#     code. Nothing of them is proved: three CPU minutes
+# make test    the gate: all proofs, the must-fail edits, the tests, and the programs as two
+#     compilers build them: half an hour to an hour
+# make hostile runs the programs while memory, reads and writes fail, with closed streams, and on
 #     dumps that are truncated, crafted or random, and asks the package and the scripts about every
 #     small dump, and what a second reader knows: some minutes
 # make docs-check runs the commands on the pages with ./vcdkit, and compares what they print with
 #     the pages. It also looks for links that lead nowhere: seconds
-# make static  links ./vcdkit-static, a program that needs no shared library: seconds after make
-# make dist    packs it in dist/ as a tarball, Debian packages and a wheel, with documents, man
+# make static  links ./vcdkit-static and ./vcdkit-compare-static, which need no shared library:
+#     seconds after make
+# make dist    packs them in dist/ as a tarball, Debian packages and a wheel, with documents, man
 #     page, completions, scripts and the Python package, and with ./libvcdkit.so if it is there
 # make library builds ./libvcdkit.a, ./libvcdkit.so and ./vcdkit.pc, for callers in C and Python:
 #     two to five minutes after make
 # make dist-check          tries what is in dist/ without the kit, and packs it again, which must
 #     give the same bytes: a minute
 # make clean   removes what was built, and what the proofs kept
-# make install [PREFIX=/usr/local] [DESTDIR=]    installs the ./vcdkit that is there, completions,
+# make install [PREFIX=/usr/local] [DESTDIR=]    installs the programs that are there, completions,
 #     scripts, man pages, the Python package (PYTHON_FOLDER=) and documents, and the library if it
 #     is there
 # make uninstall [PREFIX=..] [DESTDIR=..]        removes them
-# make completions-check    compares the completions and the man page with the help of ./vcdkit: a
-#     second
+# make completions-check    compares the completions and the man pages with the help of the
+#     programs: a second
 # make extras-check         tests extras/ and python/ with ./vcdkit, also on thousands of random
 #     dumps that other readers read as well: two minutes
 
 sample := samples/counter.vcd
 
-.PHONY: all trial test hostile docs-check clean vcdkit toolchain sources static library dist \
-    dist-check install uninstall completions-check extras-check
+.PHONY: all trial test hostile docs-check clean vcdkit vcdkit-compare toolchain sources static \
+    library dist dist-check install uninstall completions-check extras-check
 
 # The processor to build for. If it is empty, any x86-64 with SSE4.2 runs the program.
 CPU ?=
@@ -43,6 +45,7 @@ bash_words := $(DESTDIR)$(PREFIX)/share/bash-completion/completions
 # On Debian, zsh has one directory for what packages bring and another one for everything else.
 ZSH_FOLDER ?= $(PREFIX)/share/zsh/$(if $(filter /usr,$(PREFIX)),vendor-completions,site-functions)
 zsh_words := $(DESTDIR)$(ZSH_FOLDER)
+programs := vcdkit vcdkit-compare
 # Under the name of each script the same file is installed.
 scripts := $(notdir $(wildcard extras/vcdkit-*))
 # The directory of the Python package. The scripts look there, and then where Python looks.
@@ -53,9 +56,9 @@ documents := $(DESTDIR)$(PREFIX)/share/doc/vcdkit
 library := $(DESTDIR)$(PREFIX)/lib
 headers := $(DESTDIR)$(PREFIX)/include
 
-all: vcdkit
+all: vcdkit vcdkit-compare
 	./vcdkit check < $(sample)
-	@echo "Built: ./vcdkit, which needs the C library of this machine." \
+	@echo "Built: ./vcdkit and ./vcdkit-compare, which need the C library of this machine." \
 	    "Next: make install, or make static, make dist; ./vcdkit --help"
 
 # prove.py starts a new log and shows the progress. If nothing changed, the program is only run.
@@ -64,13 +67,20 @@ vcdkit: toolchain
 	packaging/prove.py vcdkit_main run $(addprefix --cpu=,$(CPU)) -- check < $(sample)
 	cp crates/vcdkit_main/out/vcdkit_main $@
 
+# It comes after vcdkit, so that no crate is proved twice.
+vcdkit-compare: vcdkit
+	packaging/prove.py vcdkit_compare_main run $(addprefix --cpu=,$(CPU)) -- count0=lowest \
+	    < $(sample)
+	cp crates/vcdkit_compare_main/out/vcdkit_compare_main $@
+
 trial: toolchain
 	packaging/unproved.py
+	packaging/unproved.py . vcdkit_compare_main
 
 test: toolchain
 	.ci/run
 
-hostile: vcdkit
+hostile: vcdkit vcdkit-compare
 	devices=$$(mktemp --suffix=.so) && cc -O1 -shared -fPIC -o $$devices hostile/devices.c -ldl && \
 	hostile/hostile.py ./vcdkit $$devices memory large devices cut_off pipes && \
 	hostile/machine.py ./vcdkit $$devices && hostile/streams.py ./vcdkit $$devices && \
@@ -90,11 +100,11 @@ docs-check:
 
 # These two link and pack what `make` built. They prove nothing.
 static: sources
-	packaging/static.sh vcdkit-static
+	packaging/static.sh vcdkit-static vcdkit_main
+	packaging/static.sh vcdkit-compare-static vcdkit_compare_main
 
-dist: sources
-	packaging/static.sh vcdkit-static
-	packaging/dist.sh vcdkit-static dist $(wildcard libvcdkit.so)
+dist: static
+	packaging/dist.sh vcdkit-static vcdkit-compare-static dist $(wildcard libvcdkit.so)
 
 # A static library for C, which is proved like the program, and a shared one of the same code.
 library: toolchain
@@ -105,12 +115,13 @@ dist-check:
 	packaging/try_dist.sh dist
 
 clean:
-	rm -rf vcdkit vcdkit-static vcdkit-unproved libvcdkit.* vcdkit.pc dist make.log crates/*/out
+	rm -rf $(foreach name,$(programs),$(name) $(name)-static $(name)-unproved) \
+	    libvcdkit.* vcdkit.pc dist make.log crates/*/out
 
-# A tarball contains the built program, and no crates.
+# A tarball contains the built programs, and no crates.
 sources:
-	@test -d crates || { echo "make: this directory has the built program, and not its sources:" \
-	    "run make install, or ./vcdkit" >&2; exit 1; }
+	@test -d crates || { echo "make: this directory has the built programs, and not their" \
+	    "sources: run make install, or ./vcdkit" >&2; exit 1; }
 
 toolchain: sources
 	@command -v rt > /dev/null || \
@@ -119,15 +130,16 @@ toolchain: sources
 
 # This builds and proves nothing, so that no proof runs as root: run `make` first.
 install:
-	@test -x vcdkit || { echo "make: there is no ./vcdkit to install. Run make first." >&2; exit 1; }
+	@for name in $(programs); do test -x $$name || \
+	    { echo "make: there is no ./$$name to install. Run make first." >&2; exit 1; }; done
 	install -d "$(bin)" "$(man)" "$(bash_words)" "$(zsh_words)" $(patsubst %,"$(python)/%",$(layers))
-	install -m 755 vcdkit "$(bin)"
+	install -m 755 $(programs) "$(bin)"
 	for name in $(scripts); do install -m 755 extras/launch "$(bin)/$$name"; done
-	install -m 644 man/vcdkit.1 "$(man)/vcdkit.1"
+	install -m 644 $(addprefix man/,$(addsuffix .1,$(programs))) "$(man)"
 	if command -v python3 > /dev/null; then \
 	    packaging/manuals.py "$(man)" $(addprefix extras/,$(scripts)); fi
 	install -m 644 completions/vcdkit.bash "$(bash_words)/vcdkit"
-	for name in $(scripts); do ln -sf vcdkit "$(bash_words)/$$name"; done
+	for name in vcdkit-compare $(scripts); do ln -sf vcdkit "$(bash_words)/$$name"; done
 	install -m 644 completions/_vcdkit "$(zsh_words)/_vcdkit"
 	install -m 644 python/vcdkit/*.py python/vcdkit/py.typed python/vcdkit/page.html "$(python)"
 	for name in $(layers); do \
@@ -143,7 +155,7 @@ install:
 	packaging/pages.sh "$(documents)"
 
 uninstall:
-	rm -f $(foreach name,vcdkit $(scripts),"$(bin)/$(name)" "$(man)/$(name).1" \
+	rm -f $(foreach name,$(programs) $(scripts),"$(bin)/$(name)" "$(man)/$(name).1" \
 	    "$(bash_words)/$(name)") "$(zsh_words)/_vcdkit"
 	rm -f "$(library)"/libvcdkit.a "$(library)"/libvcdkit.so* "$(library)/pkgconfig/vcdkit.pc"
 	rm -f "$(headers)/vcdkit.h"

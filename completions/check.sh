@@ -1,13 +1,15 @@
 #!/usr/bin/env bash
-# Tests both completions, which take commands, options and their texts from the help of the program
+# Tests both completions, which take commands, options and their texts from the help of the programs
 # and of the scripts (zsh only if it is installed). It also compares the usage lines, options,
-# faults and statuses in the help with the man page and the manual. It builds nothing: it uses the
-# program that VCDKIT names, or ./vcdkit.
+# faults and statuses in the help with the man pages and the manual. It builds nothing: it uses the
+# programs that VCDKIT and VCDKIT_COMPARE name, or ./vcdkit and ./vcdkit-compare.
 set -u
 cd "$(dirname "$0")/.."
-program=${VCDKIT:-./vcdkit}
-[[ -x $program ]] ||
-    { echo "completions/check.sh: there is no program $program. Run make first." >&2; exit 1; }
+program=${VCDKIT:-./vcdkit} compare=${VCDKIT_COMPARE:-./vcdkit-compare}
+for one in "$program" "$compare"; do
+    [[ -x $one ]] ||
+        { echo "completions/check.sh: there is no program $one. Run make first." >&2; exit 1; }
+done
 failed=0 tried=0
 
 # same WHAT WANTED GOT
@@ -38,6 +40,8 @@ completed() {
     COMP_LINE="$*" COMP_POINT=${#COMP_LINE} COMP_WORDS=("$@") COMP_CWORD=$(($# - 1)) options_set=
     COMPREPLY=()
     case ${1##*/} in
+        vcdkit-compare*) _vcdkit_compare "$1" "${!#}" "${@:$#-1:1}" ;;
+        vcdkit-unproved) _vcdkit "$1" "${!#}" "${@:$#-1:1}" ;;
         vcdkit-*) _vcdkit_script "$1" "${!#}" "${@:$#-1:1}" ;;
         *) _vcdkit "$1" "${!#}" "${@:$#-1:1}" ;;
     esac
@@ -50,7 +54,7 @@ zsh_offers() {
     zsh -f -c '
         _arguments() { print -rl -- "$@"; line=($COMMAND) state=$STATE; return 1 }
         _describe() { print -rl -- $commands }
-        service=vcdkit words=($PROGRAM)
+        service=${SERVICE:-vcdkit} words=($PROGRAM)
         . completions/_vcdkit'
 }
 zsh_commands() { PROGRAM=$program STATE=command zsh_offers | sed -nE 's/^([a-z]+):[A-Z].*/\1/p'; }
@@ -75,6 +79,24 @@ for command in $help_commands; do
         same "$option of $command in the man page" 1 \
             "$(in_manual "(^|[^a-z-])$option([^a-z-]|\$)")"
     done
+done
+
+# vcdkit-compare: usage, options and statuses.
+compare_help=$("$compare" --help)
+compare_manual=$(sed -E 's/\\-/-/g; s/\\f[A-Z]//g' man/vcdkit-compare.1)
+compare_options=$(section Options <<< "$compare_help" |
+    grep -oE '^ +(-[A-Za-z], )?--?[A-Za-z-]+' | tr -d , | sorted)
+same 'usage of vcdkit-compare in its man page' 1 \
+    "$(grep -cxF -- "$(sed -n 's/^Usage: //p' <<< "$compare_help")" <<< "$compare_manual")"
+same 'options of vcdkit-compare, bash' "$compare_options" "$(completed "$compare" - | sorted)"
+for option in $compare_options; do
+    same "$option in the man page of vcdkit-compare" 1 \
+        "$(grep -qE -- "(^|[^a-z-])$option([^a-z-]|\$)" <<< "$compare_manual" && echo 1)"
+done
+for words in 'usage error' 'i/o error' 'out of memory' 'not a valid dump' 'no difference'; do
+    same "'$words' in help and man page of vcdkit-compare" 2 "$({ tr '\n' ' '; echo
+        sed -n '/^\.SH "EXIT STATUS"/,/^\.SH SEE/p' man/vcdkit-compare.1 | tr '\n' ' '
+    } <<< "$compare_help" | grep -ci -- "$words")"
 done
 
 # The help names each script, and so does the fault of a command that is the end of its name.
@@ -130,11 +152,23 @@ same 'a name between quotes' 'bench.\data+flags' \
 same 'brackets' 'bench.lane\[0\].fast. (nospace)' \
     "$(completed "$program" pick -i $dump 'bench.lane\[0\].f')"
 
+# Names of vcdkit-compare.
+same 'a file of vcdkit-compare' ' (default)' "$(completed "$compare" --pairs '')"
+same 'an option of vcdkit-compare' '--x-of-a' "$(completed "$compare" --x-of-a)"
+same 'a time of vcdkit-compare' '' "$(completed "$compare" --from '')"
+if [[ $program == ./vcdkit ]]; then
+    same 'the first name' 'bench.steps bench.step. (nospace)' \
+        "$(completed "$compare" -i $dump bench.step)"
+    same 'the second name' 'bench.level' "$(completed "$compare" -i $dump bench.slow=bench.lev)"
+    same 'an exception' 'bench.level' "$(completed "$compare" -i $dump --except bench.lev)"
+fi
+
 # The scripts.
 scripts=$(cd extras && ls -d vcdkit-* | sorted)
 same 'scripts, bash' "$scripts" \
     "$(complete -p | sed -n 's/^complete -F _vcdkit_script //p' | sorted)"
-same 'scripts, zsh' "vcdkit $scripts" "$(sed -n '1s/^#compdef //p' completions/_vcdkit)"
+same 'scripts, zsh' "vcdkit vcdkit-compare $scripts" \
+    "$(sed -n '1s/^#compdef //p' completions/_vcdkit)"
 for script in $scripts; do
     same "$script in the man page" 1 "$(in_manual "^\.B[RI]* $script( |\*|\$)")"
     same "$script in README" 1 "$(grep -qF "\`$script" README.md && echo 1)"
@@ -171,6 +205,8 @@ same 'names behind a colon' \
     { failed=$((failed + 1)); echo "many names took $((SECONDS - before)) seconds"; }
 
 if command -v zsh > /dev/null; then
+    same 'options of vcdkit-compare, zsh' "$compare_options" "$(SERVICE=vcdkit-compare \
+        PROGRAM=$compare zsh_offers | sed -nE 's/^(\([^)]*\))?(--?[A-Za-z-]+).*/\2/p' | sorted)"
     same 'commands, zsh' "$help_commands" "$(zsh_commands | sorted)"
     for command in $help_commands; do
         same "options of $command, zsh" "$(help_options "$command")" "$(zsh_options "$command")"

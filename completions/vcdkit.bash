@@ -1,6 +1,6 @@
-# Completion of vcdkit and its scripts for bash: commands, options and files, and the names of a
-# dump if its file comes before them. Source this file, or let `make install` put it where
-# bash-completion finds it.
+# Completion of vcdkit, vcdkit-compare and the scripts for bash: commands, options and files, and
+# the names of a dump if its file comes before them. Source this file, or let `make install` put it
+# where bash-completion finds it.
 
 # _vcdkit_options COMMAND ..: the options that the help of a command shows, a line each, with what
 # comes after it: `--help`, `-i FILE`.
@@ -130,6 +130,35 @@ _vcdkit() {
     fi
 }
 
+# vcdkit-compare: its names are X=Y, of the dump of -i.
+_vcdkit_compare() {
+    COMPREPLY=()
+    local program=${1/#~\//$HOME/} words current word option= kind= file= ended=
+    _vcdkit_split
+    local options=$(_vcdkit_options "$program")
+    for word in "${words[@]:1}"; do
+        if [[ -n $kind ]]; then
+            [[ $option == -i ]] && file=$(_vcdkit_plain "$word")
+            kind=
+        elif [[ -n $ended ]]; then continue
+        elif [[ $word == -- ]]; then ended=1
+        elif [[ $word == -i?* ]]; then file=${word#-i} file=$(_vcdkit_plain "${file#=}")
+        elif [[ $word == -* ]]; then option=$word; _vcdkit_kind "$word" "$options"
+        fi
+    done
+    if [[ $kind == FILE ]]; then
+        compopt -o default 2> /dev/null
+    elif [[ $kind != '' && $kind != NAME ]]; then
+        return
+    elif [[ -z $kind$ended && $current == -* ]]; then
+        COMPREPLY=($(compgen -W "$(sed 's/ .*//' <<< "$options")" -- "$current"))
+    elif [[ -f $file ]]; then
+        [[ -z $kind && $current != *=* ]] && compopt -o nospace 2> /dev/null
+        [[ -z $kind ]] && current=${current#*=}
+        _vcdkit_complete_names "${program%-compare}" list -i "$file"
+    fi
+}
+
 # A script: its help says which options there are, and which words they take. The first word is a
 # dump, of vcdkit-diff the second too, and further ones are names of it. All those of vcdkit-explain
 # are dumps.
@@ -163,6 +192,7 @@ _vcdkit_script() {
 }
 
 complete -F _vcdkit vcdkit
+complete -F _vcdkit_compare vcdkit-compare
 complete -F _vcdkit_script vcdkit-close-sections vcdkit-diff vcdkit-explain vcdkit-find \
     vcdkit-four-state vcdkit-info vcdkit-join-bits vcdkit-stats vcdkit-table vcdkit-values \
     vcdkit-wave vcdkit-when vcdkit-x

@@ -12,7 +12,7 @@ skipped, and the last line of the output says so. As the pages say, the top dire
 are on the PATH, and python/ is on PYTHONPATH, so `vcdkit` is the ./vcdkit that `make` built.
 
 The exit status is 0 if everything is as written, 1 if some output differs, and 2 if there is no
-./vcdkit."""
+./vcdkit or no ./vcdkit-compare."""
 import difflib
 import importlib.util
 import os
@@ -69,9 +69,10 @@ def printed_by(command, folder):
 
 
 def main(documents):
-    if not os.access(os.path.join(TOP, "vcdkit"), os.X_OK):
-        print("docs/check.py: there is no ./vcdkit: run make", file=sys.stderr)
-        return 2
+    for name in ("vcdkit", "vcdkit-compare"):
+        if not os.access(os.path.join(TOP, name), os.X_OK):
+            print("docs/check.py: there is no ./%s: run make" % name, file=sys.stderr)
+            return 2
     run, differ, missing = 0, 0, set()
     for document in documents or DOCUMENTS:
         with tempfile.TemporaryDirectory() as folder:

@@ -3,8 +3,7 @@
 streams, machine, headers or flat; without one, all
 
 Runs vcdkit-compare under the conditions of the other scripts, and on what `vcdkit merge` writes. It
-has to write what comparison.py gives. If there is no COMPARE, it says so and does nothing. DEVICES
-is devices.c, built as a shared library.
+has to write what comparison.py gives. DEVICES is devices.c, built as a shared library.
 
 rows     comparison.py gives what the worked rows of its definitions have.
 hostile  The parts of hostile.py: memory, large, devices, cut_off, pipes.
@@ -372,9 +371,6 @@ WORK = {
 
 def main():
     programs = [os.path.abspath(path) for path in sys.argv[1:4]]
-    if not os.path.exists(programs[1]):
-        print("comparison: passed over, because there is no %s" % sys.argv[2])
-        return 0
     return max([int(bool(WORK[name](programs))) for name in sys.argv[4:] or list(WORK)])
 
 

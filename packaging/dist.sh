@@ -1,22 +1,22 @@
 #!/usr/bin/env bash
-# dist.sh PROGRAM DIRECTORY [LIBRARY]: packs a program with documents, man page, completions,
-# samples, scripts and the Python package, and writes to the directory:
+# dist.sh PROGRAM COMPARE DIRECTORY [LIBRARY]: packs vcdkit and vcdkit-compare with documents, man
+# pages, completions, samples, scripts and the Python package, and writes to the directory:
 #   vcdkit-VERSION-x86_64-linux.tar.gz   to unpack and run, or `make install` in it
-#   vcdkit_VERSION_amd64.deb             a Debian package of the program, if there is dpkg-deb
+#   vcdkit_VERSION_amd64.deb             a Debian package of the programs, if there is dpkg-deb
 #   python3-vcdkit_VERSION_*.deb         one of the Python package and of vcdkit-diff, ..
-#   vcdkit-VERSION-py3-none-linux_x86_64.whl    all of it for pip, the program too
-#   vcdkit-VERSION-relink.tar.gz         the object files, for linking the program again with
+#   vcdkit-VERSION-py3-none-linux_x86_64.whl    all of it for pip, the programs too
+#   vcdkit-VERSION-relink.tar.gz         the object files, for linking the programs again with
 #                                        another C library (NOTICE.md)
 # LIBRARY is libvcdkit.so. It goes into the Python packages, and, with what `make library` left
 # beside it, into the tarball. The same files give the same bytes: names are sorted, owner and modes
 # are fixed, and all times are SOURCE_DATE_EPOCH, or the time of the last commit. MAINTAINER is the
 # name in the Debian packages; without it, the author of that commit is named.
 set -eu
-[[ $# == 2 || $# == 3 ]] || { sed -n '2,/^set/s/^# //p' "$0"; exit 2; }
+[[ $# == 3 || $# == 4 ]] || { sed -n '2,/^set/s/^# //p' "$0"; exit 2; }
 top=$(cd "$(dirname "$0")/.." && pwd)
-program=$(realpath "$1") library=${3:+$(realpath -s "$3")}
-mkdir -p "$2"
-out=$(realpath "$2")
+program=$(realpath "$1") compare=$(realpath "$2") library=${4:+$(realpath -s "$4")}
+mkdir -p "$3"
+out=$(realpath "$3")
 cd "$top"
 umask 022
 export LC_ALL=C TZ=UTC PYTHONDONTWRITEBYTECODE=1
@@ -48,16 +48,17 @@ licences() {
     cp /usr/share/common-licenses/LGPL-2.1 "$1/glibc.LGPL-2.1"
 }
 
-# The tarball: the files of the repository that need no kit, and the program.
+# The tarball: the files of the repository that need no kit, and the programs.
 name=vcdkit-$version-x86_64-linux
 mkdir "$folder/$name"
 cp -r Makefile man completions samples extras packaging python "$folder/$name"
 mkdir "$folder/$name/docs" "$folder/$name/hostile"
 cp docs/check.py "$folder/$name/docs"
-cp hostile/evaluator.py "$folder/$name/hostile"
+cp hostile/{evaluator,comparison}.py "$folder/$name/hostile"
 packaging/pages.sh "$folder/$name"
 find "$folder/$name" -name __pycache__ -exec rm -rf {} +
 install -m 755 "$program" "$folder/$name/vcdkit"
+install -m 755 "$compare" "$folder/$name/vcdkit-compare"
 if [[ -n $library ]]; then
     for file in "${library%.so}".* "$(dirname "$library")/vcdkit.pc"; do
         [[ ! -e $file ]] || cp -P "$file" "$folder/$name"
@@ -67,7 +68,7 @@ licences "$folder/$name/licences"
 packed "$name"
 
 # The wheel: all for pip.
-"$folder/$name/packaging/wheel.py" "$out" "$folder/$name/vcdkit" $library
+"$folder/$name/packaging/wheel.py" "$out" "$folder/$name"/vcdkit{,-compare} $library
 
 # deb PACKAGE ARCHITECTURE < CONTROL: the directory PACKAGE as a Debian package, with its changelog
 # and its copyright file
@@ -101,15 +102,18 @@ if command -v dpkg-deb > /dev/null; then
     mv "$tree/usr/lib/python3" "$python/usr/lib"
     rm -rf "$tree/usr/lib" "$tree/usr/include"  # the library for C is in the tarball
     for script in "$tree"/usr/bin/vcdkit-*; do
+        [[ $script != */vcdkit-compare ]] || continue
         sed '1s,.*,#!/usr/bin/python3,' "$script" > "$python/usr/bin/${script##*/}"
         chmod 755 "$python/usr/bin/${script##*/}"
         rm "$script"
         mv "$tree/usr/share/man/man1/${script##*/}.1.gz" "$python/usr/share/man/man1"
     done
-    # It is static so that it runs on any machine; NOTICE.md says what that asks.
+    # They are static so that they run on any machine; NOTICE.md says what that asks.
     mkdir -p "$tree/usr/share/lintian/overrides"
-    printf 'vcdkit: %s [usr/bin/vcdkit]\n' statically-linked-binary \
-        shared-library-lacks-prerequisites > "$tree/usr/share/lintian/overrides/vcdkit"
+    for one in vcdkit vcdkit-compare; do
+        printf "vcdkit: %s [usr/bin/$one]\n" statically-linked-binary \
+            shared-library-lacks-prerequisites
+    done > "$tree/usr/share/lintian/overrides/vcdkit"
     deb vcdkit amd64 <<'END'
 Section: electronics
 Priority: optional
@@ -117,8 +121,9 @@ Recommends: python3-vcdkit
 Suggests: gtkwave, pv
 Description: value change dumps (VCD): check, list, pick, cut, sample, edges, merge
  Seven commands that check the dumps of simulators, cut parts out of them and
- answer questions about their values. The memory that they take does not grow
- with the length of a dump. README.md says what is proved, and what is not.
+ answer questions about their values, and a program that compares two dumps, or
+ two parts of one. The memory that they take does not grow with the length of a
+ dump. README.md says what is proved, and what is not.
 END
     # Python is not a dependency, so that dpkg -i installs both packages on a machine without it.
     # The scripts then say that it is missing.
@@ -148,17 +153,19 @@ fi
 # What is needed to link the program again.
 relink=vcdkit-$version-relink
 mkdir "$folder/$relink"
-cp crates/vcdkit_main/out/vcdkit_main.o "$kit/c/libos_c.a" "$kit/c/liblibc_c.a" NOTICE.md \
-    "$folder/$relink"
-strip --strip-debug "$folder/$relink/vcdkit_main.o"
+cp crates/vcdkit_main/out/vcdkit_main.o crates/vcdkit_compare_main/out/vcdkit_compare_main.o \
+    "$kit/c/libos_c.a" "$kit/c/liblibc_c.a" NOTICE.md "$folder/$relink"
+strip --strip-debug "$folder/$relink"/vcdkit_*.o
 licences "$folder/$relink/licences"
 cat > "$folder/$relink/relink.sh" <<'END'
 #!/bin/sh
-# Links vcdkit anew, with the static C library of this machine: sh relink.sh; without -static-pie
-# with the shared one.
-cd "$(dirname "$0")" &&
-    ${CC:-cc} ${LINK:--static-pie} -s -Wl,--gc-sections -o vcdkit \
-        vcdkit_main.o libos_c.a liblibc_c.a -lm
+# Links vcdkit and vcdkit-compare anew, with the static C library of this machine: sh relink.sh;
+# without -static-pie with the shared one.
+cd "$(dirname "$0")" || exit
+for name in vcdkit vcdkit-compare; do
+    ${CC:-cc} ${LINK:--static-pie} -s -Wl,--gc-sections -o $name \
+        "$(echo $name | tr - _)_main.o" libos_c.a liblibc_c.a -lm || exit
+done
 END
 chmod 755 "$folder/$relink/relink.sh"
 packed "$relink"

@@ -35,9 +35,9 @@ LINKED = (".oantt", ".a")
 # faster: it proves vcd_program in 121 s of CPU time, and four processes take 265 s.
 BY_ONE = ("vcd_program",)
 # Crates that one process proves at the same time as a crate that does not need them. The last
-# crates of the program leave three of four processors idle, and `make library` then has one crate
-# left.
-BESIDE = {"vcdkit_main": ("vcd_changes",)}
+# crates of the program leave three of four processors idle, and the second program and `make
+# library` then have one crate left each.
+BESIDE = {"vcdkit_main": ("vcd_compare", "vcd_changes")}
 SOURCES, BUILT, KEPT = ("src", "specs", "proofs"), "out/rlib", "out/incremental"
 SO_FAR = re.compile(r"so far: (\d+) of (\d+) functions")
 VERDICT = re.compile(r"logic=proved functions=(\d+)")

@@ -1,13 +1,13 @@
 #!/bin/sh
-# static.sh PROGRAM: links the program that `make` built again, as one that needs no shared library.
-# It proves and compiles nothing. It links the object file that rt compiled from what was proved,
-# the same two C archives of the kit that rt links, and the static C library of this machine
-# (Debian: libc6-dev). CC names the compiler that links. KIT names the kit; without it, that of rt
-# is used.
+# static.sh PROGRAM CRATE: links the program that `make` built from the crate again, as one that
+# needs no shared library. It proves and compiles nothing. It links the object file that rt compiled
+# from what was proved, the same two C archives of the kit that rt links, and the static C library
+# of this machine (Debian: libc6-dev). CC names the compiler that links. KIT names the kit; without
+# it, that of rt is used.
 set -eu
-[ $# = 1 ] || { sed -n '2,/^set/s/^# //p' "$0"; exit 2; }
+[ $# = 2 ] || { sed -n '2,/^set/s/^# //p' "$0"; exit 2; }
 top=$(cd "$(dirname "$0")/.." && pwd)
-object=$top/crates/vcdkit_main/out/vcdkit_main.o
+object=$top/crates/$2/out/$2.o
 [ -s "$object" ] || { echo "static.sh: there is no $object: run make first" >&2; exit 1; }
 if [ -z "${KIT:-}" ]; then
     rt=$(command -v rt) || {

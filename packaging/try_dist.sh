@@ -1,7 +1,7 @@
 #!/usr/bin/env bash
 # try_dist.sh DIRECTORY: tests what dist.sh left in the directory, without the kit on the PATH. All
-# checks have to pass in the unpacked tarball. The program has to run in a directory with no other
-# file. The Debian packages need the right contents, and the links of their pages have to lead
+# checks have to pass in the unpacked tarball. The programs have to run in a directory with no other
+# files. The Debian packages need the right contents, and the links of their pages have to lead
 # somewhere. The wheel can be installed, and relink.sh links. In the repository, packing again has
 # to give the same bytes.
 set -u
@@ -35,8 +35,10 @@ mkdir "$folder/tar"
 tries 'the tarball is unpacked' tar -C "$folder/tar" -xzf "$tarball"
 unpacked=$(echo "$folder/tar"/*)
 cd "$unpacked" || exit 1
-tries 'the program needs no shared library' \
-    bash -c '! readelf -d vcdkit | grep NEEDED && ! readelf -l vcdkit | grep INTERP'
+for program in vcdkit vcdkit-compare; do
+    tries "$program needs no shared library" bash -c \
+        '! readelf -d "$1" | grep NEEDED && ! readelf -l "$1" | grep INTERP' - $program
+done
 for target in docs-check extras-check completions-check; do
     tries "make $target" without_kit make -s "$target"
 done
@@ -51,13 +53,15 @@ tries 'links of the installed pages' \
 tries 'make uninstall' without_kit make -s uninstall DESTDIR="$folder/local"
 tries 'uninstall leaves no file' bash -c '! find "$1" ! -type d | grep .' - "$folder/local"
 
-# A root with the program, a dump, and nothing else.
+# A root with the programs, a dump, and nothing else.
 mkdir "$folder/root"
-cp vcdkit samples/nested.vcd "$folder/root"
+cp vcdkit vcdkit-compare samples/nested.vcd "$folder/root"
 into_root=(chroot)
 [[ $(id -u) == 0 ]] || into_root=(unshare -r chroot)
 tries 'the program alone in a root' bash -c '"$@" | grep -qx "last 1220"' - \
     "${into_root[@]}" "$folder/root" /vcdkit check -i nested.vcd
+tries 'vcdkit-compare in a root' bash -c '"$@" | grep -qx "compared [1-9][0-9]*"' - \
+    "${into_root[@]}" "$folder/root" /vcdkit-compare -i nested.vcd bench=bench
 
 # The files that `make install` put into the current directory, by their names in the packages, but
 # for what the packages add or leave to the tarball.
@@ -69,7 +73,9 @@ added='/licences/|/copyright$|/changelog\.gz$|/lintian/'
 if [[ -n $package ]]; then
     tries 'the packages are unpacked' bash -c 'for package in "${@:2}"; do
         dpkg-deb -x "$package" "$1/deb" || exit 1; done' - "$folder" "$package" "$for_python"
-    tries 'the program of the package' cmp vcdkit "$folder/deb/usr/bin/vcdkit"
+    for program in vcdkit vcdkit-compare; do
+        tries "$program of the package" cmp $program "$folder/deb/usr/bin/$program"
+    done
     make -s install DESTDIR="$folder/usr" PREFIX=/usr PYTHON_FOLDER=/usr/lib/python3/dist-packages
     tries 'their files are those of make install' diff \
         <(cd "$folder/usr" && installed | sort) \
@@ -113,6 +119,7 @@ tries 'the wheel is installed, and answers' bash -c 'python3 -m venv "$2/venv" &
     "$2/venv/bin/pip" install --no-index --disable-pip-version-check -q "$1" &&
     export PATH="$2/venv/bin:/usr/bin:/bin" &&
     vcdkit-info samples/nested.vcd | grep -q "last 122ns" &&
+    vcdkit merge samples/nested.vcd samples/nested.vcd | vcdkit-compare in1=in2 &&
     vcdkit-values --four-state --at 20ns samples/ghdl.vcd tb.reset | grep -qx "tb.reset 0" &&
     vcdkit-wave --html samples/nested.vcd bench | tail -n 1 | grep -q html &&
     vcdkit-explain samples/counter.vcd samples/nested.vcd | grep -qx "2 dumps: 2 valid" &&
@@ -124,7 +131,8 @@ tries 'the wheel is installed, and answers' bash -c 'python3 -m venv "$2/venv" &
 if [[ -n $relink ]] && command -v cc > /dev/null; then
     mkdir "$folder/relink"
     tries 'relink.sh' bash -c 'tar -C "$2/relink" -xzf "$1" && sh "$2"/relink/*/relink.sh &&
-        "$2"/relink/*/vcdkit check -i samples/nested.vcd' - "$relink" "$folder"
+        "$2"/relink/*/vcdkit check -i samples/nested.vcd &&
+        "$2"/relink/*/vcdkit-compare -i samples/nested.vcd bench=bench' - "$relink" "$folder"
 fi
 
 if [[ -e $top/vcdkit-static ]]; then
@@ -132,7 +140,7 @@ if [[ -e $top/vcdkit-static ]]; then
     SOURCE_DATE_EPOCH=$(stat -c %Y vcdkit)
     export SOURCE_DATE_EPOCH
     tries 'packing again, in another folder and at another umask' bash -c 'umask 077 &&
-        "$1/packaging/dist.sh" "$1/vcdkit-static" "$2/again" $3' - "$top" "$folder" \
+        "$1/packaging/dist.sh" "$1"/vcdkit{,-compare}-static "$2/again" $3' - "$top" "$folder" \
         "$(ls "$unpacked/libvcdkit.so" 2> /dev/null)"
     for file in "$out"/vcdkit*.tar.gz "$out"/*vcdkit*.deb "$wheel"; do
         tries "the same bytes: ${file##*/}" cmp "$file" "$folder/again/${file##*/}"

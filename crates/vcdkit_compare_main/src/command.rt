@@ -17,8 +17,8 @@ compared with what has Y in the place of X in its path. Times are in ticks.
 --except leaves out the pairs of which NAME selects the variable of X. It leaves
 out a variable of Y only if nothing is compared with it.
 
-The exit status of a pipe is that of its last command. In a script, bash's
-'set -o pipefail' keeps that of a merge that failed; vcdkit-diff does so too.
+The exit status of a pipe is that of its last command. In a script, use bash's
+'set -o pipefail', which keeps that of a merge that failed, or vcdkit-diff.
 
 Exit status:
   0  no difference, and at least one pair was compared
