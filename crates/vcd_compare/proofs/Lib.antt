@@ -1,4 +1,3 @@
-pub mod TimesLemmas
 pub mod PastTimes
 pub mod OpenGrows
 pub mod FlagLemmas
@@ -12,7 +11,6 @@ pub mod StatesNow
 pub mod CompareSteps
 pub mod TriggerLemmas
 pub mod StateLemmas
-pub mod DueLemmas
 pub mod MatchLemmas
 pub mod PathTexts
 pub mod VariableLemmas
