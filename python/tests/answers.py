@@ -517,16 +517,19 @@ def states(dump: Dump, code: str, begin: int, end: int) -> List[Tuple[int, Value
     return its
 
 
-def pixels(dump: Dump, of: Variable, end: int, width: int) -> List[Tuple[bool, int]]:
-    """What the pixels of a row have, which shows a dump from 0 to a time: whether the value has an
-    x at some time of the pixel, and how often it changes there. A pixel that has an x is red, and
-    no other one; one that has several changes is a block."""
-    its = states(dump, of.code, 0, end)
-    places = [Fraction(time * width, end) for time, _ in its] + [Fraction(width)]
-    spans = [(begin, to) for begin, to, (_, value) in zip(places, places[1:], its)
+def pixels(its: Sequence[Tuple[int, Value]], begin: float, end: float, width: int
+           ) -> List[Tuple[bool, bool]]:
+    """What the pixels of a row have that shows some states from one time to another: whether the
+    value has an x at some time of the pixel, so that this is red, and whether it changes there
+    more than once, so that this is a block. The value before the first time is not there if there
+    is another one at this time."""
+    its = [one for one, after in zip(its, [*its[1:], (-1, "")]) if one[0] != after[0]]
+    places = [(time - Fraction(begin)) * width / (Fraction(end) - Fraction(begin))
+              for time, _ in its]
+    spans = [(place, to) for place, to, (_, value) in zip(places, [*places[1:], width], its)
              if isinstance(value, str) and "x" in value]
-    return [(any(begin < at + 1 and to > at for begin, to in spans),
-             sum(at <= place < at + 1 for place in places[:-1])) for at in range(width)]
+    return [(any(place < at + 1 and to > at for place, to in spans),
+             sum(at <= place < at + 1 for place in places) > 1) for at in range(width)]
 
 
 def lengths(its: Sequence[int]) -> Optional[Dict[str, Any]]:

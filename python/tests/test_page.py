@@ -10,13 +10,12 @@ import base64
 import contextlib
 import hashlib
 import io
+import itertools
 import json
 import math
 import os
 import random
 import re
-import shutil
-import subprocess
 import sys
 import tempfile
 import unittest
@@ -24,16 +23,18 @@ import unittest
 HERE = os.path.dirname(os.path.abspath(__file__))
 TOP = os.path.dirname(os.path.dirname(HERE))
 sys.path[:0] = [os.path.dirname(HERE), HERE]
+sys.path.append(os.path.join(HERE, "second_reader"))
 os.environ.setdefault("VCDKIT", os.path.join(TOP, "vcdkit"))
 
 import answers as by_definition
 import browser
-from asking import dump_of
+import page_script
 from vcdkit import Dump, Signal, Value
 from vcdkit.commands import diff, wave
-from vcdkit.forms import page
+from vcdkit.forms import page, svg
 from vcdkit.forms.text import FORMS, shown
-from vcdkit.questions import streams
+from vcdkit.model.times import Window
+from vcdkit.questions import lanes, streams
 
 NESTED = os.path.join(TOP, "samples", "nested.vcd")
 HOSTILE = b"""$date </script><script>hacked = 1</script> $end
@@ -288,40 +289,63 @@ def contrast(colours, name, back):
     return (one + 0.05) / (other + 0.05)
 
 
-NODE = shutil.which("node")
-
-
-@unittest.skipIf(NODE is None, "there is no node")
 class Pixels(Case):
-    """What the page's own script draws, in node, against the definition of a pixel."""
+    """What pixels show, in a picture and by the page's own script in node, against the definition:
+    of all rows of five ticks, in each of which the signal gets no value, a 0, a 1 or an x."""
 
-    def shapes(self, path, width):
-        """Returns the shapes of each row: a kind, and where each begins and ends."""
-        page = self.file("page.html", self.page(path, "a", "b").encode())
-        script = os.path.join(HERE, "second_reader", "read_page.js")
-        done = subprocess.run([NODE, script, page, str(width), "0"], stdout=subprocess.PIPE,
-                              check=True)
-        return [dict(row["shapes"]) for row in json.loads(done.stdout)]
+    EVERY = list(itertools.product(["", "0", "1", "x"], repeat=5))
+    VIEWS = [(0, 5, width) for width in range(1, 8)] + [(1, 4, 2), (2, 3, 3), (1, 4, 7)]
 
-    def test_random_rows(self):
-        for seed in range(25):
-            of = random.Random(seed)
-            times = sorted(of.sample(range(90), of.choice([5, 20, 60])))
-            body = "".join("#%d\n%s!\nb%s v\n" % (
-                time, of.choice("01x"), of.choice(["0", "1", "10", "1x", "x"])) for time in times)
-            text = "$var wire 1 ! a $end $var wire 2 v b $end $enddefinitions $end\n%s#90\n" % body
-            path, width = self.file("a.vcd", text.encode()), of.choice([7, 13, 40])
-            dump = dump_of(text.encode())
-            for one, shapes in zip(dump.variables, self.shapes(path, width)):
-                wanted = by_definition.pixels(dump, one, 90, width)
-                red, blocks = ({at for kind in kinds for shape in shapes.get(kind, ())
-                                for at in range(width)
-                                if min(shape[1], at + 1) - max(shape[0], at) > 1e-6}
-                               for kinds in (("x", "manyX"), ("several",)))
-                with self.subTest(seed=seed, path=one.path):
-                    self.assertEqual(red, {at for at, (has_x, _) in enumerate(wanted) if has_x})
-                    self.assertLessEqual({at for at, (_, count) in enumerate(wanted) if count > 1},
-                                         blocks)
+    def setUp(self):
+        """Writes a dump with a bit and a vector of each row."""
+        super().setUp()
+        names = ["%s%d" % (kind, at) for at in range(len(self.EVERY)) for kind in "av"]
+        body = ["#%d\n" % time + "".join(
+            "%sa%d\nb1%s v%d\n" % (row[time], at, row[time], at)
+            for at, row in enumerate(self.EVERY) if row[time]) for time in range(5)]
+        self.path = self.file("a.vcd", ("".join(
+            "$var wire %d %s %s $end\n" % (1 + (name[0] == "v"), name, name) for name in names)
+            + "$enddefinitions $end\n" + "".join(body) + "#5\n").encode())
+        self.names = names
+
+    def wanted(self, at, first, begin, end, width):
+        """Returns which pixels are red and which are blocks in a row whose data begin at a time."""
+        its = [by_definition.Change(time, "", "!", digit)
+               for time, digit in enumerate(self.EVERY[at]) if digit]
+        states = by_definition.states(by_definition.Dump([], its, []), "!", first, 5)
+        pixels = by_definition.pixels(states, begin, end, width)
+        return [{place for place, one in enumerate(pixels) if one[of]} for of in (0, 1)]
+
+    def compare(self, what, reds, blocks, width, wanted):
+        """Compares the pixels of shapes."""
+        got = [{place for begin, end, *_ in its for place in range(width)
+                if min(end, place + 1) - max(begin, place) > 1e-6} for its in (reds, blocks)]
+        if got != wanted:
+            self.fail("%s: %s, and not %s" % (what, got, wanted))
+
+    def test_pictures(self):
+        for begin, end, width in self.VIEWS:
+            its = lanes.lanes_of(Dump(self.path), self.names, Window(begin, end + 1), width)
+            picture = svg.Picture(its.pixels, 0)
+            for at in range(len(self.EVERY)):
+                wanted = self.wanted(at, begin, begin, end, width)
+                for name in "a%d" % at, "v%d" % at:
+                    pieces = picture.pieces(its.of_code[name.encode()].points)
+                    blocks = [one for one in pieces if isinstance(one[2], lanes.Several)]
+                    reds = [one for one in pieces if "x" in (
+                        one[2].kind if one in blocks else one[2])]
+                    self.compare((self.EVERY[at], begin, end, width), reds, blocks, width, wanted)
+
+    @unittest.skipIf(page_script.NODE is None, "there is no node")
+    def test_pages(self):
+        page = self.file("page.html", self.page(self.path, *self.names).encode())
+        for begin, end, width in [*self.VIEWS, (0.5, 3.25, 3), (-0.25, 5.5, 4)]:
+            for row in page_script.shown_by(page, width, [], (begin, end)):
+                at, shapes = int(row["path"][1:]), dict(row["shapes"])
+                self.compare((row["path"], self.EVERY[at], begin, end, width),
+                             shapes.get("x", []) + shapes.get("manyX", []),
+                             shapes.get("several", []), width,
+                             self.wanted(at, 0, begin, end, width))
 
 
 @unittest.skipIf(browser.PROGRAM is None, "there is no chromium")

@@ -213,8 +213,9 @@ def ask_four_state(of: Asker) -> None:
     of.same("four-state", [path], (said.status, [one.row for one in got.variables], got.items),
             (0, [one.row for one in of.dump.variables], of.dump.items))
     names = of.names(1)
-    of.same("four-state, an option", [path, *names], run("table", ["--four-state", path, "--",
-            *names])[:2], run("table", [of.path, "--", *names])[:2])
+    if of.happens(.1):  # as each look at the dump starts Python
+        of.same("four-state, an option", [path, *names], run("table", ["--four-state", path, "--",
+                *names])[:2], run("table", [of.path, "--", *names])[:2])
 
 
 def ask_close_sections(of: Asker) -> None:

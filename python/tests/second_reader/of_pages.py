@@ -3,16 +3,14 @@ page of vcdkit-diff is compared here too."""
 import json
 import os
 import re
-import shutil
-import subprocess
 from typing import Any, Callable, Dict, List, NamedTuple, Optional, Sequence, Set, Tuple
 import xml.etree.ElementTree as xml
 
-from asker import HERE, Asker, Skip, Window, run
+from asker import Asker, Skip, Window, run
 from dumps import LAST, Dump, Real, Value, Variable
+from page_script import NODE, shown_by
 from shown import cell, same, shown
 
-NODE = shutil.which("node")
 NAMESPACE = "{http://www.w3.org/2000/svg}"
 # Pixels: a place on a page is a float; one in a picture has one decimal digit, and the bins of a
 # picture are not quite as wide as its pixels.
@@ -228,16 +226,6 @@ def same_pixels(of: Asker, words: List[str], pieces: List[Piece], shapes: Dict[s
             if other.begin < one.begin + 1 + margin]
     of.same("pixels, a block without several changes", words, sorted(
         pixels_of(shapes.get("several", []), width) - pixels_of(near, width, margin)), [])
-
-
-def shown_by(path: str, width: int, times: Sequence[int]) -> Any:
-    """Returns what the script of a page shows."""
-    done = subprocess.run([
-        str(NODE), os.path.join(HERE, "read_page.js"), path, str(width), ",".join(map(str, times))],
-        stdout=subprocess.PIPE, stderr=subprocess.PIPE, check=False)
-    if done.returncode:
-        raise AssertionError(done.stderr.decode()[-600:])
-    return json.loads(done.stdout)
 
 
 def ask_shown(of: Asker) -> None:

@@ -29,7 +29,7 @@ from ..questions.lanes import lanes_of
 from ..questions.streams import Reader
 from . import after_end, check_begin, command, dump_of, is_part, parser, window_of
 
-LEAST_WIDTH, MAX_WIDTH = 100, 20000  # pixels: room for a time of the axis; that of bins
+LEAST_WIDTH, MAX_WIDTH = 100, 20000  # pixels: room for a time of the axis; that of lanes
 MAX_SIGNALS = 200  # rows of a picture
 
 
@@ -111,5 +111,5 @@ def main(words: List[str]) -> int:
     else:
         chosen = [dump.declarations[place] for place in places]
         draw(dump, chosen, lanes_of(dump, asked.names, window, asked.width), mark,
-             Look(asked.width, asked.form, asked.light))
+             Look(asked.form, asked.light))
     return 0

@@ -5,9 +5,9 @@ from typing import Dict, List, NamedTuple, Optional, Sequence, Tuple
 from xml.sax.saxutils import escape
 
 from ..model.signals import Declaration, Signal
-from ..model.times import UNITS, Timescale, Window
+from ..model.times import UNITS, Timescale
 from ..model.values import Value
-from ..questions.lanes import Lanes, Point, Several
+from ..questions.lanes import Lanes, Pixels, Point, Several
 from ..reading.source import Source
 from .junit import clean
 from .text import shown
@@ -66,25 +66,26 @@ def short(name: str) -> str:
 
 
 class Look(NamedTuple):
-    """How a picture is drawn: the width of its traces, the form of its values, its colours."""
+    """How a picture is drawn: the form of its values, its colours."""
 
-    width: int
     form: Optional[str]
     is_light: bool
+
+
+Piece = Tuple[float, float, object]  # where a value or a block begins and ends, and what it is
 
 
 class Picture:
     """The shapes of an SVG, and where a time is in it."""
 
-    def __init__(self, window: Window, left: float, width: int):
-        # A window of one tick is drawn as long as that.
-        self.begin, self.end = window.begin, max(window.last, window.begin + 1)
-        self.left, self.right = left, left + width
+    def __init__(self, pixels: Pixels, left: int):
+        self.pixels, self.begin, self.span = pixels, pixels.window.begin, pixels.length
+        self.left, self.right = left, left + pixels.width
         self.out: List[str] = []
 
     def x(self, time: float) -> float:
         """Returns where a time is, in pixels from the left."""
-        return self.left + (time - self.begin) * (self.right - self.left) / (self.end - self.begin)
+        return self.left + (time - self.begin) * self.pixels.width / self.span
 
     def add(self, form: str, *parts: object) -> None:
         """Adds an element."""
@@ -104,28 +105,39 @@ class Picture:
 
     def axis(self, scale: Optional[Timescale], bottom: int) -> None:
         """Draws a grid with times, which are 1, 2 or 5 of a power of ten apart."""
-        span, pixels = self.end - self.begin, self.right - self.left
-        unit, ticks = unit_of(scale, span)
+        unit, ticks = unit_of(scale, self.span)
         step = next(one * 10**power for power in range(-3, 24) for one in (1, 2, 5)
-                    if one * 10**power * ticks * pixels / span >= 90
+                    if one * 10**power * ticks * self.pixels.width / self.span >= 90
                     and one * 10**power * ticks > 0.999)  # no part of a tick
         number = math.ceil(self.begin / (step * ticks))
-        while number * step * ticks <= self.end:
+        while number * step * ticks <= self.begin + self.span:
             x = self.x(number * step * ticks)
             self.add('<path class="grid" d="M%.1f %dV%d"/>', x, TOP - 6, bottom)
             self.text(x, TOP - 12, ("%.3f" % (number * step)).rstrip("0").rstrip(".") + unit,
                       "axis", "middle")
             number += 1
 
-    def pieces(self, points: List[Point]) -> List[Tuple[float, float, object]]:
-        """Returns of each value where it begins and ends, and the value; none that ends where it
-        begins."""
-        afters = [time for time, _ in points[1:]] + [-1]
-        points = [point for point, after in zip(points, afters) if point[0] != after]
-        points = [point for at, point in enumerate(points)
-                  if not at or point[1] != points[at - 1][1]]
-        ends = [time for time, _ in points[1:]] + [self.end]
-        return [(self.x(time), self.x(end), value) for (time, value), end in zip(points, ends)]
+    def places(self, points: List[Point]) -> List[Piece]:
+        """Returns where each point begins and ends. A block is a pixel, and the value that it ends
+        with begins behind it."""
+        places: List[float] = []
+        last: object = None
+        for time, value in points:
+            is_block = isinstance(value, Several)
+            places.append(self.left + self.pixels.of(time) if is_block
+                          else places[-1] + 1 if isinstance(last, Several) else self.x(time))
+            last = value
+        return [(x, to, value) for x, to, (_, value) in zip(
+            places, [*places[1:], self.right], points)]
+
+    def pieces(self, points: List[Point]) -> List[Piece]:
+        """Returns where each value begins and ends, but for one that ends where it begins; blocks
+        that look the same are one."""
+        its = self.places(points)
+        its = [one for one in its[:-1] if one[0] < one[1]] + its[-1:]
+        its = [one for at, one in enumerate(its) if not at or one[2] != its[at - 1][2]]
+        ends = [x for x, *_ in its[1:]] + [self.right]
+        return [(x, to, value) for (x, _, value), to in zip(its, ends)]
 
     def bit(self, y: int, points: List[Point]) -> None:
         """Draws a line, high or low; z in the middle."""
@@ -174,8 +186,10 @@ class Picture:
 
         for x, to, value in pieces:
             at, kind = -1.0, "curve"
-            if isinstance(value, Several):
-                part = "M%.1f %.1fV%.1f" % (x, height(value.least), height(value.largest))
+            if isinstance(value, Several) and value.least <= value.largest:
+                ends = height(value.least), height(value.largest)
+                part = "".join("M%.1f %.1fV%.1f" % (pixel + 0.5, *ends)
+                               for pixel in range(int(x), int(to)))
             elif isinstance(value, float) and math.isfinite(value):
                 at = height(value)
                 part = "M%.1f %.1fV%.1fH%.1f" % (x, at if last < 0 else last, at, to)
@@ -190,11 +204,13 @@ class Picture:
     def events(self, y: int, points: List[Point]) -> None:
         """Draws a tick for each time, a block for several."""
         of_kind: Shapes = {}
-        for (time, value), (end, _) in zip(points, [*points[1:], (self.end, None)]):
-            is_block = isinstance(value, Several)
-            part = box(self.x(time), self.x(end), y, HIGH) if is_block else "M%.1f %.1fv%d" % (
-                self.x(time), y, HIGH)
-            of_kind.setdefault("several" if is_block else "bit", []).append(part)
+        last: object = None
+        for x, to, value in self.places(points):
+            if isinstance(value, Several):
+                of_kind.setdefault("several", []).append(box(x, to, y, HIGH))
+            elif not isinstance(last, Several):  # else it is in the block
+                of_kind.setdefault("bit", []).append("M%.1f %.1fv%d" % (x, y, HIGH))
+            last = value
         self.shapes(of_kind)
 
     def row(self, y: int, signal: Signal, points: List[Point], name: str, form: Optional[str]
@@ -229,13 +245,14 @@ class Picture:
 
 def box(x: float, to: float, y: int, high: int) -> str:
     """Returns a rectangle as a part of a path."""
-    return "M%.1f %.1fH%.1fv%dH%.1fZ" % (x, y, max(to, x + 0.5), high, x)
+    return "M%.1f %.1fH%.1fv%dH%.1fZ" % (x, y, to, high, x)
 
 
 def bounds(values: Sequence[object]) -> Tuple[float, float]:
     """Returns the least and the largest number of a curve."""
     numbers = [value for value in values if isinstance(value, float) and math.isfinite(value)]
-    several = [value for value in values if isinstance(value, Several)]
+    several = [value for value in values
+               if isinstance(value, Several) and value.least <= value.largest]
     return (min([*numbers, *(one.least for one in several)], default=0.0),
             max([*numbers, *(one.largest for one in several)], default=0.0))
 
@@ -247,8 +264,8 @@ def draw(dump: Source, chosen: Sequence[Declaration], lanes: Lanes, mark: Option
     scope = scopes[-1] + "." if scopes else ""
     names = [short(one.signal.path[len(scope):]) for one in chosen]
     # A time of the axis begins before the traces.
-    left = PAD * 2 + CHAR * max(map(len, [short(scope) + "0ns", *names]))
-    picture, window = Picture(lanes.window, left, look.width), lanes.window
+    left = PAD * 2 + math.ceil(CHAR * max(map(len, [short(scope) + "0ns", *names])))
+    picture, window = Picture(lanes.pixels, left), lanes.pixels.window
     bottom = TOP
     rows = []
     for one in chosen:

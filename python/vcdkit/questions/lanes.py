@@ -1,7 +1,11 @@
-"""What a picture has room for: of each signal its changes in a window, which is parted into bins as
-wide as a pixel. Of a bin with several changes of a signal only that is kept, and not each of them,
-so the work for a long dump is that of its text, and not that of its changes."""
+"""What a picture has room for: of each signal what its pixels show.
+
+A pixel is red if and only if the signal is x at some time of the pixel, and it is a block if and
+only if the signal changes there more than once. Of a block only that is kept, and not each change,
+so the work for a long dump is that of its text, and not that of its changes. The script of a page
+(page.html, eachPiece and blocksOf) draws the same for whatever time it shows."""
 import io
+import math
 from typing import BinaryIO, Dict, FrozenSet, Iterator, List, NamedTuple, Optional, Tuple
 
 from ..model.signals import Signal
@@ -13,13 +17,39 @@ from ..reading.source import Source
 BLOCK = 1 << 20
 UNKNOWN = body.letters_in(b"x")
 MAX_DIGITS = 1000  # of a number that is a float
-SMALL = 1 << 9  # bytes of the begin of a bin, in which most signals change
+SMALL = 1 << 9  # bytes of the begin of a pixel, in which most signals change
 Point = Tuple[int, object]
 
 
+class Pixels(NamedTuple):
+    """The pixels that show a window, in which its ticks are at equal distances. The last tick is
+    at the end of the last pixel, so it is the first of a pixel behind it."""
+
+    window: Window
+    width: int
+
+    @property
+    def length(self) -> int:
+        """How long the window is. One of a single tick is shown as long as that."""
+        return max(self.window.last - self.window.begin, 1)
+
+    def of(self, time: int) -> int:
+        """Returns the pixel of a time."""
+        return (time - self.window.begin) * self.width // self.length
+
+    def first(self, pixel: int) -> int:
+        """Returns the first tick of a pixel, or of those behind it if it has none."""
+        return self.window.begin - (-pixel * self.length // self.width)
+
+    def is_at_begin(self, pixel: int) -> bool:
+        """Whether a tick is at the begin of a pixel."""
+        return pixel * self.length % self.width == 0
+
+
 class Several(NamedTuple):
-    """What a bin has in place of a value if the signal changes several times in it: of a real
-    signal its least and largest number, and whether it is x at some time in the bin."""
+    """What a pixel shows in place of a value if the signal changes several times in it: of a real
+    signal its least and largest number (the least one is greater if there is no number), and
+    whether the signal is x at some time of the pixel."""
 
     least: float
     largest: float
@@ -39,13 +69,13 @@ class Lane:
         self.points: List[Point] = []
         self.text: Optional[bytes] = None  # the value now
         self.is_event, self.is_real = signal.type == "event", signal.is_real
-        # Of the bin: its first changes, and all numbers of a real signal.
+        # Of the pixel: its first changes, and all numbers of a real signal.
         self.first: List[Tuple[int, bytes]] = []
-        # Whether further changes in the bin say nothing new, but for the last value.
+        # Whether further changes in the pixel say nothing new, but for the last value.
         self.is_full = False
         self.numbers: List[Tuple[int, float]] = []
         self.has_x, self.time = False, 0
-        self.before: Optional[bytes] = None  # the value at the begin of the bin
+        self.before: Optional[bytes] = None  # the value at the begin of the pixel
 
     def note(self, time: int, text: bytes) -> None:
         """Takes a value from a time on."""
@@ -64,7 +94,7 @@ class Lane:
             self.first.append((time, text))
         self.is_full = len(self.first) == 2 and not self.is_real
         number = self.value(text) if self.is_real and self.first else None
-        if isinstance(number, float):
+        if isinstance(number, float) and math.isfinite(number):
             self.numbers.append((time, number))
 
     def value(self, text: bytes) -> object:
@@ -75,14 +105,15 @@ class Lane:
             return float(int(value)) if value.is_known and len(value) <= MAX_DIGITS else value
         return value
 
-    def close(self, begin: int, end: int) -> None:
-        """Ends a bin, which goes from one time to just before another."""
+    def close(self, pixel: int, of: Pixels) -> None:
+        """Ends a pixel."""
         if self.text is not None and len(self.first) > 1:
-            self.has_x = (self.has_x or _is_x(self.text)
-                          or self.first[0][0] > begin and _is_x(self.before))
+            begin, end = of.first(pixel), min(of.first(pixel + 1), of.window.last)
+            is_late = self.first[0][0] > begin or not of.is_at_begin(pixel)
+            has_x = self.has_x or _is_x(self.text) or is_late and _is_x(self.before)
             numbers = [number for _, number in self.numbers]
-            self.points.append((begin, Several(min(numbers, default=0.0),
-                                               max(numbers, default=0.0), self.has_x)))
+            self.points.append((begin, Several(min(numbers, default=math.inf),
+                                               max(numbers, default=-math.inf), has_x)))
             self.points.append((end, self.value(self.text)))
         else:
             self.points += [(time, self.value(text)) for time, text in self.first]
@@ -96,20 +127,19 @@ def _is_x(text: Optional[bytes]) -> bool:
 
 
 class Lanes:
-    """The lanes of some signals in a window, with at most so many bins."""
+    """The lanes of some signals in a window, which has so many pixels."""
 
-    def __init__(self, signals: List[Signal], window: Window, count: int):
-        self.window, self.span = window, window.stop - window.begin
-        self.count = min(count, self.span)
+    def __init__(self, signals: List[Signal], window: Window, width: int):
+        self.pixels = Pixels(window, width)
         self.of_code: Dict[bytes, Lane] = {one.code.encode(): Lane(one) for one in signals}
-        self.time, self.bin = window.begin, 0
+        self.time, self.pixel = window.begin, 0
 
     def read(self, out: BinaryIO) -> None:
         """Takes the text of a body, which begins with a timestamp."""
         for block in iter(lambda: out.read(BLOCK) + out.readline(), b""):
             text, begin = b"\n" + block, 0
             while begin < len(text) - 1:
-                end = body.time_after(text, begin, self.edge(self.bin + 1) - 1)
+                end = body.time_after(text, begin, self.pixels.first(self.pixel + 1) - 1)
                 if begin < end:
                     self.take(text, begin, end)
                 else:
@@ -117,26 +147,21 @@ class Lanes:
                 begin = end
         self.close()
 
-    def edge(self, number: int) -> int:
-        """Returns the first time of a bin."""
-        return self.window.begin - (-number * self.span // self.count)
-
     def go_to(self, time: int) -> None:
-        """Ends the bin, and goes to that of a time."""
+        """Ends the pixel, and goes to that of a time."""
         self.close()
-        self.bin = (time - self.window.begin) * self.count // self.span
+        self.pixel = self.pixels.of(time)
 
     def close(self) -> None:
-        """Ends the bin."""
-        begin, end = self.edge(self.bin), min(self.edge(self.bin + 1), self.window.last)
+        """Ends the pixel."""
         for lane in self.of_code.values():
             if lane.first:
-                lane.close(begin, end)
+                lane.close(self.pixel, self.pixels)
 
     # Of a part of a text, its begin and its end are line feeds.
 
     def take(self, text: bytes, begin: int, end: int) -> None:
-        """Takes a part of the bin: each line of its begin, and then only the changes of signals
+        """Takes a part of the pixel: each line of its begin, and then only the changes of signals
         that say something new, and the last values of the others."""
         middle = body.next_time(text, begin + SMALL, end)
         if end - begin <= 8 * SMALL or middle < 0:
@@ -175,7 +200,7 @@ class Lanes:
             codes, end, size = codes.difference(last), middle, 4 * size
 
     def codes(self, is_full: bool) -> FrozenSet[bytes]:
-        """Returns the codes whose lanes are full in this bin, or those that are not."""
+        """Returns the codes whose lanes are full in this pixel, or those that are not."""
         return frozenset(code for code, lane in self.of_code.items() if lane.is_full == is_full)
 
     def take_lines(self, text: bytes) -> None:
@@ -198,9 +223,9 @@ def _pieces(text: bytes, begin: int, end: int) -> Iterator[Tuple[int, int]]:
         begin = to if to > 0 else end
 
 
-def lanes_of(dump: Source, names: List[str], window: Window, count: int) -> Lanes:
-    """Returns the lanes of the signals that names select, in a window with at most so many bins."""
-    lanes = Lanes(dump.select(names), window, count)
+def lanes_of(dump: Source, names: List[str], window: Window, width: int) -> Lanes:
+    """Returns the lanes of the signals that names select, in a window of so many pixels."""
+    lanes = Lanes(dump.select(names), window, width)
     with dump.cut(window.begin, window.last).part(names).body() as out:
         lanes.read(out)
     return lanes
