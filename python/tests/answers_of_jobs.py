@@ -6,8 +6,8 @@ import re
 from typing import Dict, List, NamedTuple, Optional, Sequence, Set, Tuple
 
 from answers import (Clocks, Dump, Row, Tree, Value, Variable, bare, changes_of, edge_times,
-                     holds, is_event, is_real, last_time, looks, starts, states, time_text,
-                     unknown, value_at, value_before, when)
+                     holds, is_event, is_real, last_time, looks, scopes_of, starts, states,
+                     time_text, unknown, value_at, value_before, when)
 
 
 # ---- vcdkit-table --if.
@@ -176,6 +176,39 @@ def all_toggles(dump: Dump, of: Sequence[Variable], begin: int, end: int) -> Lis
 def most_active(bits: Sequence[Toggles]) -> List[Toggles]:
     """Those that toggle most come first."""
     return sorted(bits, key=lambda bit: -(bit.rises + bit.falls))
+
+
+class Net(NamedTuple):
+    """A bit in SAIF: the names of the instances around it, its name, for how long it is 0, 1, x and
+    z, and how often it goes from 0 to 1 or back."""
+
+    instances: List[str]
+    name: str
+    ticks: List[int]
+    toggles: int
+
+
+def saif_name(name: str) -> str:
+    """A name in SAIF: a backslash is before all but letters, digits and _. The one with which an
+    escaped name of Verilog begins is left out."""
+    return re.sub(r"(?a:(\W))", r"\\\1", re.sub(r"\A\\", "", name))
+
+
+def saif(dump: Dump, variables: Sequence[Variable], begin: int, end: int
+         ) -> Tuple[str, int, List[Net]]:
+    """What --saif has of some variables in a window: how long a tick is (1 s without a time scale)
+    and the window is, and the bits in the order of declaration: those of an instance, and then
+    those of the instances in it."""
+    names = list(dict.fromkeys(name for one in dump.variables for name in scopes_of(one.path)))
+    scopes = sorted(names, key=lambda scope: [*map(names.index, scopes_of(scope + "."))])
+    scale = "1s" if dump.tick is None else time_text(dump.tick, 1)
+    nets = [Net([saif_name(name.rpartition(".")[2]) for name in scopes_of(one.path)[1:]],
+                saif_name(bit.name[len(scope + "." * bool(scope)):]), bit.ticks,
+                bit.rises + bit.falls)
+            for scope in scopes for one in dump.variables
+            if one in variables and scopes_of(one.path)[-1] == scope
+            for bit in all_toggles(dump, [one], begin, end)]
+    return (re.sub(r"(\D)", r" \1", scale, 1), max(begin, min(end, last_time(dump))) - begin, nets)
 
 
 # ---- vcdkit-x --trace, vcdkit-explain FILE FILE, --names.

@@ -8,13 +8,30 @@ import answers as by_definition
 import answers_of_jobs as of_jobs
 from asking import codes_of
 from package_questions import Case
-from script_questions import FORMS, Scripts
+from picture_questions import Pictures
+from script_questions import FORMS
 
-SAIF = re.compile(r"\(([^\s()]+)\n\s*\(T0 (\d+)\) \(T1 (\d+)\) \(TX (\d+)\) \(TZ (\d+)\) "
-                  r"\(TC (\d+)\)")
+def saif_of(lines: List[str]) -> List[str]:
+    """Returns what a SAIF file has, as the definition says it; nothing of no file."""
+    scale, length, nets, around = "", 0, [], []  # type: str, int, List[of_jobs.Net], List[str]
+    for line in map(str.strip, lines):
+        facts = re.findall(r"\((?:TIMESCALE|DURATION|T[01XZC]|IG) ([^)]+)\)", line)
+        if len(facts) == 6:
+            numbers = list(map(int, facts))
+            instances = [one[9:] for one in around if one.startswith("INSTANCE ")]
+            nets.append(of_jobs.Net(instances, around[-1], numbers[:4], numbers[4]))
+        elif line == ")":
+            around.pop()
+        elif facts and line.startswith("(TIMESCALE"):
+            scale = facts[0]
+        elif facts:
+            length = int(facts[0])
+        elif not line.endswith(")"):
+            around.append(line[1:])
+    return [repr((scale, length, nets))] if lines else []
 
 
-class Jobs(Scripts):
+class Jobs(Pictures):
     """The scripts with these options."""
 
     def ask(self, case: Case) -> None:
@@ -24,7 +41,7 @@ class Jobs(Scripts):
         with open(self.path, "wb") as file:
             file.write(case.text)
         asks = [self.ask_rows, self.ask_latencies, self.ask_rules, self.ask_toggles,
-                self.ask_trace, self.ask_verdicts]
+                self.ask_trace, self.ask_verdicts, self.ask_picture]
         for turn in range(min(2 * case.more - 1, 10)):
             self.number = case.number + turn
             self.names = self.of.names[(self.number // 2) % len(self.of.names)]
@@ -136,15 +153,10 @@ class Jobs(Scripts):
         status = late[0] if late else int(bool(fault))
         self.same("stats", ["--toggle", *window.words, self.path, *self.names],
                   [] if fault else lines, status, fault or False)
-        if len({bit.name for bit in bits}) < len(bits):
-            return
-        names = [bit.name.rpartition(".")[2].lstrip("\\") for bit in bits]
-        nets = sorted(repr((re.sub(r"(\W)", r"\\\1", name), *bit.ticks, bit.rises + bit.falls))
-                      for name, bit in zip(names, bits))
+        wanted = of_jobs.saif(self.dump, by_definition.chosen(self.dump.variables, self.names),
+                              window.begin, window.end)
         self.same("stats", ["--saif=-", *window.words, self.path, *self.names],
-                  [] if fault else nets, status, fault or False,
-                  lambda got: sorted(repr((name, *map(int, numbers))) for name, *numbers in
-                                     SAIF.findall("\n".join(got))))
+                  [] if fault else [repr(wanted)], status, fault or False, saif_of)
 
     def ask_trace(self) -> None:
         """Asks in which order signals become unknown."""

@@ -9,11 +9,11 @@ import answers as by_definition
 from answers import Variable
 from asking import END, Asked, Declarations, codes_of, dump_of, said
 from package_questions import Case
-from vcdkit.commands import diff, explain, find, info, stats, table, values, when, x
+from vcdkit.commands import diff, explain, find, info, stats, table, values, wave, when, x
 
 MAINS = {"diff": diff.main, "explain": explain.main, "find": find.main, "info": info.main,
-         "stats": stats.main, "table": table.main, "values": values.main, "when": when.main,
-         "x": x.main}
+         "stats": stats.main, "table": table.main, "values": values.main, "wave": wave.main,
+         "when": when.main, "x": x.main}
 FORMS = ["binary", "hex", "decimal", "signed"]
 
 

@@ -1,6 +1,6 @@
 #!/usr/bin/env python3
 """Asks the package and the scripts about all small dumps, and compares what they say with
-answers.py and answers_of_jobs.py, which define the answers.
+answers.py, answers_of_jobs.py and answers_of_pictures.py, which define the answers.
 
 The bodies are all of up to four lines of an alphabet, over each of some declarations; nothing comes
 after a fault. Each question has a grid of options: windows that begin before, at, between and after
