@@ -1,5 +1,6 @@
 """Asks vcdkit-wave: the data of a page, what its own script shows, and the shapes of a picture. The
 page of vcdkit-diff is compared here too."""
+import collections
 import json
 import os
 import re
@@ -12,9 +13,7 @@ from page_script import NODE, shown_by
 from shown import cell, same, shown
 
 NAMESPACE = "{http://www.w3.org/2000/svg}"
-# Pixels: a place on a page is a float; one in a picture has one decimal digit, and the bins of a
-# picture are not quite as wide as its pixels.
-EXACT, ROUGH = 1e-5, 2.1
+EXACT, ROUGH = 1e-5, 0.06  # pixels: a place on a page is a float; one in a picture has a decimal
 Span = Tuple[float, float]
 Points = List[Tuple[int, Any]]
 
@@ -171,18 +170,20 @@ def same_page_of_two(of: Asker, words: List[str], path: str,
 # ---- Pixels.
 
 class Piece(NamedTuple):
-    """A value, and where it begins and ends in pixels."""
+    """A value, where it begins and ends in pixels, and the pixel in which it begins."""
 
     begin: float
     end: float
     value: Value
+    pixel: int
 
 
 def pieces_of(points: Sequence[Tuple[int, Value]], begin: int, end: int, width: int) -> List[Piece]:
     """Returns where the values of a window are."""
     span = max(1, end - begin)
     places = [(time - begin) * width / span for time, _ in points] + [float(width)]
-    return [Piece(places[at], places[at + 1], value) for at, (_, value) in enumerate(points)]
+    return [Piece(places[at], places[at + 1], value, (time - begin) * width // span)
+            for at, (time, value) in enumerate(points)]
 
 
 def pixels_of(spans: Sequence[Span], width: int, margin: float = 0.0) -> Set[int]:
@@ -204,28 +205,27 @@ def unknown_spans(pieces: Sequence[Piece]) -> List[Span]:
 
 def busy_pixels(pieces: Sequence[Piece], width: int) -> Set[int]:
     """Returns the pixels in which a signal changes more than once."""
-    places = [int(one.begin + 1e-6) for one in pieces]
-    return {place for place in places if places.count(place) > 1 and place < width}
+    places = collections.Counter(one.pixel for one in pieces if one.pixel < width)
+    return {place for place, count in places.items() if count > 1}
 
 
 def same_pixels(of: Asker, words: List[str], pieces: List[Piece], shapes: Dict[str, List[Span]],
                 width: int, margin: float) -> None:
-    """Compares the pixels of a row: red if and only if the signal is x there, and a block if it
-    changes there more than once. A shape may be wrong by a margin."""
-    reds = shapes.get("x", []) + shapes.get("manyX", [])
+    """Compares the pixels of a row: red if and only if the signal is x there, and a block if and
+    only if it changes there more than once. A red shape may be wrong by a margin, and a block of a
+    picture that has an x is red."""
+    reds, blocks = shapes.get("x", []) + shapes.get("manyX", []), shapes.get("several", [])
     spans = unknown_spans(pieces)
     may_be = spans + [(width - 1.0, float(width)) for begin, end in spans if begin == end]
     of.same("pixels, red without an x", words, sorted(
         pixels_of(reds, width) - pixels_of(may_be, width, margin)), [])
     of.same("pixels, an x without red", words, sorted(
         pixels_of(spans, width) - pixels_of(reds, width, margin)), [])
-    blocks = shapes.get("several", []) + (shapes.get("x", []) if margin > EXACT else [])
-    of.same("pixels, several changes without a block", words, sorted(
-        busy_pixels(pieces, width) - pixels_of(blocks, width, margin)), [])
-    near = [(one.begin, max(other.begin, one.begin + 1)) for one, other in zip(pieces, pieces[1:])
-            if other.begin < one.begin + 1 + margin]
+    busy = busy_pixels(pieces, width)
+    of.same("pixels, several changes without a block", words, sorted(busy - pixels_of(
+        blocks + (reds if margin > EXACT else []), width)), [])
     of.same("pixels, a block without several changes", words, sorted(
-        pixels_of(shapes.get("several", []), width) - pixels_of(near, width, margin)), [])
+        pixels_of(blocks, width) - busy), [])
 
 
 def ask_shown(of: Asker) -> None:
@@ -250,7 +250,7 @@ def ask_shown(of: Asker) -> None:
         for form, values in row["values"].items():
             of.same("values at a cursor", [*words, one.path, form, times], values, [
                 shown(dump.at(time).get(one.code), "--" + form) for time in times])
-        if not one.is_real:
+        if not one.is_real and (end - begin) * width < 2**53:  # else floats are not exact
             shapes = {kind: [(shape[0], shape[1]) for shape in its] for kind, its in row["shapes"]}
             same_pixels(of, [*words, one.path, str(width)], pieces_of(wanted_points(
                 dump, one, begin, end), begin, end, width), shapes, width, EXACT)
