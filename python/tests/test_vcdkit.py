@@ -223,6 +223,20 @@ class Questions:
         self.assertEqual([len(column) for name in "ar" for column in empty.arrays(name)], [0] * 4)
 
     @unittest.skipUnless(numpy, "there is no numpy")
+    def test_arrays_of_real_values(self):
+        """They are floats of all that is a number, also of digits; NaN stands for the rest."""
+        written = ["r1.5", "b101", "b1x", "rfoo", "r-0", "rinf", "bz", "b1" + "0" * 40, "r1e3"]
+        numbers = [1.5, 5.0, "nan", "nan", -0.0, float("inf"), "nan", 2.0 ** 40, 1000.0]
+        for kind, size in ("real", 64), ("realtime", 64), ("shortreal", 48):
+            dump = Dump("".join(["$var %s %d ! r $end $enddefinitions $end " % (kind, size), *(
+                "#%d %s ! " % one for one in enumerate(written))]).encode())
+            times, values = dump.arrays("r")
+            self.assertEqual((times.dtype, values.dtype, times.tolist()), (
+                "uint64", "float64", list(range(9))), kind)
+            self.assertFalse(numpy.ma.isMaskedArray(values))
+            self.assertEqual(list(map(str, values.tolist())), list(map(str, numbers)), kind)
+
+    @unittest.skipUnless(numpy, "there is no numpy")
     def test_arrays_of_wide_values(self):
         body = b"#0\nbx !\n#1\nb1 !\n#2\nb1z !\n"
         for size in 64, 65:
@@ -664,8 +678,8 @@ class ByLibrary(Questions, unittest.TestCase):
         text = Dump(NESTED).read()
         whole = answered("cut", text, "--from", "0", "--to", "900")
         for room in 1, 2, len(whole) - 1, len(whole), len(whole) + 1:
-            self.assertEqual(vcdkit.reading.library.run(["cut", "--from", "0", "--to", "900"], text, (),
-                                                 room), (0, whole, b""))
+            self.assertEqual(vcdkit.reading.library.run(
+                ["cut", "--from", "0", "--to", "900"], text, (), room), (0, whole, b""))
         found = vcdkit.reading.library.changes(Dump(NESTED).text, b"1")
         for room in (1, 2, 5, len(found) // 3, len(found) // 3 + 1) if found else ():
             self.assertEqual(vcdkit.reading.library.changes(Dump(NESTED).text, b"1", room), found)
