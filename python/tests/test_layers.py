@@ -32,7 +32,8 @@ class Layers(unittest.TestCase):
         for path, nodes in self.trees.items():
             self.assertEqual([one.attr for one in nodes if isinstance(one, ast.Attribute)
                               and one.attr[0] == "_" != one.attr[1:2] and one.attr not in PUBLIC
-                              and getattr(one.value, "id", "") not in ("self", "_python")], [], path)
+                              and getattr(one.value, "id", "") not in ("self", "_python")],
+                             [], path)
 
     def test_names_of_classes(self):
         names = collections.Counter(one.name for nodes in self.trees.values() for one in nodes

@@ -147,8 +147,8 @@ class Data(Case):
     def test_nested(self):
         self.assertGreater(self.compare(NESTED, ["bench"]), 500)
         self.compare(NESTED, ["bench.slow", "bench.level"], "--from", "30ns", "--to", "110ns")
-        data = data_of(self.page("--around", "70ns", "--context", "5ns", "--signed", "--light", NESTED,
-                                 "bench.slow"))
+        data = data_of(self.page("--around", "70ns", "--context", "5ns", "--signed", "--light",
+                                 NESTED, "bench.slow"))
         self.assertEqual([data[key] for key in ("begin", "span", "mark", "radix", "light", "tick")],
                          ["650", 100, 50, "signed", True, "100000"])
         self.assertIsNone(data_of(self.page(NESTED, "bench"))["mark"])
@@ -227,7 +227,8 @@ class Data(Case):
 
     def test_more_ticks_than_a_page_has(self):
         """Of a long dump the page of a difference shows what there is room for."""
-        text = b"$timescale 1fs $end $var wire 1 ! c $end $enddefinitions $end #0 0! #%d %d! #%d 0!\n"
+        text = (b"$timescale 1fs $end $var wire 1 ! c $end $enddefinitions $end "
+                b"#0 0! #%d %d! #%d 0!\n")
         dumps = [self.file("%d.vcd" % at, text % (2**60, at, 2**61)) for at in (0, 1)]
         page = os.path.join(self.folder.name, "page.html")
         status, said, messages = run(diff, "--html", page, *dumps)
@@ -538,11 +539,13 @@ class Shown(Case):
     def test_red_only_where_there_is_an_x(self):
         dump = self.file("a.vcd", b"$timescale 1ns $end $var wire 1 ! c $end $var wire 4 v v $end "
                          b"$enddefinitions $end " + b"".join(
-                             b"#%d %s! b%s v\n" % (at, b"x" if at in (0, 10_000) else b"%d" % (at % 2),
-                                                 b"1x" if at == 5000 else b"%d" % (at % 2))
+                             b"#%d %s! b%s v\n" % (
+                                 at, b"x" if at in (0, 10_000) else b"%d" % (at % 2),
+                                 b"1x" if at == 5000 else b"%d" % (at % 2))
                              for at in range(20_001)))
         self.open(self.page(dump, "c", "v"))
-        reds = """(() => { draw(); const { data, width } = pen.getImageData(0, 0, canvas.width, 100);
+        reds = """(() => { draw();
+            const { data, width } = pen.getImageData(0, 0, canvas.width, 100);
             return [0, 1].map(row => {
               const y = TOP + tops[row] + PAD + HIGH / 2, red = [];
               for (let x = 0, at = 4 * width * y; x < width; x++, at += 4)
@@ -553,7 +556,8 @@ class Shown(Case):
         for times, wanted in zip(self.value(reds), ([0, 10_000], [5000])):
             pixel = self.value("timeAt(1) - timeAt(0)")
             for time in times:
-                self.assertTrue(any(-2 * pixel <= time - at <= 2 * pixel for at in wanted), (time, wanted))
+                self.assertTrue(any(-2 * pixel <= time - at <= 2 * pixel for at in wanted),
+                                (time, wanted))
             for at in wanted:
                 self.assertTrue(any(abs(time - at) <= 2 * pixel for time in times), (at, times))
 
@@ -606,7 +610,8 @@ class Shown(Case):
         """The shorter one ends where it ends, and so does the comparison; the page begins with the
         row that differs first."""
         head = b"$timescale 1ns $end " + b"".join(
-            b"$var wire 1 %c s%02d $end " % (65 + at, at) for at in range(40)) + b"$enddefinitions $end "
+            b"$var wire 1 %c s%02d $end " % (65 + at, at) for at in range(40))
+        head += b"$enddefinitions $end "
         zeros = b"#0 " + b"".join(b"0%c " % (65 + at) for at in range(40))
         one = self.file("a.vcd", head + zeros + b"#5 1c #10 1A #20\n")
         other = self.file("b.vcd", head + zeros + b"#100\n")
@@ -616,8 +621,8 @@ class Shown(Case):
         self.is_now("[SPAN, signals.map(one => one.side + one.path)]",
                     [100, ["As00", "Bs00", "As34", "Bs34"]])
         self.is_now("[items[now.row].side, items[now.row].path, now.cursor]", ["A", "s34", 5])
-        self.is_now("[10, 20, 21, 100].map(time => valueAt(signals[0], time))", ["1", "1", "-", "-"])
-        self.is_now("[10, 20, 21, 100].map(time => valueAt(signals[1], time))", ["0"] * 4)
+        self.is_now("[0, 1].map(row => [10, 20, 21, 100].map(time => valueAt(signals[row], time)))",
+                    [["1", "1", "-", "-"], ["0"] * 4])
         self.value("(show(0, SPAN), 0)")
         ends = self.value("""(() => { draw(); const y = TOP + tops[0] + 1, line = pen.getImageData(
             0, y, canvas.width, 1).data, red = [];

@@ -6,12 +6,15 @@ of vcdkit-wave against a plain reader.
 
 VCDKIT names the program, else it is ./vcdkit of the repository.
 """
+import bisect
 import bz2
 import contextlib
 import gzip
+import importlib
 import io
 import json
 import lzma
+import math
 import os
 import random
 import re
@@ -21,16 +24,19 @@ import stat
 import subprocess
 import sys
 import tempfile
+import traceback
 import unittest
+import warnings
 import xml.etree.ElementTree as xml
 from concurrent.futures import ThreadPoolExecutor
+from fractions import Fraction
 
 HERE = os.path.dirname(os.path.abspath(__file__))
 TOP = os.path.dirname(os.path.dirname(HERE))
 EXTRAS = os.path.join(TOP, "extras")
 sys.path.insert(0, os.path.dirname(HERE))
 os.environ.setdefault("VCDKIT", os.path.join(TOP, "vcdkit"))
-os.environ["PYTHONDONTWRITEBYTECODE"] = "1"
+os.environ.update(PYTHONDONTWRITEBYTECODE="1", COLUMNS="80")
 
 from vcdkit import Dump, Signal
 from vcdkit.commands import x
@@ -53,6 +59,8 @@ ARGUMENTS = {"vcdkit-diff": ["FILE", NESTED], "vcdkit-explain": ["FILE"],
 HUGE = "9" * 100_000
 SECONDS = 60
 SCRATCH = tempfile.TemporaryDirectory()  # where scripts write files of bad names
+os.chdir(SCRATCH.name)
+os.dup2(os.open(os.devnull, os.O_RDONLY), 0)
 
 
 def arguments(name, file=NESTED):
@@ -63,7 +71,43 @@ def arguments(name, file=NESTED):
 
 
 def run(name, words, **streams):
-    """Runs a script; returns its status, its output and its messages."""
+    """Runs a script; returns its status, its output and its messages. It runs in this process,
+    unless it gets streams of its own."""
+    return run_apart(name, words, **streams) if streams else run_here(name, words)
+
+
+def run_here(name, words):
+    """Runs a script in this process, to which an end of Python belongs as well."""
+    main = importlib.import_module("vcdkit.commands." + name[7:].replace("-", "_")).main
+    out, messages = io.TextIOWrapper(io.BytesIO()), io.TextIOWrapper(io.BytesIO())
+    saved, sys.argv = sys.argv, [os.path.join(EXTRAS, name), *words]
+    signal.signal(signal.SIGALRM, no_end)
+    signal.alarm(SECONDS)
+    with contextlib.redirect_stdout(out), contextlib.redirect_stderr(messages), \
+            warnings.catch_warnings():
+        warnings.simplefilter("ignore")  # as Python itself does
+        try:
+            status = main()
+        except SystemExit as end:
+            status = end.code
+        except Exception:
+            status = 1
+            traceback.print_exc()
+        finally:
+            signal.alarm(0)
+            sys.argv = saved
+    out.flush()
+    messages.flush()
+    return status, out.buffer.getvalue(), messages.buffer.getvalue()
+
+
+def no_end(*_):
+    """Ends a script that runs too long."""
+    raise AssertionError("no end after %d seconds" % SECONDS)
+
+
+def run_apart(name, words, **streams):
+    """Runs a script in a process of its own."""
     given = dict(stdin=subprocess.DEVNULL, stdout=subprocess.PIPE, stderr=subprocess.PIPE,
                  cwd=SCRATCH.name)
     try:
@@ -108,9 +152,8 @@ class Scripts(Case):
 
     def no_traceback(self, cases):
         """Runs scripts with words, and looks at what they say."""
-        with ThreadPoolExecutor(os.cpu_count()) as pool:
-            found = list(pool.map(lambda case: run(*case), cases))
-        for (name, words), (status, _, messages) in zip(cases, found):
+        for name, words in cases:
+            status, _, messages = run(name, words)
             short = [word[:40] for word in words]
             with self.subTest(script=name, words=short):
                 self.assertNotIn(b"Traceback", messages)
@@ -282,13 +325,13 @@ class Answers(Case):
             self.assertAlmostEqual(facts["mean"], mean)
 
     def test_stats_of_a_code_of_several_types(self):
-        dump = self.file("a.vcd", b"$timescale 1ns $end $var real 64 ! r $end $var wire 64 ! w $end "
-                         b"$enddefinitions $end #0 r1.5 ! #5 b1 ! #10 r1_000 ! #20\n")
+        dump = self.file("a.vcd", b"$timescale 1ns $end $var real 64 ! r $end $var wire 64 ! w "
+                         b"$end $enddefinitions $end #0 r1.5 ! #5 b1 ! #10 r1_000 ! #20\n")
         lines = said("vcdkit-stats", "--decimal", dump, "r", "w")
         values = ["  value 1_000 10ns 50%, 1 time", "  value 1.5 5ns 25%, 1 time",
                   "  value 1 5ns 25%, 1 time, 5ns to 5ns"]
-        self.assertEqual(lines, ["r real 64", "  changes 2", "  range 1.5 to 1.5, mean 1.5", *values,
-                                 "w wire 64", "  changes 2", *values, "status 0"])
+        self.assertEqual(lines, ["r real 64", "  changes 2", "  range 1.5 to 1.5, mean 1.5",
+                                 *values, "w wire 64", "  changes 2", *values, "status 0"])
 
     def test_largest_scopes(self):
         dump = self.file("a.vcd", b"$scope module tb $end $var wire 1 ! \\e.s $end "
@@ -297,9 +340,9 @@ class Answers(Case):
         self.assertEqual(json.loads(said("vcdkit-info", "--json", dump)[0])["largest"], {"tb": 2})
 
     def test_a_fault_early_in_a_long_dump(self):
-        dump = self.file("a.vcd", b"$timescale 1ns $end\n$var wire 1 ! a $end\n$enddefinitions $end\n"
-                         b"#0\n1!\nbad line\n" + b"".join(b"#%d\n%d!\n" % (at, at % 2)
-                                                       for at in range(1, 40000)))
+        dump = self.file("a.vcd", b"$timescale 1ns $end\n$var wire 1 ! a $end\n$enddefinitions "
+                         b"$end\n#0\n1!\nbad line\n" + b"".join(
+                             b"#%d\n%d!\n" % (at, at % 2) for at in range(1, 40000)))
         self.assertEqual([line for line in said("vcdkit-explain", dump) if " | " in line], [
             "       4 | #0", "       5 | 1!", ">      6 | bad line", "       7 | #1"])
 
@@ -327,29 +370,17 @@ class Answers(Case):
     def test_a_window_of_one_tick(self):
         dump = self.file("a.vcd", b"$timescale 1ns $end $var wire 1 ! c $end $enddefinitions $end "
                          b"#0 0! #1 1! #9 #18446744073709551615 0!\n")
-        for words, time, value in ((["--to", "0"], "0ns", "0"), (["--from", "1", "--to", "1"], "1ns", "1"),
-                                   (["--around", "1ns", "--context", "0"], "1ns", "1"),
-                                   (["--from", "18446744073709551615"], "18446744073709551615ns", "0")):
+        late = "18446744073709551615"
+        for words, time, value in (
+                (["--to", "0"], "0ns", "0"), (["--from", "1", "--to", "1"], "1ns", "1"),
+                (["--around", "1ns", "--context", "0"], "1ns", "1"),
+                (["--from", late], late + "ns", "0")):
             picture = run("vcdkit-wave", [*words, dump, "c"])[1].decode()
             self.assertIn("from %s to %s" % (time, time), picture)
             self.assertNotIn("NaN", picture)
             page = run("vcdkit-wave", ["--html", *words, dump, "c"])[1].decode()
             self.assertIn('"streams":[[[0],"%s"]]' % value, page)
         self.assertEqual(run("vcdkit-wave", ["--around", "5", dump, "c"])[0], 2)
-
-    def test_red_only_where_there_is_an_x(self):
-        dump = self.file("a.vcd", b"$timescale 1ns $end $var wire 1 ! c $end $var wire 4 d v $end "
-                         b"$enddefinitions $end " + b"".join(
-                             b"#%d %s! b%s d\n" % (at, b"x" if at in (0, 10_000) else b"%d" % (at % 2),
-                                                 b"1x" if at == 5000 else b"%d" % (at % 2))
-                             for at in range(20_001)))
-        picture = run("vcdkit-wave", ["--width", "1000", dump, "c", "v"])[1].decode()
-        red = [[float(part.split()[0]) for part in its.split("M")[1:]]
-               for its in re.findall(r'<path class="x" d="([^"]+)"', picture)]
-        # 20 ns a pixel: at 0 and 10,000 ns of c, and at 5,000 ns of v.
-        self.assertEqual(list(map(len, red)), [2, 1])
-        for got, wanted in ((red[0][1], 500), (red[1][0], 250)):
-            self.assertAlmostEqual(got - red[0][0], wanted, delta=1.5)
 
     def test_stats_of_a_window(self):
         dump = self.file("hand.vcd", HAND)
@@ -368,8 +399,8 @@ class Answers(Case):
 
     def test_values_in_the_order_of_declaration(self):
         dump = self.file("order.vcd", b"$scope module b $end $var wire 1 ! x $end $upscope $end "
-                         b"$var wire 1 ! a $end $scope module b $end $var wire 1 ! y $end $upscope $end "
-                         b"$enddefinitions $end\n#0 1!\n")
+                         b"$var wire 1 ! a $end $scope module b $end $var wire 1 ! y $end $upscope "
+                         b"$end $enddefinitions $end\n#0 1!\n")
         self.assertEqual(said("vcdkit-values", dump), ["b.x 1", "a 1", "b.y 1", "status 0"])
 
     def test_tree(self):
@@ -584,7 +615,7 @@ def random_dump(rnd, sizes):
 class Pictures(unittest.TestCase):
     """The lanes of vcdkit-wave."""
 
-    def test_bins(self):
+    def test_pixels(self):
         sizes = {"!": 1, "0": 1, "1": 8, "b!": 3, "#": 1}
         lanes.SMALL, lanes.BLOCK = 64, 4096
         for seed in range(40):
@@ -596,21 +627,23 @@ class Pictures(unittest.TestCase):
             its.read(io.BytesIO(text))
             for code in sizes:
                 with self.subTest(seed=seed, code=code):
-                    self.compare(its, its.of_code[code.encode()].points, changes[code])
+                    self.compare(its.pixels, its.of_code[code.encode()].points, changes[code])
 
-    def compare(self, its_lanes, points, changes):
-        """A bin has its one change, or Several and then the last value, or nothing. Several says
-        whether there is an x at a time of the bin."""
-        bins, wanted = {}, []
+    def compare(self, pixels, points, changes):
+        """A pixel has its one change, or Several and then the last value, or nothing. Several says
+        whether there is an x at a time of the pixel."""
+        (begin, last), of_pixel, wanted = (pixels.window.begin, pixels.window.last), {}, []
+        length = Fraction(max(last - begin, 1), pixels.width)  # ticks of a pixel
         for one in changes:
-            bins.setdefault((one[0] - its_lanes.window.begin) * its_lanes.count // its_lanes.span,
-                            []).append(one)
-        for number, its in bins.items():
-            begin, end = its_lanes.edge(number), min(its_lanes.edge(number + 1), its_lanes.window.last)
-            self.assertTrue(begin <= its[0][0] and its[-1][0] <= end)
-            early = [one for one in changes if one[0] <= begin][-1:]
+            of_pixel.setdefault((one[0] - begin) // length, []).append(one)
+        for pixel, its in of_pixel.items():
+            if len(its) < 2:
+                wanted += its
+                continue
+            start, end = begin + pixel * length, begin + math.ceil((pixel + 1) * length)
+            early = changes[:bisect.bisect([time for time, _ in changes], math.floor(start))][-1:]
             has_x = any("x" in value for _, value in [*early, *its])
-            wanted += its if len(its) < 2 else [(begin, has_x), (end, its[-1][1])]
+            wanted += [(math.ceil(start), has_x), (min(end, last), its[-1][1])]
         self.assertEqual([(time, value.has_x if isinstance(value, lanes.Several) else value)
                           for time, value in points], wanted)
 
@@ -640,7 +673,8 @@ class Rules(Case):
                          ["é 0001", "q 0010", "status 0"])
 
     def test_maps_of_a_scope_and_one_in_it(self):
-        text = b"$scope module %s $end $var wire 1 ! a $end $upscope $end $enddefinitions $end #0 0!\n"
+        text = (b"$scope module %s $end $var wire 1 ! a $end $upscope $end $enddefinitions $end "
+                b"#0 0!\n")
         one = self.file("a.vcd", text % b"tb")
         other = self.file("b.vcd", b"$scope module TOP $end " + text.replace(
             b"$enddef", b"$upscope $end $enddef") % b"tb")
@@ -649,23 +683,26 @@ class Rules(Case):
         self.assertEqual(said("vcdkit-diff", "--map", "TOQ=", *words), ["status 2"])
 
     def test_a_window_of_two_dumps(self):
-        head = b"$timescale 1ns $end $var wire 1 ! c $end $var wire 4 d v $end $enddefinitions $end "
+        head = (b"$timescale 1ns $end $var wire 1 ! c $end $var wire 4 d v $end "
+                b"$enddefinitions $end ")
         one = self.file("a.vcd", head + b"#0 0! b0 d #5 1! b1 d #10 0! b11 d #15 1! #20\n")
         other = self.file("b.vcd", head + b"#0 0! bx d #5 1! b1 d #10 0! b1x d #15 1! b100 d #20\n")
         v = "differs %s v %s %s"
         for words, wanted in (
                 ([], v % ("0ns", "0000", "xxxx")), (["--from", "1ns"], v % ("1ns", "0000", "xxxx")),
-                (["--from", "5ns"], v % ("10ns", "0011", "001x")), (["--from", "5", "--to", "9ns"], ""),
+                (["--from", "5ns"], v % ("10ns", "0011", "001x")),
+                (["--from", "5", "--to", "9ns"], ""),
                 (["--from", "11ns"], v % ("11ns", "0011", "001x")),
-                (["--x-matches"], v % ("15ns", "0011", "0100")), (["--x-matches", "--to", "14"], ""),
+                (["--x-matches"], v % ("15ns", "0011", "0100")),
+                (["--x-matches", "--to", "14"], ""),
                 (["--rise", "c", "--from", "12ns"], v % ("15ns", "0011", "001x")),
                 (["--rise", "c", "--from", "12ns", "--x-matches"], "")):
             lines = said("vcdkit-diff", *words, one, other)
             self.assertEqual(lines, [wanted, "status 1"] if wanted else ["status 0"], words)
         self.assertEqual(said("vcdkit-diff", "--from", "21ns", one, other), ["status 2"])
 
-    @unittest.skipIf(subprocess.run(["unshare", "-rm", "true"], stderr=subprocess.DEVNULL).returncode
-                     if shutil.which("unshare") else True, "needs a namespace")
+    @unittest.skipIf(not shutil.which("unshare") or subprocess.run(
+        ["unshare", "-rm", "true"], stderr=subprocess.DEVNULL).returncode, "needs a namespace")
     def test_without_proc(self):
         with open(NESTED, "rb") as file:
             other = self.file("b.vcd", file.read().replace(b"b11 1\n", b"b1011 1\n"))
@@ -826,7 +863,8 @@ class Rules(Case):
 
 
 WORDS = b"""$timescale 1ns $end $scope module tb $end
-$var wire 1 ! w [1] $end $var wire 1 \" w [0] $end $var wire 1 # s [3] $end $var wire 2 $ a [1:0] $end
+$var wire 1 ! w [1] $end $var wire 1 \" w [0] $end $var wire 1 # s [3] $end
+$var wire 2 $ a [1:0] $end
 $upscope $end $enddefinitions $end #0 0! 0\" 1# b0 $ #5 1! b11 $ #9 b1 $ #10
 """
 
@@ -844,7 +882,8 @@ class Declared(Case):
         self.assertIn('{"path": "tb.w", "bit": 1, "rises": 1, "falls": 0, "x": 0}',
                       said("vcdkit-stats", "--toggle", "--json", dump, "tb.w"))
         nets = [line.strip() for line in said("vcdkit-stats", "--saif", "-", dump, "tb.w")]
-        self.assertEqual([line for line in nets if line.startswith("(w")], ["(w\\[1\\]", "(w\\[0\\]"])
+        self.assertEqual([line for line in nets if line.startswith("(w")],
+                         ["(w\\[1\\]", "(w\\[0\\]"])
 
     def test_two_ranges_of_one_path_and_code(self):
         dump = self.file("a.vcd", b"$var wire 3 ! q [2:0] $end $var wire 3 ! q [6:4] $end "
@@ -854,7 +893,8 @@ class Declared(Case):
 
     def test_partners_in_two_dumps(self):
         head, body = b"$timescale 1ns $end ", b"$enddefinitions $end #0 1! 0\" #5 0! #9\n"
-        one = self.file("a.vcd", head + b"$var wire 1 ! w [1] $end $var wire 1 \" w [0] $end " + body)
+        one = self.file("a.vcd", head + b"$var wire 1 ! w [1] $end $var wire 1 \" w [0] $end "
+                        + body)
         other = self.file("b.vcd",
                           head + b"$var wire 1 \" w [0] $end $var wire 1 ! w [1] $end " + body)
         self.assertEqual(said("vcdkit-diff", one, other), ["status 0"])
@@ -865,7 +905,8 @@ class Declared(Case):
             "differs 0ns w 1 0", "differs 0ns w 0 1", "status 1"])
 
     def test_a_dot_in_a_name_makes_no_scope(self):
-        head = b"$scope module t $end $var wire 1 # x $end %s$upscope $end $enddefinitions $end #0 %s"
+        head = (b"$scope module t $end $var wire 1 # x $end %s$upscope $end $enddefinitions $end "
+                b"#0 %s")
         one = self.file("a.vcd", head % (b"$var wire 1 ! \\u.c $end $var wire 1 \" \\u.d $end ",
                                          b"0! 0\" 0# #9"))
         other = self.file("b.vcd", head % (b"", b"0# #9"))
@@ -941,7 +982,8 @@ class Conditions(Case):
         self.assertEqual(said("vcdkit-when", *words, "--in-order", dump, "req -> ack within 3"), [
             "10ns 40ns 3", "20ns 50ns 3", "least 3, mean 3, greatest 3, 2 in time, 2 late",
             "status 0"])
-        for every, warning in (([], b""), (["--every"], b"before the previous one is answered: 2.")):
+        for every, warning in (
+                ([], b""), (["--every"], b"before the previous one is answered: 2.")):
             _, _, messages = run("vcdkit-when", [*words, *every, dump, "req -> ack within 9"])
             self.assertIn(warning, messages)
             self.assertEqual(bool(messages), bool(warning))
@@ -958,7 +1000,8 @@ class Conditions(Case):
         self.assertEqual(said("vcdkit-when", "--never", "--rules", rules, "--junit", out, dump),
                          [*found, "status 1"])
         tests = xml.parse(out).getroot()
-        self.assertEqual([(one.get("name"), [its.get("message") for its in one]) for one in tests], [
+        found = [(one.get("name"), [its.get("message") for its in one]) for one in tests]
+        self.assertEqual(found, [
             ("rises", ["5ns, 2 times"]), ("not x", []), ("late", []),
             ("waits 1", ["5ns, 1 time"])])
         self.assertEqual(tests.get("failures"), "2")
@@ -1067,15 +1110,15 @@ class Output(Case):
 
     def test_salvage_to_standard_output(self):
         torn, wanted = self.salvaged()
-        status, dump, said_of_it = run("vcdkit-explain", ["--salvage", "-", torn])
+        status, dump, said_of_it = run_apart("vcdkit-explain", ["--salvage", "-", torn])
         self.assertEqual((status, dump), (1, wanted))
         self.assertIn(b"good until 29ns", said_of_it)
         link = os.path.join(self.folder.name, "out")  # as /dev/stdout is one
         os.symlink("/proc/self/fd/1", link)
-        self.assertIn(wanted, run("vcdkit-explain", ["--salvage", link, torn])[1])
+        self.assertIn(wanted, run_apart("vcdkit-explain", ["--salvage", link, torn])[1])
         self.assertTrue(os.path.islink(link))
-        self.assertEqual(run("vcdkit-explain", ["--salvage", "-", self.file("w", TORN)])[:2],
-                         (0, TORN))
+        self.assertEqual(run_apart("vcdkit-explain", ["--salvage", "-", self.file(
+            "w", TORN)])[:2], (0, TORN))
         self.assertEqual(os.listdir(SCRATCH.name).count("-"), 0)
 
     def test_salvage_before_the_first_timestamp(self):
@@ -1228,10 +1271,11 @@ b011 q
 
     def test_blocks(self):
         """What a filter writes does not depend on the blocks in which its input comes."""
-        head = (b"$comment U $end\n$var wire 1 ! q [1] $end\n$var wire 1 \" q [0] $end\n$var string 1 "
-                b"s t $end\n$var wire 4 b v $end\n$enddefinitions $end\n")
-        words = [b"0!", b"1\"", b"b1 !", b" x!", b"bUH b", b"U!", b"sidle s", b"#5", b"#7 1!", b"b01",
-                 b"$dumpvars", b"$end", b"$comment", b"x $end", b"$dumpall 0! $end", b"", b"r1.5 b"]
+        head = (b"$comment U $end\n$var wire 1 ! q [1] $end\n$var wire 1 \" q [0] $end\n"
+                b"$var string 1 s t $end\n$var wire 4 b v $end\n$enddefinitions $end\n")
+        words = [b"0!", b"1\"", b"b1 !", b" x!", b"bUH b", b"U!", b"sidle s", b"#5", b"#7 1!",
+                 b"b01", b"$dumpvars", b"$end", b"$comment", b"x $end", b"$dumpall 0! $end", b"",
+                 b"r1.5 b"]
         for seed in range(200):
             rnd = random.Random(seed)
             lines = [rnd.choice(words) + rnd.choice([b"\n", b"\n", b"\r\n"]) for _ in range(20)]
