@@ -523,10 +523,11 @@ def pixels(its: Sequence[Tuple[int, Value]], begin: float, end: float, width: in
     value has an x at some time of the pixel, so that this is red, and whether it changes there
     more than once, so that this is a block. The value before the first time is not there if there
     is another one at this time."""
-    its = [one for one, after in zip(its, [*its[1:], (-1, "")]) if one[0] != after[0]]
+    values = dict(its)
     places = [(time - Fraction(begin)) * width / (Fraction(end) - Fraction(begin))
-              for time, _ in its]
-    spans = [(place, to) for place, to, (_, value) in zip(places, [*places[1:], width], its)
+              for time in values]
+    spans = [(place, to) for place, to, value in zip(
+        places, [*places[1:], Fraction(width)], values.values())
              if isinstance(value, str) and "x" in value]
     return [(any(place < at + 1 and to > at for place, to in spans),
              sum(at <= place < at + 1 for place in places) > 1) for at in range(width)]

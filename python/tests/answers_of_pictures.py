@@ -27,8 +27,7 @@ def seen(dump: Dump, of: Variable, begin: int, last: int) -> States:
     if is_event(of):
         return [(time, "1") for time in sorted({one.time for one in changes_of(dump, of.code)})
                 if begin <= time <= last]
-    its = states(dump, of.code, begin, last)
-    return its[1:] if len(its) > 1 and its[1][0] == begin else its
+    return list(dict(states(dump, of.code, begin, last)).items())
 
 
 def height_of(of: Variable, value: Value, its: States) -> Optional[float]:
