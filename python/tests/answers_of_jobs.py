@@ -202,13 +202,14 @@ def saif(dump: Dump, variables: Sequence[Variable], begin: int, end: int
     names = list(dict.fromkeys(name for one in dump.variables for name in scopes_of(one.path)))
     scopes = sorted(names, key=lambda scope: [*map(names.index, scopes_of(scope + "."))])
     scale = "1s" if dump.tick is None else time_text(dump.tick, 1)
+    last = max(begin, min(end, last_time(dump)))
     nets = [Net([saif_name(name.rpartition(".")[2]) for name in scopes_of(one.path)[1:]],
                 saif_name(bit.name[len(scope + "." * bool(scope)):]), bit.ticks,
                 bit.rises + bit.falls)
             for scope in scopes for one in dump.variables
             if one in variables and scopes_of(one.path)[-1] == scope
             for bit in all_toggles(dump, [one], begin, end)]
-    return (re.sub(r"(\D)", r" \1", scale, 1), max(begin, min(end, last_time(dump))) - begin, nets)
+    return re.sub(r"(\D)", r" \1", scale, count=1), last - begin, nets
 
 
 # ---- vcdkit-x --trace, vcdkit-explain FILE FILE, --names.
