@@ -35,8 +35,8 @@ HERE = os.path.dirname(os.path.abspath(__file__))
 TOP = os.path.dirname(os.path.dirname(HERE))
 EXTRAS = os.path.join(TOP, "extras")
 sys.path.insert(0, os.path.dirname(HERE))
-os.environ.setdefault("VCDKIT", os.path.join(TOP, "vcdkit"))
-os.environ.update(PYTHONDONTWRITEBYTECODE="1", COLUMNS="80")
+os.environ.update(PYTHONDONTWRITEBYTECODE="1", COLUMNS="80", VCDKIT=os.path.abspath(
+    shutil.which(os.environ.get("VCDKIT", "")) or os.path.join(TOP, "vcdkit")))
 
 from vcdkit import Dump, Signal
 from vcdkit.commands import x
