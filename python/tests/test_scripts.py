@@ -1362,12 +1362,14 @@ class Toggles(unittest.TestCase):
         names = ["s%d" % at for at in range(len(sizes))]
         head = "".join("$var wire %d %s %s $end\n" % (size, code, name)
                        for name, (code, size) in zip(names, sizes.items()))
-        self.addCleanup(setattr, toggles, "BATCH", toggles.BATCH)
+        for name in ("BATCH", "ENOUGH"):
+            self.addCleanup(setattr, toggles, name, getattr(toggles, name))
         for seed in range(30):
             rnd = random.Random(seed)
             text, changes, last = random_dump(rnd, sizes)
             dump = Dump((head + "$enddefinitions $end\n").encode() + text)
             begin, toggles.BATCH = rnd.choice([0, 7, last // 2]), rnd.choice([1, 3, 50, 2048])
+            toggles.ENOUGH = rnd.choice([1, 2, 9])
             rows = toggles.counts_of(dump, names, Window(begin, max(last, begin) + 1), True)
             wanted = [counts for code, size in sizes.items()
                       for counts in self.wanted(changes[code], size, begin, max(last, begin))]
