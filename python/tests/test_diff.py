@@ -384,7 +384,8 @@ LINES = "differs 0 t.r 1 1.5\n"
 REFUSED = ["a none", "none a", "a .", "a empty", "empty a", "a fault", "a binary", "binary binary",
            "a b none", "a b t.none", "a b t.q.q", "a other t", "--map=none=t a b",
            "--except=none a b", "--context=foo a b", "--context=1ns a b", "--context= a b",
-           "--common a other", "--rise=none a b", "--rise=t a b", "--rise=t.r a b", "--fall=t.q a b",
+           "--common a other", "--rise=none a b", "--rise=t a b", "--rise=t.r a b",
+           "--fall=t.q a b",
            "--fall=t.c a b",
            "--rise=t.c a other", "--junit=none/j.xml a a", "--junit=. a a"]
 MISUSED = ["", "a", "--into=x a b", "--map=t a b", "--map==t a b", "--real-tolerance=x a b",
