@@ -172,7 +172,8 @@ def list_rules(asking: Questions, rules: List[Rule], text: Callable[[int], str],
         for number, one in asking.outcomes():
             if asking.is_listed(number, one):
                 its = found[number]
-                its[:] = [its[0], its[1] + 1] if its else [one.begin, 1]
+                its += [] if its else [one.begin, 0]
+                its[1] += 1
     except VcdkitError as error:
         fault = str(error)
         raise

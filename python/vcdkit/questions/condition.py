@@ -4,15 +4,14 @@ Python's own parser reads them. What only this grammar has becomes Python first:
 binds less than `==`; `!` is `~`, which binds more; `A -> B within N` is `A if B else N`, which
 binds least; names and numbers are v0, v1, .. What the grammar does not have is refused in the tree.
 
-A test of values gives True, False, or None if digits that are x or z leave it open, as Verilog's
-operators do. A value is an int, a float, digits (a str) if one of them is x or z, or None if the
-signal has none yet."""
+As with Verilog's operators, digits that are x or z may leave it open whether a test is true or
+false, so there are two tests in Python: whether it is true, and whether it is false. A value is an
+int, a float, digits (a str) if one of them is x or z, or None if the signal has none yet."""
 import ast
 import functools
-import operator
 import re
 from typing import (Any, Callable, Dict, Iterable, KeysView, List, NamedTuple, Optional, Tuple,
-                    Union)
+                    Union, cast)
 
 from ..errors import UsageError
 from ..model.names import FIELD, field_of, full_names
@@ -22,16 +21,15 @@ from ..model.values import extension, real_of
 from ..reading.body import Changes
 from ..reading.source import Source
 
-Known = Optional[bool]
-Test = Callable[[List[Any]], Known]
+Test = Callable[[], bool]
+Tests = Tuple[str, str]  # of values v: whether something is true, and whether it is false
 LETTERS = ("x", "z", "X", "Z")
 SPAN = re.compile(r"%s\Z" % AMOUNT)
 SPLIT = re.compile(r"\bwithin\s+%s\b" % AMOUNT)
 MAX_DEPTH = 50  # parentheses inside each other
 TOKEN = re.compile(r'"([^"]*)"|(->|&&?|\|\|?|[!=<>]=|[!<>()])|((?:(?!->)[^\s"&|!=<>()])+)')
 IN_PYTHON = {"&": "and", "&&": "and", "|": "or", "||": "or", "!": "~", "->": "if", "within": "else"}
-ORDERS: Dict[type, Callable[[Any, Any], bool]] = {
-    ast.Lt: operator.lt, ast.LtE: operator.le, ast.Gt: operator.gt, ast.GtE: operator.ge}
+ORDERS: Dict[type, str] = {ast.Lt: "<", ast.LtE: "<=", ast.Gt: ">", ast.GtE: ">="}
 
 
 class _Number(NamedTuple):
@@ -188,113 +186,42 @@ def _found(dump: Source, names: Iterable[str]) -> Dict[str, Dict[int, Signal]]:
     return {name: found[path] for name, path in full.items()}
 
 
-class _Names:
-    """The signals of a dump that a condition names."""
-
-    def __init__(self, dump: Source, names: Iterable[str]):
-        self._dump = dump
-        bases = {name: FIELD.sub("", name) for name in names}
-        self._found = _found(dump, {*bases, *bases.values()})
-        self.of = {name: self._name(name, base) for name, base in bases.items()}
-
-    def _name(self, name: str, base: str) -> _Name:
-        field = () if self._found[name] else field_of(name)
-        its = self._found[base if field else name]
-        if not its:
-            self._dump.select(base)  # it raises UnknownName, unless this is a scope
-            raise _bad("%s is a scope: name a signal in it" % base)
-        place, signal = next(iter(its.items()))
-        if len({one.code for one in its.values()}) > 1:
-            raise _bad("%s names %d signals: %s, .." % (base, len(its), signal.path))
-        begin, end = self._part(name, place, *field) if field else (0, signal.size)
-        return _Name(name, signal, begin, end, signal.type == "integer" and not field)
-
-    def _part(self, name: str, place: int, first: int, last: int) -> Tuple[int, int]:
-        """Returns from where to where the digits of a field are, counted from the left."""
-        signal = self._dump.signals[place]
-        if signal.is_real or signal.type == "event":
-            raise _bad("%s: %s has no bits" % (name, signal.path))
-        bits = self._dump.declarations[place].bits
-        begin, end = ((bits.index(bit) if bit in bits else -1) for bit in (first, last))
-        if not 0 <= begin <= end:
-            raise _bad("%s: the bits of %s are [%d:%d]" % (name, signal.path, bits[0], bits[-1]))
-        return begin, end + 1
+def _names(dump: Source, words: Iterable[str]) -> Dict[str, _Name]:
+    """Returns the signals of a dump that a condition names."""
+    bases = {name: FIELD.sub("", name) for name in words}
+    found = _found(dump, {*bases, *bases.values()})
+    return {name: _name(dump, name, base, found) for name, base in bases.items()}
 
 
-def _all(tests: List[Test]) -> Test:
-    def holds(values: List[Any]) -> Known:
-        known: Known = True
-        for test in tests:
-            now = test(values)
-            if now is False:
-                return False
-            known = None if now is None else known
-        return known
-    return holds
+def _name(dump: Source, name: str, base: str, found: Dict[str, Dict[int, Signal]]) -> _Name:
+    field = () if found[name] else field_of(name)
+    its = found[base if field else name]
+    if not its:
+        dump.select(base)  # it raises UnknownName, unless this is a scope
+        raise _bad("%s is a scope: name a signal in it" % base)
+    place, signal = next(iter(its.items()))
+    if len({one.code for one in its.values()}) > 1:
+        raise _bad("%s names %d signals: %s, .." % (base, len(its), signal.path))
+    if not field:
+        return _Name(name, signal, 0, signal.size, signal.type == "integer")
+    if signal.is_real or signal.type == "event":
+        raise _bad("%s: %s has no bits" % (name, signal.path))
+    bits = dump.declarations[place].bits
+    begin, end = (bits.index(bit) if bit in bits else -1 for bit in field)
+    if not 0 <= begin <= end:
+        raise _bad("%s: the bits of %s are [%d:%d]" % (name, signal.path, bits[0], bits[-1]))
+    return _Name(name, signal, begin, end + 1, False)
 
 
-def _not(test: Test) -> Test:
-    def holds(values: List[Any]) -> Known:
-        now = test(values)
-        return None if now is None else not now
-    return holds
-
-
-def _truth(place: int) -> Test:
-    """Returns the test whether a digit of a value is 1."""
-    def holds(values: List[Any]) -> Known:
-        value = values[place]
-        if value.__class__ is str:
-            return True if "1" in value else None
-        return None if value is None else value != 0
-    return holds
-
-
-def _has(place: int, letter: str) -> Test:
-    """Returns the test whether a digit of a value is x, or z."""
-    def holds(values: List[Any]) -> Known:
-        value = values[place]
-        return None if value is None else value.__class__ is str and letter in value
-    return holds
-
-
-def _is_exactly(place: int, digits: str) -> Test:
-    """Returns the test whether a value has these digits, of which one is x or z."""
-    def holds(values: List[Any]) -> Known:
-        return None if values[place] is None else values[place] == digits
-    return holds
-
-
-def _in_order(places: Tuple[int, int], is_so: Callable[[Any, Any], bool]) -> Test:
-    one_place, other_place = places
-
-    def holds(values: List[Any]) -> Known:
-        one, other = values[one_place], values[other_place]
-        if one is None or other is None or one.__class__ is str or other.__class__ is str:
-            return None
-        return is_so(one, other)
-    return holds
-
-
-def _are_equal(places: Tuple[int, int], signs: Tuple[bool, bool], width: int) -> Test:
-    one_place, other_place = places
-
-    def digits(value: Any, is_signed: bool) -> str:
-        if isinstance(value, str):
-            return value.rjust(width, value[0] if is_signed else "0")
-        return "{:0{}b}".format(value % (1 << width), width)
-
-    def holds(values: List[Any]) -> Known:
-        one, other = values[one_place], values[other_place]
-        if one is None or other is None:
-            return None
-        if one.__class__ is not str and other.__class__ is not str:
-            return bool(one == other)
-        if one.__class__ is float or other.__class__ is float:
-            return None
-        pairs = zip(digits(one, signs[0]), digits(other, signs[1]))
-        return False if any({*pair} == {"0", "1"} for pair in pairs) else None
-    return holds
+def _differ(one: Any, other: Any, signs: Tuple[bool, bool], width: int) -> bool:
+    """Whether two values, of which one is no number, have a bit that is 0 in one and 1 in the
+    other."""
+    if None in (one, other) or float in (type(one), type(other)):
+        return False
+    rows = (value.rjust(width, value[0] if is_signed else "0") if isinstance(value, str)
+            else "{:0{}b}".format(value % (1 << width), width)
+            for value, is_signed in zip((one, other), signs))
+    return any({*pair} == {"0", "1"} for pair in zip(*rows))
 
 
 class Condition:
@@ -304,19 +231,19 @@ class Condition:
         its = _Text(text)
         tree = its.tree()
         self._words = its.words
-        self._names = _Names(dump, [word for word in its.words if isinstance(word, str)]).of
+        self._names = _names(dump, [word for word in its.words if isinstance(word, str)])
         if not self._names:
             raise _bad("it names no signal")
         self._places: Dict[Union[_Name, _Number], int] = {}
         self.values: List[Any] = []
-        self.answer: Optional[Test] = None
+        self.answer: Optional[Test] = None  # whether it has its answer, if it asks for one
         self.span: Optional[Span] = None
         self.is_refusal = (isinstance(tree, ast.UnaryOp) and isinstance(tree.operand, ast.IfExp))
         whole = tree.operand if isinstance(tree, ast.UnaryOp) and self.is_refusal else tree
         if isinstance(whole, ast.IfExp):
-            self.answer, self.span = self._test(whole.test), self._span(whole.orelse)
+            self.answer, self.span = self._compiled(whole.test), self._span(whole.orelse)
             whole = whole.body
-        self.test = self._test(whole)
+        self.holds = self._compiled(whole)  # whether it holds at the values that there are
         self.readers: Dict[bytes, List[Tuple[int, Callable[[bytes], Any]]]] = {}
         for name, place in self._places.items():
             if isinstance(name, _Name):
@@ -336,23 +263,16 @@ class Condition:
         """The codes of its signals."""
         return self.readers.keys()
 
-    def take(self, changes: Changes) -> bool:
-        """Takes changes, of which some may be of other signals; whether one is of its own."""
-        is_own = False
+    def take(self, changes: Changes) -> None:
+        """Takes changes, of which some may be of other signals."""
         for code, raw in changes:
             for place, read in self.readers.get(code, ()):
                 self.values[place] = read(raw)
-                is_own = True
-        return is_own
 
     @property
     def has_events(self) -> bool:
         """Whether it names an event."""
         return bool(self._events)
-
-    def holds(self) -> bool:
-        """Whether it holds at the values that there are."""
-        return self.test(self.values) is True
 
     def end_events(self) -> bool:
         """Takes it that no event is triggered now; returns whether one was."""
@@ -363,23 +283,35 @@ class Condition:
 
     # The tree.
 
-    def _test(self, node: ast.expr) -> Test:
-        """Returns the test that an expression is."""
+    def _compiled(self, node: ast.expr) -> Test:
+        """Returns what says whether an expression is true."""
+        made = ast.parse("lambda v: 0", mode="eval")
+        cast(ast.Lambda, made.body).body = self._test(node, True)
+        code = compile(ast.fix_missing_locations(made), "condition", "eval")
+        return functools.partial(eval(code, {"NUMBERS": (int, float), "differ": _differ}),
+                                 self.values)
+
+    def _test(self, node: ast.expr, wanted: bool) -> ast.expr:
+        """Returns what says of values v whether an expression is true, or whether it is false."""
         if isinstance(node, ast.BoolOp):
-            tests = [self._test(one) for one in node.values]
-            if isinstance(node.op, ast.And):
-                return _all(tests)
-            return _not(_all([_not(test) for test in tests]))
+            is_and = isinstance(node.op, ast.And) == wanted
+            return ast.BoolOp(ast.And() if is_and else ast.Or(),
+                              [self._test(one, wanted) for one in node.values])
         if isinstance(node, ast.UnaryOp):
-            return _not(self._test(node.operand))
-        if isinstance(node, ast.Compare):
-            return self._comparison(node)
+            return self._test(node.operand, not wanted)
         if isinstance(node, ast.IfExp):
             raise _bad("-> is for the whole condition, or the whole with ! before it")
+        tests = self._comparison(node) if isinstance(node, ast.Compare) else self._truth(node)
+        return ast.parse(tests[0 if wanted else 1], mode="eval").body
+
+    def _truth(self, node: ast.expr) -> Tests:
+        """Returns the tests whether a digit of a value is 1."""
         side = self._side(node)
         if not isinstance(side, _Name):
             raise _bad("%s is a number: compare it" % side.text)
-        return _truth(self._place(side))
+        value = self._value(side)
+        return ("'1' in {0} if type({0}) is str else {0} not in (None, 0)".format(value),
+                value + " == 0")
 
     def _word(self, node: ast.expr) -> Optional[Word]:
         """Returns the name, number or time that an expression is; None if it is none."""
@@ -404,15 +336,15 @@ class Condition:
         raise _bad("only names and numbers are compared: write !(a == b) for !a == b, and "
                   "signed(a) for a name")
 
-    def _place(self, of: Union[_Name, _Number]) -> int:
-        """Returns where among the values its own is."""
+    def _value(self, of: Union[_Name, _Number]) -> str:
+        """Returns which of the values v its own is."""
         if of not in self._places:
             self._places[of] = len(self.values)
             self.values.append(of.value if isinstance(of, _Number) else None)
-        return self._places[of]
+        return "v[%d]" % self._places[of]
 
-    def _comparison(self, node: ast.Compare) -> Test:
-        """Returns the test of two values, or of one for x."""
+    def _comparison(self, node: ast.Compare) -> Tests:
+        """Returns the tests of two values, or of one for x."""
         if len(node.ops) > 1:
             raise _bad("two comparisons in one: write a < b & b < c")
         kind, other_node = node.ops[0], node.comparators[0]
@@ -423,13 +355,15 @@ class Condition:
             letter = other_node.id.lower() if isinstance(other_node, ast.Name) else ""
             if letter not in LETTERS or not isinstance(one, _Name):
                 raise _bad("is asks for x or z of a name, as in a is x or a is not z")
-            test = _has(self._place(one), letter)
-            return _not(test) if isinstance(kind, ast.IsNot) else test
+            value = self._value(one)
+            has = "(type(%s) is str and %r in %s)" % (value, letter, value)
+            tests = has, "%s is not None and not %s" % (value, has)
+            return tests[::-1] if isinstance(kind, ast.IsNot) else tests
         return self._comparison_of(one, self._side(other_node), kind)
 
     def _comparison_of(self, one: Union[_Name, _Number], other: Union[_Name, _Number],
-                       kind: ast.cmpop) -> Test:
-        """Returns the test of two values."""
+                       kind: ast.cmpop) -> Tests:
+        """Returns the tests of two values."""
         sides = [one, other]
         for at, (side, against) in enumerate(((one, other), (other, one))):
             if isinstance(side, _Name) and side.signal.type == "event":
@@ -440,17 +374,23 @@ class Condition:
         names = [side for side in sides if isinstance(side, _Name)]
         if not names:
             raise _bad("%s and %s are two numbers" % (one.text, other.text))
-        places = self._place(sides[0]), self._place(sides[1])
+        first, second = map(self._value, sides)
+        known = " and ".join("type(%s) in NUMBERS" % self._value(name) for name in names)
         if type(kind) in ORDERS:
-            return _in_order(places, ORDERS[type(kind)])
+            test = "%s %s %s" % (first, ORDERS[type(kind)], second)
+            return "%s and %s" % (known, test), "%s and not %s" % (known, test)
         if numbers and isinstance(numbers[0].value, str):
-            test = _is_exactly(self._place(names[0]), _at_width(numbers[0].value, names[0].width))
+            digits = _at_width(numbers[0].value, names[0].width)
+            value = self._value(names[0])
+            tests = "%s == %r" % (value, digits), "%s not in (None, %r)" % (value, digits)
         else:
-            widths = [name.width for name in names] + [
-                one.value.bit_length() for one in numbers if isinstance(one.value, int)]
-            signs = [isinstance(side, _Name) and side.is_signed for side in sides]
-            test = _are_equal(places, (signs[0], signs[1]), max(widths) + 1)
-        return _not(test) if isinstance(kind, ast.NotEq) else test
+            width = 1 + max([name.width for name in names] + [
+                one.value.bit_length() for one in numbers if isinstance(one.value, int)])
+            signs = tuple(isinstance(side, _Name) and side.is_signed for side in sides)
+            tests = ("%s and %s == %s" % (known, first, second),
+                     "{1} != {2} if {0} else differ({1}, {2}, {3}, {4})".format(
+                         known, first, second, signs, width))
+        return tests[::-1] if isinstance(kind, ast.NotEq) else tests
 
     def _against(self, name: _Name, number: _Number, is_equality: bool) -> _Name:
         """Returns how a name is compared with a number: one below 0 makes it signed."""

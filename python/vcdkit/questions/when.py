@@ -39,7 +39,7 @@ class _Question:
         self._waiting: Deque[_Request] = collections.deque()
         self._late = 0  # of them, how many wait for an answer that would come too late
         self._held, self._looks = False, 0
-        self._has_events = self.condition.has_events
+        self._is_plain = not self.condition.answer and not self.condition.has_events
 
     def look(self, time: int) -> List[Outcome]:
         """Takes the values at a time as those at which the condition is looked at. Returns what is
@@ -48,9 +48,11 @@ class _Question:
         holds = condition.holds()
         is_start, self._held = holds and (self.every or not self._held), holds
         found = [Outcome(time, time, 0)] if is_start else []
+        if self._is_plain:
+            return found
         if condition.answer:
             found = self._outcomes(time, is_start)
-        if self._has_events and condition.end_events() and not self.has_clock:  # they are over
+        if condition.end_events() and not self.has_clock:  # they are over
             self._held = condition.holds()
         return found
 
@@ -63,7 +65,7 @@ class _Question:
         if is_start:
             self.overlaps += bool(waiting)
             waiting.append(_Request(time, now + self.ticks))
-        if waiting and condition.answer and condition.answer(condition.values) is True:
+        if waiting and condition.answer and condition.answer():
             its = [waiting.popleft() for _ in range(1 if self.in_order else len(waiting))]
             found += [Outcome(begin, time, now - until + self.ticks) for begin, until in its
                       if until >= now]
@@ -90,7 +92,7 @@ class _Question:
     @property
     def is_asking(self) -> bool:
         """Whether it may say something at an edge at which no value of it is another one."""
-        return self.every or self.condition.answer is not None or self._has_events
+        return self.every or not self._is_plain
 
     @property
     def has_latency(self) -> bool:
