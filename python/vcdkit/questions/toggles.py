@@ -13,7 +13,10 @@ from ..reading.source import Source
 BATCH = 1 << 20  # bytes that are read before values are counted
 ENOUGH = 64  # values of a code that are then counted
 MAX_DIGITS = 1 << 22  # that are counted together
-IS = {letter: bytes(code == letter[0] for code in range(256)) for letter in (b"1", b"x", b"z")}
+# Of two digits that follow each other, and of a digit that stays, which of the counts grows.
+PAIRS = ((b"01", 0), (b"10", 1), (b"0x", 2), (b"1x", 2), (b"zx", 2))
+DIGITS = ((b"1", 3), (b"x", 4), (b"z", 5))
+IS = {digit: bytes(code == digit[0] for code in range(256)) for digit, _ in DIGITS}
 Taken = Tuple[Callable[[bytes], object], bytes, Callable[[int], object]]
 
 
@@ -25,11 +28,8 @@ class Bits:
         self.size = size
         self.values: List[bytes] = []  # that are not counted yet
         self.times: List[int] = []  # of these
-        rises, falls, unknowns, high, unknown, floating = self._counts = [
-            [0] * size for _ in range(6)]
-        self._pairs = ((b"01", rises), (b"10", falls), (b"0x", unknowns), (b"1x", unknowns),
-                       (b"zx", unknowns))
-        self._ticks = ((b"1", high), (b"x", unknown), (b"z", floating))[:3 * has_ticks]
+        self._counts = [[0] * size for _ in range(6)]  # as BitCounts has them
+        self._has_ticks = has_ticks
         self._last, self._since = b"", begin
 
     def start(self, text: bytes) -> None:
@@ -68,7 +68,7 @@ class Bits:
             self.start(values[0])
         digits = b"".join([self._last, *(values if self.size == 1 else map(self._full, values))])
         self._add_ticks(digits, list(map(sub, times, [self._since, *times])))
-        pairs = [(pair, counts) for pair, counts in self._pairs if pair[1:] in digits]
+        pairs = [(pair, self._counts[at]) for pair, at in PAIRS if pair[1:] in digits]
         for place in range(self.size):
             column = digits[place::self.size]
             for pair, counts in pairs:
@@ -77,9 +77,9 @@ class Bits:
 
     def _add_ticks(self, digits: bytes, lengths: List[int]) -> None:
         """Adds how long each bit has each value, for some values one after the other."""
-        for letter, ticks in self._ticks:
-            marks = digits.translate(IS[letter]) if letter in digits else b""
-            for place in range(self.size if marks else 0):
+        for digit, at in DIGITS if self._has_ticks else ():
+            marks, ticks = digits.translate(IS[digit]), self._counts[at]
+            for place in range(self.size if digit in digits else 0):
                 ticks[place] += sum(compress(lengths, marks[place::self.size]))
 
 
@@ -159,9 +159,10 @@ class _Lines(Dict[bytes, Taken]):
         for code, bits in found.items():
             if bits.size > 1:
                 self._vectors[code] = bits
-            else:
-                self.update((digit + code, (bits.values.append, digit, bits.times.append))
-                            for digit in (b"0", b"1", b"x", b"z"))
+                continue
+            add, note = bits.values.append, bits.times.append
+            for digit in (b"0", b"1", b"x", b"z"):
+                self[digit + code] = add, digit, note
 
     def __missing__(self, line: bytes) -> Taken:
         if line[:1] == b"b":
