@@ -1,4 +1,5 @@
 """Dump: questions about one dump."""
+import functools
 import importlib
 import os
 import re
@@ -40,8 +41,10 @@ class Dump(Source):
         `token_limit` is the maximum length of a token in bytes (by default 1,048,576). With
         `four_state`, a file is read through vcdkit-four-state, which converts the nine states of
         VHDL."""
-        if hasattr(source, "read"):
-            source, name = _bytes_of(source), name or str(getattr(source, "name", "(file)"))
+        read = getattr(source, "read", None)
+        if read:
+            data, name = read(), name or str(getattr(source, "name", "(file)"))
+            source = data.encode("utf-8", "surrogateescape") if isinstance(data, str) else data
         text: Text = (
             Bytes(bytes(source), name or "(bytes)")
             if isinstance(source, (bytes, bytearray, memoryview)) else File(source, four_state))
@@ -77,7 +80,7 @@ class Dump(Source):
         A value is a Value for digits, a float for a real number (or its text, if that is not a
         number), and `None` if there is no value yet. Times may come in any order. Without names,
         all signals are sampled, except events, which have no value."""
-        asked, its = _ticks_of(self, times), self.full(names)
+        asked, its = {time: self.ticks(time) for time in _each(times)}, self.full(names)
         chosen = states(self.places(its))
         keys = dict(zip(chosen, keys_of(chosen.values())))
         found = sampled(self, asked.values(), its)
@@ -99,11 +102,9 @@ class Dump(Source):
         value that the dump writes, even if it is the same again. Each trigger of an event is a 1.
         At a fault, those of the last time may not be all. Raises UnknownName if the name selects
         nothing, and UsageError if it selects several."""
-        return self._changes(name, self[name])
-
-    def _changes(self, name: str, signal: Signal) -> Iterator[Tuple[int, Cell]]:
-        for time, value in body.at_once(self.part([name]), signal.code.encode()):
-            yield time, value_in(value, signal.size)
+        signal = self[name]
+        pairs = body.at_once(self.part([name]), signal.code.encode())
+        return ((time, value_in(value, signal.size)) for time, value in pairs)
 
     def arrays(self, name: str) -> Tuple[Any, Any]:
         """Returns the changes of one signal as arrays of numpy: the times as uint64, and the values
@@ -198,17 +199,6 @@ def compiled(pattern: str, flags: int = 0) -> "re.Pattern[str]":
         raise UsageError("bad expression: %s: %s" % (str(pattern)[:100], error)) from None
 
 
-def _bytes_of(file: Any) -> bytes:
-    """Returns what is left of an open file."""
-    data = file.read()
-    return data.encode("utf-8", "surrogateescape") if isinstance(data, str) else bytes(data)
-
-
-def _ticks_of(dump: Dump, times: Union[Time, Iterable[Time]]) -> Dict[Time, int]:
-    """Returns the ticks of each time, as it was given."""
-    return {time: dump.ticks(time) for time in _each(times)}
-
-
 def _each(times: Union[Time, Iterable[Time]]) -> Iterable[Time]:
     """Returns one time or several as some."""
     return [times] if isinstance(times, str) or not isinstance(times, Iterable) else times
@@ -232,12 +222,5 @@ def _columns(found: Any, numpy: Any) -> Tuple[Any, Any]:
 def _counts_of(rows: str) -> List[Edges]:
     """Returns the Edges of the rows of `edges`. Those with the same counts, as most have, are
     one."""
-    made: Dict[str, Edges] = {}
-    found = []
-    for row in rows.split("\n")[:-1]:
-        counts = row[row.index(" ") + 1:]
-        one = made.get(counts)
-        if one is None:
-            one = made[counts] = Edges(*map(int, counts.split(" ")))
-        found.append(one)
-    return found
+    edges = functools.lru_cache(maxsize=None)(lambda counts: Edges(*map(int, counts.split(" "))))
+    return [edges(row.partition(" ")[2]) for row in rows.split("\n")[:-1]]

@@ -117,35 +117,25 @@ def as_they_come(source: Source, names: List[str], columns: Sequence[Signal],
     with the values at its end. With a condition, it returns only the rows at which that holds. The
     names select all these signals."""
     codes = {one.code.encode() for one in columns}.union(only.codes if only else ())
-    pairs = (_at_edges(body.at_edges(source, names, codes, edges), columns, only) if edges
-             else _at_changes(body.steps(source.part(names), codes), columns, only))
+    pairs = (body.at_edges(source, names, codes, edges) if edges
+             else ((time, before + changes if before else changes)
+                   for time, before, changes in body.steps(source.part(names), codes)))
     # Row() takes longer than all that makes a pair.
-    rows: Iterator[Row] = map(tuple.__new__, itertools.repeat(Row), pairs)
+    rows: Iterator[Row] = map(tuple.__new__, itertools.repeat(Row),
+                               _rows(pairs, columns, bool(edges), only))
     yield from rows
 
 
-def _at_changes(steps: Iterable[body.Step], columns: Sequence[Signal], only: Optional[Condition]
-                ) -> Iterator[Pair]:
+def _rows(pairs: Iterable[Tuple[int, body.Changes]], columns: Sequence[Signal], is_every: bool,
+          only: Optional[Condition]) -> Iterator[Pair]:
+    """Returns a row for each time with its changes, unless no value of a column is another one, if
+    not every one is asked for."""
     cells = _Cells(columns)
-    for time, before, changes in steps:
-        its = before + changes if before else changes
-        is_other = cells.take(its)
-        if only:
-            only.take(its)
-        if is_other and (only is None or only.holds()):
-            yield time, cells.row[:]
-        if only:
-            only.end_events()
-
-
-def _at_edges(edges: Iterable[Tuple[int, body.Changes]], columns: Sequence[Signal],
-              only: Optional[Condition]) -> Iterator[Pair]:
-    cells = _Cells(columns)
-    for time, changes in edges:
-        cells.take(changes)
+    for time, changes in pairs:
+        is_other = cells.take(changes)
         if only:
             only.take(changes)
-        if only is None or only.holds():
+        if (is_other or is_every) and (only is None or only.holds()):
             yield time, cells.row[:]
         if only:
             only.end_events()
