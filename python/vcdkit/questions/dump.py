@@ -41,9 +41,8 @@ class Dump(Source):
         `token_limit` is the maximum length of a token in bytes (by default 1,048,576). With
         `four_state`, a file is read through vcdkit-four-state, which converts the nine states of
         VHDL."""
-        read = getattr(source, "read", None)
-        if read:
-            data, name = read(), name or str(getattr(source, "name", "(file)"))
+        if hasattr(source, "read"):
+            data, name = source.read(), name or str(getattr(source, "name", "(file)"))
             source = data.encode("utf-8", "surrogateescape") if isinstance(data, str) else data
         text: Text = (
             Bytes(bytes(source), name or "(bytes)")

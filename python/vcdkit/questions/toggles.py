@@ -106,7 +106,7 @@ def counts_of(dump: Source, names: List[str], window: Window, has_ticks: bool) -
               if not one.is_real and one.type != "event"]
     found = {one.signal.code.encode(): Bits(one.signal.size, window.begin, has_ticks)
              for one in chosen}
-    taken, left = _Lines(found).__getitem__, BATCH
+    taken, left = _Takers(found).__getitem__, BATCH
     times = body.timed(dump.cut(window.begin, window.last).part(names))
     for time, text in _started(times, found):
         for add, value, note in map(taken, text.split(b"\n")):
@@ -149,7 +149,7 @@ def _started(times: Iterator[Tuple[int, bytes]], found: Dict[bytes, Bits]
     yield from times
 
 
-class _Lines(Dict[bytes, Taken]):
+class _Takers(Dict[bytes, Taken]):
     """Of each line what takes its value, the value, and what takes its time. Those of single bits
     are kept."""
 
