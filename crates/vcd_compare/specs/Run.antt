@@ -142,11 +142,11 @@ step_end (Ok Again) = CallEnd.GoesOn
 step_end (Err (Read input)) = CallEnd.Fails
 step_end result = CallEnd.Ends
 
--- what a step leaves besides items and output: the feed has advanced, and if the run goes on, the
--- flags are counted, and no write failed
+-- what a step leaves besides items and output: the feed has advanced, no write failed if the step
+-- did not, and if the run goes on, the flags are counted
 pub record StepsOver {X : Type 0} {g : Ghosts X} (failures : X → ℕ) (run : Run) (f f' : Feed X g) (out out' : Device) (result : Result More Stop) : Type 0 where
   pub advances : Advances failures f f' (step_end result)
   pub progress : result ≡ Ok Again → seen f < seen f'
   pub bounded : seen f' < 2 ^ 63
-  pub writes : result ≡ Ok Again → out'.failures ≡ out.failures
+  pub writes : IfOk result (λ _. out'.failures ≡ out.failures)
   pub counted : result ≡ Ok Again → IsCounted run.watched run.comparison

@@ -299,6 +299,8 @@ impl Run<'_, '_> {
         ensures runs { RunsOn view.entry self.old feed.old feed.new
             (W.device out.old) (W.device out.new) result }
         ensures passed_on { HasPassedOn (W.kept_back out.new) result }
+        ensures writes { IfOk result
+            (λ _. (W.device out.new).failures ≡ (W.device out.old).failures) }
     {
         'items: loop {
             self.advance_ahead(view, feed);
@@ -345,6 +347,8 @@ pub fn compare<S: Source, W: Sink>(
         → BodyGives (model_asked asked exceptions) h ns i front (limit_of feed.old)
         (seen feed.new) (W.device out.old) (W.device out.new) result }
     ensures passed_on { HasPassedOn (W.kept_back out.new) result }
+    ensures writes { IfOk result
+        (λ _. (W.device out.new).failures ≡ (W.device out.old).failures) }
 {
     put_header_lines(view, pairs, out)?;
     let mut run = Run::new(view, room, pairs, asked);

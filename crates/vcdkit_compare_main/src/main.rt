@@ -120,10 +120,11 @@ fn run_words<'a, W: Sink>(
 ) -> Result<u8, Failure<'a>>
     requires { (W.device out.old).failures < 2 ^ 64 - 1 }
 {
-    match command_of(rt.alloc())?.try_get_matches_from(words) {
-        Ok(matches) => run_matches(rt, &matches, out),
-        Err(error) => answer(rt.alloc(), &error, out),
-    }
+    let matches = match command_of(rt.alloc())?.try_get_matches_from(words) {
+        Ok(matches) => matches,
+        Err(error) => return answer(rt.alloc(), &error, out),
+    };
+    run_matches(rt, &matches, out)
 }
 
 /// Runs the program with the arguments of the process, and returns the exit status. Output goes to

@@ -1,4 +1,4 @@
-use Rattle.std.proofs.Common.{◌≡◌, [], Err, inl, sym, ap, subst, rules}
+use Rattle.std.proofs.Common.{◌≡◌, [], ℕ, Err, IfOk, inl, sym, ap, subst, rules}
 use Rattle.vcd_text.specs.Device.{Device, Writes, WritesSome}
 use Rattle.vcd_model.specs.Within.{within_open}
 use Rattle.vcd_body.specs.declared.answer.Stop.TheVariants.{Write}
@@ -31,3 +31,7 @@ returns-clause-gives g c = λ h exceptions ns i front views pairs given.
       stands = run.stands h exceptions ns views pairs;
       written = subst (Writes out mid) (sym (open_first q h ns)) (puts.0 h q ns views pairs, puts.1);
     })
+
+pub returns-clause-writes : goal.returns-clause-writes
+returns-clause-writes g c =
+    subst (λ (n : ℕ). IfOk c.run_to_end.result (λ _. (g.W.Sink.device c.run_to_end.new.out).failures ≡ n)) c.in_ok-put_header_lines.ensures.1 c.run_to_end.ensures.writes

@@ -72,6 +72,9 @@ returns-in-Ended-clause-runs g c = λ q exceptions h ns i front begin items view
     let ended = subst (λ (m : More). StepGives q exceptions h ns i front begin c.step.new.self c.step.new.feed new (Ok m)) c.in-Ended.is (c.in_ok-step.ensures.steps q exceptions h ns i front begin a.0 views passed) in
     subst (λ (n : ℕ). BodyGives q h ns i front n (seen c.step.new.feed) begin new (Ok (record { differs = c.step.new.self.differs; done = c.in-Ended.done }))) limit ended
 
+pub returns-in-Ended-clause-writes : goal.returns-in-Ended-clause-writes
+returns-in-Ended-clause-writes g c = c.in_ok-step.ensures.over.writes ∙ c.in_ok-pass_on_before_read.ensures.puts.1 ∙ c.items.invariant.2
+
 pub items-preserved : goal.items-preserved
 items-preserved g c =
     let again = ap (λ (m : More). Ok m) c.in-Again.is in
@@ -79,7 +82,7 @@ items-preserved g c =
     let ahead = advances_on g.S.Source.failures c.args.feed.now c.items.feed c.advance_ahead.new.feed CallEnd.GoesOn c.items.invariant.0 c.advance_ahead.ensures.advances in (
       advances_on g.S.Source.failures c.args.feed.now c.advance_ahead.new.feed c.step.new.feed CallEnd.GoesOn ahead (subst (λ (m : More). Advances g.S.Source.failures c.advance_ahead.new.feed c.step.new.feed (step_end (Ok m))) c.in-Again.is over.advances),
       over.counted again,
-      over.writes again ∙ c.in_ok-pass_on_before_read.ensures.puts.1 ∙ c.items.invariant.2,
+      over.writes ∙ c.in_ok-pass_on_before_read.ensures.puts.1 ∙ c.items.invariant.2,
       λ q exceptions h ns i front begin items views come.
           let s = c.items.invariant.3 q exceptions h ns i front begin items views come in
           let out : Device = (g.W.Sink.device c.items.out) in
