@@ -21,7 +21,8 @@ pub struct Asked {
     /// Whether an x of the first variable matches every digit. Then the variable also matches if it
     /// has no value yet.
     pub x_of_one: bool,
-    /// The same of the second variable.
+    /// Whether an x of the second variable matches every digit. Then the variable also matches if
+    /// it has no value yet.
     pub x_of_other: bool,
     /// Which lines are written.
     pub extent: Extent,

@@ -83,8 +83,8 @@ fn place_at(places: &[Counterpart], index: usize) -> Counterpart
     }
 }
 
-/// Returns the index of the key that consists of the number in `place` and of `second`. `Missing` if
-/// there is no such key; another `place` without a number stays.
+/// Returns the index of the key that consists of the number in `place` and of `second`. `Missing`
+/// if there is no such key; another `place` without a number stays.
 fn looked_up(
     keys: &IndexSet<(usize, usize), CodeSeed>,
     place: Counterpart,

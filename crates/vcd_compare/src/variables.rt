@@ -124,8 +124,8 @@ fn take_row(
     }
 }
 
-/// Adds the variable at index `row`, which has the path with this number. `counts` has for each path
-/// how many variables have it.
+/// Adds the variable at index `row`, which has the path with this number. `counts` has for each
+/// path how many variables have it.
 fn add_variable(
     variables: &mut Variables,
     counts: &mut Vec<usize>,

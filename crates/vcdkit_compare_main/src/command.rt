@@ -44,22 +44,40 @@ fn time<'a>(alloc: Global, name: &'a str, default: &'a str, help: &'a str) -> Ar
         .help(help)
 }
 
-/// Returns the definition of the program by which `clap` parses the command line. Fails if memory
-/// runs out.
-pub(crate) fn command_of<'a>(alloc: Global) -> Result<Command<'a>, AllocError> {
+/// Returns the definition of the program with the options that say which lines are written. Fails
+/// if memory runs out.
+fn with_lines<'a>(alloc: Global, program: Command<'a>) -> Result<Command<'a>, AllocError> {
     let first = flag(
         alloc,
         "first",
         "Only the lines of the first time that has one",
-    )
-    .conflicts_with("always")?;
+    );
     let always = flag(
         alloc,
         "always",
         "A line at each change of a pair that differs",
     );
+    program.arg(first.conflicts_with("always")?)?.arg(always)
+}
+
+/// Returns the definition of the program with the options that say which values are compared, and
+/// which of them match. Fails if memory runs out.
+fn with_values<'a>(alloc: Global, program: Command<'a>) -> Result<Command<'a>, AllocError> {
+    let greatest = "18446744073709551615";
+    let from = time(
+        alloc,
+        "from",
+        "0",
+        "The first time at which values are compared",
+    );
+    let to = time(alloc, "to", greatest, "The last time [default: the end]");
     let x_of_a = flag(alloc, "x-of-a", "An x of X matches every digit");
     let x_of_b = flag(alloc, "x-of-b", "An x of Y matches every digit");
+    program.arg(from)?.arg(to)?.arg(x_of_a)?.arg(x_of_b)
+}
+
+/// Returns the definition of the program with its names and files. Fails if memory runs out.
+fn with_names<'a>(alloc: Global, program: Command<'a>) -> Result<Command<'a>, AllocError> {
     let except = Arg::new(alloc, "except")
         .long("except")
         .value_name("NAME")
@@ -77,31 +95,20 @@ pub(crate) fn command_of<'a>(alloc: Global) -> Result<Command<'a>, AllocError> {
         .value_name("X=Y")
         .num_args(1..)
         .help("What is compared with what");
-    Command::new(alloc, "vcdkit-compare")
+    program.arg(except)?.arg(pairs)?.arg(input)?.arg(names)
+}
+
+/// Returns the definition of the program by which `clap` parses the command line. Fails if memory
+/// runs out.
+pub(crate) fn command_of<'a>(alloc: Global) -> Result<Command<'a>, AllocError> {
+    let program = Command::new(alloc, "vcdkit-compare")
         .version("0.1.0")
         .about("Compares two parts of a dump")
         .override_usage(USAGE)
-        .after_help(AFTER)
-        .arg(first)?
-        .arg(always)?
-        .arg(time(
-            alloc,
-            "from",
-            "0",
-            "The first time at which values are compared",
-        ))?
-        .arg(time(
-            alloc,
-            "to",
-            "18446744073709551615",
-            "The last time [default: the end]",
-        ))?
-        .arg(x_of_a)?
-        .arg(x_of_b)?
-        .arg(except)?
-        .arg(pairs)?
-        .arg(input)?
-        .arg(names)
+        .after_help(AFTER);
+    let program = with_lines(alloc, program)?;
+    let program = with_values(alloc, program)?;
+    with_names(alloc, program)
 }
 
 /// Returns the number of ticks that this option has as its value. Fails if it is no number.
