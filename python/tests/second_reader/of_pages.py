@@ -10,7 +10,7 @@ import xml.etree.ElementTree as xml
 from asker import Asker, Skip, Window, run
 from dumps import LAST, Dump, Real, Value, Variable
 from page_script import NODE, shown_by
-from shown import cell, same, shown
+from shown import cell, same, shown, unsigned
 
 NAMESPACE = "{http://www.w3.org/2000/svg}"
 EXACT, ROUGH = 1e-5, 0.06  # pixels: a place on a page is a float; one in a picture has a decimal
@@ -248,8 +248,9 @@ def ask_shown(of: Asker) -> None:
         if one.is_event:
             continue
         for form, values in row["values"].items():
-            of.same("values at a cursor", [*words, one.path, form, times], values, [
-                shown(dump.at(time).get(one.code), "--" + form) for time in times])
+            of.same("values at a cursor", [*words, one.path, form, times],
+                    [unsigned(value) for value in values],
+                    [unsigned(shown(dump.at(time).get(one.code), "--" + form)) for time in times])
         if not one.is_real and (end - begin) * width < 2**53:  # else floats are not exact
             shapes = {kind: [(shape[0], shape[1]) for shape in its] for kind, its in row["shapes"]}
             same_pixels(of, [*words, one.path, str(width)], pieces_of(wanted_points(

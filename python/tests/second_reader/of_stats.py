@@ -6,7 +6,7 @@ from typing import Any, Dict, List, NamedTuple, Optional, Sequence, Tuple
 
 from asker import Asker, run
 from dumps import Dump, Real, Value, Variable, bare, number
-from shown import all_from_json, real_text, same, shown
+from shown import all_from_json, real_text, same, shown, unsigned
 
 
 class Pulse(NamedTuple):
@@ -81,14 +81,9 @@ def values_of(pulses: Sequence[Pulse], form: Optional[str]) -> List[Tuple[Any, .
     found = []
     for group in groups:
         whole = [one.ticks for one in group if one.is_whole]
-        found.append((plain(shown(group[0].value, form)), sum(one.ticks for one in group),
+        found.append((unsigned(shown(group[0].value, form)), sum(one.ticks for one in group),
                       len(group), min(whole, default=None), max(whole, default=None)))
     return sorted(found, key=str)
-
-
-def plain(text: str) -> str:
-    """Returns a value, of which a zero may have lost its sign."""
-    return "0" if text == "-0" else text
 
 
 def range_of(pulses: Sequence[Pulse]) -> Optional[Tuple[float, float, Fraction]]:
@@ -126,7 +121,7 @@ def same_facts(of: Asker, words: List[str], got: Dict[str, Any], wanted: Tuple[V
                form: Optional[str]) -> None:
     """Compares what JSON has of one signal."""
     variable, facts = wanted
-    values = [(plain(one["value"]), one["ticks"], one["times"], one["shortest"], one["longest"])
+    values = [(unsigned(one["value"]), one["ticks"], one["times"], one["shortest"], one["longest"])
               for one in got["values"]]
     of.same("stats", [*words, variable.path], (
         got["type"], got["size"], got["changes"], sorted(values, key=str)), (

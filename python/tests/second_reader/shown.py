@@ -36,6 +36,11 @@ def real_text(real: float) -> str:
     return text[:-2] if text.endswith(".0") else text
 
 
+def unsigned(text: str) -> str:
+    """Returns a value, of which a zero may have lost its sign: it is the same number."""
+    return "0" if text == "-0" else text
+
+
 def shown(value: Optional[Value], form: Optional[str] = None) -> str:
     """Returns a value in a form; `-` if there is none."""
     if value is None:
