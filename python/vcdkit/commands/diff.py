@@ -47,8 +47,8 @@ from ..model.names import hint
 from ..model.signals import Signal
 from ..model.times import LAST_TICK, amount_of
 from ..model.values import Cell, value_in
-from ..questions.compare import (Comparison, Difference, Pair, Side, Sides, choose, in_common, kind,
-                                 same_within)
+from ..questions.compare import (ALWAYS, EACH_PAIR, FIRST, Comparison, Difference, Pair, Side,
+                                 Sides, choose, in_common, kind, same_within)
 from ..questions.dump import Dump
 from ..reading.files import check_outputs, write
 from . import (FAULT, LAST, after_end, check_begin, command, dump_of, is_part, parser, part_of,
@@ -243,14 +243,16 @@ def compare(asked: argparse.Namespace, report: Lines) -> None:
         raise UsageError("the dumps have no name in common: --map OLD=NEW gives a scope another")
     say_headers(report, sides, apart, asked.common)
     same = same_within(asked.tolerance, asked.x_matches)
-    comparison = Comparison(sides, pairs, same, clocks,
-                            (b"0", b"1") if asked.rise else (b"1", b"0"))
+    comparison = Comparison(
+        sides, pairs, same, ALWAYS if asked.always else EACH_PAIR if asked.every else FIRST, clocks,
+        (b"0", b"1") if asked.rise else (b"1", b"0"))
     differences = comparison.differences() if pairs else iter(())
     first: Optional[List[Difference]] = None
-    every: List[Difference] = []
+    every: Dict[Pair, Difference] = {}  # of each pair the first one
     for found in differences:
         first = first or found
-        every += found
+        for one in found:
+            every.setdefault(one.pair, one)
         report.say_some("differs", lines_of(found))
         if not asked.every:
             break
@@ -265,7 +267,7 @@ def compare(asked: argparse.Namespace, report: Lines) -> None:
         write_parts(report, sides, first[0].times, spans, asked.into or ".")
     if first and asked.html is not None:
         page = page_of_two.texts_of(
-            sides, comparison.factors, every, clocks, same,
+            sides, comparison.factors, [*every.values()], clocks, same,
             spans[0] * comparison.factors[0] if spans else None)
         write(asked.html, (text.encode("ascii") for text in page))
         report.say_file("page", asked.html)
@@ -311,6 +313,8 @@ def words_of(words: List[str]) -> argparse.Namespace:
     options.clock("compare at the %s edges of this signal", is_one=True)
     options.add_argument("--every", action="store_true", help="show the first difference of each "
                          "signal, without the limit of %d lines of each kind" % MAX_LINES)
+    options.add_argument("--always", action="store_true", help="as --every, but show the values at "
+                         "each time at which they differ and one of the two changes")
     options.add_argument("--junit", metavar="FILE", help="also write a JUnit report, with a test "
                          "for each kind of line")
     options.add_argument("--context", metavar="TIME", help="if values differ, write both dumps "
@@ -326,6 +330,7 @@ def words_of(words: List[str]) -> argparse.Namespace:
     options.add_argument("other", metavar="B", help="the second dump")
     options.names("*")
     asked = options.parse_args(words)
+    asked.every = asked.every or asked.always
     asked.maps.sort(key=lambda pair: -len(pair[0]))
     if asked.into is not None and not asked.context:
         options.error("--into is for the files of --context")
