@@ -370,6 +370,8 @@ WORK = {
 
 
 def main():
+    if len(sys.argv) < 4:
+        sys.exit(__doc__)
     programs = [os.path.abspath(path) for path in sys.argv[1:4]]
     return max([int(bool(WORK[name](programs))) for name in sys.argv[4:] or list(WORK)])
 
