@@ -6,7 +6,7 @@
 # make trial   builds the programs as ./vcdkit-unproved and ./vcdkit-compare-unproved, for trying
 #     code. Nothing of them is proved: three CPU minutes
 # make test    the gate: all proofs, the must-fail edits, the tests, and the programs as two
-#     compilers build them: half an hour to an hour
+#     compilers build them: 40 to 70 minutes
 # make hostile runs the programs while memory, reads and writes fail, with closed streams, and on
 #     dumps that are truncated, crafted or random, and asks the package and the scripts about every
 #     small dump, and what a second reader knows: some minutes
