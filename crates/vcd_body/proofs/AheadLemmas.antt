@@ -1,33 +1,10 @@
 -- One item more that lies ahead.
-use Rattle.std.proofs.Common.{◌≡◌, ◌≢◌, ℕ, ◌<◌, ◌≤◌, List, [], ◌∷◌, ◌++◌, map, take, drop, Option, None, Some, IfSome, refl, sym, ap, subst, ◌∙◌, append-nil, arith, length-append}
-use Rattle.std.specs.Prelude.{slice_get}
-use Rattle.std.proofs.lemmas.List.{append_assoc, map-append}
-use Rattle.std.proofs.lemmas.List.Elements.{filter_map-append}
-use Rattle.vcd_model.specs.Input.{Input}
-use Rattle.vcd_model.specs.Tokens.{Token}
-use Rattle.vcd_model.specs.Declarations.{IdCode}
-use Rattle.vcd_model.specs.Items.{BodyItem, Change, ChangeForm, time_after}
-use Rattle.vcd_model.specs.BodyPhrases.{BodyPhrase, items_of}
-use Rattle.vcd_model.specs.BodyReading.{body_grammar}
-use Rattle.vcd_model.specs.Reading.{Placed, phrases_of}
-use Rattle.vcd_model.specs.SoFar.{IsSoFar}
-use Rattle.vcd_model.proofs.SoFarLemmas.{so_far-token, so_far-phrase}
-use Rattle.vcd_text.specs.Passed.{Passed, line_ahead}
-use Rattle.vcd_text.specs.Feed.{HasGiven, HasReadTo}
-use Rattle.vcd_text.specs.declared.device.Source.{Ghosts}
-use Rattle.vcd_text.specs.declared.feed.Feed.{Feed}
-use Rattle.vcd_view.specs.declared.look_up.Found.{Found}
-use Rattle.vcd_body.specs.declared.item.Form.{Form}
+use Rattle.vcd_body.proofs.Cited.{◌≡◌, ◌≢◌, ℕ, ◌<◌, ◌≤◌, List, [], ◌∷◌, ◌++◌, map, take, drop, Option, None, Some, IfSome, refl, sym, ap, subst, ◌∙◌, append-nil, arith, slice_get, map-append, filter_map-append, Input, Token, IdCode, BodyItem, ChangeForm, time_after, BodyPhrase, items_of, body_grammar, Placed, phrases_of, IsSoFar, so_far-token, so_far-phrase, Passed, line_ahead, HasGiven, HasReadTo, Ghosts, Feed, Found, Form, Item, Regs, AreRegsAfter, model_form, regs_after, GaveItems, Passes, IsItem, EndsAhead, GaveAhead, GaveLast, HasBits, PassBoth, ReadsOn, binary_digits, Bits}
+use Rattle.std.proofs.Common.{length-append}
+use Rattle.std.proofs.lemmas.List.{append_assoc}
+use Rattle.vcd_model.specs.Items.{Change}
 use Rattle.vcd_body.specs.declared.item.Form.TheVariants as form
-use Rattle.vcd_body.specs.declared.item.Item.{Item}
 use Rattle.vcd_body.specs.declared.item.Item.TheVariants as item
-use Rattle.vcd_body.specs.declared.item.Regs.{Regs}
-use Rattle.vcd_body.specs.Items.{AreRegsAfter, model_form, regs_after}
-use Rattle.vcd_body.specs.Reads.{GaveItems, Passes}
-use Rattle.vcd_body.specs.Given.{IsItem}
-use Rattle.vcd_body.specs.Ahead.{EndsAhead, GaveAhead, GaveLast, HasBits, PassBoth, ReadsOn}
-use Rattle.vcd_body.specs.Binary.{binary_digits}
-use Rattle.vcd_body.specs.declared.bits.Bits.{Bits}
 use Rattle.vcd_body.proofs.AskedLemmas.{ends_are}
 use Rattle.vcd_body.proofs.ReadLemmas.{known_change, known_time}
 

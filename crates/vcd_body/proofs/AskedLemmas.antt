@@ -1,32 +1,8 @@
 -- How much a run has read of its input: what it has asked for had not settled it before the last
 -- token.
-use Rattle.std.proofs.Common.{◌≡◌, ℕ, Bool, false, List, [], ◌∷◌, ◌++◌, length, inl, inr, ◌⊎◌, refl, sym, ap, subst, ◌∙◌}
-use Rattle.std.specs.List.{list_any}
+use Rattle.vcd_body.proofs.Cited.{◌≡◌, ℕ, Bool, false, List, [], ◌∷◌, ◌++◌, length, inl, inr, ◌⊎◌, refl, sym, ap, subst, ◌∙◌, list_any, Input, Token, end_of_tokens, stream_of, IsPrefixOf, IdCode, Header, BodyItem, BodyPhrase, items_of, body_grammar, Placed, phrases_of, IsSoFar, Request, ends_early, header_settles, is_settled_behind, so_far-nothing, without-last, earlier-so_far, Supply, Near, ReadsAsNeeded, ToToken, ToEnd, supply_of, token_of, limit_of, chunk_len_of, Ghosts, Feed, GaveLast, HaveJust, GaveAll, StopsAt, AtToken, AtEnd, Regs}
 use Rattle.std.proofs.lemmas.List.{append_assoc}
-use Rattle.vcd_model.specs.Input.{Input}
-use Rattle.vcd_model.specs.Tokens.{Token, end_of_tokens, stream_of}
-use Rattle.vcd_model.specs.Laws.{IsPrefixOf}
-use Rattle.vcd_model.specs.Declarations.{IdCode}
-use Rattle.vcd_model.specs.Header.{Header}
-use Rattle.vcd_model.specs.Items.{BodyItem}
-use Rattle.vcd_model.specs.BodyPhrases.{BodyPhrase, items_of}
-use Rattle.vcd_model.specs.BodyReading.{body_grammar, read_body}
-use Rattle.vcd_model.specs.Reading.{Placed, phrases_of}
-use Rattle.vcd_model.specs.SoFar.{IsSoFar}
-use Rattle.vcd_model.specs.Outcome.{Request, ends_early}
-use Rattle.vcd_model.specs.Settled.{header_settles, is_settled_behind}
-use Rattle.vcd_model.proofs.SoFarLemmas.{so_far-nothing, without-last, earlier-so_far}
-use Rattle.vcd_text.specs.Device.{Supply}
-use Rattle.vcd_text.specs.ReadAhead.{Near, ReadsAsNeeded}
-use Rattle.vcd_text.specs.ReadAhead.ReadsAsNeeded.{ToToken, ToEnd}
-use Rattle.vcd_text.specs.Feed.{supply_of, token_of, limit_of, chunk_len_of}
-use Rattle.vcd_text.specs.declared.device.Source.{Ghosts}
-use Rattle.vcd_text.specs.declared.feed.Feed.{Feed}
-use Rattle.vcd_body.specs.Ahead.{GaveLast}
-use Rattle.vcd_body.specs.Asked.{HaveJust}
-use Rattle.vcd_body.specs.Reads.{GaveAll, StopsAt}
-use Rattle.vcd_body.specs.Reads.StopsAt.{AtToken, AtEnd}
-use Rattle.vcd_body.specs.declared.item.Regs.{Regs}
+use Rattle.vcd_model.specs.BodyReading.{read_body}
 
 -- ---- lists and their last
 

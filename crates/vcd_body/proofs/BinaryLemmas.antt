@@ -1,7 +1,5 @@
 -- Binary digits as a number.
-use Rattle.std.proofs.Common.{◌≡◌, ℕ, zero, suc, ◌+◌, ◌-◌, ◌/◌, ◌%◌, ◌^◌, ◌<◌, ◌≤◌, ◌==◌, ◌&&◌, nat_lt, Bool, true, false, cond, length, slice_get, Some, None, refl, ap, ◌∙◌, arith}
-use Rattle.vcd_body.specs.Binary.{binary_digits, count_in, is_proper, number_in}
-use Rattle.vcd_body.specs.Stored.{some_by}
+use Rattle.vcd_body.proofs.Cited.{◌≡◌, ℕ, zero, suc, ◌+◌, ◌-◌, ◌/◌, ◌%◌, ◌^◌, ◌<◌, ◌≤◌, ◌==◌, ◌&&◌, nat_lt, Bool, true, false, cond, length, slice_get, Some, None, refl, ap, ◌∙◌, arith, binary_digits, count_in, is_proper, number_in, some_by}
 use Rattle.vcd_body.specs.declared.slot.State.TheVariants as state
 
 pub length_binary : (l n : ℕ) → length (binary_digits l n) ≡ l

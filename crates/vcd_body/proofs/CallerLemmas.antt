@@ -1,21 +1,5 @@
 -- What callers use: nothing was given yet, and what was given comes first in the body.
-use Rattle.std.proofs.Common.{ℕ, List, [], ◌++◌, refl, sym, subst, append-nil, arith}
-use Rattle.vcd_model.specs.Input.{Input}
-use Rattle.vcd_model.specs.Tokens.{Token}
-use Rattle.vcd_model.specs.Declarations.{IdCode}
-use Rattle.vcd_model.specs.Items.{BodyItem}
-use Rattle.vcd_model.specs.BodyPhrases.{BodyPhrase}
-use Rattle.vcd_model.specs.BodyReading.{body_grammar}
-use Rattle.vcd_model.specs.Reading.{Placed}
-use Rattle.vcd_model.specs.SoFar.{IsSoFar}
-use Rattle.vcd_model.proofs.SoFarLemmas.{so_far-nothing}
-use Rattle.vcd_text.specs.Feed.{HasGiven, token_of}
-use Rattle.vcd_text.specs.declared.device.Source.{Ghosts}
-use Rattle.vcd_text.specs.declared.feed.Feed.{Feed}
-use Rattle.vcd_body.specs.declared.item.Regs.{Regs}
-use Rattle.vcd_body.specs.Items.{AreRegsAfter}
-use Rattle.vcd_body.specs.Reads.{GaveItem, GaveItems}
-use Rattle.vcd_body.specs.Ahead.{GaveAhead, GaveLast}
+use Rattle.vcd_body.proofs.Cited.{ℕ, List, [], ◌++◌, refl, sym, subst, append-nil, arith, Input, Token, IdCode, BodyItem, BodyPhrase, body_grammar, Placed, IsSoFar, so_far-nothing, HasGiven, token_of, Ghosts, Feed, Regs, AreRegsAfter, GaveItem, GaveItems, GaveAhead, GaveLast}
 use Rattle.vcd_body.proofs.AskedLemmas.{not_nil}
 
 -- nothing was given after the header

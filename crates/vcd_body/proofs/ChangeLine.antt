@@ -1,12 +1,6 @@
 -- The line of a change of digits, at size 1 and at others.
-use Rattle.std.proofs.Common.{rules, arith, ◌≡◌, ◌≢◌, ℕ, ◌-◌, Bool, false, ◌≤◌, ◌<◌, get_or, List, [], ◌∷◌, ◌++◌, length, append_assoc, refl}
-use Rattle.std.specs.Char.{to_ascii_lowercase}
-use Rattle.std.specs.Str.{str_to_ascii_lowercase}
-use Rattle.std.proofs.lemmas.Bool.{ne_eqb}
-use Rattle.vcd_model.specs.Values.{change_line, extend, short}
-use Rattle.vcd_body.specs.Items.{model_form}
-use Rattle.vcd_body.specs.declared.item.Form.{Form}
-use Rattle.vcd_body.specs.declared.item.Form.TheVariants.{RealText, Scalar, Vector}
+use Rattle.vcd_body.proofs.Cited.{rules, arith, ◌≡◌, ◌≢◌, ℕ, ◌-◌, Bool, false, ◌≤◌, ◌<◌, get_or, List, [], ◌∷◌, ◌++◌, length, append_assoc, refl, to_ascii_lowercase, str_to_ascii_lowercase, ne_eqb, change_line, extend, short, model_form, Form, RealText, Vector}
+use Rattle.vcd_body.specs.declared.item.Form.TheVariants.{Scalar}
 
 -- one digit of a code of one bit
 pub bit_line : (text id : List ℕ) (size : ℕ) (event : Bool) (form : Form) → size ≡ 1 → event ≡ false → form ≡ Scalar → 1 ≤ length text → length text < 2 → change_line (record { code = record { text = id; size = size; event = event }; form = model_form form; text = text }) ≡ to_ascii_lowercase (get_or text 0 0) ∷ id ++ 10 ∷ []

@@ -1,13 +1,5 @@
 -- Codes of digits as lanes of a vector.
-use Rattle.std.proofs.Common.{◌≡◌, ℕ, ◌+◌, ◌*◌, ◌/◌, ◌%◌, ◌^◌, ◌<◌, ◌≤◌, ◌==◌, suc, T, ltb, ltb→lt, true, false, cond, List, [], ◌∷◌, length, map, get_or, replicate, Fits, w8, refl, sym, subst, ap, ap₂, ◌∙◌, arith}
-use Rattle.std.proofs.lemmas.Bool.{agree_below_at, eqb-true}
-use Rattle.std.proofs.lemmas.List.{get_or-map, length-map}
-use Rattle.std.proofs.lemmas.Simd.{get_or-chunk, get_or-zip2, length-chunk, length-zip2, swz_l, SwzOk, SwzOk-from_below, zip2_splat}
-use Rattle.std.specs.Prelude.{bit_and}
-use lib.Lanes.{chunk, zip2, Each1}
-use mir.Val.{zeroes}
-use Rattle.vcd_body.specs.Packed.{two_bits_of, two_bits_or, shifted}
-use Rattle.vcd_body.specs.declared.packed.TheConstants.{TWO_BITS}
+use Rattle.vcd_body.proofs.Cited.{◌≡◌, ℕ, ◌+◌, ◌*◌, ◌/◌, ◌%◌, ◌^◌, ◌<◌, ◌≤◌, ◌==◌, suc, T, ltb, ltb→lt, true, false, cond, List, [], ◌∷◌, length, map, get_or, replicate, Fits, w8, refl, sym, subst, ap, ap₂, ◌∙◌, arith, agree_below_at, eqb-true, get_or-map, length-map, get_or-chunk, get_or-zip2, length-chunk, length-zip2, swz_l, SwzOk, SwzOk-from_below, zip2_splat, bit_and, chunk, zip2, Each1, zeroes, two_bits_of, two_bits_or, shifted, TWO_BITS}
 use Rattle.vcd_body.proofs.PackedLemmas.{in_text, or_small}
 
 abbrev pub added : ℕ → ℕ → ℕ

@@ -1,22 +1,5 @@
 -- A comment that lies ahead.
-use Rattle.std.proofs.Common.{◌≡◌, ℕ, ◌<◌, ◌≤◌, ◌∙◌, true, false, List, [], ◌∷◌, ◌++◌, append-nil, append_assoc, length, refl, sym, subst, arith}
-use Rattle.std.proofs.lemmas.Slice.Eq.{bytes_eq-Decides}
-use Rattle.vcd_model.specs.BodyPhrases.{BodyPhrase}
-use Rattle.vcd_model.specs.BodyReading.{body_grammar}
-use Rattle.vcd_model.specs.Declarations.{IdCode}
-use Rattle.vcd_model.specs.Items.{BodyItem}
-use Rattle.vcd_model.specs.Keywords.{Keyword, is_end, keyword_text}
-use Rattle.vcd_model.specs.Reading.{Placed, phrases_of}
-use Rattle.vcd_model.specs.SoFar.{IsSoFar}
-use Rattle.vcd_model.specs.Tokens.{Token}
-use Rattle.vcd_model.proofs.SoFarLemmas.{so_far-phrase, so_far-token}
-use Rattle.vcd_text.specs.Ahead.{TakesToken, bytes_of, longest_of, passed_of, start_of}
-use Rattle.vcd_text.specs.Passed.{Passed, line_ahead}
-use Rattle.vcd_text.specs.declared.ahead.Ahead.{Ahead}
-use Rattle.vcd_view.specs.Keywords.{AreWords, texts_of}
-use Rattle.vcd_view.proofs.KeywordLemmas.{passed_on, words_more, words_on}
-use Rattle.vcd_body.specs.Ahead.{GaveAhead, PassesNoItem}
-use Rattle.vcd_body.specs.Words.{is_comment}
+use Rattle.vcd_body.proofs.Cited.{◌≡◌, ℕ, ◌<◌, ◌≤◌, ◌∙◌, true, false, List, [], ◌∷◌, ◌++◌, append-nil, append_assoc, length, refl, sym, subst, arith, bytes_eq-Decides, BodyPhrase, body_grammar, IdCode, BodyItem, Keyword, is_end, keyword_text, Placed, phrases_of, IsSoFar, Token, so_far-phrase, so_far-token, TakesToken, bytes_of, longest_of, passed_of, start_of, Passed, line_ahead, Ahead, AreWords, texts_of, passed_on, words_more, words_on, GaveAhead, PassesNoItem, is_comment}
 use Rattle.vcd_body.proofs.AheadLemmas.{GoesOn, passed_over}
 use Rattle.vcd_body.proofs.PhraseLemmas.{comment_begins, comment_goes_on, comment_open, comment_whole}
 

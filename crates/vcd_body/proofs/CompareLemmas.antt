@@ -1,19 +1,5 @@
 -- Digits that extend to one value, or to several.
-use Rattle.std.proofs.Common.{◌≡◌, ◌≢◌, ℕ, zero, suc, ◌+◌, ◌-◌, max, ◌≤◌, ◌<◌, Bool, true, false, not, List, [], ◌∷◌, ◌++◌, length, replicate, drop, get_or, Option, Some, None, slice_get, refl, sym, ap, subst, ◌∙◌, arith, ◌⊎◌, inl, inr}
-use Rattle.std.specs.Bool.{Decides}
-use Rattle.std.specs.List.{last_or}
-use Rattle.std.specs.Char.{to_ascii_lowercase}
-use Rattle.std.specs.Str.{bytes_eq, str_to_ascii_lowercase}
-use Rattle.std.proofs.lemmas.Bool.{cases_lt}
-use Rattle.std.proofs.lemmas.Bool.Decides.{same_from_decides}
-use Rattle.std.proofs.lemmas.List.{length-append, length-replicate}
-use Rattle.std.proofs.lemmas.Slice.Eq.{bytes_eq-Decides}
-use Rattle.vcd_model.specs.Values.{Value, extend, extension}
-use Rattle.vcd_body.specs.Kept.{last_digit_in, value_at_size}
-use Rattle.vcd_body.specs.Binary.{binary_digits, count_in, number_in}
-use Rattle.vcd_body.specs.Packed.{digits_in}
-use Rattle.vcd_body.specs.Stored.{held_by, one_digit, some_by}
-use Rattle.vcd_body.specs.declared.slot.State.{State}
+use Rattle.vcd_body.proofs.Cited.{◌≡◌, ◌≢◌, ℕ, zero, suc, ◌+◌, ◌-◌, max, ◌≤◌, ◌<◌, Bool, true, false, not, List, [], ◌∷◌, ◌++◌, length, replicate, drop, get_or, Option, Some, None, slice_get, refl, sym, ap, subst, ◌∙◌, arith, ◌⊎◌, inl, inr, Decides, last_or, to_ascii_lowercase, bytes_eq, str_to_ascii_lowercase, cases_lt, same_from_decides, length-append, length-replicate, bytes_eq-Decides, Value, extend, extension, last_digit_in, value_at_size, binary_digits, count_in, number_in, digits_in, held_by, one_digit, some_by, State}
 use Rattle.vcd_body.specs.declared.slot.State.TheVariants as state
 use Rattle.vcd_body.proofs.BinaryLemmas.{length_binary}
 use Rattle.vcd_body.proofs.HeldLemmas.{digit_behind}

@@ -1,38 +1,8 @@
 -- A table of current values when it is new, and with one item more.
-use Rattle.std.proofs.Common.{◌≡◌, ◌≢◌, ℕ, ◌≤◌, ◌==◌, Bool, true, false, List, [], ◌∷◌, ◌++◌, slice_get, Option, Some, refl, sym, ap, subst, ◌∙◌, arith}
-use Rattle.std.specs.Prelude.{option_map, unwrap_or}
-use Rattle.std.proofs.lemmas.Bool.{eqb-true, eqb-false}
-use Rattle.std.proofs.lemmas.Slice.Eq.{bytes_eq-Decides}
-use Rattle.vcd_model.specs.Declarations.{IdCode, same_code}
-use Rattle.vcd_model.specs.Header.{Header}
-use Rattle.vcd_model.specs.History.{final_value, gives_to}
-use Rattle.vcd_model.specs.Items.{BodyItem}
-use Rattle.vcd_model.specs.Values.{value_with}
-use Rattle.vcd_model.proofs.FinalValues.{final_new, final_other}
-use Rattle.vcd_view.specs.Shown.{parts}
-use Rattle.vcd_view.specs.Views.{IsViewOf}
-use Rattle.vcd_view.specs.declared.view.Code.{Code}
-use Rattle.vcd_view.specs.declared.view.HeadView.{HeadView}
+use Rattle.vcd_body.proofs.Cited.{◌≡◌, ◌≢◌, ℕ, ◌≤◌, ◌==◌, Bool, true, false, List, [], ◌∷◌, ◌++◌, slice_get, Option, Some, refl, sym, ap, subst, ◌∙◌, arith, option_map, unwrap_or, eqb-true, eqb-false, bytes_eq-Decides, IdCode, same_code, Header, final_value, gives_to, BodyItem, value_with, final_new, final_other, parts, IsViewOf, Code, HeadView, same_sum, sum_fits, HasBits, binary_digits, ChangesCode, IsLaidOut, held_at, kept_at, HasGoodText, IsText, model_form, Held, Kept, unset, value_at_size, with_text, room_of, share_of, Bits, Form, Vector, Item, Time, Begin, End, Change, Finish, Table, IsItem, AreHeld, HasShares, table_bytes, same_Some}
 use Rattle.vcd_view.proofs.LookUpLemmas.{same_place}
-use Rattle.vcd_view.proofs.RoomLemmas.{same_sum, sum_fits}
 use Rattle.vcd_view.proofs.RowLemmas.{code_at}
-use Rattle.vcd_body.specs.Ahead.{HasBits}
-use Rattle.vcd_body.specs.Binary.{binary_digits}
-use Rattle.vcd_body.specs.Contents.{ChangesCode, IsLaidOut, held_at, kept_at}
-use Rattle.vcd_body.specs.Given.{HasGoodText, IsText}
-use Rattle.vcd_body.specs.Items.{model_form}
-use Rattle.vcd_body.specs.Kept.{Held, Kept, unset, value_at_size, with_text}
-use Rattle.vcd_body.specs.Stored.{room_of, share_of}
-use Rattle.vcd_body.specs.declared.bits.Bits.{Bits}
-use Rattle.vcd_body.specs.declared.item.Form.{Form}
-use Rattle.vcd_body.specs.declared.item.Form.TheVariants.{Vector}
-use Rattle.vcd_body.specs.declared.item.Item.{Item}
-use Rattle.vcd_body.specs.declared.item.Item.TheVariants.{Time, Begin, End, Change, Finish}
-use Rattle.vcd_body.specs.declared.table.Table.{Table}
 use Rattle.vcd_body.proofs.TableLemmas.{room_needed}
-use Rattle.vcd_body.specs.Given.{IsItem}
-use Rattle.vcd_body.specs.Current.{AreHeld, HasShares, table_bytes}
-use Rattle.std.proofs.lemmas.Option.{same_Some}
 
 -- ---- a new table
 

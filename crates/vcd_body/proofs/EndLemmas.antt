@@ -1,13 +1,5 @@
 -- The codes of the last digits, which are the same where the values are.
-use Rattle.std.proofs.Common.{◌≡◌, ℕ, zero, suc, ◌-◌, ◌/◌, ◌<◌, ◌≤◌, ◌==◌, true, List, length, get_or, Some, slice_get, Fits, w8, refl, sym, ap, ◌∙◌, arith}
-use Rattle.std.specs.Prelude.{option_map}
-use Rattle.std.specs.Char.{to_ascii_lowercase}
-use Rattle.std.specs.Str.{str_to_ascii_lowercase}
-use Rattle.std.proofs.lemmas.Bool.{agree_below_at, eqb-true}
-use Rattle.std.proofs.lemmas.List.{length-map}
-use Rattle.std.proofs.lemmas.Option.{slice_get-get_or, slice_get-map}
-use Rattle.vcd_model.specs.Values.{extend}
-use Rattle.vcd_body.specs.Packed.{two_bits_at, two_bits_of, digit_of, digits_in, quarter_of}
+use Rattle.vcd_body.proofs.Cited.{◌≡◌, ℕ, zero, suc, ◌-◌, ◌/◌, ◌<◌, ◌≤◌, ◌==◌, true, List, length, get_or, Some, slice_get, Fits, w8, refl, sym, ap, ◌∙◌, arith, option_map, to_ascii_lowercase, str_to_ascii_lowercase, agree_below_at, eqb-true, length-map, slice_get-get_or, slice_get-map, extend, two_bits_at, two_bits_of, digit_of, digits_in, quarter_of}
 use Rattle.vcd_body.proofs.CompareLemmas.{same_from_last}
 use Rattle.vcd_body.proofs.PackedLemmas.{digit_among, in_last, length_digits}
 

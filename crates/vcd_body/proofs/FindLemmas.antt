@@ -1,15 +1,5 @@
 -- The code that a look-up has found, and its texts.
-use Rattle.std.proofs.Common.{◌≡◌, ℕ, Bool, true, false, cond, ◌&&◌, ◌^◌, ◌<◌, nat_lt, List, Option, Some, None, IfSome, refl, sym, subst}
-use Rattle.std.specs.Prelude.{slice_get}
-use Rattle.std.proofs.lemmas.Bool.{and_parts, lt-ltb, ltb-true}
-use Rattle.std.proofs.lemmas.Option.{cond_some}
-use Rattle.vcd_model.specs.Bytes.{is_decimal, decimal_value}
-use Rattle.vcd_model.specs.Declarations.{IdCode}
-use Rattle.vcd_model.specs.Header.{Header}
-use Rattle.vcd_text.specs.Digits.{spelled_below}
-use Rattle.vcd_view.specs.declared.view.Code.{Code}
-use Rattle.vcd_view.specs.Shown.{HeadShown}
-use Rattle.vcd_view.specs.Views.{Views, IsCode}
+use Rattle.vcd_body.proofs.Cited.{◌≡◌, ℕ, Bool, true, false, cond, ◌&&◌, ◌^◌, ◌<◌, nat_lt, List, Option, Some, None, IfSome, refl, sym, subst, slice_get, and_parts, lt-ltb, ltb-true, cond_some, is_decimal, decimal_value, IdCode, Header, spelled_below, Code, HeadShown, Views, IsCode}
 use Rattle.vcd_view.proofs.RowLemmas.{code_at as code_in_view}
 
 -- the view's code at the index of a header's code

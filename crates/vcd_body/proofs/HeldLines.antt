@@ -1,12 +1,5 @@
 -- The text of a value, by the digits that are held.
-use Rattle.std.proofs.Common.{◌≡◌, ◌≢◌, ℕ, ◌<◌, ◌≤◌, ◌==◌, Bool, true, false, List, [], ◌∷◌, length, refl, sym, ap, ◌∙◌, append_assoc, arith}
-use Rattle.std.proofs.lemmas.Bool.{eqb-true}
-use Rattle.vcd_model.specs.Cut.{line_if_set}
-use Rattle.vcd_model.specs.Sample.{shown}
-use Rattle.vcd_model.specs.Values.{extend, short}
-use Rattle.vcd_body.specs.Kept.{Held, value_at_size}
-use Rattle.vcd_body.specs.Stored.{digits_held, held_by, held_line, some_by}
-use Rattle.vcd_body.specs.declared.slot.State.{State}
+use Rattle.vcd_body.proofs.Cited.{◌≡◌, ◌≢◌, ℕ, ◌<◌, ◌≤◌, ◌==◌, Bool, true, false, List, [], ◌∷◌, length, refl, sym, ap, ◌∙◌, append_assoc, arith, eqb-true, line_if_set, shown, extend, short, Held, value_at_size, digits_held, held_by, held_line, some_by, State}
 use Rattle.vcd_body.specs.declared.slot.State.TheVariants as state
 use Rattle.vcd_body.proofs.BinaryLemmas.{some_binary}
 use Rattle.vcd_body.proofs.PackedLemmas.{length_digits}

@@ -1,8 +1,5 @@
 -- The shortest digits among those that are held.
-use Rattle.std.proofs.Common.{◌≡◌, ◌≢◌, ℕ, zero, suc, ◌+◌, ◌≤◌, ◌<◌, max, List, [], ◌∷◌, length, drop, get_or, refl, sym, ap, ◌∙◌, arith}
-use Rattle.std.proofs.Math.Seq.{drop-cons}
-use Rattle.std.proofs.lemmas.List.{length-drop}
-use Rattle.vcd_model.specs.Values.{extend, extension, short}
+use Rattle.vcd_body.proofs.Cited.{◌≡◌, ◌≢◌, ℕ, zero, suc, ◌+◌, ◌≤◌, ◌<◌, max, List, [], ◌∷◌, length, drop, get_or, refl, sym, ap, ◌∙◌, arith, drop-cons, length-drop, extend, extension, short}
 use Rattle.vcd_body.proofs.Shortest.{IsBare, bare_is_short, extend_where_fits, left_out}
 
 -- some last digits that extend to the same, wherever all of them fit

@@ -1,18 +1,7 @@
 -- Shares that are laid out one after the other.
-use Rattle.std.proofs.Common.{◌≡◌, ◌≢◌, ℕ, ◌+◌, ◌-◌, ◌<◌, ◌≤◌, min, List, [], ◌∷◌, length, slice_get, slice_set, Option, Some, None, refl, sym, ap, ◌∙◌, arith, ◌⊎◌, inl, inr}
-use Rattle.std.specs.Prelude.{option_map}
-use Rattle.std.proofs.Math.Seq.{take-length}
-use Rattle.std.proofs.lemmas.Bool.{cases_lt}
-use Rattle.std.proofs.lemmas.List.Sums.{sum_by_more, sum_by_more_le}
-use Rattle.std.proofs.lemmas.Option.{slice_get_past, slice_get_within, get_or_from_slice_get}
-use Rattle.vcd_view.specs.declared.view.Code.{Code}
-use Rattle.vcd_body.specs.Kept.{unset}
-use Rattle.vcd_body.specs.Contents.{new_at}
-use Rattle.vcd_body.specs.Stored.{AreLaidOut, IsUnset, end_at, holding_of, kept_in, kept_with, len_in, room_of, share_from, share_of, some_by, start_of, start_or, state_in, used, whole}
-use Rattle.vcd_body.specs.declared.slot.Share.{Share}
-use Rattle.vcd_body.specs.declared.slot.Slot.{Slot}
+use Rattle.vcd_body.proofs.Cited.{◌≡◌, ◌≢◌, ℕ, ◌+◌, ◌-◌, ◌<◌, ◌≤◌, min, List, [], ◌∷◌, length, slice_get, slice_set, Option, Some, None, refl, sym, ap, ◌∙◌, arith, ◌⊎◌, inl, inr, option_map, take-length, cases_lt, sum_by_more, sum_by_more_le, slice_get_past, slice_get_within, get_or_from_slice_get, Code, unset, new_at, AreLaidOut, IsUnset, end_at, holding_of, kept_in, kept_with, len_in, room_of, share_from, share_of, some_by, start_or, state_in, used, whole, Share, Slot, there}
+use Rattle.vcd_body.specs.Stored.{start_of}
 use Rattle.vcd_body.proofs.StoreLemmas.{get_other, get_set, no_slot, same_or_not, whole_is}
-use Rattle.vcd_view.proofs.ListLemmas.{there}
 
 abbrev unset_slot : Slot
 unset_slot = record { number = 0; tag = 0; steps = 0 ∷ 0 ∷ 0 ∷ [] }

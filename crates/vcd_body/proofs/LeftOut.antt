@@ -1,16 +1,6 @@
 -- Lines that are in some bytes but for digits on the left that are not needed.
-use Rattle.std.proofs.Common.{◌≡◌, ◌≢◌, ℕ, zero, suc, ◌+◌, ◌-◌, ◌≤◌, ◌<◌, ◌==◌, false, List, [], ◌∷◌, ◌++◌, length, replicate, take, drop, Option, Some, None, IfSome, sym, ap, ap₂, subst, ◌∙◌, append_assoc, arith}
-use Rattle.std.specs.Prelude.{slice_range}
-use Rattle.std.specs.Char.{to_ascii_lowercase}
-use Rattle.std.specs.Str.{str_to_ascii_lowercase}
-use Rattle.std.proofs.lemmas.List.{drop-append-le, drop-drop, drop-map, drop-take, length-append, length-drop, length-map, length-replicate}
-use Rattle.std.proofs.Math.Seq.{drop-append_seam, take-append_seam, take-length}
-use Rattle.vcd_model.specs.Values.{extend, extension, short}
-use Rattle.vcd_model.proofs.ShortLemmas.{short_is_shortest}
-use Rattle.vcd_text.proofs.AheadLemmas.{slice_range-append}
-use Rattle.vcd_text.proofs.Places.{length-slice_range}
+use Rattle.vcd_body.proofs.Cited.{◌≡◌, ◌≢◌, ℕ, zero, suc, ◌+◌, ◌-◌, ◌≤◌, ◌<◌, ◌==◌, false, List, [], ◌∷◌, ◌++◌, length, replicate, take, drop, Option, Some, None, IfSome, sym, ap, ap₂, subst, ◌∙◌, append_assoc, arith, slice_range, to_ascii_lowercase, str_to_ascii_lowercase, drop-append-le, drop-drop, drop-map, drop-take, length-append, length-drop, length-map, length-replicate, drop-append_seam, take-append_seam, take-length, extend, extension, short, short_is_shortest, slice_range-append, length-slice_range, HasChange, bytes_without}
 use Rattle.vcd_body.specs.declared.item.Form.TheVariants as form
-use Rattle.vcd_body.specs.Spelled.{HasChange, bytes_without}
 use Rattle.vcd_body.proofs.Shortest.{extend_wide}
 use Rattle.vcd_body.proofs.WordLemmas.{some_bytes}
 

@@ -40,3 +40,5 @@ pub mod MarkLine
 pub mod AskedLemmas
 pub mod Results
 pub mod OtherBytes
+pub mod Cited
+pub mod Facts

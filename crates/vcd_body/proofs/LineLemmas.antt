@@ -1,35 +1,8 @@
 -- Changes that are in some bytes, and their lines.
-use Rattle.std.proofs.Common.{◌≡◌, ◌≢◌, ℕ, zero, suc, ◌+◌, ◌-◌, ◌≤◌, ◌<◌, ◌==◌, Bool, true, false, not, ◌&&◌, List, [], ◌∷◌, ◌++◌, length, take, drop, get_or, Some, Result, Ok, Err, IfOk, ◌⊎◌, inl, inr, refl, sym, ap, ap₂, subst, ◌∙◌, append_assoc, arith}
-use Rattle.std.specs.Prelude.{bit_and, nat_le, ◌^◌, slice_get, slice_index, slice_range}
-use Rattle.std.specs.Char.{to_ascii_lowercase}
-use Rattle.std.specs.Str.{str_to_ascii_lowercase}
-use Rattle.std.specs.Result.{result_ok}
-use Rattle.std.proofs.lemmas.Bool.{and_parts, cases_lt, eqb-true, ne_eqb}
-use Rattle.std.proofs.lemmas.List.{drop-drop, drop-take, take-take}
-use Rattle.std.proofs.lemmas.Slice.Eq.{bytes_eq-Decides}
-use Rattle.vcd_model.specs.Bytes.{decimal_value, is_decimal, is_white_space}
-use Rattle.vcd_model.specs.Header.{Header}
-use Rattle.vcd_model.specs.Declarations.{IdCode, has_text}
-use Rattle.vcd_model.specs.Items.{BodyItem, ChangeForm}
-use Rattle.vcd_model.specs.Values.{extend, short}
-use Rattle.vcd_model.specs.ItemText.{item_line}
-use Rattle.vcd_model.proofs.HeaderGrammar.{find_passes}
-use Rattle.vcd_text.specs.Passed.{AreWhite}
-use Rattle.vcd_text.proofs.AheadLemmas.{slice_range-append}
-use Rattle.vcd_view.specs.declared.view.HeadView.{HeadView}
-use Rattle.vcd_view.specs.Views.{IsViewOf, IsCode}
-use Rattle.vcd_view.specs.Entries.{size_or_zero_of}
-use Rattle.vcd_view.specs.Finds.{Finds, IsSized}
-use Rattle.vcd_text.proofs.Places.{length-slice_range}
-use Rattle.vcd_view.specs.declared.view.Code.{Code}
-use Rattle.vcd_view.specs.Shown.{parts}
-use Rattle.vcd_body.specs.declared.item.Form.{Form}
+use Rattle.vcd_body.proofs.Cited.{◌≡◌, ◌≢◌, ℕ, zero, suc, ◌+◌, ◌-◌, ◌≤◌, ◌<◌, ◌==◌, Bool, true, false, not, ◌&&◌, List, [], ◌∷◌, ◌++◌, length, take, drop, get_or, Some, Result, Ok, Err, IfOk, ◌⊎◌, inl, inr, refl, sym, ap, ap₂, subst, ◌∙◌, append_assoc, arith, bit_and, nat_le, ◌^◌, slice_get, slice_index, slice_range, to_ascii_lowercase, str_to_ascii_lowercase, result_ok, and_parts, cases_lt, eqb-true, ne_eqb, drop-drop, drop-take, take-take, bytes_eq-Decides, decimal_value, is_decimal, is_white_space, Header, IdCode, has_text, BodyItem, ChangeForm, extend, short, item_line, find_passes, AreWhite, slice_range-append, HeadView, IsViewOf, IsCode, size_or_zero_of, Finds, IsSized, length-slice_range, Code, parts, Form, model_form, IsItem, HasToken, HasChange, HasTimestamp, HasPlaces, Names}
 use Rattle.vcd_body.specs.declared.item.Form.TheVariants as form
 use Rattle.vcd_body.specs.declared.item.Item.TheVariants as item
-use Rattle.vcd_body.specs.Items.{model_form}
-use Rattle.vcd_body.specs.Given.{IsItem}
 use Rattle.vcd_body.proofs.FindLemmas.{code_at}
-use Rattle.vcd_body.specs.Spelled.{HasToken, HasChange, HasTimestamp, HasPlaces, Names}
 use Rattle.vcd_body.proofs.WordLemmas.{byte_there, lower_alone}
 
 -- ---- what was found

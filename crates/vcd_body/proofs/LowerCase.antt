@@ -1,13 +1,5 @@
 -- Bytes that are written in lower case, piece by piece.
-use Rattle.std.proofs.Common.{◌≡◌, ◌≢◌, ◌⊎◌, inl, inr, ℕ, ◌+◌, ◌<◌, Bool, true, false, ◌||◌, ◌==◌, List, [], ◌∷◌, ◌++◌, get_or, length, take, drop, take-append-drop, ap, ap₂, sym, refl, ◌∙◌, subst, append_assoc, add-one}
-use Rattle.std.proofs.lemmas.Bool.{agree_below_at, eqb-true}
-use Rattle.std.proofs.lemmas.List.{take-map, drop-map, map-append}
-use Rattle.std.proofs.Math.Seq.{take-suc}
-use Rattle.std.specs.Prelude.{Option, bit_and}
-use Rattle.std.specs.Io.KnownBytes.{Appends}
-use Rattle.std.specs.Char.{to_ascii_lowercase}
-use Rattle.std.specs.Str.{str_to_ascii_lowercase}
-use Rattle.vcd_text.proofs.Writes.{AppendsSome, appends-first, appends-more, appends-some}
+use Rattle.vcd_body.proofs.Cited.{◌≡◌, ◌≢◌, ◌⊎◌, inl, inr, ℕ, ◌+◌, ◌<◌, Bool, true, false, ◌||◌, ◌==◌, List, [], ◌∷◌, ◌++◌, get_or, length, take, drop, take-append-drop, ap, ap₂, sym, refl, ◌∙◌, subst, append_assoc, add-one, agree_below_at, eqb-true, take-map, drop-map, map-append, take-suc, Option, bit_and, Appends, to_ascii_lowercase, str_to_ascii_lowercase, AppendsSome, appends-first, appends-more, appends-some}
 
 -- ---- bit 5 of bytes, which is set where they are no capital letters
 

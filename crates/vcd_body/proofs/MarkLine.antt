@@ -1,15 +1,5 @@
 -- The line of a time mark that is in some bytes.
-use Rattle.std.proofs.Common.{◌≡◌, ℕ, ◌+◌, ◌-◌, ◌^◌, ◌<◌, ◌==◌, ◌&&◌, ◌||◌, not, true, List, [], ◌∷◌, ◌++◌, length, get_or, decimal, sym, ap, ap₂, ◌∙◌, subst, arith, rules}
-use Rattle.std.specs.Prelude.{slice_index, slice_range}
-use Rattle.std.specs.List.{list_all}
-use Rattle.std.specs.Char.{is_ascii_digit}
-use Rattle.std.proofs.lemmas.Bool.{and_parts, eqb-true}
-use Rattle.std.proofs.lemmas.Fmt.{decimal-digits_value}
-use Rattle.std.proofs.lemmas.Str.Parse.{IsNumeralModel, numerals_by_weight}
-use Rattle.vcd_model.specs.Bytes.{decimal_value, is_decimal}
-use Rattle.vcd_model.specs.ItemText.{time_line}
-use Rattle.vcd_text.proofs.Places.{length-slice_range}
-use Rattle.vcd_body.specs.Spelled.{HasTimestamp, line_without}
+use Rattle.vcd_body.proofs.Cited.{◌≡◌, ℕ, ◌+◌, ◌-◌, ◌^◌, ◌<◌, ◌==◌, ◌&&◌, ◌||◌, not, true, List, [], ◌∷◌, ◌++◌, length, get_or, decimal, sym, ap, ap₂, ◌∙◌, subst, arith, rules, slice_index, slice_range, list_all, is_ascii_digit, and_parts, eqb-true, decimal-digits_value, IsNumeralModel, numerals_by_weight, decimal_value, is_decimal, time_line, length-slice_range, HasTimestamp, line_without}
 use Rattle.vcd_body.proofs.LineLemmas.{one_byte}
 use Rattle.vcd_body.proofs.WordLemmas.{byte_there}
 

@@ -1,25 +1,7 @@
 -- Binary digits tell their number, at each size.
-use Rattle.std.proofs.Common.{◌≡◌, ℕ, zero, suc, ◌+◌, ◌-◌, ◌*◌, ◌/◌, ◌%◌, ◌^◌, ◌<◌, ◌≤◌, ◌==◌, ◌&&◌, max, nat_lt, get_or, Bool, true, false, not, cond, List, ◌∷◌, ◌++◌, length, map, replicate, Option, Some, None, refl, sym, ap, ◌∙◌, arith}
-use Rattle.std.specs.Bool.{Decides}
-use Rattle.std.specs.Char.{to_ascii_lowercase}
-use Rattle.std.specs.List.{last_or}
-use Rattle.std.specs.Str.{bytes_eq, str_to_ascii_lowercase}
-use Rattle.std.proofs.Math.Nat.{div-eq_of_lt, div-one, lt-div-mul-add, mod-eq_of_lt, pow-le-pow_right, zero-mul}
-use Rattle.std.proofs.lemmas.Bool.{eq-eqb, eqb-true, lt-ltb}
-use Rattle.std.proofs.lemmas.Bool.Decides.{Decides-eqb, same_from_decides}
-use Rattle.std.proofs.lemmas.Grind.{div_ceil_times}
-use Rattle.std.proofs.lemmas.Nat.{mod-pow-add, mod_below, pow_pos}
-use Rattle.std.proofs.lemmas.Slice.Eq.{bytes_eq-Decides}
-use Rattle.vcd_model.specs.Values.{extend, extension, value_with}
-use Rattle.vcd_body.specs.Binary.{binary_digits, count_in, is_proper, number_in}
-use Rattle.vcd_body.specs.Items.{model_form}
-use Rattle.vcd_body.specs.Kept.{Held, IsStep, Kept, bytes_for, goes_from, room_for, value_at_size, with_held, with_number, with_text}
-use Rattle.vcd_body.specs.Packed.{held_digit}
-use Rattle.vcd_body.specs.Stored.{Whole, digits_held, held_by, kept_with, set_whole, some_by}
+use Rattle.vcd_body.proofs.Cited.{◌≡◌, ℕ, zero, suc, ◌+◌, ◌-◌, ◌*◌, ◌/◌, ◌%◌, ◌^◌, ◌<◌, ◌≤◌, ◌==◌, ◌&&◌, max, nat_lt, get_or, Bool, true, false, not, cond, List, ◌∷◌, ◌++◌, length, map, replicate, Option, Some, None, refl, sym, ap, ◌∙◌, arith, Decides, to_ascii_lowercase, last_or, bytes_eq, str_to_ascii_lowercase, div-eq_of_lt, div-one, lt-div-mul-add, mod-eq_of_lt, pow-le-pow_right, zero-mul, eq-eqb, eqb-true, lt-ltb, Decides-eqb, same_from_decides, div_ceil_times, mod-pow-add, mod_below, pow_pos, bytes_eq-Decides, extend, extension, value_with, binary_digits, count_in, is_proper, number_in, model_form, Held, IsStep, Kept, bytes_for, goes_from, room_for, value_at_size, with_held, with_number, with_text, held_digit, Whole, digits_held, held_by, kept_with, set_whole, some_by, State, Step}
 use Rattle.vcd_body.specs.declared.item.Form.TheVariants as form
-use Rattle.vcd_body.specs.declared.slot.State.{State}
 use Rattle.vcd_body.specs.declared.slot.State.TheVariants as state
-use Rattle.vcd_body.specs.declared.step.Step.{Step}
 use Rattle.vcd_body.proofs.BinaryLemmas.{binary_at, length_binary}
 use Rattle.vcd_body.proofs.CompareLemmas.{last_at, last_extended}
 use Rattle.vcd_body.proofs.StoreLemmas.{text_fits}

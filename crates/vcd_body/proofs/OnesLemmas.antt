@@ -1,14 +1,5 @@
 -- Digits that are read together, as a number.
-use Rattle.std.proofs.Common.{◌≡◌, ℕ, ◌+◌, ◌-◌, ◌*◌, ◌/◌, ◌%◌, ◌^◌, ◌<◌, ◌≤◌, ◌==◌, Bool, true, false, cond, List, [], ◌∷◌, ◌++◌, length, map, replicate, get_or, slice_range, w8, refl, sym, ap, ◌∙◌, arith}
-use Rattle.std.specs.Prelude.{slice_index}
-use Rattle.std.specs.Int.{bit_at}
-use Rattle.std.proofs.Math.Nat.{div-div-eq-div-mul, div-lt_iff_lt-mul}
-use Rattle.std.proofs.lemmas.Bool.{eqb-true, agree_below_at}
-use Rattle.std.proofs.lemmas.List.{ext_get_or, get_or-map, get_or_append_left}
-use Rattle.std.proofs.lemmas.Nat.{pow-add, pow_pos}
-use Rattle.std.proofs.lemmas.Simd.{bitmask_splat, bit_mask_l, mask_l-lt}
-use lib.Lanes.{mask_l, pick_l, top, zip2}
-use Rattle.vcd_body.specs.Binary.{binary_digits, bit_of}
+use Rattle.vcd_body.proofs.Cited.{◌≡◌, ℕ, ◌+◌, ◌-◌, ◌*◌, ◌/◌, ◌%◌, ◌^◌, ◌<◌, ◌≤◌, ◌==◌, Bool, true, false, cond, List, [], ◌∷◌, ◌++◌, length, map, replicate, get_or, slice_range, w8, refl, sym, ap, ◌∙◌, arith, slice_index, bit_at, div-div-eq-div-mul, div-lt_iff_lt-mul, eqb-true, agree_below_at, ext_get_or, get_or-map, get_or_append_left, pow-add, pow_pos, bitmask_splat, bit_mask_l, mask_l-lt, mask_l, pick_l, top, zip2, binary_digits, bit_of}
 use Rattle.vcd_body.proofs.BinaryLemmas.{length_binary}
 use Rattle.vcd_body.proofs.NumberLemmas.{binary_get}
 use Rattle.vcd_body.proofs.WordLemmas.{byte_there}

@@ -1,15 +1,5 @@
 -- A mask of the bytes that are another one, and digits that are left out where they are not.
-use Rattle.std.proofs.Common.{◌≡◌, ◌≢◌, ℕ, zero, suc, ◌+◌, ◌<◌, ◌≤◌, ◌%◌, ◌^◌, ◌==◌, ◌⊎◌, inl, inr, Bool, true, false, cond, not, List, [], ◌∷◌, length, map, replicate, drop, get_or, w8, refl, sym, ap, ap₂, ◌∙◌, arith}
-use Rattle.std.specs.Prelude.{slice_index}
-use Rattle.std.specs.Char.{to_ascii_lowercase}
-use Rattle.std.specs.Int.{bit_at}
-use Rattle.std.specs.Str.{str_to_ascii_lowercase}
-use Rattle.std.proofs.lemmas.Bool.{agree_below_at, eq-eqb, eqb-true, ne_eqb}
-use Rattle.std.proofs.lemmas.List.{get_or-replicate, length-replicate}
-use Rattle.std.proofs.lemmas.Simd.{bit_mask_l, get_or-chunk, get_or-zip2, length-chunk, length-zip2, mask_l-mod, tops_compared}
-use lib.Lanes.{chunk, mask_l, top, zip2}
-use Rattle.vcd_model.specs.Values.{extension}
-use Rattle.vcd_body.specs.Changes.{AreBinary}
+use Rattle.vcd_body.proofs.Cited.{◌≡◌, ◌≢◌, ℕ, zero, suc, ◌+◌, ◌<◌, ◌≤◌, ◌%◌, ◌^◌, ◌==◌, ◌⊎◌, inl, inr, Bool, true, false, cond, not, List, [], ◌∷◌, length, map, replicate, drop, get_or, w8, refl, sym, ap, ap₂, ◌∙◌, arith, slice_index, to_ascii_lowercase, bit_at, str_to_ascii_lowercase, agree_below_at, eq-eqb, eqb-true, ne_eqb, get_or-replicate, length-replicate, bit_mask_l, get_or-chunk, get_or-zip2, length-chunk, length-zip2, mask_l-mod, tops_compared, chunk, mask_l, top, zip2, extension, AreBinary}
 use Rattle.vcd_body.proofs.Shortest.{Suffices, one_of_two, one_out}
 
 pub differ_bit : (xs ys : List ℕ) (n : ℕ) → length xs ≡ n → length ys ≡ n → n ≤ 64 → (k : ℕ) → k < n

@@ -1,17 +1,6 @@
 -- Packed digits are the digits again, as they are held; the digit at an index of a share.
-use Rattle.std.proofs.Common.{◌≡◌, ℕ, ◌+◌, ◌-◌, ◌*◌, ◌/◌, ◌%◌, ◌<◌, ◌≤◌, Bool, true, false, cond, ◌==◌, nat_lt, List, [], ◌∷◌, length, map, replicate, refl, sym, ap, subst, ◌∙◌, arith, ◌⊎◌, inl, inr, slice_get, Some, None}
-use Rattle.std.specs.Prelude.{get_or}
-use Rattle.std.specs.List.{list_all}
-use Rattle.std.specs.Str.{str_to_ascii_lowercase}
-use Rattle.std.specs.Char.{to_ascii_lowercase}
-use Rattle.std.proofs.lemmas.Bool.{and_parts, cases_lt, lt-ltb, le-ltb}
-use Rattle.std.proofs.lemmas.Grind.{div_ceil_times, same_number_lists}
-use Rattle.std.proofs.lemmas.List.{get_or-map, get_or-replicate, length-map}
-use Rattle.std.proofs.lemmas.List.FromFn.{get_or-map-range_with_len, length-map-range_with_len}
-use Rattle.std.proofs.lemmas.Option.{slice_get-get_or, slice_get_past}
+use Rattle.vcd_body.proofs.Cited.{◌≡◌, ℕ, ◌+◌, ◌-◌, ◌*◌, ◌/◌, ◌%◌, ◌<◌, ◌≤◌, Bool, true, false, cond, ◌==◌, nat_lt, List, [], ◌∷◌, length, map, replicate, refl, sym, ap, subst, ◌∙◌, arith, ◌⊎◌, inl, inr, slice_get, Some, None, get_or, list_all, str_to_ascii_lowercase, to_ascii_lowercase, and_parts, cases_lt, lt-ltb, le-ltb, div_ceil_times, same_number_lists, get_or-map, get_or-replicate, length-map, get_or-map-range_with_len, length-map-range_with_len, slice_get-get_or, slice_get_past, any_of, two_bits_at, two_bits_of, two_bits_or, digit_of, digits_in, packed_byte, held_digit, quarter_of}
 use Rattle.vcd_model.specs.BodyPhrases.{is_value_digit}
-use Rattle.vcd_model.proofs.BodyGrammar.{any_of}
-use Rattle.vcd_body.specs.Packed.{two_bits_at, two_bits_of, two_bits_or, digit_of, digits_in, packed_byte, held_digit, quarter_of}
 
 -- ---- one digit
 

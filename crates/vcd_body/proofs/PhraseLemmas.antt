@@ -1,24 +1,9 @@
 -- What each token of a body is: its fault, and the phrase that it is.
-use Rattle.std.proofs.Common.{◌≡◌, ◌≢◌, ◌⊎◌, inl, inr, ℕ, ◌+◌, ◌^◌, ◌<◌, ◌≤◌, Bool, true, false, cond, not, ◌&&◌, ◌||◌, nat_lt, nat_le, List, [], ◌∷◌, ◌++◌, length, take, drop, count_by, Some, None, is_some, option_map, refl, sym, ap, ◌∙◌, arith}
-use Rattle.std.specs.List.{list_all}
-use Rattle.std.proofs.lemmas.Bool.{le-ltb, lt-ltb, le-leb, and_parts}
-use Rattle.vcd_model.specs.Bytes.{is_decimal, decimal_value, is_empty}
-use Rattle.vcd_model.specs.Keywords.{Keyword, keyword_of, keyword_text, is_end}
-use Rattle.vcd_model.specs.Declarations.{IdCode}
-use Rattle.vcd_model.specs.Items.{SectionKind, BodyItem, ChangeForm, time_after, leaves_open, is_begin, is_end_of_section}
-use Rattle.vcd_model.specs.BodyPhrases.{BodyPhrase, Start, start_of, is_value_digit, declared_code, section_keyword, body_phrase, phrase_with, items_of}
-use Rattle.vcd_model.specs.BodyPhrases.Start.{Command, Mark, Digit, Digits, Number}
-use Rattle.vcd_model.specs.BodyChecks.{body_fault, start_checks, inner_checks, command_checks}
-use Rattle.vcd_model.specs.Checks.{first_failed}
-use Rattle.vcd_model.proofs.BodyGrammar.{start_of-keyword, start_of-mark, start_of-digit, start_of-digits, start_of-number}
-use Rattle.vcd_view.specs.Keywords.{NoEnds}
-use Rattle.vcd_view.proofs.KeywordLemmas.{until, not_until}
-use Rattle.vcd_body.specs.declared.item.Regs.{Regs}
+use Rattle.vcd_body.proofs.Cited.{◌≡◌, ◌≢◌, ◌⊎◌, inl, inr, ℕ, ◌+◌, ◌^◌, ◌<◌, ◌≤◌, Bool, true, false, cond, not, ◌&&◌, ◌||◌, nat_lt, nat_le, List, [], ◌∷◌, ◌++◌, length, take, drop, count_by, Some, None, is_some, option_map, refl, sym, ap, ◌∙◌, arith, list_all, le-ltb, lt-ltb, le-leb, and_parts, is_decimal, decimal_value, is_empty, Keyword, keyword_text, is_end, IdCode, SectionKind, BodyItem, ChangeForm, time_after, leaves_open, is_begin, is_end_of_section, BodyPhrase, Start, is_value_digit, declared_code, section_keyword, phrase_with, items_of, Command, Mark, Digit, Digits, Number, start_checks, inner_checks, command_checks, first_failed, start_of-keyword, start_of-mark, start_of-digit, start_of-digits, start_of-number, NoEnds, until, not_until, Regs, AreRegsAfter, RefusesTimestamp, BodyFault, Begins, IsScalar, is_of_header, Passes, Refuses}
+use Rattle.vcd_model.specs.Keywords.{keyword_of}
+use Rattle.vcd_model.specs.BodyPhrases.{start_of, body_phrase}
+use Rattle.vcd_model.specs.BodyChecks.{body_fault}
 use Rattle.vcd_body.specs.declared.words.PhraseKind.TheVariants as kind
-use Rattle.vcd_body.specs.Items.{AreRegsAfter, RefusesTimestamp}
-use Rattle.vcd_body.specs.declared.fault.BodyFault.{BodyFault}
-use Rattle.vcd_body.specs.Words.{Begins, IsScalar, is_of_header}
-use Rattle.vcd_body.specs.Reads.{Passes, Refuses}
 
 -- ---- the parts of a first token
 

@@ -1,10 +1,5 @@
 -- A text that is written piece by piece.
-use Rattle.std.proofs.Common.{◌≡◌, ℕ, zero, suc, ◌+◌, ◌<◌, ◌≤◌, List, [], ◌∷◌, ◌++◌, length, take, drop, get_or, replicate, take-append-drop, ap, sym, refl, ◌∙◌, subst, append_assoc, arith}
-use Rattle.std.specs.Prelude.{Option}
-use Rattle.std.specs.Io.KnownBytes.{Appends}
-use Rattle.std.proofs.Math.Seq.{drop-cons, take-length}
-use Rattle.std.proofs.lemmas.List.{take-append-le}
-use Rattle.vcd_text.proofs.Writes.{AppendsSome, appends-first, appends-more, appends-some}
+use Rattle.vcd_body.proofs.Cited.{◌≡◌, ℕ, zero, suc, ◌+◌, ◌<◌, ◌≤◌, List, [], ◌∷◌, ◌++◌, length, take, drop, get_or, replicate, take-append-drop, ap, sym, refl, ◌∙◌, subst, append_assoc, arith, Option, Appends, drop-cons, take-length, take-append-le, AppendsSome, appends-first, appends-more, appends-some}
 
 -- a piece after the first n bytes
 pub piece-more : (old mid new : Option (List ℕ)) (all piece : List ℕ) (n m : ℕ) → piece ≡ take m (drop n all) → Appends old mid (take n all) → Appends mid new piece → Appends old new (take (n + m) all)

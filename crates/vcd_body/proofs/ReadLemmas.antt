@@ -1,30 +1,7 @@
 -- One item more, and what is known after it.
-use Rattle.std.proofs.Common.{◌≡◌, ℕ, ◌+◌, ◌≤◌, max, Bool, true, false, cond, not, List, [], ◌∷◌, ◌++◌, take, fold, count_by, filter_map, Option, Some, None, is_some, refl, sym, ap, subst, ◌∙◌, arith, append-nil}
-use Rattle.std.specs.Prelude.{MatchBool}
-use Rattle.std.specs.List.{last_or}
-use Rattle.std.proofs.lemmas.Bool.{le-ltb, lt-ltb}
-use Rattle.std.proofs.lemmas.List.{map-append}
-use Rattle.std.proofs.lemmas.List.Elements.{filter_map-append}
-use Rattle.std.proofs.lemmas.List.Sums.{sum_by-append}
-use Rattle.vcd_model.specs.Bytes.{is_empty}
-use Rattle.vcd_model.specs.Input.{Input}
-use Rattle.vcd_model.specs.Tokens.{Token, Stream}
-use Rattle.vcd_model.specs.Declarations.{IdCode}
-use Rattle.vcd_model.specs.Items.{BodyItem, Change, ChangeForm, marks, time_mark, time_after, leaves_open, open_section, section_of, is_begin, is_end_of_section}
-use Rattle.vcd_model.specs.BodyPhrases.{BodyPhrase, items_of}
-use Rattle.vcd_model.specs.BodyChecks.{body_fault}
-use Rattle.vcd_model.specs.Keywords.{Keyword, keyword_text}
-use Rattle.vcd_model.specs.Reading.{Placed, phrases_of}
-use Rattle.vcd_model.proofs.Times.{fold-append}
-use Rattle.vcd_text.specs.Feed.{token_of, limit_of}
-use Rattle.vcd_text.specs.declared.device.Source.{Ghosts}
-use Rattle.vcd_text.specs.declared.feed.Feed.{Feed}
-use Rattle.vcd_body.specs.declared.fault.BodyFault.{BodyFault}
-use Rattle.vcd_body.specs.declared.item.Section.{Section}
+use Rattle.vcd_body.proofs.Cited.{◌≡◌, ℕ, ◌+◌, ◌≤◌, max, Bool, true, false, cond, not, List, [], ◌∷◌, ◌++◌, take, fold, count_by, filter_map, Option, Some, None, is_some, refl, sym, ap, subst, ◌∙◌, arith, append-nil, MatchBool, last_or, le-ltb, lt-ltb, map-append, filter_map-append, sum_by-append, is_empty, Input, Token, Stream, IdCode, BodyItem, ChangeForm, marks, time_mark, time_after, leaves_open, open_section, section_of, is_begin, is_end_of_section, BodyPhrase, items_of, body_fault, Keyword, keyword_text, Placed, phrases_of, fold-append, token_of, limit_of, Ghosts, Feed, BodyFault, Section, Regs, AreRegsAfter, regs_after, model_section, GaveItems, GaveItem, GaveAll, Begun, Looks, Reads, ReadsAll, ReadsPhrase, BodyHas, FailsOver, Fails, Passes, Refuses}
+use Rattle.vcd_model.specs.Items.{Change}
 use Rattle.vcd_body.specs.declared.item.Item.TheVariants as item
-use Rattle.vcd_body.specs.declared.item.Regs.{Regs}
-use Rattle.vcd_body.specs.Items.{AreRegsAfter, regs_after, model_section}
-use Rattle.vcd_body.specs.Reads.{GaveItems, GaveItem, GaveAll, Begun, Looks, Reads, ReadsAll, ReadsPhrase, BodyHas, FailsOver, Fails, Passes, Refuses}
 use Rattle.vcd_body.proofs.TokenLemmas.{taken_phrase, begun, refused_at, fails, stopped_at_end, ended, ended_open}
 use Rattle.vcd_body.proofs.PhraseLemmas.{section_open, comment_begins}
 

@@ -1,27 +1,7 @@
 -- A change whose code comes after its value.
-use Rattle.std.proofs.Common.{◌≡◌, ℕ, ◌<◌, ◌≤◌, Bool, true, false, ◌||◌, nat_le, List, [], ◌∷◌, length, drop, Some, sym, ap, subst, ◌∙◌}
-use Rattle.std.specs.Prelude.{slice_get}
-use Rattle.std.specs.List.{list_all}
-use Rattle.std.proofs.lemmas.Option.{same_Some}
-use Rattle.std.proofs.lemmas.Bool.{leb-true}
-use Rattle.vcd_model.specs.Input.{Input}
-use Rattle.vcd_model.specs.Tokens.{Token}
-use Rattle.vcd_model.specs.Declarations.{IdCode}
-use Rattle.vcd_model.specs.Items.{BodyItem, ChangeForm}
-use Rattle.vcd_model.specs.BodyPhrases.{BodyPhrase, declared_code, is_value_digit}
-use Rattle.vcd_model.specs.Reading.{Placed, phrases_of}
-use Rattle.vcd_text.specs.Feed.{token_of, value_of}
-use Rattle.vcd_text.specs.declared.device.Source.{Ghosts}
-use Rattle.vcd_text.specs.declared.feed.Feed.{Feed}
-use Rattle.vcd_view.specs.declared.view.Code.{Code}
-use Rattle.vcd_view.specs.Shown.{HeadShown}
-use Rattle.vcd_view.specs.Views.{Views}
-use Rattle.vcd_model.specs.Header.{Header}
+use Rattle.vcd_body.proofs.Cited.{◌≡◌, ℕ, ◌<◌, ◌≤◌, Bool, true, false, ◌||◌, nat_le, List, [], ◌∷◌, length, drop, Some, sym, ap, subst, ◌∙◌, slice_get, list_all, same_Some, leb-true, Input, Token, IdCode, BodyItem, ChangeForm, BodyPhrase, declared_code, is_value_digit, Placed, phrases_of, token_of, value_of, Ghosts, Feed, Code, HeadShown, Views, Header, Begins, Looks, ReadsPhrase, IsGoodText}
 use Rattle.vcd_body.specs.declared.item.Form.TheVariants as form
 use Rattle.vcd_body.specs.declared.words.PhraseKind.TheVariants as kind
-use Rattle.vcd_body.specs.Words.{Begins}
-use Rattle.vcd_body.specs.Reads.{Looks, ReadsPhrase}
-use Rattle.vcd_body.specs.Given.{IsGoodText}
 use Rattle.vcd_body.proofs.TokenLemmas.{taken_phrase}
 use Rattle.vcd_body.proofs.FindLemmas.{code_at}
 use Rattle.vcd_body.proofs.PhraseLemmas.{real_passes, vector_passes}

@@ -1,7 +1,6 @@
 -- The first new codes.
-use Rattle.std.proofs.Common.{◌≡◌, ℕ, suc, ◌+◌, ◌/◌, ◌%◌, ◌<◌, ◌≤◌, [], ◌∷◌, refl, ap, ◌∙◌, arith}
-use Rattle.std.proofs.lemmas.Bool.{le-ltb, lt-ltb}
-use Rattle.vcd_model.specs.HeadText.{base94, new_code}
+use Rattle.vcd_body.proofs.Cited.{◌≡◌, ℕ, suc, ◌+◌, ◌/◌, ◌%◌, ◌<◌, ◌≤◌, [], ◌∷◌, refl, ap, ◌∙◌, arith, le-ltb, lt-ltb, base94}
+use Rattle.vcd_model.specs.HeadText.{new_code}
 use Rattle.vcd_model.proofs.CodeLemmas.{same_room}
 
 last : (n : ℕ) → n < 94 → base94 (suc n) n ≡ (33 + n % 94) ∷ []

@@ -1,8 +1,5 @@
 -- What follows where a call succeeds, and where nothing is written.
-use Rattle.std.proofs.Common.{[], Result, Ok, Err, refl}
-use Rattle.std.specs.Prelude.{IfOk}
-use Rattle.vcd_text.specs.Device.{Device, Writes}
-use Rattle.vcd_text.proofs.Writes.{appends-none}
+use Rattle.vcd_body.proofs.Cited.{[], Result, Ok, Err, refl, IfOk, Device, Writes, appends-none}
 
 pub if_ok : {A E : Type 0} (r : Result A E) (P : Type 0) → P → IfOk r (λ a. P)
 if_ok (Ok a) P p = p

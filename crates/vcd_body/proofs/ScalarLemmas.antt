@@ -1,18 +1,7 @@
 -- A change by a digit with its code right after it, of which the code was found.
-use Rattle.std.proofs.Common.{◌≡◌, ◌⊎◌, ℕ, ◌+◌, ◌-◌, ◌∙◌, ◌<◌, ◌≤◌, false, List, [], ◌∷◌, None, length, take, drop, sym, subst, arith}
-use Rattle.std.specs.Borrow.{Bor}
-use Rattle.std.proofs.lemmas.Bool.{false≢true}
-use Rattle.vcd_model.specs.Tokens.{Token}
-use Rattle.vcd_text.specs.Ahead.{bytes_of, longest_of, passed_of, start_of}
-use Rattle.vcd_text.specs.Passed.{line_ahead}
-use Rattle.vcd_text.specs.declared.ahead.Ahead.{Ahead}
-use Rattle.vcd_view.specs.declared.look_up.Found.{Found}
-use Rattle.vcd_view.specs.declared.view.HeadView.{HeadView}
-use Rattle.vcd_body.specs.Taken.{IsFoundScalar, Opens, TakesItem}
-use Rattle.vcd_body.specs.declared.ahead.Opening.{Opening}
+use Rattle.vcd_body.proofs.Cited.{◌≡◌, ◌⊎◌, ℕ, ◌+◌, ◌-◌, ◌∙◌, ◌<◌, ◌≤◌, false, List, [], ◌∷◌, None, length, take, drop, sym, subst, arith, Bor, false≢true, Token, bytes_of, longest_of, passed_of, start_of, line_ahead, Ahead, Found, HeadView, IsFoundScalar, Opens, TakesItem, Opening, Regs}
 use Rattle.vcd_body.specs.declared.item.Form.TheVariants as form
 use Rattle.vcd_body.specs.declared.item.Item.TheVariants as item
-use Rattle.vcd_body.specs.declared.item.Regs.{Regs}
 use Rattle.vcd_body.specs.declared.words.PhraseKind.TheVariants as kind
 use Rattle.vcd_body.proofs.AheadLemmas.{passes_same, scalar_taken}
 use Rattle.vcd_body.proofs.LineLemmas.{begins_after, token_begun, token_there, scalar_there, scalar_places}

@@ -1,24 +1,5 @@
 -- The begin or the end of a section that lies ahead.
-use Rattle.std.proofs.Common.{◌≡◌, ℕ, ◌-◌, ◌<◌, ◌≤◌, ◌∙◌, false, List, [], ◌∷◌, ◌++◌, append_assoc, is_some, length, None, refl, sym, subst, arith}
-use Rattle.std.proofs.lemmas.Bool.{false≢true}
-use Rattle.vcd_model.specs.BodyPhrases.{BodyPhrase, items_of}
-use Rattle.vcd_model.specs.Declarations.{IdCode}
-use Rattle.vcd_model.specs.Items.{BodyItem}
-use Rattle.vcd_model.specs.Tokens.{Token}
-use Rattle.vcd_text.specs.Ahead.{bytes_of, longest_of, passed_of, start_of}
-use Rattle.vcd_text.specs.Passed.{AreWhite, Passed, line_ahead}
-use Rattle.vcd_text.specs.declared.ahead.Ahead.{Ahead}
-use Rattle.vcd_view.specs.declared.view.HeadView.{HeadView}
-use Rattle.vcd_body.specs.Ahead.{GaveAhead, HasBits, IsPlain, IsSizedItem}
-use Rattle.vcd_body.specs.Given.{HasGoodText}
-use Rattle.vcd_body.specs.Items.{AreRegsAfter, model_section, regs_after}
-use Rattle.vcd_body.specs.Spelled.{IsSpelledAs}
-use Rattle.vcd_body.specs.Taken.{IsSection, IsSectionAt, Opens, TakesItem}
-use Rattle.vcd_body.specs.declared.ahead.Opening.{Opening}
-use Rattle.vcd_body.specs.declared.ahead.ScannedItem.{ScannedItem}
-use Rattle.vcd_body.specs.declared.item.Item.{Item}
-use Rattle.vcd_body.specs.declared.item.Item.TheVariants.{Begin, Change, End, Finish, Time}
-use Rattle.vcd_body.specs.declared.item.Regs.{Regs}
+use Rattle.vcd_body.proofs.Cited.{◌≡◌, ℕ, ◌-◌, ◌<◌, ◌≤◌, ◌∙◌, false, List, [], ◌∷◌, ◌++◌, append_assoc, is_some, length, None, refl, sym, subst, arith, false≢true, BodyPhrase, items_of, IdCode, BodyItem, Token, bytes_of, longest_of, passed_of, start_of, AreWhite, Passed, line_ahead, Ahead, HeadView, GaveAhead, HasBits, IsPlain, IsSizedItem, HasGoodText, AreRegsAfter, model_section, regs_after, IsSpelledAs, IsSection, IsSectionAt, Opens, TakesItem, Opening, ScannedItem, Item, Begin, Change, End, Finish, Time, Regs}
 use Rattle.vcd_body.proofs.AheadLemmas.{TakesOne, one_more, passes_same}
 use Rattle.vcd_body.proofs.LineLemmas.{begins_after, token_there}
 use Rattle.vcd_body.proofs.PhraseLemmas.{begin_passes, end_passes}

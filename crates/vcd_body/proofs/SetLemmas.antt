@@ -1,19 +1,6 @@
 -- A value that was set is that of the change in the definitions.
-use Rattle.std.proofs.Common.{◌≡◌, ℕ, ◌≤◌, ◌==◌, Bool, true, false, cond, List, [], ◌∷◌, length, Option, Some, refl, ap, ◌∙◌, arith}
-use Rattle.std.specs.Prelude.{option_map, unwrap_or}
-use Rattle.std.proofs.lemmas.Bool.{and_from, eq-eqb}
-use Rattle.std.proofs.lemmas.Grind.{div_ceil_times}
-use Rattle.vcd_model.specs.BodyPhrases.{is_value_digit}
-use Rattle.vcd_model.specs.Values.{Value, extend, value_with}
-use Rattle.vcd_view.specs.declared.view.Code.{Code}
-use Rattle.vcd_body.specs.Given.{IsText}
-use Rattle.vcd_body.specs.Items.{model_form}
-use Rattle.vcd_body.specs.Kept.{Held, Kept, bytes_for, fits, held_as, room_for, value_at_size, with_text}
-use Rattle.vcd_body.specs.Stored.{ChangesAt, kept_in, share_of}
-use Rattle.vcd_body.specs.declared.item.Form.{Form}
+use Rattle.vcd_body.proofs.Cited.{◌≡◌, ℕ, ◌≤◌, ◌==◌, Bool, true, false, cond, List, [], ◌∷◌, length, Option, Some, refl, ap, ◌∙◌, arith, option_map, unwrap_or, and_from, eq-eqb, div_ceil_times, is_value_digit, Value, extend, value_with, Code, IsText, model_form, Held, Kept, bytes_for, fits, held_as, room_for, value_at_size, with_text, ChangesAt, kept_in, share_of, Form, Share, Slot}
 use Rattle.vcd_body.specs.declared.item.Form.TheVariants as form
-use Rattle.vcd_body.specs.declared.slot.Share.{Share}
-use Rattle.vcd_body.specs.declared.slot.Slot.{Slot}
 use Rattle.vcd_body.proofs.PackedLemmas.{lower_digits}
 use Rattle.vcd_body.proofs.StoreLemmas.{text_fits}
 

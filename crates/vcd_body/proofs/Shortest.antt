@@ -1,13 +1,5 @@
 -- The shortest digits of a value are those from which no digit can be left out on the left.
-use Rattle.std.proofs.Common.{◌≡◌, ◌≢◌, ◌⊎◌, inl, inr, ℕ, zero, suc, ◌+◌, ◌-◌, ◌/◌, ◌%◌, ◌^◌, max, ◌≤◌, ◌<◌, Bool, true, false, cond, ◌==◌, List, [], ◌∷◌, ◌++◌, length, replicate, drop, get_or, refl, sym, ap, subst, ◌∙◌, arith}
-use Rattle.std.specs.Char.{to_ascii_lowercase}
-use Rattle.std.specs.Str.{str_to_ascii_lowercase}
-use Rattle.std.proofs.lemmas.Bool.{cases_lt, eqb-true}
-use Rattle.std.proofs.lemmas.List.{length-append, length-map, length-replicate}
-use Rattle.vcd_model.specs.Values.{extend, extension, short}
-use Rattle.vcd_body.specs.Binary.{binary_digits, bit_of}
-use Rattle.vcd_body.specs.Changes.{AreBinary}
-use Rattle.vcd_model.proofs.ShortLemmas.{short_is_shortest}
+use Rattle.vcd_body.proofs.Cited.{◌≡◌, ◌≢◌, ◌⊎◌, inl, inr, ℕ, zero, suc, ◌+◌, ◌-◌, ◌/◌, ◌%◌, ◌^◌, max, ◌≤◌, ◌<◌, Bool, true, false, cond, ◌==◌, List, [], ◌∷◌, ◌++◌, length, replicate, drop, get_or, refl, sym, ap, subst, ◌∙◌, arith, to_ascii_lowercase, str_to_ascii_lowercase, cases_lt, eqb-true, length-append, length-map, length-replicate, extend, extension, short, binary_digits, bit_of, AreBinary, short_is_shortest}
 
 -- one digit, or more of which the first is not what the others are extended by
 abbrev pub IsBare : List ℕ → Type 0

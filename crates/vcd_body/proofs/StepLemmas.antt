@@ -1,19 +1,7 @@
 -- A value of one digit, and another digit that is set instead.
-use Rattle.std.proofs.Common.{◌≡◌, ◌≢◌, ◌⊎◌, inl, inr, ℕ, ◌-◌, ◌≤◌, slice_get, ◌<◌, ◌==◌, true, not, List, [], ◌∷◌, length, get_or, Option, Some, None, refl, sym, ap, ◌∙◌, arith}
-use Rattle.std.specs.Char.{to_ascii_lowercase}
-use Rattle.std.specs.List.{last_or}
-use Rattle.std.specs.Str.{bytes_eq, str_to_ascii_lowercase}
-use Rattle.std.proofs.lemmas.List.{length-map}
-use Rattle.std.proofs.lemmas.Bool.Decides.{Decides-eqb}
-use Rattle.vcd_model.specs.Values.{Value, extend, value_with}
-use Rattle.vcd_body.specs.Items.{model_form}
-use Rattle.vcd_body.specs.Kept.{Held, IsStep, differs, goes_from, last_digit_in, value_at_size}
-use Rattle.vcd_body.specs.declared.item.Form.{Form}
+use Rattle.vcd_body.proofs.Cited.{◌≡◌, ◌≢◌, ◌⊎◌, inl, inr, ℕ, ◌-◌, ◌≤◌, slice_get, ◌<◌, ◌==◌, true, not, List, [], ◌∷◌, length, get_or, Option, Some, None, refl, sym, ap, ◌∙◌, arith, to_ascii_lowercase, last_or, bytes_eq, str_to_ascii_lowercase, length-map, Decides-eqb, Value, extend, value_with, model_form, Held, IsStep, differs, goes_from, last_digit_in, value_at_size, Form, Step, option_map, same_Some, slice_get-map}
 use Rattle.vcd_body.specs.declared.item.Form.TheVariants as form
-use Rattle.vcd_body.specs.declared.step.Step.{Step}
 use Rattle.vcd_body.proofs.CompareLemmas.{differ_for, differ_in_digit, last_at, last_extended, one_lower}
-use Rattle.std.specs.Prelude.{option_map}
-use Rattle.std.proofs.lemmas.Option.{same_Some, slice_get-map}
 
 -- the test of two digits tells whether the values differ
 pub digit_differs : (f : Form) (text : List ℕ) (d size : ℕ) (h : Held) → f ≢ form.RealText → 1 ≤ length text → length text < 2 → h ≡ Held.Digits (d ∷ [])

@@ -1,32 +1,9 @@
 -- The value of a code of a view, as the table has it.
-use Rattle.std.proofs.lemmas.List.{take_all}
-use Rattle.std.proofs.Common.{take, drop, length-drop, ◌-◌, ◌≡◌, ◌≢◌, [], ◌≤◌, Bool, true, cond, ℕ, ◌+◌, arith, List, slice_get, Option, Some, min, refl, subst, sym, ap, ap₂, ◌∙◌}
-use Rattle.std.specs.Prelude.{option_map, option_and_then, unwrap_or, length, map, slice_range, ◌∷◌, sum_by}
-use Rattle.std.specs.List.{AllZip}
-use Rattle.std.proofs.lemmas.List.Sums.{sum_by-cons}
-use Rattle.std.proofs.lemmas.Option.{slice_get-map}
-use Rattle.vcd_model.specs.Bound.{value_room}
-use Rattle.vcd_model.specs.Cut.{line_if_set}
-use Rattle.vcd_model.specs.Declarations.{IdCode}
-use Rattle.vcd_model.specs.Header.{Header}
-use Rattle.vcd_view.specs.Shown.{text_in}
-use Rattle.vcd_view.specs.Views.{IsCode, IsViewOf}
-use Rattle.vcd_view.specs.declared.view.Code.{Code}
-use Rattle.vcd_view.specs.declared.view.HeadView.{HeadView}
-use Rattle.vcd_body.specs.Contents.{IsLaidOut, KeepsTable, codes_shown, held_at, line_of, shown_as, shown_code, value_in}
-use Rattle.vcd_body.specs.Kept.{Held, Kept, value_at_size}
-use Rattle.vcd_body.specs.Stored.{AreLaidOut, Whole, end_at, held_by, held_from, holding_of, kept_with, len_of, room_of, share_of, some_by, used}
-use denote.Enum.Bare.{sameb}
-use Rattle.vcd_body.specs.contracts.slot.State.{the_type}
-use Rattle.vcd_body.specs.declared.slot.Holding.{Holding}
-use Rattle.vcd_body.specs.declared.slot.Share.{Share}
+use Rattle.vcd_body.proofs.Cited.{take_all, take, drop, ◌-◌, ◌≡◌, ◌≢◌, [], ◌≤◌, Bool, true, cond, ℕ, ◌+◌, arith, List, slice_get, Option, Some, min, refl, subst, sym, ap, ap₂, ◌∙◌, option_map, option_and_then, unwrap_or, length, map, slice_range, ◌∷◌, sum_by, AllZip, sum_by-cons, slice_get-map, value_room, line_if_set, IdCode, Header, text_in, IsCode, IsViewOf, Code, HeadView, IsLaidOut, KeepsTable, codes_shown, held_at, line_of, shown_as, shown_code, value_in, Held, Kept, value_at_size, AreLaidOut, Whole, end_at, held_by, held_from, holding_of, kept_with, len_of, room_of, share_of, some_by, used, sameb, the_type, Holding, Share, Slot, State, Table, le-leb}
+use Rattle.std.proofs.Common.{length-drop}
 use Rattle.vcd_body.specs.declared.slot.Shown.TheVariants as shown
-use Rattle.vcd_body.specs.declared.slot.Slot.{Slot}
-use Rattle.vcd_body.specs.declared.slot.State.{State}
 use Rattle.vcd_body.specs.declared.slot.State.TheVariants as state
-use Rattle.vcd_body.specs.declared.table.Table.{Table}
 use Rattle.vcd_body.proofs.StoreLemmas.{fits_in, some_in, whole_is}
-use Rattle.std.proofs.lemmas.Bool.{le-leb}
 
 pub held_here : (t : Table) (code : ℕ) (s : Slot) (h : Share) → slice_get t.slots.now code ≡ Some s → slice_get t.shares.now code ≡ Some h → held_at t code ≡ held_from t.values.now h.start (holding_of s h)
 held_here t code s h at there = ap (λ (o : Option Whole). unwrap_or (option_map (λ (k : Kept). k.held) (option_map (kept_with t.values.now (end_at t.shares.now (length t.values.now) code)) o)) Held.Unset) (whole_is t.slots.now t.shares.now code s h at there)

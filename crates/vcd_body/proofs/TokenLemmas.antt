@@ -1,27 +1,8 @@
 -- One token on in the reading of a body.
-use Rattle.std.proofs.Common.{◌≡◌, ◌≢◌, ℕ, true, false, List, [], ◌∷◌, ◌++◌, Option, Some, None, refl, sym, ap, subst, ◌∙◌}
+use Rattle.vcd_body.proofs.Cited.{◌≡◌, ◌≢◌, ℕ, true, false, List, [], ◌∷◌, ◌++◌, Option, Some, None, refl, sym, ap, subst, ◌∙◌, Input, IsPrefixOf, Token, Stream, stream_of, IdCode, BodyItem, leaves_open, BodyPhrase, body_phrase, items_of, body_fault, body_grammar, body_items, body_fault_of, Placed, phrases_of, reading_of, IsSoFar, so_far-token, so_far-phrase, faulty-token, Ends, HasGiven, HasReadTo, token_of, limit_of, read_to_shown, Ghosts, Feed, BodyFault, fault_number, Reads, ReadsPhrase, Looks, BodyHas, StopsAt, FailsOver, Fails, OpensPhrase, Refuses, AtToken, AtEnd}
 use Rattle.std.proofs.lemmas.List.{append_assoc}
-use Rattle.vcd_model.specs.Input.{Input}
-use Rattle.vcd_model.specs.Laws.{IsPrefixOf}
-use Rattle.vcd_model.specs.Tokens.{Token, Stream, stream_of}
-use Rattle.vcd_model.specs.Declarations.{IdCode}
-use Rattle.vcd_model.specs.Items.{BodyItem, leaves_open}
-use Rattle.vcd_model.specs.BodyPhrases.{BodyPhrase, body_phrase, items_of}
-use Rattle.vcd_model.specs.BodyChecks.{body_fault}
-use Rattle.vcd_model.specs.BodyReading.{body_grammar, read_body, body_items, body_fault_of}
-use Rattle.vcd_model.specs.Reading.{Placed, phrases_of, reading_of}
-use Rattle.vcd_model.specs.SoFar.{IsSoFar}
-use Rattle.vcd_model.proofs.SoFarLemmas.{so_far-token, so_far-phrase, faulty-token}
-use Rattle.vcd_text.specs.Answer.{Ends}
-use Rattle.vcd_text.specs.Feed.{HasGiven, HasReadTo, token_of, limit_of}
-use Rattle.vcd_text.proofs.ShownLemmas.{read_to_shown}
-use Rattle.vcd_text.specs.declared.device.Source.{Ghosts}
-use Rattle.vcd_text.specs.declared.feed.Feed.{Feed}
-use Rattle.vcd_body.specs.declared.fault.BodyFault.{BodyFault}
+use Rattle.vcd_model.specs.BodyReading.{read_body}
 use Rattle.vcd_body.specs.declared.fault.BodyFault.TheVariants as fault
-use Rattle.vcd_body.specs.Fault.{fault_number}
-use Rattle.vcd_body.specs.Reads.{Reads, ReadsPhrase, Looks, BodyHas, StopsAt, FailsOver, Fails, OpensPhrase, Refuses}
-use Rattle.vcd_body.specs.Reads.StopsAt.{AtToken, AtEnd}
 
 -- a fault that is not the source's is one of the input as it is
 pub own_fault : {X : Type 0} {g : Ghosts X} (codes : List IdCode) (i : Input) (front : List Token) (items : List BodyItem) (b : BodyFault) (f : Feed X g) → b ≢ fault.ReadFailed → FailsOver codes i front items (fault_number b) f → Fails codes i front items b f

@@ -1,18 +1,6 @@
 -- A walk over the items ahead, step by step.
-use Rattle.std.proofs.Common.{◌≡◌, ◌≤◌, ◌<◌, ◌+◌, Bool, true, false, List, ℕ, [], ◌++◌, length, Result, Ok, Err, IfOk, refl, sym, ap, subst, ◌∙◌, append_assoc, append-nil, arith}
-use Rattle.std.specs.Result.{result_and}
-use Rattle.vcd_model.specs.Tokens.{Token}
-use Rattle.vcd_text.specs.Ahead.{bytes_of, passed_of}
-use Rattle.vcd_text.specs.Device.{Counts, Device}
-use Rattle.vcd_text.specs.Passed.{Passed}
-use Rattle.vcd_text.specs.declared.ahead.Ahead.{Ahead}
-use Rattle.vcd_text.specs.declared.device.WriteFailed.{WriteFailed}
-use Rattle.vcd_view.specs.declared.view.HeadView.{HeadView}
-use Rattle.vcd_body.specs.Ahead.{LooksOver, PassesNoItem}
-use Rattle.vcd_body.specs.Walk.{Begins, Further, HasCome, Past, Stage, TakesOne, Trail, Walks, as_done, stage_at}
-use Rattle.vcd_body.specs.Taken.{TakesItem}
-use Rattle.vcd_body.specs.declared.ahead.ScannedItem.{ScannedItem}
-use Rattle.vcd_body.specs.declared.item.Regs.{Regs}
+use Rattle.vcd_body.proofs.Cited.{◌≡◌, ◌≤◌, ◌<◌, ◌+◌, Bool, true, false, List, ℕ, [], ◌++◌, length, Result, Ok, Err, IfOk, refl, sym, ap, subst, ◌∙◌, append_assoc, append-nil, arith, result_and, Token, bytes_of, passed_of, Counts, Device, Passed, Ahead, WriteFailed, HeadView, LooksOver, PassesNoItem, Further, HasCome, Past, Stage, TakesOne, Trail, Walks, as_done, stage_at, TakesItem, ScannedItem, Regs}
+use Rattle.vcd_body.specs.Walk.{Begins}
 
 -- what a result is done with does not matter
 pub and_done : {A : Type 0} (result : Result (Unit {0}) WriteFailed) (a : A) → as_done (result_and result (Ok a)) ≡ as_done result

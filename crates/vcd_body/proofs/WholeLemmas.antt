@@ -1,23 +1,8 @@
 -- What an item that lies whole ahead says of its first token.
-use Rattle.std.proofs.Common.{◌≡◌, ℕ, ◌⊎◌, Bool, true, false, List, [], ◌∷◌, inl, inr, refl, sym, ap, subst, ◌∙◌, arith}
-use Rattle.std.specs.Prelude.{IsTrue, ◌==◌, ◌||◌, Result, Ok}
-use Rattle.std.specs.Str.{byte}
-use Rattle.std.proofs.lemmas.Bool.{eqb-true}
+use Rattle.vcd_body.proofs.Cited.{◌≡◌, ℕ, ◌⊎◌, Bool, true, false, List, [], ◌∷◌, inl, inr, refl, sym, ap, subst, ◌∙◌, arith, IsTrue, ◌==◌, ◌||◌, Result, Ok, byte, eqb-true, Keyword, keyword_text, Token, ahead_of, LieAhead, StandsStill, limit_of, source_of, token_of, AreFirst, Passed, Ghosts, Feed, NeedsOneToken, AreWhole, HoldsItem, IsAlone, Begins, BeginsOther, is_comment, is_either, BodyFault, PhraseKind, Timestamp, Bit, Scalar, Real, Other}
 use Rattle.vcd_model.specs.BodyPhrases.{is_value_digit}
-use Rattle.vcd_model.specs.Keywords.{Keyword, keyword_text}
-use Rattle.vcd_model.specs.Tokens.{Token}
-use Rattle.vcd_text.specs.Ahead.{ahead_of}
-use Rattle.vcd_text.specs.Calls.{LieAhead, StandsStill}
-use Rattle.vcd_text.specs.Feed.{limit_of, source_of, token_of}
-use Rattle.vcd_text.specs.Passed.{AreFirst, Passed}
-use Rattle.vcd_text.specs.declared.device.Source.{Ghosts}
-use Rattle.vcd_text.specs.declared.feed.Feed.{Feed}
-use Rattle.vcd_body.specs.Calls.{NeedsOneToken, TakesToken}
-use Rattle.vcd_body.specs.Whole.{AreWhole, HoldsItem, IsAlone}
-use Rattle.vcd_body.specs.Words.{Begins, BeginsOther, is_comment, is_either}
-use Rattle.vcd_body.specs.declared.fault.BodyFault.{BodyFault}
-use Rattle.vcd_body.specs.declared.words.PhraseKind.{PhraseKind}
-use Rattle.vcd_body.specs.declared.words.PhraseKind.TheVariants.{Timestamp, Bit, Scalar, Vector, Real, Other}
+use Rattle.vcd_body.specs.Calls.{TakesToken}
+use Rattle.vcd_body.specs.declared.words.PhraseKind.TheVariants.{Vector}
 use Rattle.vcd_body.proofs.WordLemmas.{bit_digit}
 
 -- ---- first bytes

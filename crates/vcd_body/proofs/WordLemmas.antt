@@ -1,29 +1,9 @@
 -- What the tests of words say.
-use Rattle.std.proofs.Common.{◌≡◌, Some, None, Option, IfSome, is_some, zero, ◌⊎◌, take, drop, slice_range, inl, inr, ◌+◌, ◌-◌, ◌*◌, ◌<◌, ◌≤◌, ◌∙◌, get_or, ℕ, suc, ◌%◌, ◌^◌, map, Bool, true, false, cond, not, ◌||◌, ◌==◌, List, [], ◌∷◌, length, Fits, w8, refl, sym, ap, ap₂, subst, arith, rules}
-use Rattle.std.specs.Prelude.{IsTrue, slice_index, min, bit_and}
-use Rattle.std.specs.Char.{to_ascii_lowercase}
-use Rattle.std.specs.Int.{bit_at}
-use Rattle.std.specs.List.{list_all, list_any}
-use Rattle.std.specs.Str.{byte}
-use Rattle.std.proofs.lemmas.Bool.{eqb-true, cases_lt, agree_below, agree_below_at}
-use Rattle.std.proofs.lemmas.List.{length-map, get_or-map, get_or-take, get_or-drop}
-use Rattle.std.proofs.lemmas.Nat.{pow_below}
-use Rattle.std.proofs.lemmas.Nat.Bits.{bit_at-zero, bit_at_and, bit_at_ones}
-use Rattle.std.proofs.lemmas.Simd.{mask_l-mod, bit_mask_l, length-chunk, get_or-chunk, Each1-get_or}
-use lib.Lanes.{chunk, mask_l, top, Each1}
-use Rattle.vcd_model.specs.Bytes.{is_empty}
+use Rattle.vcd_body.proofs.Cited.{◌≡◌, Some, None, Option, IfSome, is_some, zero, ◌⊎◌, take, drop, slice_range, inl, inr, ◌+◌, ◌-◌, ◌*◌, ◌<◌, ◌≤◌, ◌∙◌, get_or, ℕ, suc, ◌%◌, ◌^◌, map, Bool, true, false, cond, not, ◌||◌, ◌==◌, List, [], ◌∷◌, length, Fits, w8, refl, sym, ap, ap₂, subst, arith, rules, IsTrue, slice_index, min, bit_and, to_ascii_lowercase, bit_at, list_all, list_any, byte, eqb-true, cases_lt, agree_below, agree_below_at, length-map, get_or-map, get_or-take, get_or-drop, pow_below, bit_at-zero, bit_at_and, bit_at_ones, mask_l-mod, bit_mask_l, length-chunk, get_or-chunk, Each1-get_or, chunk, mask_l, top, Each1, is_empty, Keyword, keyword_of, keyword_text, keyword_is, model_keyword, binary_digits, bit_of, AreBinary, Bits, Begins, InClear, IsScalar, StandsFor, command_is, is_either, PhraseKind}
 use Rattle.vcd_model.specs.BodyPhrases.{is_value_digit}
-use Rattle.vcd_model.specs.Keywords.{Keyword, keyword_of, keyword_text}
-use Rattle.vcd_model.proofs.HeaderGrammar.{keyword_is}
-use Rattle.vcd_view.specs.Keywords.{model_keyword}
 use Rattle.vcd_view.specs.declared.keyword.Keyword.{Keyword as HeadKeyword}
 use Rattle.vcd_view.specs.declared.keyword.Keyword.TheVariants as head
-use Rattle.vcd_body.specs.Binary.{binary_digits, bit_of}
-use Rattle.vcd_body.specs.Changes.{AreBinary}
 use Rattle.vcd_body.proofs.Shortest.{number_two, one_of_two as by_bit}
-use Rattle.vcd_body.specs.declared.bits.Bits.{Bits}
-use Rattle.vcd_body.specs.Words.{Begins, InClear, IsScalar, StandsFor, command_is, is_either}
-use Rattle.vcd_body.specs.declared.words.PhraseKind.{PhraseKind}
 use Rattle.vcd_body.specs.declared.words.PhraseKind.TheVariants as kind
 
 pub filled : (l : List ℕ) → (length l == 0) ≡ false → is_empty l ≡ false

@@ -1,14 +1,5 @@
 -- Numbers of digits: one digit more, how large they are, and digits that extend others.
-use Rattle.std.proofs.Common.{◌≡◌, ◌∙◌, ◌+◌, ◌-◌, ◌*◌, ◌^◌, ◌<◌, ◌≤◌, ◌==◌, ℕ, zero, suc, Bool, true, false, cond, List, [], ◌∷◌, ◌++◌, length, map, take, get_or, replicate, ap, refl, sym, subst, add-one, zero-add, arith}
-use Rattle.std.proofs.lemmas.Int.Digits.{number_push, number_lt, number_after_append}
-use Rattle.std.proofs.lemmas.List.{map-append, take_more, length-map, length-take-le, replicate_more}
-use Rattle.std.proofs.lemmas.Nat.{pow-add}
-use Rattle.std.proofs.Math.Nat.{pow-succ'}
-use Rattle.std.proofs.Math.Pow.{pow_mono}
-use Rattle.std.specs.Int.Digits.{AllBelowBase, number_from_digits, number_from_digits_after}
-use Rattle.std.specs.Str.{byte}
-use Rattle.vcd_model.specs.Values.{extend, extension}
-use Rattle.vcd_changes.specs.Digits.{is_one, number_where}
+use Rattle.vcd_changes.proofs.Cited.{◌≡◌, ◌∙◌, ◌+◌, ◌-◌, ◌*◌, ◌^◌, ◌<◌, ◌≤◌, ◌==◌, ℕ, zero, suc, Bool, true, false, cond, List, [], ◌∷◌, ◌++◌, length, map, take, get_or, replicate, ap, refl, sym, subst, add-one, zero-add, arith, number_push, number_lt, number_after_append, map-append, take_more, length-map, length-take-le, replicate_more, pow-add, pow-succ', pow_mono, AllBelowBase, number_from_digits, number_from_digits_after, byte, extend, extension, is_one, number_where}
 
 regroup : (n b p q x y : ℕ) → q ≡ 2 * p → y ≡ (0 * 2 + b) * p + x → (n * 2 + b) * p + x ≡ n * q + y
 regroup n b p q x y e f = rw (e, f) (omega arith)

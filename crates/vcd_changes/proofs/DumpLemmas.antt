@@ -1,24 +1,5 @@
 -- A reading that resumes finds the header that it began with.
-use Rattle.std.proofs.Common.{◌≡◌, ◌∙◌, ℕ, List, [], ap, refl, subst, sym}
-use Rattle.vcd_model.specs.Declarations.{IdCode}
-use Rattle.vcd_model.specs.Header.{header_of}
-use Rattle.vcd_model.specs.HeaderPhrases.{HeaderPhrase}
-use Rattle.vcd_model.specs.HeaderReading.{header_grammar}
-use Rattle.vcd_model.specs.Input.{Input}
-use Rattle.vcd_model.specs.Items.{BodyItem}
-use Rattle.vcd_model.specs.Laws.{IsPrefixOf}
-use Rattle.vcd_model.specs.Reading.{Placed, phrases_of}
-use Rattle.vcd_model.specs.Tokens.{Token, stream_of}
-use Rattle.vcd_text.specs.Answer.{whole}
-use Rattle.vcd_text.specs.Feed.{limit_of}
-use Rattle.vcd_text.specs.declared.device.Source.{Ghosts}
-use Rattle.vcd_text.specs.declared.feed.Feed.{Feed}
-use Rattle.vcd_view.specs.Shown.{HeadShown}
-use Rattle.vcd_head.specs.Reads.{GivesHead}
-use Rattle.vcd_changes.specs.declared.reading.Reading.{Reading}
-use Rattle.vcd_changes.specs.declared.row.ChangeRow.{ChangeRow}
-use Rattle.vcd_changes.specs.Reading.{Finds, GoesOnUnder, HasCodes, IsAfter}
-use Rattle.vcd_changes.specs.declared.reading.Place.{Place}
+use Rattle.vcd_changes.proofs.Cited.{◌≡◌, ◌∙◌, ℕ, List, [], ap, refl, subst, sym, IdCode, header_of, HeaderPhrase, header_grammar, Input, BodyItem, IsPrefixOf, Placed, phrases_of, Token, stream_of, whole, limit_of, Ghosts, Feed, HeadShown, GivesHead, Reading, ChangeRow, Finds, GoesOnUnder, HasCodes, IsAfter, Place}
 use Rattle.vcd_changes.proofs.HeaderLemmas.{one_whole}
 
 abbrev pub codes_in : List (Placed HeaderPhrase) → List IdCode

@@ -1,21 +1,8 @@
 -- Over a source that does not fail, a fault is that of the dump.
-use Rattle.std.proofs.Common.{◌≡◌, ℕ, List, Some, refl, Option}
-use Rattle.vcd_model.specs.Declarations.{IdCode}
-use Rattle.vcd_model.specs.Input.{Input}
-use Rattle.vcd_model.specs.Items.{BodyItem}
-use Rattle.vcd_model.specs.Reading.{Fault}
-use Rattle.vcd_model.specs.Tokens.{Token}
-use Rattle.vcd_text.specs.Feed.{limit_of, token_of}
-use Rattle.vcd_text.specs.declared.device.Source.{Ghosts}
-use Rattle.vcd_text.specs.declared.feed.Feed.{Feed}
+use Rattle.vcd_changes.proofs.Cited.{◌≡◌, ℕ, List, Some, refl, Option, IdCode, Input, BodyItem, Fault, Token, limit_of, token_of, Ghosts, Feed, HeadFault, fault_number, BodyHas, Fails, BodyFault, TokenTooLong, EndOfInput, UnknownCommand, OutOfPlace, BadTime, TimeBack, BadValue, UnknownCode, TooWide, RealTooLong, TimeInSection, InputTooLong, ReadFailed}
 use Rattle.vcd_head.specs.Fault as head
 use Rattle.vcd_head.specs.Reads as heads
-use Rattle.vcd_head.specs.declared.fault.HeadFault.{HeadFault}
 use Rattle.vcd_head.specs.declared.fault.HeadFault.TheVariants as of_head
-use Rattle.vcd_body.specs.Fault.{fault_number}
-use Rattle.vcd_body.specs.Reads.{BodyHas, Fails}
-use Rattle.vcd_body.specs.declared.fault.BodyFault.{BodyFault}
-use Rattle.vcd_body.specs.declared.fault.BodyFault.TheVariants.{TokenTooLong, EndOfInput, UnknownCommand, OutOfPlace, BadTime, TimeBack, BadValue, UnknownCode, TooWide, RealTooLong, TimeInSection, InputTooLong, ReadFailed}
 
 module _ {X : Type 0} {g : Ghosts X} (f : Feed X g) (i : Input) where
   pub body_fault_is : (codes : List IdCode) (front : List Token) (items : List BodyItem) (fault : BodyFault) → (fault ≡ ReadFailed → ⊥) → Fails codes i front items fault f → BodyHas codes i front (limit_of f) items (Some (record { number = fault_number fault; line = (token_of f).line }))

@@ -1,11 +1,6 @@
 -- A dump has one header.
-use Rattle.std.proofs.Common.{◌≡◌, ◌∙◌, ◌⊎◌, inl, inr, ℕ, Bool, true, false, cond, List, [], ◌∷◌, ◌++◌, ap, find, refl, sym, subst, append-nil, Some}
-use Rattle.vcd_model.specs.Declarations.{IdCode, has_text}
-use Rattle.vcd_view.proofs.ListLemmas.{same_bytes}
-use Rattle.vcd_model.specs.Reading.{Grammar, Placed, Reading, reading_of}
-use Rattle.vcd_model.specs.SoFar.{IsWhole}
-use Rattle.vcd_model.specs.Tokens.{Token}
-use Rattle.vcd_model.proofs.SoFarLemmas.{whole-more}
+use Rattle.vcd_changes.proofs.Cited.{◌≡◌, ◌∙◌, ◌⊎◌, inl, inr, ℕ, Bool, true, false, cond, List, [], ◌∷◌, ◌++◌, ap, find, refl, sym, subst, append-nil, Some, IdCode, has_text, same_bytes, Grammar, Placed, reading_of, IsWhole, Token, whole-more}
+use Rattle.vcd_model.specs.Reading.{Reading}
 
 -- of two prefixes of a list one is a front of the other
 abbrev Longer : {X : Type 0} → List X → List X → Type 0

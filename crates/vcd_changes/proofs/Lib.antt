@@ -7,3 +7,5 @@ pub mod LowerLemmas
 pub mod PlaceLemmas
 pub mod RowLemmas
 pub mod WalkLemmas
+pub mod Cited
+pub mod Facts

@@ -1,24 +1,6 @@
 -- A dump in memory under two token limits: up to a token that is longer than the lower one, it is
 -- read alike.
-use Rattle.std.proofs.Common.{◌≡◌, ◌∙◌, ◌⊎◌, inl, inr, ℕ, zero, suc, ◌+◌, ◌-◌, ◌^◌, ◌<◌, ◌≤◌, Bool, true, false, List, [], ◌∷◌, ◌++◌, length, take, drop, Option, Some, None, ap, refl, sym, subst, append_assoc, arith}
-use Rattle.std.specs.Prelude.{slice_index, unwrap_or}
-use Rattle.std.proofs.lemmas.List.{length-take-le}
-use Rattle.vcd_model.specs.Bytes.{is_white_space}
-use Rattle.vcd_model.specs.Input.{Clean}
-use Rattle.vcd_model.specs.Laws.{IsPrefixOf}
-use Rattle.vcd_model.specs.Tokens.{Stream, Token, stream_of}
-use Rattle.vcd_text.specs.Answer.{Ends, whole}
-use Rattle.vcd_text.specs.Feed.{HasGivenTo}
-use Rattle.vcd_text.specs.Given.{HasGivenAt, InPhase}
-use Rattle.vcd_text.specs.LookedAt.{HasLookedAt}
-use Rattle.vcd_text.specs.Registers.{phase_at, registers_at}
-use Rattle.vcd_text.specs.declared.offset.Offset.{Offset}
-use Rattle.vcd_text.specs.declared.registers.Parked.{Parked}
-use Rattle.vcd_text.specs.declared.registers.Phase.{Phase}
-use Rattle.vcd_text.specs.declared.registers.Phase.TheVariants.{Going, Ended}
-use Rattle.vcd_text.proofs.Known.{parked-stands}
-use Rattle.vcd_text.proofs.Steps.{before_or_from, live-end, live-first, live-others, live-whites, token_to}
-use Rattle.vcd_text.proofs.Streams.{clean-stream, given-first, long-stream, much-stream}
+use Rattle.vcd_changes.proofs.Cited.{◌≡◌, ◌∙◌, ◌⊎◌, inl, inr, ℕ, zero, suc, ◌+◌, ◌-◌, ◌^◌, ◌<◌, ◌≤◌, Bool, true, false, List, [], ◌∷◌, ◌++◌, length, take, drop, Option, Some, None, ap, refl, sym, subst, append_assoc, arith, slice_index, unwrap_or, length-take-le, is_white_space, Clean, IsPrefixOf, Stream, Token, stream_of, Ends, whole, HasGivenTo, HasGivenAt, InPhase, HasLookedAt, phase_at, registers_at, Offset, Parked, Phase, Going, Ended, parked-stands, before_or_from, live-end, live-first, live-others, live-whites, token_to, clean-stream, given-first, long-stream, much-stream}
 
 module _ (a b : ℕ) (le : a ≤ b) where
   -- what was looked at under the lower limit was under the other

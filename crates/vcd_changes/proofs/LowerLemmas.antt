@@ -1,26 +1,7 @@
 -- What a call finds under a lower token limit it finds under the other, unless a token is too long.
-use Rattle.std.proofs.Common.{◌≡◌, ◌≢◌, ◌∙◌, ◌⊎◌, inl, inr, ℕ, ◌≤◌, IsTrue, false, List, [], ◌∷◌, ◌++◌, length, replicate, Option, Some, None, ap, refl, sym, subst, append_assoc}
-use Rattle.std.proofs.lemmas.List.{length-replicate}
-use Rattle.vcd_model.specs.BodyPhrases.{BodyPhrase}
-use Rattle.vcd_model.specs.BodyReading.{body_fault_of, body_grammar, body_items, read_body}
-use Rattle.vcd_model.specs.Declarations.{IdCode}
-use Rattle.vcd_model.specs.HeaderPhrases.{HeaderPhrase}
-use Rattle.vcd_model.specs.HeaderReading.{header_fault_of, header_grammar, read_header}
-use Rattle.vcd_model.specs.Items.{BodyItem}
-use Rattle.vcd_model.specs.Laws.{IsPrefixOf}
-use Rattle.vcd_model.specs.Reading.{Ending, Ends, Fault, Grammar, IsReading, Reading, missing}
-use Rattle.vcd_model.specs.Reading.Ending.{AtFault, AtEnd, AtLast}
-use Rattle.vcd_model.specs.Tokens.{Stream, Token, stream_of}
-use Rattle.vcd_model.proofs.BodyGrammar.{body_reading_is_unique}
-use Rattle.vcd_model.proofs.HeaderGrammar.{header_reading_is_unique}
-use Rattle.vcd_text.specs.Answer.{whole}
-use Rattle.vcd_text.specs.Feed.{HasGivenTo}
-use Rattle.vcd_text.specs.declared.offset.Offset.{Offset}
-use Rattle.vcd_body.specs.Reads.{BodyHas}
-use Rattle.vcd_changes.specs.Reading.{EndsAt, FindsUnder, GoesOnUnder, HasCodes, IsAfter, IsLimitEnough}
-use Rattle.vcd_changes.specs.declared.reading.Place.{Place}
+use Rattle.vcd_changes.proofs.Cited.{◌≡◌, ◌≢◌, ◌∙◌, ◌⊎◌, inl, inr, ℕ, ◌≤◌, IsTrue, false, List, [], ◌∷◌, ◌++◌, length, replicate, Option, Some, None, ap, refl, sym, subst, append_assoc, length-replicate, BodyPhrase, body_fault_of, body_grammar, body_items, read_body, IdCode, HeaderPhrase, header_fault_of, header_grammar, read_header, BodyItem, IsPrefixOf, Ending, Fault, Grammar, IsReading, missing, AtFault, AtEnd, AtLast, Stream, Token, stream_of, body_reading_is_unique, header_reading_is_unique, whole, HasGivenTo, Offset, BodyHas, EndsAt, FindsUnder, GoesOnUnder, HasCodes, IsAfter, IsLimitEnough, Place, ChangeRow}
+use Rattle.vcd_model.specs.Reading.{Ends, Reading}
 use Rattle.vcd_changes.specs.declared.reading.Reading as reading
-use Rattle.vcd_changes.specs.declared.row.ChangeRow.{ChangeRow}
 use Rattle.vcd_changes.proofs.LimitLemmas.{are_alike, first_tokens, given_to}
 
 -- ---- a reading that has met a fault

@@ -1,34 +1,8 @@
 -- A `Place` keeps what is known of the items before it, and a feed over a dump in memory has met no
 -- failed read.
-use Rattle.std.proofs.Common.{◌≡◌, ◌≢◌, ◌∙◌, ◌==◌, ◌<◌, ◌++◌, ℕ, Bool, true, false, not, cond, List, Option, Some, None, Ok, Err, ap, refl, sym, subst, length, inl, inr, arith}
-use Rattle.vcd_model.specs.Declarations.{IdCode}
-use Rattle.vcd_model.specs.Input.{Clean, Failed, Input}
-use Rattle.vcd_model.specs.Items.{BodyItem}
-use Rattle.vcd_model.specs.Tokens.{Token}
-use Rattle.vcd_text.specs.Advances.{HasNotFailed}
-use Rattle.vcd_text.specs.Answer.{whole}
-use Rattle.vcd_text.specs.Feed.{HasGiven, HasGivenTo, chunk_len_of, limit_of}
-use Rattle.vcd_text.specs.Given.{InPhase}
-use Rattle.vcd_text.specs.Registers.{IsOffset, settled}
+use Rattle.vcd_changes.proofs.Cited.{◌≡◌, ◌≢◌, ◌∙◌, ◌==◌, ◌<◌, ◌++◌, ℕ, Bool, true, false, not, cond, List, Option, Some, None, Ok, Err, ap, refl, sym, subst, length, inl, inr, arith, IdCode, Clean, Failed, Input, BodyItem, Token, HasNotFailed, whole, HasGiven, HasGivenTo, chunk_len_of, limit_of, InPhase, IsOffset, settled, Ghosts, Feed, Offset, Parked, Phase, Going, Ended, Halted, AreRegsAfter, BodyHas, GaveItems, Regs, Section, Vars, Off, On, All, Place, EndsSo, Reading, ChangeRow, Filled, EndsAt, IsAfter, status_of, place_of, regs_of, section_at, section_number}
 use Rattle.vcd_text.specs.declared.answer.Halt.TheVariants as halt
-use Rattle.vcd_text.specs.declared.device.Source.{Ghosts}
-use Rattle.vcd_text.specs.declared.feed.Feed.{Feed}
-use Rattle.vcd_text.specs.declared.offset.Offset.{Offset}
-use Rattle.vcd_text.specs.declared.registers.Parked.{Parked}
-use Rattle.vcd_text.specs.declared.registers.Phase.{Phase}
-use Rattle.vcd_text.specs.declared.registers.Phase.TheVariants.{Going, Ended, Halted}
-use Rattle.vcd_body.specs.Items.{AreRegsAfter}
-use Rattle.vcd_body.specs.Reads.{BodyHas, GaveItems}
-use Rattle.vcd_body.specs.declared.item.Regs.{Regs}
-use Rattle.vcd_body.specs.declared.item.Section.{Section}
-use Rattle.vcd_body.specs.declared.item.Section.TheVariants.{Vars, Off, On, All}
-use Rattle.vcd_changes.specs.declared.reading.Place.{Place}
-use Rattle.vcd_changes.specs.Rows.{EndsSo}
-use Rattle.vcd_changes.specs.declared.reading.Reading.{Reading}
-use Rattle.vcd_changes.specs.declared.row.ChangeRow.{ChangeRow}
-use Rattle.vcd_changes.specs.declared.rows.Filled.{Filled}
 use Rattle.vcd_changes.specs.declared.rows.Filled.TheVariants as filled
-use Rattle.vcd_changes.specs.Reading.{EndsAt, IsAfter, status_of, place_of, regs_of, section_at, section_number}
 
 section_back : (s : Option Section) → section_at (section_number s) ≡ s
 section_back None = refl

@@ -1,29 +1,7 @@
 -- The rows of a code, with one item more.
-use Rattle.std.proofs.Common.{◌≡◌, ◌∙◌, ◌==◌, ℕ, max, Bool, true, false, cond, List, [], ◌∷◌, ◌++◌, ap, refl, sym, subst, fold, bytes_eq, filter_map, slice_get, Some, None, append-nil, inl, inr}
-use Rattle.std.proofs.lemmas.Bool.Decides.{eqb_tells}
+use Rattle.vcd_changes.proofs.Cited.{◌≡◌, ◌∙◌, ◌==◌, ℕ, max, Bool, true, false, cond, List, [], ◌∷◌, ◌++◌, ap, refl, sym, subst, fold, bytes_eq, filter_map, slice_get, Some, None, append-nil, inl, inr, eqb_tells, filter_map-append, bytes_eq-Decides, IdCode, Input, BodyItem, Change, Entry, entries, entry_after, marks, time_after, time_mark, Token, entries-append, Ghosts, Feed, IsIndex, same_place, GivesItem, IsItem, item_text, text_of, model_form, model_section, GaveItems, IsSection, Form, Item, Time, Begin, End, Finish, Regs, GaveRows, row_added, row_in, row_of, rows_of, ChangeRow}
 use Rattle.std.proofs.lemmas.List.{append_assoc}
-use Rattle.std.proofs.lemmas.List.Elements.{filter_map-append}
-use Rattle.std.proofs.lemmas.Slice.Eq.{bytes_eq-Decides}
-use Rattle.vcd_model.specs.Declarations.{IdCode}
-use Rattle.vcd_model.specs.Input.{Input}
-use Rattle.vcd_model.specs.Items.{BodyItem, Change, Entry, entries, entry_after, marks, time_after, time_mark}
-use Rattle.vcd_model.specs.Tokens.{Token}
-use Rattle.vcd_model.proofs.Growing.{entries-append}
-use Rattle.vcd_text.specs.declared.device.Source.{Ghosts}
-use Rattle.vcd_text.specs.declared.feed.Feed.{Feed}
-use Rattle.vcd_view.specs.Views.{IsIndex}
-use Rattle.vcd_view.proofs.LookUpLemmas.{same_place}
-use Rattle.vcd_body.specs.Given.{GivesItem, IsItem, item_text, text_of}
-use Rattle.vcd_body.specs.Items.{model_form, model_section}
-use Rattle.vcd_body.specs.Reads.{GaveItems}
-use Rattle.vcd_body.specs.Taken.{IsSection}
-use Rattle.vcd_body.specs.declared.item.Form.{Form}
-use Rattle.vcd_body.specs.declared.item.Item.{Item}
-use Rattle.vcd_body.specs.declared.item.Item.TheVariants.{Time, Begin, End, Finish}
 use Rattle.vcd_body.specs.declared.item.Item.TheVariants as item
-use Rattle.vcd_body.specs.declared.item.Regs.{Regs}
-use Rattle.vcd_changes.specs.Rows.{GaveRows, row_added, row_in, row_of, rows_of}
-use Rattle.vcd_changes.specs.declared.row.ChangeRow.{ChangeRow}
 
 -- a section's begin or end adds none
 pub no_row : (index time : ℕ) (text : List ℕ) (it : Item) → IsSection it → row_added index time text it ≡ []

@@ -1,25 +1,5 @@
 -- Rows of items that lie ahead in a feed's chunk, one item after the other.
-use Rattle.std.proofs.Common.{◌≡◌, ◌∙◌, ℕ, Bool, true, false, cond, List, [], ◌∷◌, ◌++◌, Result, Ok, Err, Some, ap, append_assoc, append-nil, refl, slice_get, subst, sym}
-use Rattle.vcd_model.specs.Declarations.{IdCode}
-use Rattle.vcd_model.specs.Header.{Header}
-use Rattle.vcd_model.specs.Items.{BodyItem, time_after}
-use Rattle.vcd_model.specs.Tokens.{Token}
-use Rattle.vcd_text.specs.Ahead.{bytes_of, longest_of, passed_of}
-use Rattle.vcd_text.specs.Passed.{Passed}
-use Rattle.vcd_text.specs.declared.ahead.Ahead.{Ahead}
-use Rattle.vcd_text.specs.declared.device.WriteFailed.{WriteFailed}
-use Rattle.vcd_view.specs.Views.{IsViewOf}
-use Rattle.vcd_view.specs.declared.view.HeadView.{HeadView}
-use Rattle.vcd_body.specs.Ahead.{GaveAhead, LooksOver, PassesNoItem}
-use Rattle.vcd_body.specs.Items.{AreRegsAfter}
-use Rattle.vcd_body.specs.Walk.{Begins, Further, Past, Trail, Walks, stage_at}
-use Rattle.vcd_body.specs.declared.item.Regs.{Regs}
-use Rattle.vcd_body.proofs.CallerLemmas.{gave_none_ahead}
-use Rattle.vcd_changes.specs.Rows.{row_added}
-use Rattle.vcd_changes.specs.Walk.{Added, Came, HasRoom, RowStage, SameRows, TakesRow, filled, is_full, passed_at, passed_with, rows_at}
-use Rattle.vcd_changes.specs.declared.row.ChangeRow.{ChangeRow}
-use Rattle.vcd_changes.specs.declared.walk.Collecting.{Collecting}
-use Rattle.vcd_changes.specs.declared.walk.Rows.{Rows}
+use Rattle.vcd_changes.proofs.Cited.{◌≡◌, ◌∙◌, ℕ, Bool, true, false, cond, List, [], ◌∷◌, ◌++◌, Result, Ok, Err, Some, ap, append_assoc, append-nil, refl, slice_get, subst, sym, IdCode, Header, BodyItem, time_after, Token, bytes_of, longest_of, passed_of, Passed, Ahead, WriteFailed, IsViewOf, HeadView, GaveAhead, LooksOver, PassesNoItem, AreRegsAfter, Begins, Further, Past, Trail, Walks, stage_at, Regs, gave_none_ahead, row_added, Added, Came, HasRoom, RowStage, SameRows, TakesRow, filled, is_full, passed_at, passed_with, rows_at, ChangeRow, Collecting, Rows}
 use Rattle.vcd_changes.proofs.RowLemmas.{filled_more, filled_none, row_more}
 
 module _ (v : HeadView) (stands : Collecting → Rows → List ℕ → Regs → Type 0) (s : RowStage) where

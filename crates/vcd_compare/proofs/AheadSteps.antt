@@ -1,34 +1,7 @@
 -- Items that a run takes ahead in a feed's chunk, one after the other.
-use Rattle.std.proofs.Common.{◌≡◌, ℕ, Bool, true, false, not, List, [], ◌∷◌, ◌++◌, Result, Ok, Err, refl, sym, ap, subst, ◌∙◌, append-nil, append_assoc}
-use Rattle.vcd_model.specs.Bytes.{is_empty}
-use Rattle.vcd_model.specs.Header.{Header}
-use Rattle.vcd_model.specs.Items.{BodyItem}
+use Rattle.vcd_compare.proofs.Cited.{◌≡◌, ℕ, Bool, true, false, not, List, [], ◌∷◌, ◌++◌, Result, Ok, Err, refl, sym, ap, subst, ◌∙◌, append-nil, append_assoc, is_empty, Header, BodyItem, Token, Names, within_open, ahead_of, bytes_of, lines_of, longest_of, passed_of, Device, Writes, limit_of, Passed, Ahead, Ghosts, WriteFailed, Feed, IsViewOf, HeadView, GaveAhead, GivesAhead, LooksOver, PassesNoItem, AreRegsAfter, regs_after, Begins, Further, Past, Stage, Trail, Walks, stage_at, Regs, gave_none_ahead, walk_passes, model_asked, Compares, ComparesOne, IsCounted, SameRequest, StepsAhead, Comparison, Watched, Run}
 use Rattle.vcd_model.specs.Compare.{Asked as ModelAsked}
-use Rattle.vcd_model.specs.Tokens.{Token}
-use Rattle.vcd_model.specs.Within.{Names, within_open}
-use Rattle.vcd_text.specs.Ahead.{ahead_of, bytes_of, lines_of, longest_of, passed_of}
-use Rattle.vcd_text.specs.Device.{Device, Writes}
-use Rattle.vcd_text.specs.Feed.{limit_of}
-use Rattle.vcd_text.specs.Passed.{Passed}
-use Rattle.vcd_text.specs.declared.ahead.Ahead.{Ahead}
-use Rattle.vcd_text.specs.declared.device.Source.{Ghosts}
-use Rattle.vcd_text.specs.declared.device.WriteFailed.{WriteFailed}
-use Rattle.vcd_text.specs.declared.feed.Feed.{Feed}
-use Rattle.vcd_view.specs.Views.{IsViewOf}
-use Rattle.vcd_view.specs.declared.view.HeadView.{HeadView}
-use Rattle.vcd_body.specs.Ahead.{GaveAhead, GivesAhead, LooksOver, PassesNoItem}
-use Rattle.vcd_body.specs.Items.{AreRegsAfter, regs_after}
-use Rattle.vcd_body.specs.Walk.{Begins, Further, Past, Stage, Trail, Walks, stage_at}
-use Rattle.vcd_body.specs.declared.item.Regs.{Regs}
-use Rattle.vcd_body.proofs.CallerLemmas.{gave_none_ahead}
-use Rattle.vcd_body.proofs.WalkLemmas.{walk_passes}
-use Rattle.vcd_compare.specs.Asked.{model_asked}
-use Rattle.vcd_compare.specs.Comparing.{Compares, ComparesOne, IsCounted, SameRequest}
-use Rattle.vcd_compare.specs.Run.{StepsAhead}
 use Rattle.vcd_compare.specs.declared.asked.Asked.{Asked}
-use Rattle.vcd_compare.specs.declared.comparing.Comparison.{Comparison}
-use Rattle.vcd_compare.specs.declared.comparing.Watched.{Watched}
-use Rattle.vcd_compare.specs.declared.whole.Run.{Run}
 
 abbrev pub Counted : Watched → Comparison → List ℕ → Regs → Type 0
 Counted w c bytes r = IsCounted w c

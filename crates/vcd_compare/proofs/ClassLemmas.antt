@@ -1,15 +1,7 @@
 -- The ends of classes, one more at a time: from the last end of a code on, each leads to the one
 -- before it.
-use Rattle.std.proofs.Common.{◌≡◌, ◌≢◌, ℕ, suc, ◌*◌, ◌<◌, ◌≤◌, ◌==◌, not, if◌then◌else◌, Bool, true, false, List, [], ◌∷◌, ◌++◌, length, set, get_or, slice_get, Some, inl, inr, refl, sym, ap, subst, ◌∙◌, arith}
-use Rattle.std.proofs.lemmas.Bool.{cases_eq, eqb-false, eqb-true}
-use Rattle.std.specs.List.{list_any, position_or_len}
-use Rattle.std.proofs.lemmas.List.{append_assoc, append-nil, get_or-set_other, get_or-set_same, length-append, length-set}
-use Rattle.std.proofs.lemmas.Option.{get_or_from_slice_get, slice_get-get_or, slice_get_within}
-use Rattle.vcd_view.proofs.ListLemmas.{slice_get-front, slice_get-seam}
-use Rattle.vcd_compare.specs.Pairs.{AreLinked, IsLastEnd}
-use Rattle.vcd_compare.specs.declared.pairs.End.{End}
-use Rattle.vcd_compare.specs.Classes.{AddsEnd, EntersClass, HasClasses}
-use Rattle.vcd_compare.specs.Variables.{same_key}
+use Rattle.vcd_compare.proofs.Cited.{◌≡◌, ◌≢◌, ℕ, suc, ◌*◌, ◌<◌, ◌≤◌, ◌==◌, not, if◌then◌else◌, Bool, true, false, List, [], ◌∷◌, ◌++◌, length, set, get_or, slice_get, Some, inl, inr, refl, sym, ap, subst, ◌∙◌, arith, cases_eq, eqb-false, eqb-true, list_any, position_or_len, get_or-set_other, get_or-set_same, length-append, length-set, get_or_from_slice_get, slice_get-get_or, slice_get_within, slice_get-front, slice_get-seam, AreLinked, IsLastEnd, End, AddsEnd, EntersClass, HasClasses, same_key}
+use Rattle.std.proofs.lemmas.List.{append_assoc, append-nil}
 use Rattle.vcd_compare.proofs.PathTexts.{at_most, first_passes, none_first, same_is}
 
 -- an end more, of another code

@@ -1,37 +1,9 @@
 -- How a comparison stands with one item more.
-use Prim.Native.Nat.{zero}
-use Rattle.std.proofs.Common.{◌≡◌, ◌⊎◌, inl, inr, ℕ, suc, ◌+◌, ◌<◌, ◌≤◌, ◌*◌, ◌==◌, max, Bool, true, false, cond, ◌&&◌, nat_lt, List, [], ◌∷◌, ◌++◌, length, fold, filter, slice_get, get_or, Option, Some, None, refl, sym, ap, ◌∙◌, append-nil, arith}
-use Rattle.std.specs.Prelude.{IfSome}
-use Rattle.std.specs.List.{AllByRecursion, AllZip, list_any}
-use Rattle.std.proofs.lemmas.Bool.{cases_lt, lt-ltb, ltb-false, or_from, or_parts}
-use Rattle.std.proofs.lemmas.List.Folds.{list_any-append}
-use Rattle.std.proofs.lemmas.Option.{slice_get_cases}
-use Rattle.vcd_model.specs.Declarations.{IdCode, code_of}
-use Rattle.vcd_model.specs.Header.{Header}
-use Rattle.vcd_model.specs.History.{gives_to}
-use Rattle.vcd_model.specs.Items.{BodyItem, marks, time_after}
-use Rattle.vcd_model.specs.Sample.{is_settled}
-use Rattle.vcd_model.specs.Compare.{Asked as ModelAsked, Extent, Pair, differs}
-use Rattle.vcd_model.specs.Cut.{is_mark_above}
-use Rattle.vcd_model.specs.Within.{Names, compared_in, side, times_in, within_open}
-use Rattle.vcd_model.proofs.Times.{fold-append, marks-append, time_after-append}
-use Rattle.vcd_body.specs.Given.{IsItem}
-use Rattle.vcd_body.specs.Taken.{IsSection}
-use Rattle.vcd_body.specs.declared.item.Form.{Form}
-use Rattle.vcd_body.specs.declared.item.Item.{Item}
-use Rattle.vcd_body.specs.declared.item.Item.TheVariants.{Time, Begin, End, Change, Finish}
-use Rattle.vcd_body.proofs.CurrentLemmas.{held_still}
-use Rattle.vcd_compare.specs.Asked.{model_asked}
-use Rattle.vcd_compare.specs.Comparing.{AreCurrent, AreFlags, Compares, IsCounted, IsLastTrigger, stops_before}
-use Rattle.vcd_compare.specs.Flags.{differing}
-use Rattle.vcd_compare.specs.Lines.{DoNotFall, codes_differ, flag_of, had_line, lines_due, time_compared}
-use Rattle.vcd_compare.specs.Pairs.{ArePairs, IsPairAt}
-use Rattle.vcd_compare.specs.declared.comparing.Comparison.{Comparison}
-use Rattle.vcd_compare.specs.declared.comparing.Watched.{Watched}
-use Rattle.vcd_compare.specs.declared.current.Current.{Current}
+use Rattle.vcd_compare.proofs.Cited.{zero, ◌≡◌, ◌⊎◌, inl, inr, ℕ, suc, ◌+◌, ◌<◌, ◌≤◌, ◌*◌, ◌==◌, max, Bool, true, false, cond, ◌&&◌, nat_lt, List, [], ◌∷◌, ◌++◌, length, fold, filter, slice_get, get_or, Option, Some, None, refl, sym, ap, ◌∙◌, append-nil, arith, IfSome, AllByRecursion, AllZip, list_any, cases_lt, lt-ltb, ltb-false, or_from, or_parts, list_any-append, slice_get_cases, IdCode, code_of, Header, gives_to, BodyItem, marks, time_after, is_settled, Extent, Pair, differs, is_mark_above, Names, compared_in, side, times_in, within_open, fold-append, marks-append, time_after-append, IsItem, IsSection, Form, Item, Time, Begin, Change, Finish, held_still, model_asked, AreCurrent, AreFlags, Compares, IsCounted, IsLastTrigger, stops_before, differing, DoNotFall, codes_differ, had_line, lines_due, time_compared, ArePairs, IsPairAt, Comparison, Watched, Current, PairRow, Pairs}
+use Rattle.vcd_model.specs.Compare.{Asked as ModelAsked}
+use Rattle.vcd_body.specs.declared.item.Item.TheVariants.{End}
+use Rattle.vcd_compare.specs.Lines.{flag_of}
 use Rattle.vcd_compare.specs.declared.pairs.End.{End as PairEnd}
-use Rattle.vcd_compare.specs.declared.pairs.PairRow.{PairRow}
-use Rattle.vcd_compare.specs.declared.pairs.Pairs.{Pairs}
 use Rattle.vcd_compare.proofs.DueFlags.{flag_for, none_due, none_had}
 use Rattle.vcd_compare.proofs.FlagLemmas.{compared_other, flag_after, flag_same, settled_flag, settled_other}
 use Rattle.vcd_compare.proofs.OpenGrows.{changes_other, later_compared, open_again, open_later, open_other, state_other, triggered_other}

@@ -1,17 +1,6 @@
 -- The lines at the time that is compared, by the flags.
-use Rattle.std.proofs.Common.{◌≡◌, ℕ, ◌<◌, ◌*◌, ◌==◌, Bool, true, false, not, cond, ◌&&◌, ◌||◌, nat_lt, nat_le, List, [], ◌∷◌, filter, flat_map, refl, sym, ap, ◌∙◌, arith}
-use Rattle.std.specs.List.{AllByRecursion, list_any}
-use Rattle.std.proofs.lemmas.Bool.{lt-ltb, le-ltb, or_parts, or_from}
-use Rattle.std.proofs.lemmas.List.Folds.{list_any-append}
-use Rattle.std.proofs.Math.Bool.{or-false}
-use Rattle.vcd_model.specs.Declarations.{code_of}
-use Rattle.vcd_model.specs.Header.{Header}
-use Rattle.vcd_model.specs.Items.{BodyItem, marks}
-use Rattle.vcd_model.specs.Sample.{is_settled}
-use Rattle.vcd_model.specs.Compare.{Asked, Extent, Pair, changes_at, differs, is_due, value_line}
-use Rattle.vcd_model.specs.Compare.Extent.{First, EachPair, Always}
-use Rattle.vcd_model.specs.Within.{Names, compared_in, side, times_in}
-use Rattle.vcd_compare.specs.Lines.{DoNotFall, IsQuiet, changed_at, codes_differ, flag_of, had_line, is_always, lines_due, time_compared}
+use Rattle.vcd_compare.proofs.Cited.{◌≡◌, ℕ, ◌<◌, ◌*◌, ◌==◌, Bool, true, false, not, cond, ◌&&◌, ◌||◌, nat_lt, nat_le, List, [], ◌∷◌, filter, flat_map, refl, sym, ap, ◌∙◌, arith, AllByRecursion, list_any, lt-ltb, le-ltb, or_parts, or_from, list_any-append, or-false, code_of, Header, BodyItem, marks, is_settled, Asked, Extent, Pair, changes_at, differs, is_due, value_line, First, EachPair, Always, Names, compared_in, side, times_in, DoNotFall, IsQuiet, changed_at, codes_differ, had_line, is_always, time_compared}
+use Rattle.vcd_compare.specs.Lines.{flag_of, lines_due}
 use Rattle.vcd_compare.proofs.PastTimes.{past, past_below, settled_times, times_are}
 
 abbrev pub flag_for : Asked → List BodyItem → Pair → ℕ

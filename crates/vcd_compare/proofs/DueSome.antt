@@ -1,20 +1,5 @@
 -- Which flags are 1, and that lines are due if one of them is.
-use Prim.Native.Nat.{zero}
-use Rattle.std.proofs.Common.{◌≡◌, ◌≢◌, ℕ, suc, ◌+◌, ◌<◌, ◌≤◌, ◌==◌, Bool, true, false, cond, List, [], ◌∷◌, ◌++◌, length, fold, flat_map, slice_get, get_or, Some, refl, sym, ap, ◌∙◌, add-zero, arith}
-use Rattle.std.specs.List.{AllZip, list_any}
-use Rattle.std.proofs.lemmas.Bool.{eqb-true, le-leb, or_parts}
-use Rattle.std.proofs.lemmas.Option.{same_Some}
-use Rattle.vcd_model.specs.Bytes.{is_empty}
-use Rattle.vcd_model.specs.Header.{Header}
-use Rattle.vcd_model.specs.Items.{BodyItem, marks}
-use Rattle.vcd_model.specs.Compare.{Asked, Extent, Pair, differs, is_due, lines_at, value_line}
-use Rattle.vcd_model.specs.Within.{Names, compared_in, side}
-use Rattle.vcd_compare.specs.Comparing.{AreFlags}
-use Rattle.vcd_compare.specs.Flags.{differing}
-use Rattle.vcd_compare.specs.Lines.{DoNotFall, IsQuiet, lines_due, time_compared}
-use Rattle.vcd_compare.specs.Pairs.{ArePairs, IsPairAt}
-use Rattle.vcd_compare.specs.declared.pairs.PairRow.{PairRow}
-use Rattle.vcd_compare.specs.declared.pairs.Pairs.{Pairs}
+use Rattle.vcd_compare.proofs.Cited.{zero, ◌≡◌, ◌≢◌, ℕ, suc, ◌+◌, ◌<◌, ◌≤◌, ◌==◌, Bool, true, false, cond, List, [], ◌∷◌, ◌++◌, length, fold, flat_map, slice_get, get_or, Some, refl, sym, ap, ◌∙◌, add-zero, arith, AllZip, list_any, eqb-true, le-leb, or_parts, same_Some, is_empty, Header, BodyItem, marks, Asked, Extent, Pair, differs, is_due, lines_at, value_line, Names, compared_in, side, AreFlags, differing, DoNotFall, IsQuiet, lines_due, time_compared, ArePairs, IsPairAt, PairRow, Pairs}
 use Rattle.vcd_compare.proofs.CompareSteps.{row_flag}
 use Rattle.vcd_compare.proofs.DueFlags.{due_by_flags, flag_for}
 

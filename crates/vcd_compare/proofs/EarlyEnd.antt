@@ -1,20 +1,7 @@
 -- No item after those that end a run adds a line at a settled time, or takes one away.
-use Rattle.std.proofs.Common.{◌≡◌, ◌⊎◌, inl, inr, ℕ, ◌<◌, ◌≤◌, Bool, true, false, cond, ◌&&◌, ◌||◌, nat_lt, nat_le, List, [], ◌∷◌, ◌++◌, filter, flat_map, refl, sym, ap, subst, ◌∙◌, append-nil, append_assoc}
-use Rattle.std.specs.List.{list_any}
-use Rattle.std.proofs.lemmas.Bool.{cases_lt, lt-leb, or_parts}
-use Rattle.std.proofs.lemmas.List.{append_cancel_left}
-use Rattle.std.proofs.lemmas.List.Folds.{list_any-append}
-use Rattle.std.proofs.Math.Bool.{and-false}
-use Rattle.vcd_model.specs.Bytes.{is_empty}
-use Rattle.vcd_model.specs.Cut.{is_mark_above}
-use Rattle.vcd_model.specs.Header.{Header}
-use Rattle.vcd_model.specs.Items.{BodyItem, marks}
-use Rattle.vcd_model.specs.Sample.{is_settled}
-use Rattle.vcd_model.specs.Compare.{Asked, Extent, Pair, differs, ends_with, is_due, lines_at, value_line}
-use Rattle.vcd_model.specs.Compare.Extent.{First, EachPair, Always}
-use Rattle.vcd_model.specs.Within.{Names, compared_in, ends_run, lines_where, side, times_in, within_head, within_open}
-use Rattle.vcd_model.proofs.Times.{below_greatest, marks-append}
-use Rattle.vcd_compare.specs.Lines.{DoNotFall, lines_due, time_compared}
+use Rattle.vcd_compare.proofs.Cited.{◌≡◌, ◌⊎◌, inl, inr, ℕ, ◌<◌, ◌≤◌, Bool, true, false, cond, ◌&&◌, ◌||◌, nat_lt, nat_le, List, [], ◌∷◌, ◌++◌, filter, flat_map, refl, sym, ap, subst, ◌∙◌, append-nil, append_assoc, list_any, cases_lt, lt-leb, or_parts, append_cancel_left, list_any-append, and-false, is_empty, is_mark_above, Header, BodyItem, marks, is_settled, Asked, Extent, Pair, differs, ends_with, is_due, lines_at, value_line, First, EachPair, Always, Names, compared_in, ends_run, lines_where, side, times_in, within_head, below_greatest, marks-append, DoNotFall, time_compared}
+use Rattle.vcd_model.specs.Within.{within_open}
+use Rattle.vcd_compare.specs.Lines.{lines_due}
 use Rattle.vcd_compare.proofs.DueFlags.{before_last}
 use Rattle.vcd_compare.proofs.OpenGrows.{open_again, open_later, open_other}
 

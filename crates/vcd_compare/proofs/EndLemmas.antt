@@ -1,23 +1,6 @@
 -- The flags of the classes of a code, end by end.
-use Rattle.std.proofs.Common.{◌≡◌, ◌≢◌, ◌⊎◌, inl, inr, ℕ, suc, ◌<◌, ◌≤◌, ◌*◌, ◌+◌, ◌-◌, ◌/◌, ◌%◌, ◌==◌, min, Bool, true, false, cond, List, [], ◌∷◌, ◌++◌, length, slice_get, get_or, Some, None, refl, sym, ap, subst, ◌∙◌, arith}
-use Rattle.std.specs.Prelude.{unwrap_or}
-use Rattle.std.proofs.lemmas.Bool.{cases_lt, eqb-true, eqb-false}
-use Rattle.std.proofs.lemmas.Option.{same_Some, slice_get-get_or, slice_get_cases}
-use Rattle.vcd_model.specs.Declarations.{IdCode, code_of}
-use Rattle.vcd_model.specs.Header.{Header}
-use Rattle.vcd_model.specs.History.{gives_to}
-use Rattle.vcd_model.specs.Items.{BodyItem, time_after}
-use Rattle.vcd_model.specs.Compare.{Asked as ModelAsked, Pair, is_fit}
-use Rattle.vcd_model.specs.Within.{Names}
-use Rattle.vcd_view.specs.declared.view.HeadView.{HeadView}
-use Rattle.vcd_compare.specs.Asked.{model_asked, rule_of}
-use Rattle.vcd_compare.specs.Comparing.{AreCodes, AreFlags, AreMarked, GivesNew, HasNoEnd, differ_from, partner}
-use Rattle.vcd_compare.specs.Flags.{marked}
-use Rattle.vcd_compare.specs.Lines.{codes_differ, flag_of, time_compared}
-use Rattle.vcd_compare.specs.Pairs.{IsClassOf, IsLastEnd}
-use Rattle.vcd_compare.specs.declared.current.Current.{Current}
-use Rattle.vcd_compare.specs.declared.pairs.End.{End}
-use Rattle.vcd_compare.specs.declared.pairs.Pairs.{Pairs}
+use Rattle.vcd_compare.proofs.Cited.{◌≡◌, ◌≢◌, ◌⊎◌, inl, inr, ℕ, suc, ◌<◌, ◌≤◌, ◌*◌, ◌+◌, ◌-◌, ◌/◌, ◌%◌, ◌==◌, min, Bool, true, false, cond, List, [], ◌∷◌, ◌++◌, length, slice_get, get_or, Some, None, refl, sym, ap, subst, ◌∙◌, arith, unwrap_or, cases_lt, eqb-true, eqb-false, same_Some, slice_get-get_or, slice_get_cases, IdCode, code_of, Header, gives_to, BodyItem, time_after, Pair, is_fit, Names, HeadView, model_asked, rule_of, AreCodes, AreFlags, AreMarked, GivesNew, HasNoEnd, differ_from, partner, marked, codes_differ, flag_of, time_compared, IsClassOf, IsLastEnd, Current, End, Pairs}
+use Rattle.vcd_model.specs.Compare.{Asked as ModelAsked}
 use Rattle.vcd_compare.proofs.FlagLemmas.{compared_is, compared_other, flag_changed, flag_same, settled_other}
 use Rattle.vcd_compare.proofs.OpenGrows.{changes_other, state_other}
 use Rattle.vcd_compare.proofs.TriggerLemmas.{gives_no_other}

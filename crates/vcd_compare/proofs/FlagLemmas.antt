@@ -1,20 +1,6 @@
 -- The flag of two codes with one item more.
-use Rattle.std.proofs.Common.{◌≡◌, ◌⊎◌, inl, inr, ℕ, ◌<◌, ◌≤◌, ◌*◌, ◌==◌, max, Bool, true, false, not, cond, ◌&&◌, ◌||◌, nat_lt, nat_le, List, [], ◌∷◌, ◌++◌, fold, filter, None, refl, sym, ap, ◌∙◌, append-nil, arith}
-use Rattle.std.specs.List.{AllByRecursion, list_any}
-use Rattle.std.proofs.lemmas.Bool.{eqb-false, lt-ltb, le-leb, eq-eqb, ne_eqb}
-use Rattle.std.proofs.lemmas.List.Elements.{filter-append}
-use Rattle.std.proofs.lemmas.List.Folds.{list_any-append}
-use Rattle.std.proofs.Math.Bool.{or-false, or-true, and-false}
-use Rattle.vcd_model.specs.Declarations.{IdCode}
-use Rattle.vcd_model.specs.History.{final_value, gives_to}
-use Rattle.vcd_model.specs.Items.{BodyItem, Entry, entries, entry_after, marks, time_after}
-use Rattle.vcd_model.specs.Sample.{is_settled}
-use Rattle.vcd_model.specs.Compare.{Asked, Extent, changes_at, in_order, is_triggered, state_at}
-use Rattle.vcd_model.specs.Within.{side, times_in}
-use Rattle.vcd_model.proofs.FinalValues.{times_within, value_by}
-use Rattle.vcd_model.proofs.Growing.{entries-append}
-use Rattle.vcd_model.proofs.Times.{below_greatest, fold-append, marks-append}
-use Rattle.vcd_compare.specs.Lines.{DoNotFall, changed_at, codes_differ, flag_of, had_line, is_always, time_compared}
+use Rattle.vcd_compare.proofs.Cited.{◌≡◌, ◌⊎◌, inl, inr, ℕ, ◌<◌, ◌≤◌, ◌*◌, ◌==◌, max, Bool, true, false, not, cond, ◌&&◌, ◌||◌, nat_lt, nat_le, List, [], ◌∷◌, ◌++◌, fold, filter, None, refl, sym, ap, ◌∙◌, append-nil, arith, AllByRecursion, list_any, eqb-false, lt-ltb, le-leb, eq-eqb, ne_eqb, filter-append, list_any-append, or-false, or-true, and-false, IdCode, final_value, gives_to, BodyItem, Entry, entries, entry_after, marks, time_after, is_settled, Asked, Extent, changes_at, in_order, is_triggered, state_at, side, times_in, times_within, value_by, entries-append, below_greatest, fold-append, marks-append, DoNotFall, changed_at, codes_differ, had_line, is_always, time_compared}
+use Rattle.vcd_compare.specs.Lines.{flag_of}
 use Rattle.vcd_compare.proofs.OpenGrows.{changes_other, state_other, triggered_other}
 use Rattle.vcd_compare.proofs.PastTimes.{past, past_more, settled_times}
 use Rattle.vcd_compare.proofs.StateLemmas.{state_stays}

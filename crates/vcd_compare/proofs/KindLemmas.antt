@@ -1,7 +1,5 @@
 -- The kind of a variable, by its type.
-use Rattle.std.proofs.Common.{◌≡◌, ◌||◌, Bool, true, false, cond, bytes_eq, codes, sym, ap, ◌∙◌}
-use Rattle.vcd_model.specs.Declarations.{Variable}
-use Rattle.vcd_model.specs.Compare.{Kind, kind_of}
+use Rattle.vcd_compare.proofs.Cited.{◌≡◌, ◌||◌, Bool, true, false, cond, bytes_eq, codes, sym, ap, ◌∙◌, Variable, Kind, kind_of}
 
 module _ (v : Variable) where
   -- the kind by three tests

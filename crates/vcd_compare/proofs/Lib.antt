@@ -27,3 +27,5 @@ pub mod TimeSteps
 pub mod AheadSteps
 pub mod RunSteps
 pub mod StartLemmas
+pub mod Cited
+pub mod Facts

@@ -1,27 +1,7 @@
 -- The lines of a comparison, text by text.
-use Prim.Native.Nat.{zero}
-use Rattle.std.proofs.Common.{◌≡◌, ℕ, suc, ◌+◌, ◌/◌, ◌<◌, ◌==◌, Bool, true, false, cond, ◌&&◌, List, [], ◌∷◌, ◌++◌, length, take, drop, slice_get, get_or, flat_map, decimal, codes, Option, Some, refl, sym, ap, subst, ◌∙◌, append-nil, append_assoc, arith}
-use Rattle.std.specs.Prelude.{IsErr, Result, option_map, unwrap_or, vec_len}
-use Rattle.std.specs.List.{AllZip}
-use Rattle.std.specs.Io.KnownBytes.{Appends}
-use Rattle.std.proofs.lemmas.Bool.{ne_eqb}
-use Rattle.std.proofs.lemmas.List.{take-append-drop}
-use Rattle.std.proofs.lemmas.List.Concat.{flat_map-append}
-use Rattle.vcd_model.specs.Bytes.{is_empty}
-use Rattle.vcd_model.specs.HeadText.{words}
-use Rattle.vcd_model.specs.Items.{BodyItem}
-use Rattle.vcd_model.specs.Declarations.{IdCode, code_of}
-use Rattle.vcd_model.specs.Header.{Header}
-use Rattle.vcd_model.specs.Sample.{shown}
-use Rattle.vcd_model.specs.Compare.{Asked, Named, Pair, alone_lines, is_triggered, kind_of, kind_shown, state_at, unlike_lines, value_line}
-use Rattle.vcd_model.specs.Within.{Names, alone_in, side, turned, unlike_in, within_head}
-use Rattle.vcd_text.specs.Device.{Gains}
-use Rattle.vcd_text.proofs.Writes.{AppendsSome, appends-first, appends-none, appends-some, appends-twice, takes-failed, takes-twice}
-use Rattle.vcd_compare.specs.LineTexts.{states_of}
-use Rattle.vcd_compare.specs.Pairs.{ArePairs, IsNamedAt, IsPairAt, IsUnlikeAt}
-use Rattle.vcd_compare.specs.declared.pairs.End.{End}
-use Rattle.vcd_compare.specs.declared.pairs.PairRow.{PairRow}
-use Rattle.vcd_compare.specs.declared.pairs.Pairs.{Pairs}
+use Rattle.vcd_compare.proofs.Cited.{zero, ◌≡◌, ℕ, suc, ◌+◌, ◌/◌, ◌<◌, ◌==◌, Bool, true, false, cond, ◌&&◌, List, [], ◌∷◌, ◌++◌, length, take, drop, slice_get, get_or, flat_map, decimal, codes, Option, Some, refl, sym, ap, subst, ◌∙◌, append-nil, append_assoc, arith, IsErr, Result, option_map, unwrap_or, vec_len, AllZip, Appends, ne_eqb, take-append-drop, flat_map-append, is_empty, words, BodyItem, IdCode, code_of, Header, shown, Asked, Named, Pair, alone_lines, is_triggered, kind_of, kind_shown, state_at, unlike_lines, value_line, Names, alone_in, side, turned, unlike_in, Gains, AppendsSome, appends-first, appends-none, appends-some, appends-twice, takes-failed, takes-twice, states_of, ArePairs, IsPairAt, IsUnlikeAt, End, PairRow, Pairs}
+use Rattle.vcd_model.specs.Within.{within_head}
+use Rattle.vcd_compare.specs.Pairs.{IsNamedAt}
 
 -- ---- texts, one after the other, or a line for each of several
 

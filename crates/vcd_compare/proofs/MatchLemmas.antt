@@ -1,10 +1,5 @@
 -- Values that match: each matches itself, and without a rule no other.
-use Rattle.std.proofs.Common.{◌≡◌, ℕ, ◌==◌, Bool, true, false, List, [], ◌∷◌, Option, Some, None, bytes_eq, refl, ap, ◌∙◌}
-use Rattle.std.proofs.lemmas.Bool.{eq-eqb}
-use Rattle.std.proofs.lemmas.Slice.Eq.{bytes_eq-Decides}
-use Rattle.std.proofs.Math.Bool.{or-false, or_self}
-use Rattle.vcd_model.specs.Values.{Value, same_value}
-use Rattle.vcd_model.specs.Compare.{Rule, all_match, exactly, match, values_match}
+use Rattle.vcd_compare.proofs.Cited.{◌≡◌, ℕ, ◌==◌, Bool, true, false, List, [], ◌∷◌, Option, Some, None, bytes_eq, refl, ap, ◌∙◌, eq-eqb, bytes_eq-Decides, or-false, or_self, Value, same_value, Rule, all_match, exactly, match, values_match}
 
 -- ---- by any rule
 

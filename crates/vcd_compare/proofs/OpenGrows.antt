@@ -1,23 +1,7 @@
 -- What is due with one item more.
-use Rattle.std.proofs.Common.{◌≡◌, ℕ, ◌<◌, ◌≤◌, ◌*◌, ◌==◌, max, Bool, true, false, not, cond, ◌&&◌, ◌||◌, nat_lt, nat_le, List, [], ◌∷◌, ◌++◌, fold, filter, flat_map, refl, sym, ap, ◌∙◌, append-nil, append_assoc, arith}
-use Rattle.std.specs.List.{AllByRecursion, list_any}
-use Rattle.std.proofs.lemmas.Bool.{ltb-true, lt-ltb, le-ltb}
-use Rattle.std.proofs.lemmas.List.Concat.{flat_map-append}
-use Rattle.std.proofs.lemmas.List.Elements.{filter-append}
-use Rattle.std.proofs.lemmas.List.Folds.{list_any-append}
-use Rattle.std.proofs.Math.Bool.{or-false}
-use Rattle.vcd_model.specs.Declarations.{IdCode, code_of}
-use Rattle.vcd_model.specs.Header.{Header}
-use Rattle.vcd_model.specs.History.{gives_to, last_value}
-use Rattle.vcd_model.specs.Items.{BodyItem, Entry, entries, entry_after, marks, time_after}
-use Rattle.vcd_model.specs.Sample.{is_settled}
-use Rattle.vcd_model.specs.Compare.{Asked, Extent, Pair, changes_at, differs, in_order, is_due, is_triggered, lines_at, state_at, value_line}
-use Rattle.vcd_model.specs.Compare.Extent.{First, EachPair, Always}
-use Rattle.vcd_model.specs.Within.{Names, compared_in, side, times_in, within_open, within_close, within_head}
-use Rattle.vcd_model.proofs.Growing.{entries-append}
-use Rattle.vcd_model.proofs.Latest.{gives_at, last_value_is, latest, latest-append}
-use Rattle.vcd_model.proofs.Times.{below_greatest, fold-append, marks-append}
-use Rattle.vcd_compare.specs.Lines.{DoNotFall, lines_due, time_compared}
+use Rattle.vcd_compare.proofs.Cited.{◌≡◌, ℕ, ◌<◌, ◌≤◌, ◌*◌, ◌==◌, max, Bool, true, false, not, cond, ◌&&◌, ◌||◌, nat_lt, nat_le, List, [], ◌∷◌, ◌++◌, fold, filter, flat_map, refl, sym, ap, ◌∙◌, append-nil, append_assoc, arith, AllByRecursion, list_any, ltb-true, lt-ltb, le-ltb, flat_map-append, filter-append, list_any-append, or-false, IdCode, code_of, Header, gives_to, last_value, BodyItem, Entry, entries, entry_after, marks, time_after, is_settled, Asked, Extent, Pair, changes_at, differs, in_order, is_due, is_triggered, lines_at, state_at, value_line, First, EachPair, Always, Names, compared_in, side, times_in, within_head, entries-append, gives_at, last_value_is, latest, latest-append, below_greatest, fold-append, marks-append, DoNotFall, time_compared}
+use Rattle.vcd_model.specs.Within.{within_open, within_close}
+use Rattle.vcd_compare.specs.Lines.{lines_due}
 use Rattle.vcd_compare.proofs.PastTimes.{other_times, past, past_below, past_more, settled_times, times_are}
 use Rattle.vcd_compare.proofs.StateLemmas.{changes_stay, state_stays}
 

@@ -1,43 +1,8 @@
 -- The outcome of a body, by its first items or by all of them.
-use Rattle.std.proofs.Common.{◌≡◌, ◌⊎◌, inl, inr, ℕ, ◌<◌, ◌≤◌, ◌==◌, Bool, true, false, not, cond, ◌&&◌, ◌||◌, nat_lt, List, [], ◌∷◌, ◌++◌, length, Option, Some, None, Result, Ok, Err, refl, sym, ap, subst, ◌∙◌, append-nil, append_assoc, arith}
-use Rattle.std.specs.List.{AllByRecursion}
-use Rattle.std.proofs.lemmas.Bool.{cases_lt, eqb-true, eqb-false, le-ltb, lt-ltb}
-use Rattle.std.proofs.lemmas.List.{map-append}
-use Rattle.std.proofs.lemmas.Slice.Zip.{AllZip-long}
-use Rattle.vcd_model.specs.Bytes.{is_empty}
-use Rattle.vcd_model.specs.BodyReading.{body_fault_of, body_items, read_body}
-use Rattle.vcd_model.specs.Declarations.{IdCode}
-use Rattle.vcd_model.specs.Header.{Header, header_of}
-use Rattle.vcd_model.specs.HeaderPhrases.{HeaderPhrase}
-use Rattle.vcd_model.specs.HeaderReading.{header_fault_of, header_grammar, read_header}
-use Rattle.vcd_model.specs.Input.{Input}
-use Rattle.vcd_model.specs.Items.{BodyItem, marks}
-use Rattle.vcd_model.specs.Laws.{IsPrefixOf}
-use Rattle.vcd_model.specs.Outcome.{Opened, Outcome, body_of, declarations_allowed, open_from}
-use Rattle.vcd_model.specs.Reading.{Fault, Placed, Reading, phrases_of, reading_of, texts_of}
-use Rattle.vcd_model.specs.Reading.Ending.{AtLast}
-use Rattle.vcd_model.specs.SoFar.{IsWhole}
-use Rattle.vcd_model.specs.Tokens.{Stream, Token, stream_of}
-use Rattle.vcd_model.specs.Compare.{Asked, count_line, fault_after}
-use Rattle.vcd_model.specs.Within.{Names, answer_in, compared_in, ends_run, within, within_close, within_dump, within_open}
-use Rattle.vcd_model.proofs.BodyFacts.{all_back, body_fit}
-use Rattle.vcd_model.proofs.HeaderFacts.{stream_words}
-use Rattle.vcd_model.proofs.ItemStates.{AreFit}
-use Rattle.vcd_model.proofs.MergeSoFar.{fault_output}
-use Rattle.vcd_model.proofs.SoFarLemmas.{whole-more}
-use Rattle.vcd_model.proofs.TokenTexts.{IsWord}
-use Rattle.vcd_text.specs.Answer.{failed_after}
-use Rattle.vcd_text.specs.Device.{Device, WritesSome}
-use Rattle.vcd_text.proofs.Writes.{some-first}
-use Rattle.vcd_body.specs.declared.answer.Done.{Done}
-use Rattle.vcd_body.specs.declared.answer.Done.TheVariants.{Early, Whole}
-use Rattle.vcd_body.specs.declared.answer.Stop.{Stop}
-use Rattle.vcd_body.specs.declared.answer.Stop.TheVariants.{Dump, Read, Write, Unmatched}
-use Rattle.vcd_compare.specs.Lines.{DoNotFall, lines_due, time_compared}
-use Rattle.vcd_compare.specs.Outcomes.{AnswersGiveOutcomes, Belongs, BodiesGiveOutcomes, left_of}
-use Rattle.vcd_compare.specs.Pairs.{IsPairAt}
-use Rattle.vcd_compare.specs.Run.{BodyGives}
-use Rattle.vcd_compare.specs.declared.whole.Answer.{Answer}
+use Rattle.vcd_compare.proofs.Cited.{◌≡◌, ◌⊎◌, inl, inr, ℕ, ◌<◌, ◌≤◌, ◌==◌, Bool, true, false, not, cond, ◌&&◌, ◌||◌, nat_lt, List, [], ◌∷◌, ◌++◌, length, Option, Some, None, Result, Ok, Err, refl, sym, ap, subst, ◌∙◌, append-nil, append_assoc, arith, AllByRecursion, cases_lt, eqb-true, eqb-false, le-ltb, lt-ltb, map-append, AllZip-long, is_empty, body_fault_of, body_items, read_body, IdCode, Header, header_of, HeaderPhrase, header_fault_of, header_grammar, Input, BodyItem, marks, IsPrefixOf, Opened, Outcome, declarations_allowed, Fault, Placed, Reading, phrases_of, reading_of, texts_of, AtLast, IsWhole, Stream, Token, stream_of, Asked, count_line, fault_after, Names, answer_in, compared_in, ends_run, within_close, within_open, all_back, body_fit, stream_words, AreFit, fault_output, whole-more, IsWord, failed_after, Device, WritesSome, some-first, Done, Early, Whole, Stop, Dump, Read, Write, Unmatched, DoNotFall, lines_due, time_compared, AnswersGiveOutcomes, Belongs, BodiesGiveOutcomes, left_of, IsPairAt, BodyGives, Answer}
+use Rattle.vcd_model.specs.HeaderReading.{read_header}
+use Rattle.vcd_model.specs.Outcome.{body_of, open_from}
+use Rattle.vcd_model.specs.Within.{within, within_dump}
 use Rattle.vcd_compare.proofs.EarlyEnd.{ended, up_front}
 use Rattle.vcd_compare.proofs.OpenGrows.{open_again, open_later, open_other}
 

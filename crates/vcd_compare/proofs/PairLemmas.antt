@@ -1,24 +1,6 @@
 -- The pair of a class, and what its codes have in common.
-use Prim.Native.Nat.{zero}
-use Rattle.std.proofs.Common.{◌≡◌, ◌≢◌, ℕ, suc, ◌<◌, ◌==◌, Bool, true, false, cond, ◌||◌, List, [], ◌∷◌, length, filter, filter_map, flat_map, codes, slice_get, get_or, Option, Some, None, refl, sym, ap, subst, ◌∙◌}
-use Rattle.std.specs.Prelude.{MatchOption, bytes_eq, slice_set}
-use Rattle.std.specs.Option.{IsSomeAnd}
-use Rattle.std.proofs.lemmas.Bool.{eqb-true}
+use Rattle.vcd_compare.proofs.Cited.{zero, ◌≡◌, ◌≢◌, ℕ, suc, ◌<◌, ◌==◌, Bool, true, false, cond, ◌||◌, List, [], ◌∷◌, length, filter, filter_map, flat_map, codes, slice_get, get_or, Option, Some, None, refl, sym, ap, subst, ◌∙◌, MatchOption, bytes_eq, slice_set, IsSomeAnd, eqb-true, get_or-set_other, get_or-set_same, same_Some, bytes_eq-Decides, AllZip-left, IdCode, Variable, code_of, Header, Asked, Kind, Pair, is_fit, kind_of, same_kind, Event, Real, Digits, Names, compared_in, pair_at, places_of, marked, ArePairs, IsClassOf, IsPairAt, End, PairRow, Pairs}
 use Rattle.std.proofs.Math.ListN.{length-set}
-use Rattle.std.proofs.lemmas.List.{get_or-set_other, get_or-set_same}
-use Rattle.std.proofs.lemmas.Option.{same_Some}
-use Rattle.std.proofs.lemmas.Slice.Eq.{bytes_eq-Decides}
-use Rattle.std.proofs.lemmas.Slice.Zip.{AllZip-left}
-use Rattle.vcd_model.specs.Declarations.{IdCode, Variable, code_of}
-use Rattle.vcd_model.specs.Header.{Header}
-use Rattle.vcd_model.specs.Compare.{Asked, Kind, Pair, is_fit, kind_of, same_kind}
-use Rattle.vcd_model.specs.Compare.Kind.{Event, Real, Digits}
-use Rattle.vcd_model.specs.Within.{Names, compared_in, pair_at, places_of}
-use Rattle.vcd_compare.specs.Flags.{marked}
-use Rattle.vcd_compare.specs.Pairs.{ArePairs, IsClassOf, IsPairAt}
-use Rattle.vcd_compare.specs.declared.pairs.End.{End}
-use Rattle.vcd_compare.specs.declared.pairs.PairRow.{PairRow}
-use Rattle.vcd_compare.specs.declared.pairs.Pairs.{Pairs}
 
 -- ---- two of a kind
 

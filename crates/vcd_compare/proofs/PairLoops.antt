@@ -1,22 +1,7 @@
 -- The pairs of all variables, one after the other.
-use Rattle.std.proofs.Common.{◌≡◌, ℕ, zero, suc, ◌≤◌, not, cond, Bool, true, false, List, [], ◌∷◌, ◌++◌, length, take, filter, filter_map, flat_map, slice_get, Option, Some, None, refl, sym, ap, subst, ◌∙◌}
-use Rattle.std.specs.Prelude.{is_none, option_map}
-use Rattle.std.specs.Global.{Vec}
-use Rattle.std.specs.List.{AllZip}
-use Rattle.std.proofs.lemmas.List.{append_assoc, append-nil, flat_map_more, take_all}
-use Rattle.std.proofs.lemmas.List.Concat.{flat_map-append}
-use Rattle.std.proofs.lemmas.List.Elements.{filter-append, filter_map-append}
-use Rattle.std.proofs.lemmas.Option.{same_Some}
-use Rattle.vcd_model.specs.Header.{Header}
-use Rattle.vcd_model.specs.Compare.{Asked, Named, Pair, all_named, is_fit, is_left_in}
-use Rattle.vcd_model.specs.Within.{Names, alone_in, at_path, compared_in, pair_at, pairs_in, places_of, rest_of, turned, unlike_in}
-use Rattle.vcd_view.proofs.ListLemmas.{all_zip_push}
-use Rattle.vcd_compare.specs.Counterparts.{IsPlace, place_of}
-use Rattle.vcd_compare.specs.declared.counterparts.Counterpart.{Counterpart}
-use Rattle.vcd_compare.specs.declared.counterparts.Counterpart.TheVariants.{Unselected, Missing, At}
-use Rattle.vcd_compare.specs.HasPairs.{HasPairs, alone_with, compared_with, places_with, unlike_with}
-use Rattle.vcd_compare.specs.declared.pairs.Pairs.{Pairs}
-use Rattle.vcd_compare.specs.Variables.{IsNamedAt}
+use Rattle.vcd_compare.proofs.Cited.{◌≡◌, ℕ, suc, ◌≤◌, not, cond, Bool, true, false, List, [], ◌∷◌, ◌++◌, length, take, filter, filter_map, flat_map, slice_get, Option, Some, None, refl, sym, ap, subst, ◌∙◌, is_none, option_map, Vec, AllZip, flat_map_more, take_all, flat_map-append, filter-append, filter_map-append, same_Some, Header, Asked, Named, Pair, all_named, is_fit, is_left_in, Names, alone_in, at_path, compared_in, pair_at, pairs_in, places_of, rest_of, turned, unlike_in, all_zip_push, IsPlace, place_of, Counterpart, Unselected, Missing, At, HasPairs, alone_with, compared_with, places_with, unlike_with, Pairs, IsNamedAt}
+use Rattle.std.proofs.Common.{zero}
+use Rattle.std.proofs.lemmas.List.{append_assoc, append-nil}
 use Rattle.vcd_compare.proofs.PairSteps.{held_other}
 use Rattle.vcd_compare.proofs.VariableLemmas.{take_next}
 

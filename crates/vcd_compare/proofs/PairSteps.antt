@@ -1,22 +1,7 @@
 -- The pairs of a header, one more at a time.
-use Rattle.std.proofs.Common.{◌≡◌, ℕ, suc, ◌*◌, ◌<◌, Bool, true, false, not, cond, List, [], ◌∷◌, ◌++◌, length, get_or, slice_get, Option, Some, None, inl, inr, sym, ap, subst, ◌∙◌}
-use Rattle.std.specs.Global.{Vec}
-use Rattle.std.specs.List.{AllZip}
+use Rattle.vcd_compare.proofs.Cited.{◌≡◌, ℕ, suc, ◌*◌, ◌<◌, Bool, true, false, not, cond, List, [], ◌∷◌, ◌++◌, length, get_or, slice_get, Option, Some, None, inl, inr, sym, ap, subst, ◌∙◌, Vec, AllZip, get_or_from_slice_get, Variable, code_of, Header, Kind, Named, Pair, all_named, is_fit, kind_of, same_kind, all_zip_push, slice_get-front, slice_get-seam, EntersClass, HasPairs, alone_with, compared_of, compared_with, unlike_of, unlike_with, HasEnd, HoldsPairs, IsClassOf, IsPairAt, IsUnlikeAt, IsAt, IsNamedAt, UnlikeRows, End, PairRow, Pairs}
 use Rattle.std.proofs.lemmas.List.{append-nil}
-use Rattle.std.proofs.lemmas.Option.{get_or_from_slice_get}
-use Rattle.vcd_model.specs.Declarations.{Variable, code_of}
-use Rattle.vcd_model.specs.Header.{Header}
-use Rattle.vcd_model.specs.Compare.{Kind, Named, Pair, all_named, is_fit, kind_of, same_kind}
-use Rattle.vcd_view.proofs.ListLemmas.{all_zip_push, slice_get-front, slice_get-seam}
-use Rattle.vcd_compare.specs.Classes.{EntersClass}
-use Rattle.vcd_compare.specs.HasPairs.{HasPairs, alone_with, compared_of, compared_with, unlike_of, unlike_with}
-use Rattle.vcd_compare.specs.Pairs.{HasEnd, HoldsPairs, IsClassOf, IsPairAt, IsUnlikeAt}
-use Rattle.vcd_compare.specs.Variables.{IsAt, IsNamedAt}
 use Rattle.vcd_compare.proofs.PlaceLemmas.{zip_at}
-use Rattle.vcd_compare.specs.declared.pairs.UnlikeRows.{UnlikeRows}
-use Rattle.vcd_compare.specs.declared.pairs.End.{End}
-use Rattle.vcd_compare.specs.declared.pairs.PairRow.{PairRow}
-use Rattle.vcd_compare.specs.declared.pairs.Pairs.{Pairs}
 
 pub zip_weaker : {X Y : Type 0} (R S : X → Y → Type 0) (xs : List X) (ys : List Y) → ((x : X) (y : Y) → R x y → S x y) → AllZip R xs ys → AllZip S xs ys
 zip_weaker R S [] [] f all = tt

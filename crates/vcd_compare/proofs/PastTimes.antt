@@ -1,14 +1,5 @@
 -- The times of a comparison, in order: those that are settled, and then the one that is compared next.
-use Rattle.std.proofs.Common.{◌≡◌, ℕ, ◌<◌, ◌≤◌, ◌==◌, max, Bool, true, false, not, cond, ◌&&◌, nat_lt, nat_le, List, [], ◌∷◌, ◌++◌, fold, filter, refl, sym, ap, subst, ◌∙◌, append-nil, arith}
-use Rattle.std.specs.List.{AllByRecursion, list_any}
-use Rattle.std.proofs.lemmas.Bool.{eqb-true, eqb-false, ltb-true, ltb-false, le-ltb, lt-leb, le-leb, or_left, or_right}
-use Rattle.std.proofs.lemmas.List.Elements.{filter-append}
-use Rattle.vcd_model.specs.Items.{BodyItem, marks}
-use Rattle.vcd_model.specs.Sample.{is_settled}
-use Rattle.vcd_model.specs.Compare.{Asked, in_order, with_time}
-use Rattle.vcd_model.specs.Within.{times_in}
-use Rattle.vcd_model.proofs.Times.{greatest_from}
-use Rattle.vcd_compare.specs.Lines.{DoNotFall, time_compared}
+use Rattle.vcd_compare.proofs.Cited.{◌≡◌, ℕ, ◌<◌, ◌≤◌, ◌==◌, max, Bool, true, false, not, cond, ◌&&◌, nat_lt, nat_le, List, [], ◌∷◌, ◌++◌, fold, filter, refl, sym, ap, subst, ◌∙◌, append-nil, arith, AllByRecursion, list_any, eqb-true, eqb-false, ltb-true, ltb-false, le-ltb, lt-leb, le-leb, or_left, or_right, filter-append, BodyItem, marks, is_settled, Asked, in_order, with_time, times_in, greatest_from, DoNotFall, time_compared}
 
 -- the numbers above all before them and above a bound
 abbrev rises : ℕ → List ℕ → List ℕ

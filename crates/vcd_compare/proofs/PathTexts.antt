@@ -1,20 +1,8 @@
 -- The texts of paths: which parts they consist of, and one path more.
-use Rattle.std.proofs.Common.{◌≡◌, ◌≢◌, ℕ, zero, suc, ◌≤◌, ◌==◌, ◌&&◌, ◌||◌, nat_eq, nat_lt, Bool, true, false, if◌then◌else◌, cond, bytes_eq, position, map, Option, not, ◌+◌, List, [], ◌∷◌, ◌++◌, length, get_or, slice_get, Some, None, inl, inr, refl, sym, ap, subst, ◌∙◌, arith}
-use Rattle.std.specs.List.{list_any, position_or_len}
-use Rattle.std.proofs.lemmas.Bool.{le-ltb, lt-ltb, eq-eqb, eqb-true, and_parts, and_from, or_parts}
-use Rattle.std.specs.Prelude.{option_map}
-use Rattle.std.specs.Global.{Vec}
-use Rattle.std.specs.HashSet.{HashSet}
-use Rattle.std.proofs.lemmas.List.{append_assoc, append-nil, length-append, length-map, map-append}
-use Rattle.std.proofs.lemmas.Slice.Eq.{bytes_eq-Decides}
-use Rattle.std.proofs.lemmas.List.Folds.{list_any-append}
-use Rattle.std.proofs.lemmas.Option.{same_Some, slice_get-get_or, slice_get-map, get_or_from_slice_get, slice_get_within}
-use Rattle.std.proofs.Math.Bool.{or-true}
-use Rattle.vcd_view.proofs.ListLemmas.{slice_get-front, slice_get-seam, there}
+use Rattle.vcd_compare.proofs.Cited.{◌≡◌, ◌≢◌, ℕ, suc, ◌≤◌, ◌==◌, ◌&&◌, ◌||◌, nat_eq, nat_lt, Bool, true, false, if◌then◌else◌, cond, bytes_eq, position, map, Option, not, ◌+◌, List, [], ◌∷◌, ◌++◌, length, get_or, slice_get, Some, None, inl, inr, refl, sym, ap, subst, ◌∙◌, arith, list_any, position_or_len, le-ltb, lt-ltb, eq-eqb, eqb-true, and_parts, and_from, or_parts, option_map, Vec, HashSet, length-append, length-map, map-append, bytes_eq-Decides, list_any-append, same_Some, slice_get-get_or, slice_get-map, get_or_from_slice_get, slice_get_within, or-true, slice_get-front, slice_get-seam, there, AreApart, AreTexts, EntersPath, EntersText, HasTexts, IsNumberOf, has_dot, joined, texts_in, Paths, CodeSeed}
+use Rattle.std.proofs.Common.{zero}
+use Rattle.std.proofs.lemmas.List.{append_assoc, append-nil}
 use mathlib.Core.Logic.{◌⊎◌}
-use Rattle.vcd_compare.specs.Paths.{AreApart, AreTexts, EntersPath, EntersText, HasTexts, IsNumberOf, has_dot, joined, texts_in}
-use Rattle.vcd_compare.specs.declared.paths.Paths.{Paths}
-use Rattle.vcd_view.specs.declared.code_hash.CodeSeed.{CodeSeed}
 
 -- ---- the last dot
 

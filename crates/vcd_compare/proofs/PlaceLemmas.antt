@@ -1,26 +1,8 @@
 -- What a name selects, path by path: a path inside another one, and what has another name in place of
 -- the first.
-use Rattle.std.proofs.Common.{◌≡◌, ◌≢◌, ℕ, zero, suc, ◌+◌, ◌<◌, ◌≤◌, ◌==◌, ◌&&◌, ◌||◌, not, nat_eq, nat_lt, Bool, true, false, cond, List, [], ◌∷◌, ◌++◌, length, drop, get_or, slice_get, find, position, bytes_eq, Option, Some, None, inl, inr, refl, sym, ap, subst, ◌∙◌, arith}
-use Rattle.std.specs.Prelude.{option_map}
-use Rattle.std.specs.List.{AllZip, list_any, position_or_len, starts_with}
-use Rattle.std.proofs.lemmas.List.Folds.{find_at}
-use Rattle.std.proofs.lemmas.Bool.{eq-eqb, eqb-false, eqb-true, ne_eqb, ltb-true, ltb-false, false_from_ne_true, or_parts}
-use Rattle.std.proofs.lemmas.List.{append_assoc, append-nil, length-append}
-use Rattle.std.proofs.lemmas.Option.{get_or_from_slice_get, same_Some, slice_get-get_or, slice_get_past, slice_get_within}
-use Rattle.std.proofs.lemmas.Slice.Eq.{bytes_eq-Decides}
-use Rattle.std.proofs.Math.Bool.{or-false}
-use Rattle.vcd_model.specs.Header.{Header}
-use Rattle.vcd_model.specs.Selection.{selects_path}
-use Rattle.vcd_model.specs.Compare.{Asked, Named, all_named, is_left_in}
-use Rattle.vcd_model.specs.Within.{Names, at_path, rest_of}
-use Rattle.vcd_view.proofs.ListLemmas.{bytes_flip, slice_get-front, slice_get-seam, there}
-use Rattle.vcd_head.proofs.NamePaths.{selected_begins, selects_behind_byte, selects-front, selects-longer, selects_split}
-use Rattle.vcd_compare.specs.Counterparts.{AreCounterparts, AreLeftOut, IsCounterpart, IsPlace, found_at, looked_up, numbered, place_of}
-use Rattle.vcd_compare.specs.Paths.{AreApart, AreTexts, IsNumberOf, has_dot, joined}
-use Rattle.vcd_compare.specs.Variables.{AreVariables, IsKeyOf, same_key}
-use Rattle.vcd_compare.specs.declared.counterparts.Counterpart.{Counterpart}
-use Rattle.vcd_compare.specs.declared.counterparts.Counterpart.TheVariants.{Unselected, Missing, At}
-use Rattle.vcd_compare.specs.declared.variables.Variables.{Variables}
+use Rattle.vcd_compare.proofs.Cited.{◌≡◌, ◌≢◌, ℕ, suc, ◌+◌, ◌<◌, ◌≤◌, ◌==◌, ◌&&◌, ◌||◌, not, nat_eq, nat_lt, Bool, true, false, cond, List, [], ◌∷◌, ◌++◌, length, drop, get_or, slice_get, find, position, bytes_eq, Option, Some, None, inl, inr, refl, sym, ap, subst, ◌∙◌, arith, option_map, AllZip, list_any, position_or_len, starts_with, find_at, eq-eqb, eqb-false, eqb-true, ne_eqb, ltb-true, ltb-false, false_from_ne_true, or_parts, length-append, get_or_from_slice_get, same_Some, slice_get-get_or, slice_get_past, slice_get_within, bytes_eq-Decides, or-false, Header, selects_path, Asked, Named, all_named, is_left_in, Names, at_path, rest_of, bytes_flip, slice_get-front, slice_get-seam, there, selected_begins, selects_behind_byte, selects-front, selects-longer, selects_split, AreCounterparts, AreLeftOut, IsCounterpart, IsPlace, found_at, looked_up, numbered, place_of, AreApart, AreTexts, IsNumberOf, has_dot, joined, AreVariables, IsKeyOf, same_key, Counterpart, Unselected, Missing, At, Variables}
+use Rattle.std.proofs.Common.{zero}
+use Rattle.std.proofs.lemmas.List.{append_assoc, append-nil}
 use Rattle.vcd_compare.proofs.PathTexts.{is_same, joined_number, last_dot, no_dot, number_within, node_of, none_first, not_there, position_first, position_none, position_passes, same_is, same_node, text_of}
 use Rattle.vcd_compare.proofs.VariableLemmas.{same_number}
 

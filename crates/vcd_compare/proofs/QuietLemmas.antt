@@ -1,16 +1,5 @@
 -- Timestamps that settle nothing, and whether no pair differed yet, with one item more.
-use Rattle.std.proofs.Common.{◌≡◌, ℕ, ◌<◌, ◌≤◌, max, Bool, false, nat_le, List, [], ◌∷◌, ◌++◌, fold, filter, refl, sym, ap, ◌∙◌, append-nil, arith}
-use Rattle.std.specs.List.{list_any}
-use Rattle.std.proofs.lemmas.Bool.{le-ltb, or_from}
-use Rattle.std.proofs.lemmas.List.Folds.{list_any-append}
-use Rattle.vcd_model.specs.Declarations.{IdCode, code_of}
-use Rattle.vcd_model.specs.Header.{Header}
-use Rattle.vcd_model.specs.Items.{BodyItem, marks}
-use Rattle.vcd_model.specs.Sample.{is_settled}
-use Rattle.vcd_model.specs.Compare.{Asked, Pair, differs}
-use Rattle.vcd_model.specs.Within.{Names, compared_in, side, times_in}
-use Rattle.vcd_model.proofs.Times.{fold-append, marks-append}
-use Rattle.vcd_compare.specs.Lines.{DoNotFall, IsQuiet, flag_of, time_compared}
+use Rattle.vcd_compare.proofs.Cited.{◌≡◌, ℕ, ◌<◌, ◌≤◌, max, Bool, false, nat_le, List, [], ◌∷◌, ◌++◌, fold, filter, refl, sym, ap, ◌∙◌, append-nil, arith, list_any, le-ltb, or_from, list_any-append, IdCode, code_of, Header, BodyItem, marks, is_settled, Asked, Pair, differs, Names, compared_in, side, times_in, fold-append, marks-append, DoNotFall, IsQuiet, flag_of, time_compared}
 use Rattle.vcd_compare.proofs.FlagLemmas.{any_settled, differed_same, flag_same, settled_after, settled_other}
 use Rattle.vcd_compare.proofs.OpenGrows.{changes_other, state_other}
 use Rattle.vcd_compare.proofs.PastTimes.{past, past_more, settled_times}

@@ -1,25 +1,6 @@
 -- The path of a row is that of the scope around it, a dot, and its name.
-use Rattle.std.proofs.Common.{◌≡◌, ℕ, suc, ◌<◌, ◌≤◌, false, true, List, [], ◌∷◌, ◌++◌, length, take, get_or, slice_get, Option, Some, None, nat_lt, Result, Ok, Err, refl, sym, ap, subst, ◌∙◌, arith}
-use Rattle.std.proofs.lemmas.List.{append_assoc, length-append}
-use Rattle.std.specs.Prelude.{IfOk}
-use Rattle.std.specs.List.{AllZip}
-use Rattle.std.proofs.lemmas.Bool.{ltb-true, ltb-false}
-use Rattle.std.proofs.lemmas.Option.{get_or_from_slice_get, same_Some}
-use Rattle.vcd_model.specs.Declarations.{Declaration, enclosing, name_of, parent, path_of}
-use Rattle.vcd_model.specs.Header.{Header}
-use Rattle.vcd_model.proofs.ScopeLemmas.{innermost, slice_get-take}
-use Rattle.vcd_view.specs.Views.{counted_from_one}
-use Rattle.vcd_view.proofs.ListLemmas.{all_zip_push, slice_get-front, slice_get-seam}
-use Rattle.vcd_view.proofs.ParentLemmas.{around_some, parent_before}
-use Rattle.vcd_head.specs.Inside.{front}
-use Rattle.vcd_head.specs.Paths.{scopes_text}
-use Rattle.vcd_head.proofs.InsideLemmas.{front_is, front_next}
-use Rattle.vcd_head.proofs.PathLemmas.{path_is}
-use Rattle.vcd_model.specs.Within.{Names}
-use Rattle.vcd_compare.specs.HasPairs.{AreNumbersOf, EntersNames, EntersTexts}
-use Rattle.vcd_compare.specs.Paths.{EntersPath, HasTexts, IsNumberOf, joined}
-use Rattle.vcd_compare.specs.Variables.{AreNumbered, IsAround, IsScopeNumber}
-use Rattle.vcd_compare.specs.declared.paths.Paths.{Paths}
+use Rattle.vcd_compare.proofs.Cited.{◌≡◌, ℕ, suc, ◌<◌, ◌≤◌, false, true, List, [], ◌∷◌, ◌++◌, length, take, get_or, slice_get, Option, Some, None, nat_lt, Result, Ok, Err, refl, sym, ap, subst, ◌∙◌, arith, length-append, IfOk, AllZip, ltb-true, ltb-false, get_or_from_slice_get, same_Some, Declaration, enclosing, name_of, parent, path_of, Header, innermost, slice_get-take, counted_from_one, all_zip_push, slice_get-front, slice_get-seam, around_some, parent_before, front, scopes_text, front_is, front_next, path_is, Names, AreNumbersOf, EntersNames, EntersTexts, EntersPath, HasTexts, IsNumberOf, joined, AreNumbered, IsAround, IsScopeNumber, Paths}
+use Rattle.std.proofs.lemmas.List.{append_assoc}
 use Rattle.vcd_compare.proofs.PairSteps.{zip_weaker}
 use Rattle.vcd_compare.proofs.PathTexts.{joined_number, number_within}
 

@@ -1,22 +1,7 @@
 -- Which items end a run, and what is written with a timestamp.
-use Rattle.std.proofs.Common.{◌≡◌, ◌⊎◌, inl, inr, ℕ, ◌<◌, ◌≤◌, true, false, not, nat_lt, List, [], ◌∷◌, ◌++◌, filter, refl, sym, ap, ◌∙◌, append-nil, append_assoc}
-use Rattle.std.specs.List.{list_any}
-use Rattle.std.proofs.lemmas.Bool.{cases_lt, le-ltb, lt-ltb, or_from, or_left, or_right}
-use Rattle.std.proofs.lemmas.List.{append_cancel_left}
-use Rattle.std.proofs.lemmas.List.Folds.{list_any-append}
-use Rattle.vcd_model.specs.Bytes.{is_empty}
-use Rattle.vcd_model.specs.Header.{Header}
-use Rattle.vcd_model.specs.Items.{BodyItem, marks, time_after}
-use Rattle.vcd_model.specs.Sample.{is_settled}
-use Rattle.vcd_model.specs.Compare.{Asked as ModelAsked, Extent, ends_with}
-use Rattle.vcd_model.specs.Cut.{is_mark_above}
-use Rattle.vcd_model.specs.Within.{Names, compared_in, ends_run, lines_where, times_in, within_head, within_open}
-use Rattle.vcd_compare.specs.Asked.{model_asked}
-use Rattle.vcd_compare.specs.Comparing.{Compares}
-use Rattle.vcd_compare.specs.Lines.{DoNotFall, lines_due, time_compared}
-use Rattle.vcd_compare.specs.Run.{settled_by}
-use Rattle.vcd_compare.specs.declared.comparing.Comparison.{Comparison}
-use Rattle.vcd_compare.specs.declared.comparing.Watched.{Watched}
+use Rattle.vcd_compare.proofs.Cited.{◌≡◌, ◌⊎◌, inl, inr, ℕ, ◌<◌, ◌≤◌, true, false, not, nat_lt, List, [], ◌∷◌, ◌++◌, filter, refl, sym, ap, ◌∙◌, append-nil, append_assoc, list_any, cases_lt, le-ltb, lt-ltb, or_from, or_left, or_right, append_cancel_left, list_any-append, is_empty, Header, BodyItem, marks, time_after, is_settled, Extent, ends_with, is_mark_above, Names, compared_in, ends_run, lines_where, times_in, within_head, model_asked, Compares, DoNotFall, lines_due, time_compared, settled_by, Comparison, Watched}
+use Rattle.vcd_model.specs.Compare.{Asked as ModelAsked}
+use Rattle.vcd_model.specs.Within.{within_open}
 use Rattle.vcd_compare.proofs.DueSome.{more_lines, none_of_times}
 use Rattle.vcd_compare.proofs.OpenGrows.{open_again, open_later}
 use Rattle.vcd_compare.proofs.QuietLemmas.{no_fall-marks}

@@ -1,40 +1,9 @@
 -- What a step leaves: with a timestamp, with any other item, at the end of a body, and at a fault.
-use Rattle.std.proofs.Common.{◌≡◌, inl, inr, ℕ, ◌≤◌, max, Bool, true, false, not, List, [], ◌∷◌, ◌++◌, Ok, Err, refl, sym, ap, subst, ◌∙◌, append-nil, append_assoc, arith}
-use Rattle.vcd_model.specs.Bytes.{is_empty}
-use Rattle.vcd_model.specs.BodyReading.{body_items, read_body}
-use Rattle.vcd_model.specs.Declarations.{IdCode}
-use Rattle.vcd_model.specs.Header.{Header}
-use Rattle.vcd_model.specs.Input.{Input}
-use Rattle.vcd_model.specs.Items.{BodyItem, time_after}
+use Rattle.vcd_compare.proofs.Cited.{◌≡◌, inl, inr, ℕ, ◌≤◌, max, Bool, true, false, not, List, [], ◌∷◌, ◌++◌, Ok, Err, refl, sym, ap, subst, ◌∙◌, append-nil, append_assoc, arith, is_empty, body_items, read_body, IdCode, Header, Input, BodyItem, time_after, Token, Names, ends_run, within_close, within_open, items_begin, Device, Writes, WritesSome, HasGiven, limit_of, seen, token_of, Ghosts, Feed, both-written, some-behind, stop_of_body, GivesItem, IsItem, AreRegsAfter, model_form, model_section, regs_after, Fails, GaveAll, GaveItem, GaveItems, IsSection, Early, Whole, Write, BodyFault, ReadFailed, Form, Item, Regs, model_asked, Compares, BodyBegins, BodyGives, HasCome, StepGives, TellsEnd, settled_by, Comparison, Watched, Run}
 use Rattle.vcd_model.specs.Compare.{Asked as ModelAsked}
-use Rattle.vcd_model.specs.Tokens.{Token}
-use Rattle.vcd_model.specs.Within.{Names, ends_run, within_close, within_open}
-use Rattle.vcd_model.proofs.BodyPrefix.{items_begin}
-use Rattle.vcd_text.specs.Device.{Device, Writes, WritesSome}
-use Rattle.vcd_text.specs.Feed.{HasGiven, limit_of, seen, token_of}
-use Rattle.vcd_text.specs.declared.device.Source.{Ghosts}
-use Rattle.vcd_text.specs.declared.feed.Feed.{Feed}
-use Rattle.vcd_text.proofs.Writes.{both-written, some-behind}
-use Rattle.vcd_body.specs.Answer.{stop_of_body}
-use Rattle.vcd_body.specs.Given.{GivesItem, IsItem, text_of}
-use Rattle.vcd_body.specs.Items.{AreRegsAfter, model_form, model_section, regs_after}
-use Rattle.vcd_body.specs.Reads.{Fails, GaveAll, GaveItem, GaveItems}
-use Rattle.vcd_body.specs.Taken.{IsSection}
-use Rattle.vcd_body.specs.declared.answer.Done.TheVariants.{Early, Whole}
-use Rattle.vcd_body.specs.declared.answer.Stop.TheVariants.{Write}
-use Rattle.vcd_body.specs.declared.fault.BodyFault.{BodyFault}
-use Rattle.vcd_body.specs.declared.fault.BodyFault.TheVariants.{ReadFailed}
-use Rattle.vcd_body.specs.declared.item.Form.{Form}
-use Rattle.vcd_body.specs.declared.item.Item.{Item}
+use Rattle.vcd_body.specs.Given.{text_of}
 use Rattle.vcd_body.specs.declared.item.Item.TheVariants as item
-use Rattle.vcd_body.specs.declared.item.Regs.{Regs}
-use Rattle.vcd_compare.specs.Asked.{model_asked}
-use Rattle.vcd_compare.specs.Comparing.{Compares}
-use Rattle.vcd_compare.specs.Run.{BodyBegins, BodyGives, HasCome, StepGives, TellsEnd, settled_by}
 use Rattle.vcd_compare.specs.declared.asked.Asked.{Asked}
-use Rattle.vcd_compare.specs.declared.comparing.Comparison.{Comparison}
-use Rattle.vcd_compare.specs.declared.comparing.Watched.{Watched}
-use Rattle.vcd_compare.specs.declared.whole.Run.{Run}
 use Rattle.vcd_compare.proofs.CompareSteps.{compares_still, open_same, section_quiet, time_more}
 use Rattle.vcd_compare.proofs.RunEnds.{not_ended, open_settled}
 

@@ -1,28 +1,8 @@
 -- How a run stands before the first item.
-use Prim.Native.Nat.{zero}
-use Rattle.std.proofs.Common.{◌≡◌, ℕ, suc, ◌<◌, ◌==◌, Bool, true, false, cond, List, [], ◌∷◌, length, filter, slice_get, Option, Some, None, refl, sym, ap, ◌∙◌, append-nil, arith}
-use Rattle.std.specs.Prelude.{replicate}
-use Rattle.std.specs.List.{list_any}
-use Rattle.std.proofs.lemmas.List.{get_or-replicate, length-replicate}
-use Rattle.std.proofs.lemmas.Option.{slice_get-get_or}
-use Rattle.vcd_model.specs.Declarations.{IdCode, code_of}
-use Rattle.vcd_model.specs.Header.{Header}
-use Rattle.vcd_model.specs.Values.{Value}
-use Rattle.vcd_model.specs.Sample.{is_settled}
-use Rattle.vcd_model.specs.Compare.{Asked as ModelAsked, state_at}
-use Rattle.vcd_model.specs.Within.{Names, times_in, within_head, within_open}
-use Rattle.vcd_view.specs.Views.{IsViewOf}
-use Rattle.vcd_view.specs.declared.view.HeadView.{HeadView}
-use Rattle.vcd_view.proofs.LookUpLemmas.{codes_len}
-use Rattle.vcd_body.specs.Current.{AreHeld}
-use Rattle.vcd_compare.specs.Asked.{model_asked}
-use Rattle.vcd_compare.specs.Comparing.{AreFlags, AreTriggers, Compares}
-use Rattle.vcd_compare.specs.Flags.{differing}
-use Rattle.vcd_compare.specs.Lines.{codes_differ, flag_of, had_line, is_always, time_compared}
-use Rattle.vcd_compare.specs.Pairs.{ArePairs}
-use Rattle.vcd_compare.specs.declared.comparing.Comparison.{Comparison}
-use Rattle.vcd_compare.specs.declared.comparing.Watched.{Watched}
-use Rattle.vcd_compare.specs.declared.pairs.Pairs.{Pairs}
+use Rattle.vcd_compare.proofs.Cited.{zero, ◌≡◌, ℕ, suc, ◌<◌, ◌==◌, Bool, true, false, cond, List, [], ◌∷◌, length, filter, slice_get, Option, Some, None, refl, sym, ap, ◌∙◌, append-nil, arith, replicate, list_any, get_or-replicate, length-replicate, slice_get-get_or, IdCode, code_of, Header, Value, is_settled, state_at, Names, times_in, within_head, IsViewOf, HeadView, codes_len, AreHeld, model_asked, AreFlags, AreTriggers, Compares, differing, codes_differ, had_line, is_always, time_compared, ArePairs, Comparison, Watched, Pairs}
+use Rattle.vcd_model.specs.Compare.{Asked as ModelAsked}
+use Rattle.vcd_model.specs.Within.{within_open}
+use Rattle.vcd_compare.specs.Lines.{flag_of}
 use Rattle.vcd_compare.proofs.DueSome.{none_one}
 
 -- ---- nothing is settled, and nothing differs

@@ -1,17 +1,6 @@
 -- The state of a variable at a time that its dump has come past does not change.
-use Rattle.std.proofs.Common.{◌≡◌, ℕ, ◌*◌, ◌≤◌, ◌<◌, ◌==◌, Bool, false, not, ◌&&◌, nat_le, List, [], ◌∷◌, ◌++◌, refl, ap, arith}
-use Rattle.std.specs.Prelude.{option_and_then}
-use Rattle.std.specs.List.{list_any}
-use Rattle.std.proofs.lemmas.Bool.{ne_eqb, lt-leb, and_right}
-use Rattle.std.proofs.lemmas.List.Folds.{list_any-append}
-use Rattle.std.proofs.Math.Bool.{or-false}
-use Rattle.vcd_model.specs.Backward.{each_after}
-use Rattle.vcd_model.specs.Declarations.{IdCode}
-use Rattle.vcd_model.specs.Items.{BodyItem, Entry, entries, entry_after, time_after}
-use Rattle.vcd_model.specs.History.{gives_to, value_in, last_value}
-use Rattle.vcd_model.proofs.Growing.{entries-append}
-use Rattle.vcd_model.proofs.Times.{last_where-append, none_later, time_after-append}
-use Rattle.vcd_model.specs.Compare.{state_at, is_triggered}
+use Rattle.vcd_compare.proofs.Cited.{◌≡◌, ℕ, ◌*◌, ◌≤◌, ◌<◌, ◌==◌, Bool, false, not, ◌&&◌, nat_le, List, [], ◌∷◌, ◌++◌, refl, ap, arith, option_and_then, list_any, ne_eqb, lt-leb, and_right, list_any-append, or-false, each_after, IdCode, BodyItem, Entry, entries, entry_after, time_after, gives_to, last_value, entries-append, last_where-append, none_later, time_after-append, state_at, is_triggered}
+use Rattle.vcd_model.specs.History.{value_in}
 
 -- no entry after these passes a test that none from their time on passes
 none_passes : (test : Entry → Bool) (from : ℕ) (b q : List BodyItem) → ((e : Entry) → from ≤ e.time → test e ≡ false) → from ≤ time_after b

@@ -1,32 +1,7 @@
 -- What the current states say of the definitions' states.
-use Prim.Native.Nat.{zero}
-use Rattle.std.proofs.Common.{◌≡◌, ◌≢◌, inl, inr, ℕ, ◌<◌, ◌≤◌, Bool, true, false, not, cond, ◌&&◌, List, [], ◌∷◌, ◌++◌, suc, ◌+◌, ◌-◌, max, min, replicate, drop, length, codes, slice_get, Option, Some, None, refl, sym, ap, ap₂, subst, ◌∙◌, arith}
-use Rattle.std.specs.Prelude.{◌⊎◌, bytes_eq, option_and_then}
-use Rattle.std.specs.Bool.{Decides}
-use Rattle.std.proofs.lemmas.Bool.{and_left, and_right, cases_lt}
-use Rattle.std.proofs.lemmas.Option.{same_Some}
-use Rattle.std.proofs.Math.Bool.{or_self}
-use Rattle.vcd_model.specs.Declarations.{IdCode}
-use Rattle.vcd_model.specs.Header.{Header}
-use Rattle.vcd_model.specs.History.{final_value}
-use Rattle.vcd_model.specs.Items.{BodyItem, time_after}
-use Rattle.vcd_model.specs.Compare.{Rule, all_match, digits_match, exactly, is_triggered, match, state_at}
-use Rattle.vcd_model.specs.Values.{Value, extend, extension}
-use Rattle.vcd_view.specs.Views.{IsViewOf}
-use Rattle.vcd_view.specs.declared.view.HeadView.{HeadView}
-use Rattle.vcd_body.specs.Contents.{codes_shown, held_at, shown_as, value_in}
-use Rattle.vcd_body.specs.Kept.{Held, real_text, value_at_size}
-use Rattle.vcd_body.specs.declared.slot.Shown.{Shown}
+use Rattle.vcd_compare.proofs.Cited.{zero, ◌≡◌, ◌≢◌, inl, inr, ℕ, ◌<◌, ◌≤◌, Bool, true, false, not, cond, ◌&&◌, List, [], ◌∷◌, ◌++◌, suc, ◌+◌, ◌-◌, max, min, replicate, drop, length, codes, slice_get, Option, Some, None, refl, sym, ap, ap₂, subst, ◌∙◌, arith, ◌⊎◌, bytes_eq, option_and_then, Decides, and_left, and_right, cases_lt, same_Some, or_self, IdCode, Header, final_value, BodyItem, time_after, Rule, all_match, digits_match, exactly, is_triggered, match, state_at, Value, extend, extension, IsViewOf, HeadView, codes_shown, held_at, shown_as, value_in, Held, real_text, value_at_size, Shown, digits_held, Table, length_extended, shown_are, rule_of, AreCurrent, differ_from, is_last, codes_differ, Current}
 use Rattle.vcd_body.specs.declared.slot.Shown.TheVariants as shown
-use Rattle.vcd_body.specs.Stored.{digits_held}
-use Rattle.vcd_body.specs.declared.table.Table.{Table}
-use Rattle.vcd_body.proofs.CompareLemmas.{length_extended}
-use Rattle.vcd_body.proofs.TableLemmas.{shown_are}
-use Rattle.vcd_compare.specs.Asked.{rule_of}
-use Rattle.vcd_compare.specs.Comparing.{AreCurrent, differ_from, is_last}
-use Rattle.vcd_compare.specs.Lines.{codes_differ}
 use Rattle.vcd_compare.specs.declared.asked.Asked.{Asked}
-use Rattle.vcd_compare.specs.declared.current.Current.{Current}
 use Rattle.vcd_compare.proofs.FlagLemmas.{value_final}
 use Rattle.vcd_compare.proofs.MatchLemmas.{match_other, match_self}
 

@@ -1,23 +1,8 @@
 -- What is written at a timestamp and at the end of the body, and how a run stands after it.
-use Rattle.std.proofs.Common.{◌≡◌, ◌⊎◌, inl, inr, ℕ, ◌<◌, ◌≤◌, ◌==◌, Bool, true, false, not, cond, ◌&&◌, nat_le, nat_lt, List, [], ◌∷◌, ◌++◌, length, flat_map, get_or, refl, sym, ap, subst, ◌∙◌, append-nil, arith}
-use Rattle.std.proofs.lemmas.Bool.{and_cases, le-leb, le-ltb, leb-true, lt-ltb, ltb-false, ltb-true, or_from}
-use Rattle.vcd_model.specs.Bytes.{is_empty}
-use Rattle.vcd_model.specs.Header.{Header}
-use Rattle.vcd_model.specs.Items.{BodyItem, time_after}
-use Rattle.vcd_model.specs.Compare.{Asked as ModelAsked, Extent, value_line}
-use Rattle.vcd_model.specs.Within.{Names, compared_in, ends_run, side, within_close, within_open}
-use Rattle.vcd_view.specs.Views.{IsViewOf}
-use Rattle.vcd_view.specs.declared.view.HeadView.{HeadView}
-use Rattle.vcd_compare.specs.Asked.{model_asked}
-use Rattle.vcd_compare.specs.Comparing.{Compares, IsCounted, stops_before}
-use Rattle.vcd_compare.specs.Flags.{differing, settled_as}
-use Rattle.vcd_compare.specs.LineTexts.{ArePairLines}
-use Rattle.vcd_compare.specs.Lines.{is_always, lines_due, time_compared}
-use Rattle.vcd_compare.specs.Run.{RunStands, TellsEnd, flag_after, is_due_now, settled_by}
+use Rattle.vcd_compare.proofs.Cited.{◌≡◌, ◌⊎◌, inl, inr, ℕ, ◌<◌, ◌≤◌, ◌==◌, Bool, true, false, not, cond, ◌&&◌, nat_le, nat_lt, List, [], ◌∷◌, ◌++◌, length, flat_map, get_or, refl, sym, ap, subst, ◌∙◌, append-nil, arith, and_cases, le-leb, le-ltb, leb-true, lt-ltb, ltb-false, ltb-true, or_from, is_empty, Header, BodyItem, time_after, Extent, value_line, Names, compared_in, ends_run, side, within_close, within_open, IsViewOf, HeadView, model_asked, Compares, IsCounted, stops_before, differing, settled_as, ArePairLines, is_always, time_compared, RunStands, TellsEnd, flag_after, is_due_now, settled_by, Comparison, Watched, Run}
+use Rattle.vcd_model.specs.Compare.{Asked as ModelAsked}
+use Rattle.vcd_compare.specs.Lines.{lines_due}
 use Rattle.vcd_compare.specs.declared.asked.Asked.{Asked}
-use Rattle.vcd_compare.specs.declared.comparing.Comparison.{Comparison}
-use Rattle.vcd_compare.specs.declared.comparing.Watched.{Watched}
-use Rattle.vcd_compare.specs.declared.whole.Run.{Run}
 use Rattle.vcd_compare.proofs.CompareSteps.{compares_again, compares_later, none_for_all, open_stays, timestamp_on}
 use Rattle.vcd_compare.proofs.DueFlags.{due_by_flags, flag_for, none_due}
 use Rattle.vcd_compare.proofs.DueSome.{due_some, more_lines, none_one, with_flags}

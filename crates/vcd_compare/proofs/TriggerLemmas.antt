@@ -1,26 +1,5 @@
 -- The last triggers of events, with one change more.
-use Rattle.std.proofs.Common.{◌≡◌, ◌≢◌, ◌⊎◌, inl, inr, ℕ, ◌<◌, ◌≤◌, ◌*◌, ◌+◌, ◌==◌, Bool, true, false, not, cond, ◌&&◌, ◌||◌, List, [], ◌∷◌, ◌++◌, length, slice_get, get_or, Option, Some, None, refl, sym, ap, subst, ◌∙◌, arith}
-use Rattle.std.specs.Prelude.{IfSome, count_by, is_none, is_some, slice_set}
-use Rattle.std.specs.List.{list_any}
-use Rattle.std.proofs.lemmas.Bool.{cases_lt, eqb-true, eqb-false, eq-eqb, ne_eqb, le-ltb, lt-ltb}
-use Rattle.std.proofs.lemmas.List.Folds.{list_any-append}
-use Rattle.std.proofs.lemmas.Option.{same_Some, slice_get_cases}
-use Rattle.std.proofs.Math.Bool.{or-false, or-true}
-use Rattle.vcd_model.specs.Declarations.{IdCode, same_code}
-use Rattle.vcd_model.specs.Header.{Header}
-use Rattle.vcd_model.specs.History.{gives_to}
-use Rattle.vcd_model.specs.Items.{BodyItem, Entry, entries, entry_after, is_begin, is_end_of_section, leaves_open, time_after}
-use Rattle.vcd_model.specs.Compare.{is_triggered}
-use Rattle.vcd_model.proofs.Growing.{entries-append}
-use Rattle.std.proofs.lemmas.Slice.Eq.{bytes_eq-Decides}
-use Rattle.vcd_view.specs.Shown.{parts}
-use Rattle.vcd_view.specs.Views.{IsViewOf}
-use Rattle.vcd_view.specs.declared.view.HeadView.{HeadView}
-use Rattle.vcd_view.proofs.LookUpLemmas.{same_place}
-use Rattle.vcd_body.specs.Items.{AreRegsAfter}
-use Rattle.vcd_body.specs.declared.item.Regs.{Regs}
-use Rattle.vcd_body.proofs.StoreLemmas.{get_other, get_set}
-use Rattle.vcd_compare.specs.Comparing.{AreTriggers, IsLastTrigger, is_last, triggers_with}
+use Rattle.vcd_compare.proofs.Cited.{◌≡◌, ◌≢◌, ◌⊎◌, inl, inr, ℕ, ◌<◌, ◌≤◌, ◌*◌, ◌+◌, ◌==◌, Bool, true, false, not, cond, ◌&&◌, ◌||◌, List, [], ◌∷◌, ◌++◌, length, slice_get, get_or, Option, Some, None, refl, sym, ap, subst, ◌∙◌, arith, IfSome, count_by, is_none, is_some, slice_set, list_any, cases_lt, eqb-true, eqb-false, eq-eqb, ne_eqb, le-ltb, lt-ltb, list_any-append, same_Some, slice_get_cases, or-false, or-true, IdCode, same_code, Header, gives_to, BodyItem, Entry, entries, entry_after, is_begin, is_end_of_section, leaves_open, time_after, is_triggered, entries-append, bytes_eq-Decides, parts, IsViewOf, HeadView, same_place, AreRegsAfter, Regs, get_other, get_set, AreTriggers, IsLastTrigger, is_last, triggers_with}
 use Rattle.vcd_compare.proofs.OpenGrows.{triggered_other}
 
 -- the registers say whether a section is open

@@ -1,26 +1,9 @@
 -- The variables of a header, one row after the other, and how they are found.
-use Rattle.std.proofs.Common.{◌≡◌, ◌≢◌, ℕ, zero, suc, ◌+◌, ◌<◌, ◌==◌, ◌&&◌, nat_eq, Bool, true, false, cond, if◌then◌else◌, List, [], ◌∷◌, ◌++◌, length, take, set, get_or, slice_get, filter_map, count_by, bytes_eq, Some, inl, inr, refl, sym, ap, subst, ◌∙◌, arith}
-use Rattle.std.specs.List.{AllZip, list_any}
-use Rattle.std.proofs.lemmas.Bool.{eq-eqb, eqb-false, eqb-true, ne_eqb}
-use Rattle.std.proofs.lemmas.List.{append-nil, get_or-set_other, get_or-set_same, length-set}
-use Rattle.std.proofs.lemmas.List.Elements.{filter_map-append}
-use Rattle.std.proofs.lemmas.List.Sums.{sum_by-append, sum_by-cons}
-use Rattle.std.proofs.lemmas.Option.{same_Some, slice_get_within}
-use Rattle.std.proofs.lemmas.Slice.Eq.{bytes_eq-Decides}
-use Rattle.vcd_model.specs.Backward.{each, each_after}
-use Rattle.vcd_model.specs.Declarations.{Declaration, Variable, path_of}
-use Rattle.vcd_model.specs.Header.{Header}
-use Rattle.vcd_model.specs.Selection.{Selected, selected, with_path}
-use Rattle.vcd_model.specs.Compare.{Named, named_after}
-use Rattle.vcd_model.proofs.Growing.{each_after-append}
-use Rattle.vcd_model.specs.Declarations.{IdCode}
-use Rattle.vcd_view.specs.Views.{IsRow}
+use Rattle.vcd_compare.proofs.Cited.{◌≡◌, ◌≢◌, ℕ, suc, ◌+◌, ◌<◌, ◌==◌, ◌&&◌, nat_eq, Bool, true, false, cond, if◌then◌else◌, List, [], ◌∷◌, ◌++◌, length, take, set, get_or, slice_get, filter_map, count_by, bytes_eq, Some, inl, inr, refl, sym, ap, subst, ◌∙◌, arith, AllZip, list_any, eq-eqb, eqb-false, eqb-true, ne_eqb, get_or-set_other, get_or-set_same, length-set, filter_map-append, sum_by-append, sum_by-cons, same_Some, slice_get_within, bytes_eq-Decides, each, each_after, Declaration, Variable, path_of, Header, Selected, with_path, Named, named_after, each_after-append, IdCode, IsRow, Row, all_zip_push, AreApart, IsNumberOf, AddsVariable, AreCounted, HasSome, IsKeyOf, IsNamedAt, named_in, same_key, Variables}
+use Rattle.std.proofs.Common.{zero}
+use Rattle.std.proofs.lemmas.List.{append-nil}
+use Rattle.vcd_model.specs.Selection.{selected}
 use Rattle.vcd_view.specs.declared.view.Kind.TheVariants as kind
-use Rattle.vcd_view.specs.declared.view.Row.{Row}
-use Rattle.vcd_view.proofs.ListLemmas.{all_zip_push}
-use Rattle.vcd_compare.specs.Paths.{AreApart, IsNumberOf}
-use Rattle.vcd_compare.specs.Variables.{AddsVariable, AreCounted, HasSome, IsKeyOf, IsNamedAt, named_in, same_key}
-use Rattle.vcd_compare.specs.declared.variables.Variables.{Variables}
 use Rattle.vcd_compare.proofs.PathTexts.{at_most}
 
 -- ---- a variable more

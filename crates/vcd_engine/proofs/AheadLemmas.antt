@@ -1,36 +1,6 @@
 -- Items that a task's state takes ahead in a feed's chunk, one after the other.
-use Rattle.std.proofs.Common.{◌≡◌, ℕ, ◌+◌, ◌^◌, ◌<◌, ◌≤◌, false, List, [], ◌∷◌, ◌++◌, length, sym, ap, subst, ◌∙◌, append-nil, append_assoc, arith, Result, Ok, Err}
-use Rattle.std.specs.List.{list_any}
-use Rattle.std.proofs.lemmas.List.{length-append}
-use Rattle.vcd_model.specs.Declarations.{IdCode}
-use Rattle.vcd_model.specs.Header.{Header}
-use Rattle.vcd_model.specs.Input.{Input}
-use Rattle.vcd_model.specs.Items.{BodyItem}
-use Rattle.vcd_model.specs.ItemText.{last_mark}
-use Rattle.vcd_model.specs.Outcome.{Request, ends_early, open_text}
-use Rattle.vcd_model.specs.Tokens.{Token}
-use Rattle.vcd_text.specs.Device.{Device}
-use Rattle.vcd_text.specs.Feed.{seen}
-use Rattle.vcd_text.specs.declared.device.Source.{Ghosts}
-use Rattle.vcd_text.specs.declared.feed.Feed.{Feed}
-use Rattle.vcd_text.proofs.Writes.{both-written, some-behind}
-use Rattle.vcd_body.proofs.CallerLemmas.{gave_none_ahead}
-use Rattle.vcd_body.specs.Ahead.{GaveAhead}
-use Rattle.vcd_body.specs.Given.{IsItem}
-use Rattle.vcd_body.specs.Items.{AreRegsAfter, regs_after}
-use Rattle.vcd_body.specs.Reads.{GaveItems}
-use Rattle.vcd_body.specs.declared.item.Item.{Item}
-use Rattle.vcd_body.specs.declared.item.Regs.{Regs}
-use Rattle.vcd_engine.specs.Ahead.{StandsAhead}
-use Rattle.vcd_body.specs.Device.{Grows, GrowsSome}
-use Rattle.vcd_engine.specs.Engine.{CanRun, Keeps, Runs, last_time_of, request_of_engine}
-use Rattle.vcd_engine.specs.declared.engine.Engine.{Engine}
-use Rattle.vcd_engine.specs.declared.task_state.TaskState.{TaskState}
-use Rattle.vcd_engine.specs.Ahead.{EndsAhead, RunsAhead}
-use Rattle.vcd_engine.specs.PendingCopy.{GrowsBut, pending_in}
-use Rattle.vcd_engine.specs.declared.pending.PendingCopy.{PendingCopy}
+use Rattle.vcd_engine.proofs.Cited.{◌≡◌, ℕ, ◌+◌, ◌^◌, ◌<◌, ◌≤◌, false, List, [], ◌∷◌, ◌++◌, length, sym, ap, subst, ◌∙◌, append-nil, append_assoc, arith, Result, Ok, Err, list_any, length-append, IdCode, Header, Input, BodyItem, last_mark, Request, ends_early, open_text, Token, Device, seen, Ghosts, Feed, both-written, some-behind, gave_none_ahead, GaveAhead, IsItem, AreRegsAfter, regs_after, GaveItems, Item, Regs, StandsAhead, Grows, GrowsSome, CanRun, Keeps, Runs, last_time_of, request_of_engine, Engine, TaskState, EndsAhead, RunsAhead, GrowsBut, pending_in, PendingCopy, Puts, Writes, WritesSome}
 use Rattle.vcd_engine.proofs.PieceLemmas.{but_some, but_written}
-use Rattle.vcd_text.specs.Device.{Puts, Writes, WritesSome}
 use Rattle.vcd_engine.proofs.EngineLemmas.{last_more, none_at}
 
 -- what one text has more than what stands was written

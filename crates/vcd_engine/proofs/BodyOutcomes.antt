@@ -1,20 +1,6 @@
 -- The outcome of a body that begins with these items.
-use Rattle.std.proofs.Common.{◌≡◌, ℕ, ◌||◌, Bool, true, false, List, [], ◌∷◌, ◌++◌, Option, Some, None, is_some, refl, ap, ◌∙◌, append_assoc}
-use Rattle.std.specs.List.{list_any}
-use Rattle.vcd_model.specs.Backward.{up_to_first}
-use Rattle.vcd_model.specs.Tokens.{Token, Stream}
-use Rattle.vcd_model.specs.Header.{Header}
-use Rattle.vcd_model.specs.Items.{BodyItem}
-use Rattle.vcd_model.specs.BodyReading.{read_body, body_items, body_fault_of}
-use Rattle.vcd_model.specs.Outcome.{Opened, Request, over_dump, over_body, at_end, body_of, items_in, fault_in, ends_early, clean_outcome, name_at, names_of, open_text, close_text, unmatched_outcome}
-use Rattle.vcd_model.specs.Laws.{IsPrefixOf, IsValid}
-use Rattle.vcd_model.specs.Selection.{first_unmatched}
-use Rattle.vcd_model.specs.Reading.{Fault}
-use Rattle.vcd_model.proofs.CutGrows.{goes_on}
-use Rattle.vcd_model.proofs.Revised.{nothing_revised}
-use Rattle.vcd_model.specs.Settled.{header_settles}
-use Rattle.vcd_model.proofs.MergeSoFar.{fault_output}
-use Rattle.vcd_engine.specs.Engine.{CanRun, reads_body}
+use Rattle.vcd_engine.proofs.Cited.{◌≡◌, ℕ, ◌||◌, Bool, true, false, List, [], ◌∷◌, ◌++◌, Option, Some, None, is_some, refl, ap, ◌∙◌, append_assoc, list_any, up_to_first, Token, Stream, Header, BodyItem, read_body, body_items, body_fault_of, Opened, Request, at_end, items_in, fault_in, ends_early, clean_outcome, name_at, names_of, open_text, close_text, unmatched_outcome, IsPrefixOf, IsValid, first_unmatched, Fault, goes_on, nothing_revised, header_settles, fault_output, CanRun, reads_body}
+use Rattle.vcd_model.specs.Outcome.{over_dump, over_body, body_of}
 
 -- a header under which a request can be run does not settle it
 pub goes_behind : (t : Request) (h : Header) → CanRun t h → header_settles t h ≡ false

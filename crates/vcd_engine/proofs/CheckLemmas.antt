@@ -1,26 +1,8 @@
 -- What `check` keeps after one item more, and its report.
-use Rattle.std.proofs.Common.{◌≡◌, ℕ, suc, ◌+◌, ◌≤◌, Bool, true, false, cond, List, [], ◌∷◌, ◌++◌, length, count_by, filter_map, codes, refl, sym, ap, ◌∙◌, arith, append-nil, append_assoc, decimal}
-use Rattle.std.proofs.lemmas.List.{length_push}
-use Rattle.std.proofs.lemmas.List.Elements.{filter_map-append}
-use Rattle.std.proofs.lemmas.List.Sums.{sum_by-append, count_by-le-length}
-use Rattle.std.proofs.lemmas.Slice.Zip.{AllZip-long}
-use Rattle.vcd_model.specs.CheckAndList.{check_close, count_line, number_or_dash}
-use Rattle.vcd_model.specs.Declarations.{Declaration, IdCode, is_scope, variables_of}
-use Rattle.vcd_model.specs.Header.{Header}
-use Rattle.vcd_model.specs.Items.{BodyItem, Change as Changed, marks, time_mark, is_begin, change_of}
-use Rattle.vcd_model.specs.ItemText.{last_mark}
-use Rattle.vcd_view.specs.Shown.{parts}
-use Rattle.vcd_view.specs.Views.{AreRows, IsCode, Views}
-use Rattle.vcd_view.specs.declared.view.HeadView.{HeadView}
-use Rattle.vcd_view.specs.declared.view.Row.{Row}
-use Rattle.vcd_body.specs.Items.{model_section}
-use Rattle.vcd_body.specs.declared.item.Regs.{Regs}
-use Rattle.vcd_engine.specs.Check.{AreCounted}
-use Rattle.vcd_engine.specs.Engine.{last_time_of}
-use Rattle.vcd_engine.specs.Report.{opens_scope, declares_variable}
-use Rattle.vcd_engine.specs.declared.task_state.check.Check.{Check}
+use Rattle.vcd_engine.proofs.Cited.{◌≡◌, ℕ, suc, ◌+◌, ◌≤◌, Bool, true, false, cond, List, [], ◌∷◌, ◌++◌, length, count_by, filter_map, codes, refl, sym, ap, ◌∙◌, arith, append-nil, append_assoc, decimal, length_push, filter_map-append, sum_by-append, count_by-le-length, AllZip-long, count_line, number_or_dash, Declaration, IdCode, is_scope, variables_of, Header, BodyItem, marks, time_mark, is_begin, change_of, last_mark, parts, AreRows, IsCode, Views, HeadView, Row, model_section, Regs, AreCounted, last_time_of, opens_scope, declares_variable, Check, filter_map_len}
+use Rattle.vcd_model.specs.CheckAndList.{check_close}
+use Rattle.vcd_model.specs.Items.{Change as Changed}
 use Rattle.vcd_engine.proofs.EngineLemmas.{marks_push, marks_stay}
-use Rattle.vcd_view.proofs.RoomLemmas.{filter_map_len}
 
 -- ---- the counts
 

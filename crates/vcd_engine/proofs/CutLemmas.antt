@@ -1,54 +1,10 @@
 -- What `cut` writes with one item more, and what it keeps then.
-use Rattle.std.proofs.Common.{◌≡◌, ◌≢◌, ℕ, ◌+◌, ◌≤◌, ◌<◌, ◌==◌, ◌⊎◌, inl, inr, nat_le, nat_lt, Bool, true, false, not, cond, ◌&&◌, List, [], ◌∷◌, ◌++◌, filter, flat_map, take, drop, length, get_or, slice_get, Option, Some, None, Result, Ok, refl, sym, ap, subst, ◌∙◌, arith, append-nil}
-use Rattle.std.specs.Prelude.{IsErr, option_and_then, option_map, unwrap_or}
-use Rattle.std.proofs.lemmas.List.{take-append-drop}
+use Rattle.vcd_engine.proofs.Cited.{◌≡◌, ◌≢◌, ℕ, ◌+◌, ◌≤◌, ◌<◌, ◌==◌, ◌⊎◌, inl, inr, nat_le, nat_lt, Bool, true, false, not, cond, ◌&&◌, List, [], ◌∷◌, ◌++◌, filter, flat_map, take, drop, length, get_or, slice_get, Option, Some, None, Result, Ok, refl, sym, ap, subst, ◌∙◌, arith, append-nil, IsErr, option_and_then, option_map, unwrap_or, take-append-drop, filter-append, le-leb, leb-false, lt-leb, lt-ltb, le-ltb, ltb-false, eq-eqb, ne_eqb, cut_close, cut_open, ends_cut, is_mark_above, is_started, line_if_set, start_section, times_of, IdCode, Header, head_for, value_before, BodyItem, Entry, entry_after, leaves_open, marks, time_after, closing, last_mark, may_keep, text_after, time_unless, due, none_kept, so_far_is, started_more, at_most, close_started, close_unstarted, cut_entries, due_both, due_kept, due_last, due_none, due_section, from_on, mark_kept, not_started, started_by, started_same, still_on, unstarted_by, above, value_before_is, keeps, kept_more, kept_same, last_is_enough, Device, Takes, AppendsSome, appends-first, appends-none, takes-failed, takes-first, takes-twice, Appends, AreCut, HasBegun, HasNone, IsNoTimestamp, kept_from, values_text, DueBy, TakesDue, TakesOne, last_time_of, Request, IsItem, TakesQuietly, HasWritten, LastTells, may_be_kept, times_with, AreHeld, HasValues, Cut, ItemText, parts, IsViewOf, Views, Code, HeadView, codes_len, code_at, slice_get-get_or, codes_shown, held_at, line_of, value_at_size, shown_are, AreRegsAfter, regs_after, Item, Time, Begin, End, Change, Finish, Regs, Table, held_still}
 use Rattle.std.proofs.lemmas.List.Concat.{flat_map-append}
-use Rattle.std.proofs.lemmas.List.Elements.{filter-append}
-use Rattle.std.proofs.lemmas.Bool.{le-leb, leb-false, lt-leb, lt-ltb, le-ltb, ltb-false, eq-eqb, ne_eqb}
-use Rattle.vcd_model.specs.Cut.{cut_close, cut_open, ends_cut, is_mark_above, is_started, line_if_set, start_section, times_of}
-use Rattle.vcd_model.specs.Declarations.{IdCode}
-use Rattle.vcd_model.specs.Header.{Header}
-use Rattle.vcd_model.specs.HeadText.{head_for}
-use Rattle.vcd_model.specs.History.{value_before}
-use Rattle.vcd_model.specs.Items.{BodyItem, Entry, entry_after, leaves_open, marks, time_after}
-use Rattle.vcd_model.specs.ItemText.{closing, last_mark, may_keep, text_after, time_unless}
-use Rattle.vcd_model.proofs.CutGrows.{due, none_kept, so_far_is, started_more}
-use Rattle.vcd_model.proofs.CutSteps.{at_most, close_started, close_unstarted, cut_entries, due_both, due_kept, due_last, due_none, due_section, from_on, last_tells, mark_kept, not_started, started_by, started_same, still_on, unstarted_by}
-use Rattle.vcd_model.proofs.CutKept.{above}
-use Rattle.vcd_model.proofs.FinalValues.{value_before_is}
-use Rattle.vcd_model.proofs.KeptLines.{keeps, kept_more, kept_same, last_is_enough}
-use Rattle.vcd_text.specs.Device.{Device, Takes}
-use Rattle.vcd_text.proofs.Writes.{AppendsSome, appends-first, appends-none, takes-failed, takes-first, takes-twice}
-use Rattle.std.specs.Io.KnownBytes.{Appends}
-use Rattle.vcd_engine.specs.Cut.{AreCut, HasBegun, HasNone, IsNoTimestamp, kept_from, values_text}
-use Rattle.vcd_body.specs.Device.{DueBy, TakesDue}
-use Rattle.vcd_engine.specs.Engine.{TakesOne, last_time_of}
-use Rattle.vcd_model.specs.Outcome.{Request}
-use Rattle.vcd_body.specs.Given.{IsItem}
-use Rattle.vcd_engine.specs.Quiet.{TakesQuietly}
-use Rattle.vcd_engine.specs.ItemText.{HasWritten, LastTells, may_be_kept, times_with}
-use Rattle.vcd_body.specs.Current.{AreHeld, HasValues}
-use Rattle.vcd_engine.specs.declared.task_state.cut.Cut.{Cut}
-use Rattle.vcd_engine.specs.declared.item_text.ItemText.{ItemText}
-use Rattle.vcd_view.specs.Shown.{parts}
-use Rattle.vcd_view.specs.Views.{IsViewOf, Views}
-use Rattle.vcd_view.specs.declared.view.Code.{Code}
-use Rattle.vcd_view.specs.declared.view.HeadView.{HeadView}
-use Rattle.vcd_view.proofs.LookUpLemmas.{codes_len}
-use Rattle.vcd_view.proofs.RowLemmas.{code_at}
-use Rattle.std.proofs.lemmas.Option.{slice_get-get_or}
-use Rattle.vcd_body.specs.Contents.{codes_shown, held_at, line_of}
-use Rattle.vcd_body.specs.Kept.{value_at_size}
-use Rattle.vcd_body.proofs.TableLemmas.{shown_are}
-use Rattle.vcd_body.specs.Items.{AreRegsAfter, regs_after}
-use Rattle.vcd_body.specs.declared.item.Item.{Item}
-use Rattle.vcd_body.specs.declared.item.Item.TheVariants.{Time, Begin, End, Change, Finish}
-use Rattle.vcd_body.specs.declared.item.Regs.{Regs}
-use Rattle.vcd_body.specs.declared.table.Table.{Table}
+use Rattle.vcd_model.proofs.CutSteps.{last_tells}
 use Rattle.vcd_engine.proofs.PickLemmas.{last_time}
 use Rattle.vcd_engine.proofs.ItemTextLemmas.{may_is}
 use Rattle.vcd_engine.proofs.ListLemmas.{next}
-use Rattle.vcd_body.proofs.CurrentLemmas.{held_still}
 use Rattle.vcd_view.proofs.ListLemmas.{there}
 
 -- ---- the values before a time

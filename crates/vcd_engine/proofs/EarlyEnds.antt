@@ -1,34 +1,9 @@
 -- What a run leaves that ends with an item.
-use Rattle.std.proofs.Common.{◌≡◌, ℕ, inl, Bool, true, false, List, [], ◌∷◌, ◌++◌, take, Option, Result, Ok, Err, refl, sym, ap, subst, ◌∙◌, append-nil, append_assoc}
-use Rattle.std.specs.Prelude.{IfErr, IfOk}
-use Rattle.std.specs.Io.KnownBytes.{Appends}
-use Rattle.std.specs.List.{list_any}
-use Rattle.vcd_model.specs.Input.{Input}
-use Rattle.vcd_model.specs.Tokens.{Token, stream_of}
-use Rattle.vcd_model.specs.Header.{Header}
-use Rattle.vcd_model.specs.Items.{BodyItem}
-use Rattle.vcd_model.specs.BodyReading.{read_body, body_fault_of}
-use Rattle.vcd_model.specs.Outcome.{Outcome, Request, over_dump, over_body, body_of, ends_early, open_text}
-use Rattle.vcd_model.specs.Laws.{IsPrefixOf}
-use Rattle.vcd_model.specs.Reading.{Fault}
-use Rattle.vcd_text.specs.Feed.{chunk_len_of, limit_of, supply_of}
-use Rattle.vcd_text.specs.declared.device.Source.{Ghosts}
-use Rattle.vcd_text.specs.declared.feed.Feed.{Feed}
-use Rattle.vcd_text.proofs.Writes.{some-first}
-use Rattle.vcd_body.specs.Ahead.{GaveLast}
-use Rattle.vcd_body.specs.Device.{Grows, GrowsSome}
-use Rattle.vcd_body.specs.declared.item.Regs.{Regs}
-use Rattle.vcd_text.specs.Device.{Device, Supply, Writes, WritesSome}
-use Rattle.vcd_engine.specs.Engine.{CanRun}
-use Rattle.vcd_engine.specs.TaskRun.{Belongs, Follows, IsRefused, is_early}
-use Rattle.vcd_body.specs.declared.answer.Done.{Done}
-use Rattle.vcd_body.specs.declared.answer.Done.TheVariants.{Early}
-use Rattle.vcd_body.specs.declared.answer.Stop.{Stop}
-use Rattle.vcd_body.specs.declared.answer.Stop.TheVariants.{Write}
+use Rattle.vcd_engine.proofs.Cited.{◌≡◌, ℕ, inl, Bool, true, false, List, [], ◌∷◌, ◌++◌, take, Option, Result, Ok, Err, refl, sym, ap, subst, ◌∙◌, append-nil, append_assoc, IfErr, IfOk, Appends, list_any, Input, Token, stream_of, Header, BodyItem, read_body, body_fault_of, Outcome, Request, over_dump, over_body, ends_early, open_text, IsPrefixOf, Fault, chunk_len_of, limit_of, supply_of, Ghosts, Feed, some-first, GaveLast, Grows, GrowsSome, Regs, Device, Supply, Writes, WritesSome, CanRun, Belongs, Follows, IsRefused, is_early, Done, Early, Stop, Write, items_begin}
+use Rattle.vcd_model.specs.Outcome.{body_of}
 use Rattle.vcd_engine.proofs.AheadLemmas.{some_written, written_behind}
 use Rattle.vcd_engine.proofs.EngineLemmas.{none_at}
 use Rattle.vcd_engine.proofs.ReadLemmas.{keeping_up, read_to_item}
-use Rattle.vcd_model.proofs.BodyPrefix.{items_begin}
 use Rattle.vcd_engine.proofs.BodyOutcomes.{over_matched, any_at, early_outcome, begins_with}
 
 module _ {X : Type 0} {g : Ghosts X} (t : Request) (h : Header) (i : Input) (front : List Token) (items : List BodyItem) (name : List ℕ) (limit chunk : ℕ) (before : Supply) (out new : Device) (can : CanRun t h) (on : list_any (ends_early t) items ≡ false) (f : Feed X g) (same : limit_of f ≡ limit) (size : chunk_len_of f ≡ chunk) where

@@ -1,31 +1,5 @@
 -- The line of the item that was read last, and the text with it.
-use Rattle.std.proofs.Common.{◌≡◌, ℕ, ◌<◌, Bool, true, false, ◌&&◌, List, [], ◌∷◌, ◌++◌, length, map, slice_get, Some, None, is_some, refl, sym, ap, subst, ◌∙◌, append-nil, append_assoc, arith}
-use Rattle.std.specs.List.{last_or}
-use Rattle.std.proofs.lemmas.List.{map-append}
-use Rattle.vcd_model.specs.Declarations.{IdCode}
-use Rattle.vcd_model.specs.Header.{Header}
-use Rattle.vcd_model.specs.Items.{BodyItem, Entry, leaves_open, time_after}
-use Rattle.vcd_model.specs.ItemText.{item_line, may_keep, text_after, time_unless}
-use Rattle.vcd_model.proofs.Growing.{text_after-append}
-use Rattle.vcd_model.proofs.ItemStates.{leaves_open_is}
-use Rattle.vcd_model.specs.Values.{change_line}
-use Rattle.vcd_view.specs.Shown.{HeadShown, parts, text_in}
-use Rattle.vcd_view.specs.Views.{IsCode, Views}
-use Rattle.vcd_view.specs.declared.view.Code.{Code}
-use Rattle.vcd_view.specs.declared.view.HeadView.{HeadView}
-use Rattle.vcd_view.proofs.RowLemmas.{code_at, text_within}
-use Rattle.vcd_body.specs.Given.{IsText}
-use Rattle.vcd_body.specs.Items.{AreRegsAfter, model_form, regs_after}
-use Rattle.vcd_body.specs.declared.item.Regs.{Regs}
-use Rattle.vcd_body.specs.declared.item.Form.{Form}
-use Rattle.vcd_body.specs.declared.item.Form.TheVariants.{Scalar, Vector, RealText}
-use Rattle.vcd_body.specs.declared.item.Item.{Item}
-use Rattle.vcd_body.specs.declared.item.Item.TheVariants.{Time, Begin, End, Change, Finish}
-use Rattle.vcd_model.specs.ItemText.{time_due}
-use Rattle.vcd_body.specs.Given.{IsItem}
-use Rattle.vcd_engine.specs.ItemText.{HasWritten, LastTells, is_event_at, may_be_kept, times_with}
-use Rattle.vcd_engine.specs.declared.item_text.ItemText.{ItemText}
-use Rattle.vcd_model.proofs.KeptLines.{last_or-snoc}
+use Rattle.vcd_engine.proofs.Cited.{◌≡◌, ℕ, ◌<◌, Bool, true, false, ◌&&◌, List, [], ◌∷◌, ◌++◌, length, map, slice_get, Some, None, is_some, refl, sym, ap, subst, ◌∙◌, append-nil, append_assoc, arith, last_or, map-append, IdCode, Header, BodyItem, Entry, leaves_open, time_after, item_line, may_keep, text_after, time_unless, text_after-append, leaves_open_is, change_line, HeadShown, parts, text_in, IsCode, Views, Code, HeadView, code_at, text_within, IsText, AreRegsAfter, model_form, regs_after, Regs, Form, Scalar, Vector, RealText, Item, Time, Begin, End, Change, Finish, time_due, IsItem, HasWritten, LastTells, is_event_at, may_be_kept, times_with, ItemText, last_or-snoc}
 
 -- the text of a sound change is not empty
 pub some_text : (form : Form) (code : Code) (text : List ℕ) → IsText form code text → 0 < length text

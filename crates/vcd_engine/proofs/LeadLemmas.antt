@@ -1,21 +1,7 @@
 -- Marks that lead on: what one more row gives, and the lines up to where a mark leads.
-use Rattle.std.proofs.Common.{◌≡◌, ◌≢◌, ℕ, zero, suc, ◌+◌, ◌-◌, ◌<◌, ◌≤◌, ◌==◌, ◌⊎◌, Bool, true, false, not, ◌&&◌, List, ◌++◌, length, take, set, get_or, slice_get, flat_map, Some, inl, inr, refl, sym, ap, subst, ◌∙◌, arith}
-use Rattle.std.specs.Prelude.{MatchBool, option_map, unwrap_or}
-use Rattle.std.proofs.lemmas.Bool.{cases_eq, eqb-true, ne_eqb}
-use Rattle.std.proofs.lemmas.List.{append-nil, get_or-set_other, get_or-set_same, length-set, take_all}
-use Rattle.std.proofs.lemmas.Option.{unwrap_or-slice_get}
-use Rattle.vcd_model.specs.Declarations.{Declaration}
-use Rattle.vcd_model.specs.Header.{Header}
-use Rattle.vcd_model.specs.Items.{BodyItem}
-use Rattle.vcd_model.specs.Sample.{sample_lines}
-use Rattle.vcd_model.specs.Selection.{selected}
-use Rattle.vcd_head.specs.Marks.{is_marked, marks_of}
-use Rattle.vcd_view.specs.Shown.{parts}
-use Rattle.vcd_view.specs.Views.{IsViewOf}
-use Rattle.vcd_view.specs.declared.view.HeadView.{HeadView}
+use Rattle.vcd_engine.proofs.Cited.{◌≡◌, ◌≢◌, ℕ, zero, suc, ◌+◌, ◌-◌, ◌<◌, ◌≤◌, ◌==◌, ◌⊎◌, Bool, true, false, not, ◌&&◌, List, ◌++◌, length, take, set, get_or, slice_get, flat_map, Some, inl, inr, refl, sym, ap, subst, ◌∙◌, arith, MatchBool, option_map, unwrap_or, cases_eq, eqb-true, ne_eqb, get_or-set_other, get_or-set_same, length-set, take_all, unwrap_or-slice_get, Declaration, Header, BodyItem, sample_lines, selected, is_marked, marks_of, parts, IsViewOf, HeadView, Row, HaveNoLine, IsSelectedAt, LeadOn, Leads, rows_on}
+use Rattle.std.proofs.lemmas.List.{append-nil}
 use Rattle.vcd_view.specs.declared.view.Kind.TheVariants as kind
-use Rattle.vcd_view.specs.declared.view.Row.{Row}
-use Rattle.vcd_engine.specs.Leads.{HaveNoLine, IsSelectedAt, LeadOn, Leads, rows_on}
 use Rattle.vcd_engine.proofs.SampleLines.{event_is, line_at, lines_are, no_line}
 use Rattle.vcd_engine.proofs.SelectedLines.{rows_before, rows_marked, rows_other, rows_unmarked}
 use Rattle.vcd_engine.proofs.Variables.{is_declared}

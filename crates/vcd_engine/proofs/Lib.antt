@@ -25,3 +25,5 @@ pub mod SelectionLemmas
 pub mod SampleLines
 pub mod LeadLemmas
 pub mod SampleLemmas
+pub mod Cited
+pub mod Facts

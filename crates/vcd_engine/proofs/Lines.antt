@@ -1,6 +1,5 @@
 -- Lines that are written one after the other, up to a failed write.
-use Rattle.std.proofs.Common.{ℕ, zero, suc, arith, ◌<◌, List, [], ◌∷◌, length, get_or}
-use Rattle.std.specs.List.{AllByRecursion}
+use Rattle.vcd_engine.proofs.Cited.{ℕ, zero, suc, arith, ◌<◌, List, [], ◌∷◌, length, get_or, AllByRecursion}
 
 -- what holds of all elements holds of the one at an index
 pub all-at : {Z : Type 0} (P : Z → Type 0) (xs : List Z) (k : ℕ) (d : Z) → k < length xs → AllByRecursion P xs → P (get_or xs k d)

@@ -1,26 +1,9 @@
 -- The text of `list`, line by line.
-use Rattle.std.proofs.Common.{◌≡◌, ◌≢◌, ℕ, ◌+◌, List, [], ◌∷◌, ◌++◌, length, take, drop, slice_get, flat_map, filter_map, add-one, decimal, Option, Some, None, refl, sym, ap, subst, ◌∙◌}
-use Rattle.std.specs.Io.KnownBytes.{Appends}
-use Rattle.std.proofs.Math.Seq.{take-length}
-use Rattle.std.proofs.lemmas.List.{append_assoc, append-nil, take-append-drop}
-use Rattle.std.proofs.lemmas.List.Elements.{filter_map-append}
-use Rattle.std.proofs.lemmas.Option.{slice_get_within}
-use Rattle.std.proofs.lemmas.Grind.{flat_map-append}
-use Rattle.vcd_model.specs.Backward.{each_after}
-use Rattle.vcd_model.specs.CheckAndList.{list_line, list_text}
-use Rattle.vcd_model.specs.Declarations.{Declaration, Variable, code_of, path_of}
-use Rattle.vcd_model.specs.Header.{Header}
-use Rattle.vcd_model.specs.Selection.{selected, with_path}
-use Rattle.vcd_model.proofs.Growing.{each_after-append}
-use Rattle.vcd_text.proofs.Writes.{AppendsSome, appends-first, appends-some}
-use Rattle.vcd_view.specs.declared.view.Code.{Code}
+use Rattle.vcd_engine.proofs.Cited.{◌≡◌, ◌≢◌, ℕ, ◌+◌, List, [], ◌∷◌, ◌++◌, length, take, drop, slice_get, flat_map, filter_map, add-one, decimal, Option, Some, None, refl, sym, ap, subst, ◌∙◌, Appends, take-length, take-append-drop, filter_map-append, slice_get_within, flat_map-append, each_after, list_line, Declaration, Variable, code_of, path_of, Header, with_path, each_after-append, AppendsSome, appends-first, appends-some, Code, Row, HeadShown, IsCode, IsRow, Views, code_text, rows_len, row_at, row_of_variable, there, take-next, own_text}
+use Rattle.std.proofs.lemmas.List.{append_assoc, append-nil}
+use Rattle.vcd_model.specs.CheckAndList.{list_text}
+use Rattle.vcd_model.specs.Selection.{selected}
 use Rattle.vcd_view.specs.declared.view.Kind.TheVariants as kind
-use Rattle.vcd_view.specs.declared.view.Row.{Row}
-use Rattle.vcd_view.specs.Shown.{HeadShown}
-use Rattle.vcd_view.specs.Views.{IsCode, IsRow, Views, code_text}
-use Rattle.vcd_view.proofs.RowLemmas.{rows_len, row_at, row_of_variable, there}
-use Rattle.vcd_head.proofs.SelectionLemmas.{take-next}
-use Rattle.vcd_head.proofs.WriteLemmas.{own_text}
 
 -- the line of a variable that has these declarations before it
 abbrev pub line_after : List Declaration → Variable → List ℕ

@@ -1,29 +1,5 @@
 -- One item that a command takes ahead, after those before.
-use Rattle.std.proofs.Common.{◌≡◌, ℕ, ◌+◌, ◌≤◌, ◌<◌, ◌^◌, false, List, [], ◌∷◌, ◌++◌, length, Result, Ok, Err, refl, sym, subst, append_assoc}
-use Rattle.std.specs.List.{list_any}
-use Rattle.std.specs.Prelude.{IfOk}
-use Rattle.vcd_model.specs.Declarations.{IdCode}
-use Rattle.vcd_model.specs.Header.{Header}
-use Rattle.vcd_model.specs.Items.{BodyItem, marks}
-use Rattle.vcd_model.specs.Outcome.{Request, ends_early, open_text}
-use Rattle.vcd_model.proofs.SampleSteps.{goes_on_other}
-use Rattle.vcd_text.specs.Ahead.{bytes_of, passed_of}
-use Rattle.vcd_text.specs.Device.{Device}
-use Rattle.vcd_view.specs.Views.{IsViewOf}
-use Rattle.vcd_view.specs.declared.view.HeadView.{HeadView}
-use Rattle.vcd_body.specs.Ahead.{GaveAhead, LooksOver}
-use Rattle.vcd_body.specs.Device.{DueBy, GrowsSome}
-use Rattle.vcd_body.specs.Given.{IsItem}
-use Rattle.vcd_body.specs.Items.{AreRegsAfter, regs_after}
-use Rattle.vcd_body.specs.declared.item.Item.{Item}
-use Rattle.vcd_engine.specs.Ahead.{RunsAhead, StandsAhead}
-use Rattle.vcd_engine.specs.Cut.{IsNoTimestamp}
-use Rattle.vcd_engine.specs.Engine.{Keeps, request_in}
-use Rattle.vcd_engine.specs.Next.{TakesMore, TakesNext, Walk}
-use Rattle.vcd_engine.specs.PendingCopy.{GrowsBut, PutsOn, pending_in}
-use Rattle.vcd_engine.specs.Quiet.{TakesQuietly}
-use Rattle.vcd_engine.specs.declared.task_state.TaskState.{TaskState}
-use Rattle.vcd_engine.specs.declared.pending.PendingCopy.{PendingCopy}
+use Rattle.vcd_engine.proofs.Cited.{◌≡◌, ℕ, ◌+◌, ◌≤◌, ◌<◌, ◌^◌, false, List, [], ◌∷◌, ◌++◌, length, Result, Ok, Err, refl, sym, subst, append_assoc, list_any, IfOk, IdCode, Header, BodyItem, marks, Request, ends_early, open_text, goes_on_other, bytes_of, passed_of, Device, IsViewOf, HeadView, GaveAhead, LooksOver, DueBy, GrowsSome, IsItem, AreRegsAfter, regs_after, Item, RunsAhead, StandsAhead, IsNoTimestamp, Keeps, request_in, TakesMore, TakesNext, Walk, GrowsBut, PutsOn, pending_in, TakesQuietly, TaskState, PendingCopy}
 use Rattle.vcd_engine.proofs.AheadLemmas.{few_ahead, stands_on}
 use Rattle.vcd_engine.proofs.EngineLemmas.{none_at}
 use Rattle.vcd_engine.proofs.PieceLemmas.{but_failed, but_on, none_on}

@@ -1,25 +1,6 @@
 -- Which items `pick` keeps, and what that makes of its text.
-use Rattle.std.proofs.Common.{◌≡◌, ℕ, Bool, true, false, ◌&&◌, cond, List, [], ◌∷◌, ◌++◌, Option, Some, None, refl, sym, ap, ap₂, subst, ◌∙◌, append-nil, append_assoc}
-use Rattle.vcd_model.specs.Header.{Header}
-use Rattle.vcd_model.specs.HeadText.{head_for}
-use Rattle.vcd_model.specs.Items.{BodyItem, Entry, entry_after, time_after}
-use Rattle.vcd_model.specs.ItemText.{closing, last_mark, text_after}
-use Rattle.vcd_model.specs.Pick.{pick_kept, pick_open, pick_close}
-use Rattle.vcd_model.proofs.KeptLines.{keeps, kept_more, kept_same, picked_by, time_unless_last}
-use Rattle.vcd_view.specs.Shown.{parts}
-use Rattle.vcd_view.specs.Views.{Views}
-use Rattle.vcd_view.specs.declared.view.HeadView.{HeadView}
-use Rattle.vcd_body.specs.Items.{AreRegsAfter, regs_after}
-use Rattle.vcd_body.specs.declared.item.Item.{Item}
-use Rattle.vcd_body.specs.declared.item.Item.TheVariants.{Time, Begin, End, Change, Finish}
-use Rattle.vcd_body.specs.declared.item.Regs.{Regs}
-use Rattle.vcd_body.specs.Device.{DueBy}
-use Rattle.vcd_engine.specs.Engine.{last_time_of}
-use Rattle.vcd_body.specs.Given.{IsItem}
-use Rattle.vcd_engine.specs.ItemText.{HasWritten, LastTells, times_with}
-use Rattle.vcd_engine.specs.Pick.{ArePicked, is_kept, is_of_chosen, names_in}
-use Rattle.vcd_engine.specs.declared.item_text.ItemText.{ItemText}
-use Rattle.vcd_engine.specs.declared.task_state.pick.Pick.{Pick}
+use Rattle.vcd_engine.proofs.Cited.{◌≡◌, ℕ, Bool, true, false, ◌&&◌, cond, List, [], ◌∷◌, ◌++◌, Option, Some, None, refl, sym, ap, ap₂, subst, ◌∙◌, append-nil, append_assoc, Header, head_for, BodyItem, Entry, entry_after, time_after, closing, last_mark, text_after, pick_kept, keeps, kept_more, kept_same, picked_by, time_unless_last, parts, Views, HeadView, AreRegsAfter, regs_after, Item, Time, Begin, End, Change, Finish, Regs, DueBy, last_time_of, IsItem, HasWritten, LastTells, times_with, ArePicked, is_kept, is_of_chosen, names_in, ItemText, Pick}
+use Rattle.vcd_model.specs.Pick.{pick_open, pick_close}
 use Rattle.vcd_engine.proofs.ItemTextLemmas.{may_is}
 
 module _ (v : HeadView) (h : Header) (items : List BodyItem) (before : Regs) (p : Pick) (views : Views (parts v) h) (known : AreRegsAfter items before) (is : ArePicked p h items) where

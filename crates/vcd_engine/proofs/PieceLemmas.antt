@@ -1,27 +1,5 @@
 -- What is written and what is pending, where text is due.
-use Rattle.std.proofs.Common.{◌≡◌, ℕ, ◌+◌, ◌-◌, ◌≤◌, length, refl, List, [], ◌∷◌, ◌++◌, slice_range, Result, Ok, Err, sym, ap, ap₂, subst, ◌∙◌, append-nil, append_assoc, arith, take, drop}
-use Rattle.std.proofs.lemmas.List.{take-take}
-use Rattle.std.specs.Prelude.{slice_index}
-use Rattle.vcd_text.specs.Device.{Device, Puts, Writes, WritesSome}
-use Rattle.vcd_text.proofs.AheadLemmas.{slice_range-append}
-use Rattle.vcd_text.proofs.Writes.{both-written, counts-on, some-behind, some-first}
-use Rattle.vcd_body.specs.Device.{Grows, GrowsSome}
-use Rattle.std.specs.Io.KnownBytes.{Appends}
-use Rattle.vcd_text.specs.declared.ahead.Ahead.{Ahead}
-use Rattle.vcd_view.specs.declared.view.HeadView.{HeadView}
-use Rattle.vcd_body.specs.Spelled.{IsSpelledAs, bytes_without, line_without}
-use Rattle.vcd_body.proofs.LineLemmas.{one_byte}
-use Rattle.vcd_body.specs.Taken.{IsSection, TakesItem}
-use Rattle.vcd_body.specs.declared.ahead.ScannedItem.{ScannedItem}
-use Rattle.vcd_body.specs.Items.{regs_after}
-use Rattle.vcd_body.specs.declared.item.Form.{Form}
-use Rattle.vcd_body.specs.declared.item.Item.{Item}
-use Rattle.vcd_body.specs.declared.item.Item.TheVariants.{Begin, Change, End, Finish, Time}
-use Rattle.vcd_body.specs.declared.item.Regs.{Regs}
-use Rattle.vcd_engine.specs.Cut.{IsNoTimestamp}
-use Rattle.vcd_engine.specs.PendingCopy.{GrowsBut, IsLine, IsNextItem, PutsAll, PutsBehind, PutsOn, IsPart, pending_in}
-use Rattle.vcd_engine.specs.declared.pending.PendingCopy.{PendingCopy}
-use Rattle.vcd_body.proofs.Results.{writes-none}
+use Rattle.vcd_engine.proofs.Cited.{◌≡◌, ℕ, ◌+◌, ◌-◌, ◌≤◌, length, refl, List, [], ◌∷◌, ◌++◌, slice_range, Result, Ok, Err, sym, ap, ap₂, subst, ◌∙◌, append-nil, append_assoc, arith, take, drop, take-take, slice_index, Device, Puts, Writes, WritesSome, slice_range-append, both-written, counts-on, some-behind, some-first, Grows, GrowsSome, Appends, Ahead, HeadView, IsSpelledAs, bytes_without, line_without, one_byte, IsSection, TakesItem, ScannedItem, regs_after, Form, Item, Begin, Change, End, Finish, Time, Regs, IsNoTimestamp, GrowsBut, IsLine, IsNextItem, PutsAll, PutsBehind, PutsOn, IsPart, pending_in, PendingCopy, writes-none}
 
 -- a part that begins where another ends
 pub joined : (bytes : List ℕ) (a b from to : ℕ) → a ≤ b → from ≡ b → from ≤ to → slice_range bytes a b ++ slice_range bytes from to ≡ slice_range bytes a to

@@ -1,32 +1,5 @@
 -- How much of a body was read, and what is on the output by then.
-use Rattle.std.proofs.Common.{◌≡◌, ℕ, ◌≤◌, ◌∙◌, Bool, false, refl, nat_lt, List, [], ◌++◌, append-nil, length, ap, arith, sym, subst}
-use Rattle.std.specs.Io.KnownBytes.{Appends}
-use Rattle.std.specs.List.{list_any}
-use Rattle.std.proofs.lemmas.Bool.Decides.{nat_tests}
-use Rattle.std.proofs.lemmas.List.{length-append}
-use Rattle.vcd_model.specs.Backward.{up_to_first}
-use Rattle.vcd_model.specs.BodyReading.{body_items, read_body}
-use Rattle.vcd_model.specs.Due.{due_after, due_of_body}
-use Rattle.vcd_model.specs.Input.{Input}
-use Rattle.vcd_model.specs.Tokens.{Token}
-use Rattle.vcd_model.specs.Header.{Header}
-use Rattle.vcd_model.specs.Items.{BodyItem}
-use Rattle.vcd_model.specs.Outcome.{Request, ends_early, open_text}
-use Rattle.vcd_model.specs.Settled.{is_settled_behind}
-use Rattle.vcd_model.proofs.CutGrows.{goes_on}
-use Rattle.vcd_text.specs.Device.{Device, Supply, Writes}
-use Rattle.vcd_text.specs.Feed.{chunk_len_of, limit_of, supply_of}
-use Rattle.vcd_text.specs.ReadAhead.{ReadsAsNeeded}
-use Rattle.vcd_text.specs.declared.device.Source.{Ghosts}
-use Rattle.vcd_text.specs.declared.feed.Feed.{Feed}
-use Rattle.vcd_text.proofs.Writes.{appends-twice}
-use Rattle.vcd_body.specs.Ahead.{GaveLast}
-use Rattle.vcd_body.specs.Asked.{HaveJust}
-use Rattle.vcd_body.specs.Reads.{GaveAll, StopsAt}
-use Rattle.vcd_body.specs.declared.item.Regs.{Regs}
-use Rattle.vcd_body.proofs.AskedLemmas.{asked_to_end, asked_to_item, asked_to_stop, unsettled}
-use Rattle.vcd_engine.specs.Engine.{CanRun}
-use Rattle.vcd_engine.specs.TaskRun.{KeepsUp, is_more_due}
+use Rattle.vcd_engine.proofs.Cited.{◌≡◌, ℕ, ◌≤◌, ◌∙◌, Bool, false, refl, nat_lt, List, [], ◌++◌, append-nil, length, ap, arith, sym, subst, Appends, list_any, nat_tests, length-append, up_to_first, body_items, read_body, due_after, due_of_body, Input, Token, Header, BodyItem, Request, ends_early, open_text, is_settled_behind, goes_on, Device, Supply, Writes, chunk_len_of, limit_of, supply_of, ReadsAsNeeded, Ghosts, Feed, appends-twice, GaveLast, HaveJust, GaveAll, StopsAt, Regs, asked_to_end, asked_to_item, asked_to_stop, unsettled, CanRun, KeepsUp, is_more_due}
 use Rattle.vcd_engine.proofs.BodyOutcomes.{goes_behind}
 
 -- where no item ends the run, all of them count

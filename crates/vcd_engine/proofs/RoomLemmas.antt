@@ -1,16 +1,5 @@
 -- What is lent to a run counts at most the bound, and less room less.
-use Rattle.std.proofs.Common.{◌≡◌, ℕ, ◌≤◌, List, [], ◌∷◌, length, sum_by, sym, subst, arith}
-use Rattle.std.proofs.lemmas.List.Sums.{sum_by-append}
-use Rattle.vcd_model.specs.Bound.{AreWindows, FitsInput, RoomSize, ViewSize, WindowSize, no_room, value_room}
-use Rattle.vcd_model.specs.Declarations.{IdCode}
-use Rattle.vcd_model.proofs.BoundLemmas.{room_fits}
-use Rattle.vcd_view.proofs.RoomLemmas.{is_view}
-use Rattle.vcd_view.specs.Needs.{view_size}
-use Rattle.vcd_view.specs.Shown.{parts}
-use Rattle.vcd_view.specs.Views.{IsViewOf}
-use Rattle.vcd_model.specs.Header.{Header}
-use Rattle.vcd_view.specs.declared.view.HeadView.{HeadView}
-use Rattle.vcd_engine.specs.Room.{AreWithinBound, IsWithin, IsWithinEachBound}
+use Rattle.vcd_engine.proofs.Cited.{◌≡◌, ℕ, ◌≤◌, List, [], ◌∷◌, length, sum_by, sym, subst, arith, sum_by-append, AreWindows, FitsInput, RoomSize, ViewSize, WindowSize, no_room, value_room, IdCode, room_fits, is_view, view_size, parts, IsViewOf, Header, HeadView, AreWithinBound, IsWithin, IsWithinEachBound}
 
 pub less_room : (limit : ℕ) (h : Header) (w : WindowSize) (v : ViewSize) (r most : RoomSize) → IsWithin r most → FitsInput limit h w v most → FitsInput limit h w v r
 less_room limit h w v r most within fits = omega (arith, within.values, within.slots, within.marks, fits)

@@ -1,33 +1,5 @@
 -- What a run leaves that ends with its body, or at a fault.
-use Rattle.std.proofs.Common.{◌≡◌, ℕ, ◌+◌, inl, inr, Bool, false, List, [], take, Option, Some, None, Result, Ok, Err, refl, sym, ap, subst, ◌∙◌, append-nil}
-use Rattle.std.specs.Prelude.{IfErr, IfOk}
-use Rattle.std.specs.Io.KnownBytes.{Appends}
-use Rattle.std.specs.List.{list_any}
-use Rattle.vcd_model.specs.Input.{Input}
-use Rattle.vcd_model.specs.Tokens.{Token, stream_of}
-use Rattle.vcd_model.specs.Header.{Header}
-use Rattle.vcd_model.specs.Items.{BodyItem}
-use Rattle.vcd_model.specs.Outcome.{Outcome, Request, at_end, ends_early, fault_outcome, open_text, close_text}
-use Rattle.vcd_model.specs.Reading.{Fault}
-use Rattle.vcd_text.specs.Answer.{failed_after}
-use Rattle.vcd_text.specs.Feed.{chunk_len_of, limit_of, seen, supply_of, token_of}
-use Rattle.vcd_text.specs.declared.device.Source.{Ghosts}
-use Rattle.vcd_text.specs.declared.feed.Feed.{Feed}
-use Rattle.vcd_text.proofs.Writes.{both-written, some-behind}
-use Rattle.vcd_body.specs.Reads.{BodyHas}
-use Rattle.vcd_body.specs.Answer.{IsLeft}
-use Rattle.vcd_text.specs.Device.{Device, Supply, Writes, WritesSome}
-use Rattle.vcd_model.proofs.MergeSoFar.{fault_output}
-use Rattle.vcd_engine.specs.Engine.{CanRun}
-use Rattle.vcd_engine.specs.TaskRun.{Belongs, Follows, IsRefused, is_early}
-use Rattle.vcd_body.proofs.CallerLemmas.{last_given}
-use Rattle.vcd_engine.specs.Step.{StepGives}
-use Rattle.vcd_body.specs.declared.answer.Done.{Done}
-use Rattle.vcd_body.specs.declared.answer.Done.TheVariants.{Whole}
-use Rattle.vcd_body.specs.declared.answer.More.TheVariants.{Ended}
-use Rattle.vcd_body.specs.declared.answer.Stop.{Stop}
-use Rattle.vcd_body.specs.declared.answer.Stop.TheVariants.{Dump, Read, Write}
-use Rattle.vcd_engine.specs.declared.engine.Engine.{Engine}
+use Rattle.vcd_engine.proofs.Cited.{◌≡◌, ℕ, ◌+◌, inl, inr, Bool, false, List, [], take, Option, Some, None, Result, Ok, Err, refl, sym, ap, subst, ◌∙◌, append-nil, IfErr, IfOk, Appends, list_any, Input, Token, stream_of, Header, BodyItem, Outcome, Request, at_end, ends_early, fault_outcome, open_text, close_text, Fault, failed_after, chunk_len_of, limit_of, seen, supply_of, token_of, Ghosts, Feed, both-written, some-behind, BodyHas, IsLeft, Device, Supply, Writes, WritesSome, fault_output, CanRun, Belongs, Follows, IsRefused, is_early, last_given, StepGives, Done, Whole, Ended, Stop, Dump, Read, Write, Engine}
 use Rattle.vcd_engine.proofs.BodyOutcomes.{over_task}
 use Rattle.vcd_engine.proofs.EarlyEnds.{stopped_item}
 use Rattle.vcd_engine.proofs.ReadLemmas.{HasReadFor, keeping_up, read_to_end, read_to_stop}

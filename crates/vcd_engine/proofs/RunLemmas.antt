@@ -1,32 +1,5 @@
 -- What steps leave when the run has ended.
-use Rattle.std.proofs.Common.{◌≡◌, ℕ, ◌+◌, false, List, [], ◌∷◌, ◌++◌, length, Result, Ok, Err, refl, ap, subst, ◌∙◌, ◌≤◌, add-zero, append-nil, arith}
-use Rattle.std.specs.List.{list_any}
-use Rattle.std.proofs.lemmas.List.{length-append}
-use Rattle.vcd_model.specs.Input.{Input}
-use Rattle.vcd_model.specs.Tokens.{Token}
-use Rattle.vcd_model.specs.Header.{Header}
-use Rattle.vcd_model.specs.Items.{BodyItem}
-use Rattle.vcd_model.specs.BodyReading.{body_grammar}
-use Rattle.vcd_model.specs.Outcome.{Request, ends_early, open_text}
-use Rattle.vcd_model.proofs.SoFarLemmas.{so_far-nothing}
-use Rattle.vcd_text.specs.Feed.{HasGiven, chunk_len_of, limit_of, seen, source_of, supply_of}
-use Rattle.vcd_text.specs.declared.device.Source.{Ghosts}
-use Rattle.vcd_text.specs.declared.feed.Feed.{Feed}
-use Rattle.vcd_body.specs.Answer.{EndsAtRead, reads_failed}
-use Rattle.vcd_text.specs.Device.{Device, Supply, Writes}
-use Rattle.vcd_body.specs.Device.{Grows}
-use Rattle.vcd_engine.specs.Engine.{CanRun, Holds, Runs, request_of_engine}
-use Rattle.vcd_engine.specs.TaskRun.{Follows}
-use Rattle.vcd_body.proofs.CallerLemmas.{last_given}
-use Rattle.vcd_engine.specs.Step.{LastGives, StepGives, StepsGive, step_end}
-use Rattle.vcd_text.specs.Advances.{Advances, CallEnd, HasNotFailed}
-use Rattle.vcd_body.specs.declared.answer.Done.{Done}
-use Rattle.vcd_body.specs.declared.answer.Done.TheVariants.{Whole, Early}
-use Rattle.vcd_body.specs.declared.answer.More.{More}
-use Rattle.vcd_body.specs.declared.answer.More.TheVariants.{Again, Ended}
-use Rattle.vcd_body.specs.declared.answer.Stop.{Stop}
-use Rattle.vcd_body.specs.declared.answer.Stop.TheVariants.{Dump, Read, Write, Unmatched}
-use Rattle.vcd_engine.specs.declared.engine.Engine.{Engine}
+use Rattle.vcd_engine.proofs.Cited.{◌≡◌, ℕ, ◌+◌, false, List, [], ◌∷◌, ◌++◌, length, Result, Ok, Err, refl, ap, subst, ◌∙◌, ◌≤◌, add-zero, append-nil, arith, list_any, length-append, Input, Token, Header, BodyItem, body_grammar, Request, ends_early, open_text, so_far-nothing, HasGiven, chunk_len_of, limit_of, seen, source_of, supply_of, Ghosts, Feed, EndsAtRead, reads_failed, Device, Supply, Writes, Grows, CanRun, Holds, Runs, request_of_engine, Follows, last_given, LastGives, StepGives, StepsGive, step_end, Advances, CallEnd, HasNotFailed, Done, Whole, Early, More, Again, Ended, Stop, Dump, Read, Write, Unmatched, Engine}
 use Rattle.vcd_engine.proofs.RunEnds.{ended_whole, stopped_dump, stopped_read, stopped_write}
 use Rattle.vcd_engine.proofs.EarlyEnds.{ended_early}
 use Rattle.vcd_engine.proofs.AheadLemmas.{written_behind}

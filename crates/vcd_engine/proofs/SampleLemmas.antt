@@ -1,31 +1,7 @@
 -- What a sample keeps with one item more.
-use Rattle.std.proofs.Common.{◌≡◌, ◌≢◌, ℕ, suc, ◌+◌, ◌<◌, ◌≤◌, ◌==◌, Bool, true, false, not, cond, nat_le, nat_lt, List, [], ◌∷◌, ◌++◌, length, take, drop, Option, Some, None, Result, refl, sym, ap, subst, ◌∙◌, arith}
-use Rattle.std.specs.Prelude.{unwrap_or}
-use Rattle.std.specs.List.{AllByRecursion, position_or_len}
-use Rattle.std.specs.List.Sorted.{IsStrictlyIncreasing}
-use Rattle.std.specs.Borrow.{Bor}
-use Rattle.std.proofs.Math.Seq.{drop-append-add}
-use Rattle.std.proofs.lemmas.Bool.{le-leb, leb-true, leb-false, ltb-false, ne_eqb}
-use Rattle.std.proofs.lemmas.List.{append_assoc, append-nil, take-append-drop}
-use Rattle.std.proofs.lemmas.List.Sums.{prefix_len-le-length}
-use Rattle.vcd_model.specs.Declarations.{IdCode}
-use Rattle.vcd_model.specs.Header.{Header}
-use Rattle.vcd_model.specs.Items.{BodyItem, marks}
-use Rattle.vcd_model.specs.Outcome.{Request, close_text, ends_early, open_text}
-use Rattle.vcd_model.specs.Sample.{is_settled, sample_open, sample_close}
-use Rattle.vcd_model.proofs.SampleSteps.{AreSettled, all_settled_same, close_is, due_at_mark, ended, goes_on_other, lines_of, not_ended, open_same, rises_behind, settled_next, unsettled_from}
-use Rattle.vcd_text.specs.Device.{Device, Takes}
-use Rattle.vcd_body.specs.declared.item.Item.{Item}
-use Rattle.vcd_body.specs.declared.item.Item.TheVariants.{Time, Begin, End, Change, Finish}
-use Rattle.vcd_body.specs.declared.table.Table.{Table}
-use Rattle.vcd_body.specs.Device.{TakesDue}
-use Rattle.vcd_engine.specs.Cut.{IsNoTimestamp}
-use Rattle.vcd_body.specs.Given.{IsItem}
-use Rattle.vcd_engine.specs.Quiet.{TakesQuietly}
-use Rattle.vcd_engine.specs.Sample.{AreSampled, asked_in, is_due, names_in}
-use Rattle.vcd_body.specs.Current.{AreHeld}
-use Rattle.vcd_engine.specs.declared.task_state.sample.Sample.{Sample}
-use Rattle.vcd_body.proofs.CurrentLemmas.{held_still}
+use Rattle.vcd_engine.proofs.Cited.{◌≡◌, ◌≢◌, ℕ, suc, ◌+◌, ◌<◌, ◌≤◌, ◌==◌, Bool, true, false, not, cond, nat_le, nat_lt, List, [], ◌∷◌, ◌++◌, length, take, drop, Option, Some, None, Result, refl, sym, ap, subst, ◌∙◌, arith, unwrap_or, AllByRecursion, position_or_len, IsStrictlyIncreasing, Bor, drop-append-add, le-leb, leb-true, leb-false, ltb-false, ne_eqb, take-append-drop, prefix_len-le-length, IdCode, Header, BodyItem, marks, Request, close_text, ends_early, open_text, is_settled, sample_open, sample_close, AreSettled, all_settled_same, close_is, due_at_mark, ended, goes_on_other, lines_of, not_ended, open_same, rises_behind, settled_next, unsettled_from, Device, Takes, Item, Time, Begin, End, Change, Finish, Table, TakesDue, IsNoTimestamp, IsItem, TakesQuietly, AreSampled, asked_in, is_due, AreHeld, Sample, held_still}
+use Rattle.std.proofs.lemmas.List.{append_assoc, append-nil}
+use Rattle.vcd_engine.specs.Sample.{names_in}
 
 -- ---- the times before one that is not below a timestamp
 

@@ -1,25 +1,6 @@
 -- The lines of a time of a sample, row by row.
-use Rattle.std.proofs.Common.{◌≡◌, ℕ, Bool, true, false, List, [], ◌∷◌, ◌++◌, take, slice_get, flat_map, decimal, Some, refl, sym, ap, ◌∙◌}
-use Rattle.std.specs.Prelude.{option_map, option_and_then, unwrap_or}
+use Rattle.vcd_engine.proofs.Cited.{◌≡◌, ℕ, Bool, true, false, List, [], ◌∷◌, ◌++◌, take, slice_get, flat_map, decimal, Some, refl, sym, ap, ◌∙◌, option_map, option_and_then, unwrap_or, Declaration, Variable, code_of, path_of, words, Header, final_value, BodyItem, is_settled, sample_lines, shown, Selected, value_now, parts, IsViewOf, HeadView, Row, row_of, codes_shown, held_at, value_in, value_at_size, Table, shown_are, AreHeld}
 use Rattle.std.proofs.lemmas.List.{append_assoc, append-nil}
-use Rattle.vcd_model.specs.Declarations.{Declaration, Variable, code_of, path_of}
-use Rattle.vcd_model.specs.HeadText.{words}
-use Rattle.vcd_model.specs.Header.{Header}
-use Rattle.vcd_model.specs.History.{final_value}
-use Rattle.vcd_model.specs.Items.{BodyItem}
-use Rattle.vcd_model.specs.Sample.{is_settled, sample_lines, shown}
-use Rattle.vcd_model.specs.Selection.{Selected}
-use Rattle.vcd_model.proofs.SampleSteps.{value_now}
-use Rattle.vcd_view.specs.Shown.{parts}
-use Rattle.vcd_view.specs.Views.{IsViewOf}
-use Rattle.vcd_view.specs.declared.view.HeadView.{HeadView}
-use Rattle.vcd_view.specs.declared.view.Row.{Row}
-use Rattle.vcd_view.proofs.RowLemmas.{row_of}
-use Rattle.vcd_body.specs.Contents.{codes_shown, held_at, value_in}
-use Rattle.vcd_body.specs.Kept.{value_at_size}
-use Rattle.vcd_body.specs.declared.table.Table.{Table}
-use Rattle.vcd_body.proofs.TableLemmas.{shown_are}
-use Rattle.vcd_body.specs.Current.{AreHeld}
 use Rattle.vcd_engine.proofs.SelectedLines.{declared_at}
 
 -- ---- a line

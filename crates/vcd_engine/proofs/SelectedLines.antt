@@ -1,23 +1,8 @@
 -- The lines of the selected variables, row by row.
-use Rattle.std.proofs.Common.{◌≡◌, ◌≢◌, ℕ, ◌+◌, refl, Bool, true, false, cond, List, [], ◌∷◌, ◌++◌, length, take, drop, slice_get, flat_map, filter_map, Option, Some, None, sym, ap, subst, ◌∙◌}
-use Rattle.std.specs.Io.KnownBytes.{Appends}
-use Rattle.std.proofs.Math.Seq.{take-length}
-use Rattle.std.proofs.lemmas.List.{append-nil, take-append-drop}
-use Rattle.std.proofs.lemmas.List.Elements.{filter_map-append}
-use Rattle.std.proofs.lemmas.Grind.{flat_map-append}
-use Rattle.vcd_model.specs.Backward.{each, each_after}
-use Rattle.vcd_model.specs.Declarations.{Declaration, Variable, path_of}
-use Rattle.vcd_model.specs.Header.{Header}
-use Rattle.vcd_model.specs.Selection.{Selected, is_selected, selected, with_path}
-use Rattle.vcd_model.proofs.Growing.{each_after-append}
-use Rattle.vcd_text.proofs.Writes.{AppendsSome, appends-first, appends-some}
-use Rattle.vcd_head.specs.Marks.{is_marked, marks_of}
-use Rattle.vcd_view.specs.Shown.{HeadShown}
-use Rattle.vcd_view.specs.Views.{IsRow, Views}
+use Rattle.vcd_engine.proofs.Cited.{◌≡◌, ◌≢◌, ℕ, ◌+◌, refl, Bool, true, false, cond, List, [], ◌∷◌, ◌++◌, length, take, drop, slice_get, flat_map, filter_map, Option, Some, None, sym, ap, subst, ◌∙◌, Appends, take-length, take-append-drop, filter_map-append, flat_map-append, each, each_after, Declaration, Variable, path_of, Header, Selected, is_selected, with_path, each_after-append, AppendsSome, appends-first, appends-some, is_marked, marks_of, HeadShown, IsRow, Views, Row, rows_len, row_at, marks_are}
+use Rattle.std.proofs.lemmas.List.{append-nil}
+use Rattle.vcd_model.specs.Selection.{selected}
 use Rattle.vcd_view.specs.declared.view.Kind.TheVariants as kind
-use Rattle.vcd_view.specs.declared.view.Row.{Row}
-use Rattle.vcd_view.proofs.RowLemmas.{rows_len, row_at}
-use Rattle.vcd_head.proofs.MarkedHead.{marks_are}
 use Rattle.vcd_engine.proofs.SelectionLemmas.{marked_is, selected_next}
 
 -- a variable that is declared at an index, with its path

@@ -1,33 +1,8 @@
 -- The codes of marked variables are those of the selected ones.
-use Rattle.std.proofs.Common.{◌≡◌, ◌≢◌, ℕ, zero, suc, ◌+◌, ◌<◌, ◌≤◌, ◌==◌, ◌&&◌, ◌||◌, Bool, true, false, cond, min, List, [], ◌∷◌, ◌++◌, length, take, drop, map, get_or, filter_map, flat_map, bytes_eq, slice_get, Some, None, refl, sym, ap, ◌∙◌, arith, add-one, zero-add}
-use denote.Enum.Bare.{sameb}
-use Rattle.std.specs.List.{AllByRecursion, range_with_len}
-use Rattle.std.proofs.Math.Bool.{or-false, and-false}
-use Rattle.std.proofs.lemmas.Bool.{eq-eqb, ne_eqb, or_parts}
-use Rattle.std.proofs.lemmas.Grind.{flat_map-append}
-use Rattle.std.proofs.lemmas.List.{length-map, length-take-le, take_all}
-use Rattle.std.proofs.lemmas.List.Elements.{filter_map-append}
-use Rattle.std.proofs.lemmas.List.Folds.{list_any-append}
-use Rattle.std.proofs.lemmas.List.FromFn.{get_or-map-range_with_len, length-range_with_len}
-use Rattle.std.proofs.lemmas.Option.{none-some, same_Some, slice_get-get_or, slice_get_within, get_or_from_slice_get}
-use Rattle.std.proofs.lemmas.Slice.Eq.{bytes_eq-Decides}
-use Rattle.std.proofs.lemmas.Slice.Zip.{AllZip-long}
-use Rattle.vcd_model.specs.Backward.{each, each_after}
-use Rattle.vcd_model.specs.Declarations.{Declaration, Variable, IdCode, code_of, enclosing, path_of}
-use Rattle.vcd_model.specs.Header.{Header}
-use Rattle.vcd_model.specs.Selection.{Selected, is_among, is_selected, marked_places, selected, selects_code, with_path}
-use Rattle.vcd_model.proofs.Growing.{each_after-append}
-use Rattle.vcd_model.proofs.ScopeLemmas.{enclosing-scope, enclosing-up, enclosing-var, enclosing_below}
+use Rattle.vcd_engine.proofs.Cited.{◌≡◌, ◌≢◌, ℕ, zero, suc, ◌+◌, ◌<◌, ◌≤◌, ◌==◌, ◌&&◌, ◌||◌, Bool, true, false, cond, min, List, [], ◌∷◌, ◌++◌, length, take, drop, map, get_or, filter_map, flat_map, bytes_eq, slice_get, Some, None, refl, sym, ap, ◌∙◌, arith, add-one, zero-add, sameb, AllByRecursion, range_with_len, or-false, and-false, eq-eqb, ne_eqb, or_parts, flat_map-append, length-map, length-take-le, take_all, filter_map-append, list_any-append, get_or-map-range_with_len, length-range_with_len, none-some, same_Some, slice_get-get_or, slice_get_within, get_or_from_slice_get, bytes_eq-Decides, AllZip-long, each, each_after, Declaration, Variable, IdCode, code_of, enclosing, path_of, Header, Selected, is_among, is_selected, selects_code, with_path, each_after-append, enclosing-scope, enclosing-up, enclosing-var, enclosing_below, HeadShown, IsCode, IsIndex, IsRow, Views, the_type, Row, row_at, rows_len, take-next, among-append, same_place}
+use Rattle.vcd_model.specs.Selection.{marked_places, selected}
 use Rattle.vcd_head.specs.Marks.{marks_of}
-use Rattle.vcd_view.specs.Shown.{HeadShown}
-use Rattle.vcd_view.specs.Views.{IsCode, IsIndex, IsRow, Views}
-use Rattle.vcd_view.specs.contracts.view.Kind.{the_type}
 use Rattle.vcd_view.specs.declared.view.Kind.TheVariants as kind
-use Rattle.vcd_view.specs.declared.view.Row.{Row}
-use Rattle.vcd_view.proofs.RowLemmas.{row_at, rows_len}
-use Rattle.vcd_head.proofs.SelectionLemmas.{take-next}
-use Rattle.vcd_head.proofs.MarkLemmas.{among-append}
-use Rattle.vcd_view.proofs.LookUpLemmas.{same_place}
 
 -- ---- codes of equal text have one index
 

@@ -1,20 +1,6 @@
 -- What a run leaves that stops at its begin.
-use Rattle.std.proofs.Common.{◌≡◌, ℕ, inl, List, [], take, Err, refl, sym, ap, subst, ◌∙◌}
-use Rattle.vcd_model.specs.Input.{Input}
-use Rattle.vcd_model.specs.Tokens.{Token, stream_of}
-use Rattle.vcd_model.specs.Due.{due_after}
-use Rattle.vcd_model.specs.Header.{Header}
-use Rattle.vcd_model.specs.Outcome.{Outcome, Opened, Request, over_dump, body_of, items_in, fault_in, open_text}
-use Rattle.vcd_text.specs.Feed.{HasGiven, limit_of}
-use Rattle.vcd_text.specs.ReadAhead.ReadsAsNeeded.{Nothing}
-use Rattle.vcd_text.specs.declared.device.Source.{Ghosts}
-use Rattle.vcd_text.specs.declared.feed.Feed.{Feed}
-use Rattle.vcd_text.proofs.Writes.{AppendsSome, appends-first}
-use Rattle.vcd_text.specs.Device.{Device, Supply, Writes}
-use Rattle.vcd_engine.specs.Engine.{StopsAtStart}
-use Rattle.vcd_engine.specs.TaskRun.{Belongs, Follows, IsRefused, KeepsUp}
-use Rattle.vcd_body.specs.declared.answer.Stop.{Stop}
-use Rattle.vcd_body.specs.declared.answer.Stop.TheVariants.{Dump, Read, Write, Unmatched}
+use Rattle.vcd_engine.proofs.Cited.{◌≡◌, ℕ, inl, List, [], take, Err, refl, sym, ap, subst, ◌∙◌, Input, Token, stream_of, due_after, Header, Outcome, Opened, Request, over_dump, items_in, fault_in, open_text, HasGiven, limit_of, Nothing, Ghosts, Feed, AppendsSome, appends-first, Device, Supply, Writes, StopsAtStart, Belongs, Follows, IsRefused, KeepsUp, Stop, Dump, Read, Write, Unmatched}
+use Rattle.vcd_model.specs.Outcome.{body_of}
 use Rattle.vcd_engine.proofs.BodyOutcomes.{over_matched, over_unmatched, begins_with}
 
 -- a run whose engine was not begun

@@ -1,34 +1,7 @@
 -- What a table counts of the values of codes, with one item more.
-use Rattle.std.proofs.Common.{◌≡◌, ◌≢◌, ℕ, ◌+◌, ◌-◌, ◌^◌, ◌<◌, ◌==◌, ◌&&◌, ◌||◌, nat_le, nat_lt, Bool, true, false, not, cond, min, List, [], ◌∷◌, ◌++◌, length, slice_get, Option, Some, None, refl, sym, ap, ◌∙◌, arith}
-use Rattle.std.specs.Prelude.{option_map, unwrap_or}
-use Rattle.std.specs.List.{last_or}
-use Rattle.std.proofs.lemmas.Bool.{eq-eqb, eqb-true, eqb-false, lt-ltb}
-use Rattle.std.proofs.lemmas.Slice.Eq.{bytes_eq-Decides}
-use Rattle.vcd_model.specs.Declarations.{IdCode, same_code}
-use Rattle.vcd_model.specs.Edges.{Counts, counts_for, goes, has_last}
-use Rattle.vcd_model.specs.Header.{Header}
-use Rattle.vcd_model.specs.History.{final_value, gives_to}
-use Rattle.vcd_model.specs.Items.{BodyItem, Change, leaves_open}
-use Rattle.vcd_model.specs.Values.{Value, same_value, value_of, value_with}
-use Rattle.vcd_model.proofs.EdgesSteps.{are_few, counts_mark, counts_new, counts_other, with_mark, with_value}
-use Rattle.vcd_model.proofs.FinalValues.{final_other}
-use Rattle.vcd_view.specs.Finds.{IsSized}
-use Rattle.vcd_view.specs.Shown.{parts}
-use Rattle.vcd_view.specs.Views.{IsViewOf}
-use Rattle.vcd_view.specs.declared.view.Code.{Code}
-use Rattle.vcd_view.specs.declared.view.HeadView.{HeadView}
-use Rattle.vcd_view.proofs.LookUpLemmas.{same_place}
-use Rattle.vcd_view.proofs.RowLemmas.{code_at}
-use Rattle.vcd_body.specs.Contents.{ChangesCode, IsLaidOut, counts_at, held_at, kept_at}
-use Rattle.vcd_body.specs.Given.{IsText}
-use Rattle.vcd_body.specs.Items.{model_form}
-use Rattle.vcd_body.specs.Kept.{Held, IsStep, Kept, differs, goes_from, is_digit, last_digit_in, one_more, value_at_size, with_change, with_counted, with_step, with_text}
-use Rattle.vcd_body.specs.declared.item.Form.{Form}
-use Rattle.vcd_body.specs.declared.step.Step.{Step}
-use Rattle.vcd_body.specs.declared.table.Table.{Table}
-use Rattle.vcd_engine.specs.Edges.{AreTallied, numbers}
-use Rattle.vcd_body.specs.Current.{AreHeld}
-use Rattle.vcd_body.proofs.CurrentLemmas.{IsNew, SetsValue, change_holds, held_still, new_holds}
+use Rattle.vcd_engine.proofs.Cited.{◌≡◌, ◌≢◌, ℕ, ◌+◌, ◌-◌, ◌^◌, ◌<◌, ◌==◌, ◌&&◌, ◌||◌, nat_le, nat_lt, Bool, true, false, not, cond, min, List, [], ◌∷◌, ◌++◌, length, slice_get, Option, Some, None, refl, sym, ap, ◌∙◌, arith, option_map, unwrap_or, last_or, eq-eqb, eqb-true, eqb-false, lt-ltb, bytes_eq-Decides, IdCode, same_code, Counts, counts_for, goes, has_last, Header, final_value, gives_to, BodyItem, leaves_open, Value, same_value, value_of, value_with, counts_mark, counts_new, counts_other, with_mark, with_value, final_other, IsSized, parts, IsViewOf, Code, HeadView, same_place, code_at, ChangesCode, IsLaidOut, counts_at, held_at, kept_at, IsText, model_form, Held, IsStep, Kept, differs, goes_from, is_digit, last_digit_in, one_more, value_at_size, with_change, with_counted, with_step, with_text, Form, Step, Table, AreTallied, numbers, AreHeld, IsNew, SetsValue, change_holds, held_still, new_holds}
+use Rattle.vcd_model.specs.Items.{Change}
+use Rattle.vcd_model.proofs.EdgesSteps.{are_few}
 use Rattle.vcd_engine.proofs.ItemTextLemmas.{some_text}
 
 -- ---- a table whose counters alone change

@@ -1,19 +1,6 @@
 -- The row of a variable in the report of `edges`.
-use Rattle.std.proofs.Common.{◌≡◌, ℕ, List, [], ◌∷◌, ◌++◌, take, get_or, slice_get, decimal, flat_map, refl, Some, ap, ◌∙◌, append_assoc}
-use Rattle.vcd_model.specs.Declarations.{Declaration, Variable, code_of, path_of}
-use Rattle.vcd_model.specs.Edges.{counts_for, edges_close, edges_line}
-use Rattle.vcd_model.specs.HeadText.{words}
-use Rattle.vcd_model.specs.Header.{Header}
-use Rattle.vcd_model.specs.Items.{BodyItem}
-use Rattle.vcd_model.specs.Selection.{selected}
-use Rattle.vcd_view.specs.Shown.{parts}
-use Rattle.vcd_view.specs.Views.{IsViewOf}
-use Rattle.vcd_view.specs.declared.view.HeadView.{HeadView}
-use Rattle.vcd_view.specs.declared.view.Row.{Row}
-use Rattle.vcd_view.proofs.RowLemmas.{row_of}
-use Rattle.vcd_body.specs.Contents.{counts_at}
-use Rattle.vcd_body.specs.declared.table.Table.{Table}
-use Rattle.vcd_engine.specs.Edges.{AreTallied}
+use Rattle.vcd_engine.proofs.Cited.{◌≡◌, ℕ, List, [], ◌∷◌, ◌++◌, take, get_or, slice_get, decimal, flat_map, refl, Some, ap, ◌∙◌, append_assoc, Declaration, Variable, code_of, path_of, counts_for, edges_line, words, Header, BodyItem, selected, parts, IsViewOf, HeadView, Row, row_of, counts_at, Table, AreTallied}
+use Rattle.vcd_model.specs.Edges.{edges_close}
 use Rattle.vcd_engine.proofs.SelectedLines.{declared_at}
 
 -- a path and three counters, as they are written

@@ -1,15 +1,6 @@
 -- The row of a variable that is read at an index.
-use Rattle.std.proofs.Common.{◌≡◌, ◌≢◌, ℕ, Bool, true, false, refl, ◌<◌, length, get_or, slice_get, Some, sym, ◌∙◌}
-use Rattle.vcd_model.specs.Declarations.{Declaration, Variable}
-use Rattle.vcd_model.specs.Header.{Header}
-use Rattle.vcd_view.specs.declared.view.Row.{Row}
-use Rattle.vcd_view.specs.declared.view.Kind.{Kind}
+use Rattle.vcd_engine.proofs.Cited.{◌≡◌, ◌≢◌, ℕ, Bool, true, false, refl, ◌<◌, length, get_or, slice_get, Some, sym, ◌∙◌, Declaration, Variable, Header, Row, Kind, the_type, sameb, HeadShown, Views, read_row, variable_at}
 use Rattle.vcd_view.specs.declared.view.Kind.TheVariants as kind
-use Rattle.vcd_view.specs.contracts.view.Kind.{the_type}
-use denote.Enum.Bare.{sameb}
-use Rattle.vcd_view.specs.Shown.{HeadShown}
-use Rattle.vcd_view.specs.Views.{Views}
-use Rattle.vcd_view.proofs.RowLemmas.{read_row, variable_at}
 
 -- there is a row at this index, and it is a variable's
 abbrev pub IsVariable : HeadShown → ℕ → Type 0

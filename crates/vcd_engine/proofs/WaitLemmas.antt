@@ -1,35 +1,6 @@
 -- What a run leaves that stops before a read.
-use Rattle.std.proofs.Common.{◌≡◌, ℕ, ◌+◌, inl, inr, false, List, [], ◌++◌, take, Result, Ok, Err, refl, sym, ap, subst, ◌∙◌, append-nil, append_assoc, add-zero}
-use Rattle.std.specs.List.{list_any}
-use Rattle.vcd_model.specs.Input.{Input}
-use Rattle.vcd_model.specs.Tokens.{Token, stream_of}
-use Rattle.vcd_model.specs.Due.{due_after}
-use Rattle.vcd_model.specs.Header.{Header}
-use Rattle.vcd_model.specs.Items.{BodyItem}
-use Rattle.vcd_model.specs.BodyReading.{read_body, body_fault_of}
-use Rattle.vcd_model.specs.Outcome.{Outcome, Request, over_dump, over_body, ends_early, open_text, body_of}
-use Rattle.vcd_model.specs.Settled.{is_settled_behind}
-use Rattle.vcd_model.proofs.BodyPrefix.{items_begin}
-use Rattle.vcd_text.specs.Feed.{limit_of, supply_of}
-use Rattle.vcd_text.specs.ReadAhead.{ReadsAsNeeded}
-use Rattle.vcd_text.specs.declared.device.Source.{Ghosts}
-use Rattle.vcd_text.specs.declared.feed.Feed.{Feed}
-use Rattle.vcd_text.specs.Device.{Device, Supply, Writes, WritesSome, supply}
-use Rattle.vcd_text.proofs.Writes.{AppendsSome, appends-first, both-written, some-behind}
-use Rattle.vcd_body.specs.Answer.{reads_failed}
-use Rattle.vcd_body.specs.Device.{Grows, GrowsSome}
-use Rattle.vcd_body.specs.Reads.{GaveItems}
-use Rattle.vcd_body.specs.declared.answer.Done.{Done}
-use Rattle.vcd_body.specs.declared.answer.More.{More}
-use Rattle.vcd_body.specs.declared.answer.Stop.{Stop}
-use Rattle.vcd_body.specs.declared.answer.Stop.TheVariants.{Write}
-use Rattle.vcd_body.specs.declared.item.Regs.{Regs}
-use Rattle.vcd_engine.specs.Engine.{CanRun, Runs, request_of_engine}
-use Rattle.vcd_engine.specs.TaskRun.{Follows, KeepsUp}
-use Rattle.vcd_engine.specs.Step.{StepsGive}
-use Rattle.vcd_engine.specs.Several.{TakesSeveral}
-use Rattle.vcd_engine.specs.Waits.{StepsOrStops, StopsOn}
-use Rattle.vcd_engine.specs.declared.engine.Engine.{Engine}
+use Rattle.vcd_engine.proofs.Cited.{◌≡◌, ℕ, ◌+◌, inl, inr, false, List, [], ◌++◌, take, Result, Ok, Err, refl, sym, ap, subst, ◌∙◌, append-nil, append_assoc, add-zero, list_any, Input, Token, stream_of, due_after, Header, BodyItem, read_body, body_fault_of, Outcome, Request, over_dump, over_body, ends_early, open_text, is_settled_behind, items_begin, limit_of, supply_of, ReadsAsNeeded, Ghosts, Feed, Device, Supply, Writes, WritesSome, supply, AppendsSome, appends-first, both-written, some-behind, reads_failed, Grows, GrowsSome, GaveItems, Done, More, Stop, Write, Regs, CanRun, Runs, request_of_engine, Follows, KeepsUp, StepsGive, TakesSeveral, StepsOrStops, StopsOn, Engine}
+use Rattle.vcd_model.specs.Outcome.{body_of}
 use Rattle.vcd_engine.proofs.AheadLemmas.{some_written}
 use Rattle.vcd_engine.proofs.BodyOutcomes.{begins_with, over_matched}
 use Rattle.vcd_engine.proofs.ReadLemmas.{HasReadFor, keeping_up}

@@ -1,27 +1,6 @@
 -- The loop over the items ahead, step by step.
-use Rattle.std.proofs.Common.{◌≡◌, ℕ, ◌+◌, ◌≤◌, Bool, true, false, List, [], ◌∷◌, ◌++◌, length, Result, Ok, Err, refl, sym, ap, subst, ◌∙◌, append-nil}
-use Rattle.std.specs.Prelude.{IfOk}
-use Rattle.vcd_model.specs.Tokens.{Token}
-use Rattle.vcd_text.specs.Ahead.{bytes_of, longest_of, passed_of}
-use Rattle.vcd_text.specs.Passed.{Passed}
-use Rattle.vcd_text.specs.Device.{Counts, Device, Puts}
-use Rattle.vcd_text.proofs.Writes.{counts-on}
-use Rattle.vcd_text.specs.declared.ahead.Ahead.{Ahead}
-use Rattle.vcd_text.specs.declared.device.WriteFailed.{WriteFailed}
-use Rattle.vcd_view.specs.declared.view.HeadView.{HeadView}
-use Rattle.vcd_body.specs.Ahead.{PassesNoItem}
-use Rattle.vcd_body.specs.Walk.{Begins, Further, Past, Stage, Trail, Walks}
-use Rattle.vcd_body.specs.declared.item.Regs.{Regs}
-use Rattle.vcd_body.proofs.WalkLemmas.{walk_passes}
-use Rattle.vcd_engine.specs.Ahead.{RunsOver}
-use Rattle.vcd_engine.specs.Engine.{request_in}
-use Rattle.vcd_engine.specs.Next.{TakesNext, Walk, walk_at}
-use Rattle.vcd_engine.specs.PendingCopy.{IsLine, IsPart, pending_in}
-use Rattle.vcd_engine.specs.Walks.{CanTake, HasWalked, TakesByTask, walk_of}
-use Rattle.vcd_engine.specs.declared.task_state.TaskState.{TaskState}
-use Rattle.vcd_engine.specs.declared.task_state.walk.WalkState.{WalkState}
-use Rattle.vcd_engine.specs.declared.task_state.walk.WalkEnd.{WalkEnd}
-use Rattle.vcd_engine.specs.declared.pending.PendingCopy.{PendingCopy}
+use Rattle.vcd_engine.proofs.Cited.{◌≡◌, ℕ, ◌+◌, ◌≤◌, Bool, true, false, List, [], ◌∷◌, ◌++◌, length, Result, Ok, Err, refl, sym, ap, subst, ◌∙◌, append-nil, IfOk, Token, bytes_of, longest_of, passed_of, Passed, Device, Puts, counts-on, Ahead, WriteFailed, HeadView, PassesNoItem, Begins, Further, Past, Stage, Trail, Walks, Regs, walk_passes, RunsOver, request_in, TakesNext, Walk, walk_at, IsLine, IsPart, pending_in, CanTake, HasWalked, TakesByTask, walk_of, TaskState, WalkState, WalkEnd, PendingCopy}
+use Rattle.vcd_text.specs.Device.{Counts}
 use Rattle.vcd_engine.proofs.AheadLemmas.{ends_before}
 use Rattle.vcd_engine.proofs.NextLemmas.{next, next_fails, next_grows, next_stands}
 use Rattle.vcd_engine.proofs.PieceLemmas.{but_none}

@@ -1,12 +1,5 @@
 -- The checks of a variable's code.
-use Rattle.std.proofs.Common.{◌≡◌, ℕ, Bool, true, false, cond, List, [], ◌∷◌, Option, Some, None, refl, nat_le, arith}
-use Rattle.std.proofs.lemmas.Bool.{and_parts, leb-true}
-use Rattle.vcd_view.specs.Keys.{AreBytes}
-use Rattle.std.specs.List.{list_all}
-use Rattle.vcd_model.specs.Bytes.{decimal_value, is_code_byte}
-use Rattle.vcd_model.specs.Checks.{first_failed}
-use Rattle.vcd_model.specs.Declarations.{Declaration}
-use Rattle.vcd_model.specs.HeaderChecks.{agrees, var_checks}
+use Rattle.vcd_head.proofs.Cited.{◌≡◌, ℕ, Bool, true, false, cond, List, [], ◌∷◌, Option, Some, None, refl, nat_le, arith, and_parts, leb-true, AreBytes, list_all, decimal_value, is_code_byte, first_failed, Declaration, agrees, var_checks}
 
 pub not_some : {X : Type 0} (o : Option X) → ((x : X) → o ≡ Some x → ⊥) → o ≡ None
 not_some None h = refl

@@ -1,19 +1,6 @@
 -- The keys of the codes while a header is read.
-use Rattle.std.proofs.Common.{◌≡◌, ℕ, zero, suc, ◌+◌, ◌<◌, ◌==◌, not, Bool, true, false, cond, List, [], ◌∷◌, ◌++◌, length, map, find, bytes_eq, position, get_or, Fits, w8, Some, None, refl, sym, ap, subst, ◌∙◌, arith}
-use Rattle.std.specs.Prelude.{nat_lt}
-use Rattle.std.specs.List.{AllByRecursion, list_any, position_or_len, prefix_len}
-use Rattle.std.proofs.lemmas.Bool.{ltb-true, ltb-false, lt-ltb, or_parts}
-use Rattle.std.proofs.lemmas.List.{length-map, map-append}
-use Rattle.std.proofs.lemmas.List.Folds.{find_at}
-use Rattle.std.proofs.lemmas.Option.{slice_get_past}
-use Rattle.std.proofs.lemmas.Slice.Eq.{bytes_eq-Decides}
-use Rattle.vcd_model.specs.Declarations.{IdCode, has_text}
-use Rattle.vcd_view.specs.Finds.{Finds}
-use Rattle.vcd_view.specs.Keys.{AreBytes, key_in}
-use Rattle.vcd_view.proofs.KeyLemmas.{same_key}
-use Rattle.vcd_view.proofs.ListLemmas.{same_bytes, there}
-use Rattle.vcd_head.specs.Keys.{AreKeysOf, is_key, shape_in, shape_of}
-use Rattle.vcd_head.specs.declared.code_key.CodeKey.{CodeKey}
+use Rattle.vcd_head.proofs.Cited.{◌≡◌, ℕ, zero, suc, ◌+◌, ◌<◌, ◌==◌, not, Bool, true, false, cond, List, [], ◌∷◌, ◌++◌, length, map, find, bytes_eq, position, get_or, Fits, Some, None, refl, sym, ap, subst, ◌∙◌, arith, nat_lt, AllByRecursion, list_any, position_or_len, prefix_len, ltb-true, ltb-false, lt-ltb, or_parts, length-map, map-append, find_at, slice_get_past, bytes_eq-Decides, IdCode, has_text, Finds, AreBytes, key_in, same_key, same_bytes, there, AreKeysOf, is_key, shape_in, shape_of, CodeKey}
+use Rattle.std.proofs.Common.{w8}
 
 -- ---- one key, one code
 

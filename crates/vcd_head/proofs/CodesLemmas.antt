@@ -1,14 +1,6 @@
 -- The distinct codes while a header is read.
-use Rattle.std.proofs.Common.{◌≡◌, ℕ, zero, suc, Bool, true, false, cond, List, [], ◌∷◌, ◌++◌, map, find, bytes_eq, slice_get, Some, None, refl, sym, ◌∙◌}
-use Rattle.std.specs.List.{AllByRecursion, AllZip, IsDistinct}
-use Rattle.std.specs.Option.{option_or}
-use Rattle.std.proofs.lemmas.List.Folds.{find-append}
-use Rattle.std.proofs.lemmas.Option.{none-some}
-use Rattle.vcd_model.specs.Declarations.{IdCode, has_text}
-use Rattle.vcd_view.specs.declared.view.Code.{Code}
-use Rattle.vcd_view.specs.Views.{AreHeld, IsCode}
-use Rattle.vcd_view.specs.Keys.{AreBytes}
-use Rattle.vcd_view.proofs.ListLemmas.{all_push, all_zip_push, bytes_flip}
+use Rattle.vcd_head.proofs.Cited.{◌≡◌, ℕ, zero, suc, Bool, true, false, cond, List, [], ◌∷◌, ◌++◌, map, find, bytes_eq, slice_get, Some, None, refl, sym, ◌∙◌, AllByRecursion, AllZip, option_or, find-append, none-some, IdCode, has_text, Code, AreHeld, IsCode, AreBytes, all_push, all_zip_push, bytes_flip}
+use Rattle.std.specs.List.{IsDistinct}
 
 -- ---- what is found
 

@@ -1,31 +1,9 @@
 -- The codes of one variable more.
-use Rattle.std.proofs.Common.{◌≡◌, ℕ, ◌+◌, Bool, true, false, cond, not, ◌&&◌, ◌||◌, ◌==◌, List, [], ◌∷◌, ◌++◌, length, find, bytes_eq, slice_get, slice_range, Option, Some, None, is_some, refl, sym, ap, subst, ◌∙◌, arith}
-use Rattle.std.specs.Option.{option_or}
-use Rattle.std.specs.List.{AllByRecursion, list_any, list_all}
-use Rattle.std.proofs.lemmas.List.{append-nil, length-append}
-use Rattle.std.proofs.lemmas.List.Folds.{list_any-append}
-use Rattle.std.proofs.lemmas.Bool.{or_right, or_parts, and_parts, eqb-true}
-use Rattle.std.proofs.lemmas.Option.{same_Some}
-use Rattle.std.proofs.lemmas.Slice.Eq.{bytes_eq-Decides}
-use Rattle.vcd_model.specs.Declarations.{Declaration, Variable, IdCode, code_of, codes_of, variables_of, has_text}
-use Rattle.vcd_model.specs.HeaderChecks.{agrees, same_flag}
-use Rattle.vcd_view.specs.declared.view.Code.{Code}
-use Rattle.vcd_head.specs.declared.codes.Codes.{Codes}
-use Rattle.vcd_view.specs.Views.{AreHeld, IsCode, IsSize}
-use Rattle.vcd_view.specs.Finds.{Finds}
-use Rattle.vcd_head.specs.Codes.{Rises, is_of, keys_of}
-use Rattle.vcd_head.specs.Keys.{AreKeysOf, shape_in, shape_of}
-use Rattle.vcd_head.specs.declared.code_key.CodeKey.{CodeKey}
-use Rattle.vcd_view.specs.Keys.{AreBytes}
-use Rattle.vcd_head.specs.Draft.{HasCodes, CodeHeld}
+use Rattle.vcd_head.proofs.Cited.{◌≡◌, ℕ, ◌+◌, Bool, true, false, cond, not, ◌&&◌, ◌||◌, ◌==◌, List, [], ◌∷◌, ◌++◌, length, find, bytes_eq, slice_get, slice_range, Option, Some, None, is_some, refl, sym, ap, subst, ◌∙◌, arith, option_or, AllByRecursion, list_any, list_all, append-nil, length-append, list_any-append, or_right, or_parts, and_parts, eqb-true, same_Some, bytes_eq-Decides, Declaration, Variable, IdCode, code_of, codes_of, variables_of, has_text, agrees, same_flag, Code, Codes, AreHeld, IsCode, IsSize, Finds, Rises, is_of, keys_of, AreKeysOf, shape_in, shape_of, CodeKey, AreBytes, HasCodes, CodeHeld, all_push, same_bytes, bytes_flip, all_weaker, slice_get-seam, find_passes, or-false, code_of_shown}
 use Rattle.vcd_head.proofs.DraftLemmas.{range_at, held_grow}
 use Rattle.vcd_head.proofs.CodeKeys.{keys_more}
 use Rattle.vcd_head.proofs.CodesLemmas.{find_more, held_more}
-use Rattle.vcd_view.proofs.ListLemmas.{all_push, same_bytes, bytes_flip, all_weaker, slice_get-seam}
 use Rattle.vcd_head.proofs.DraftGrows.{variables_push, codes-alias, codes-new}
-use Rattle.vcd_model.proofs.HeaderGrammar.{find_passes}
-use Rattle.std.proofs.Math.Bool.{or-false}
-use Rattle.vcd_view.proofs.RowLemmas.{code_of_shown}
 
 own_bytes : (a : List ℕ) → bytes_eq a a ≡ true
 own_bytes a = (bytes_eq-Decides a a).1 refl

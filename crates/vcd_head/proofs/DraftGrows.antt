@@ -1,14 +1,6 @@
 -- What is held stays held where texts, codes and rows grow.
-use Rattle.std.proofs.Common.{◌≡◌, ℕ, zero, suc, ◌+◌, ◌-◌, ◌≤◌, true, false, cond, List, [], ◌∷◌, ◌++◌, length, take, drop, slice_range, filter_map, bytes_eq, Option, Some, None, refl, sym, ap, subst, ◌∙◌, arith}
-use Rattle.std.specs.List.{AllZip, list_any}
-use Rattle.std.proofs.lemmas.List.{append_assoc, append-nil, take-append-le, length-append, length-drop}
-use Rattle.std.proofs.lemmas.List.Elements.{filter_map-append}
-use Rattle.vcd_model.specs.Backward.{each_after}
-use Rattle.vcd_model.specs.Declarations.{Declaration, Variable, IdCode, code_of, codes_of, variables_of, variable_of}
-use Rattle.vcd_view.specs.declared.view.Row.{Row}
-use Rattle.vcd_view.specs.declared.view.Code.{Code}
-use Rattle.vcd_view.specs.Views.{HasTexts, IsRow, IsRowOf, AreRows, IsCode}
-use Rattle.vcd_view.proofs.ListLemmas.{slice_get-front}
+use Rattle.vcd_head.proofs.Cited.{◌≡◌, ℕ, zero, suc, ◌+◌, ◌-◌, ◌≤◌, true, false, cond, List, [], ◌∷◌, ◌++◌, length, take, drop, slice_range, filter_map, bytes_eq, Option, Some, None, refl, sym, ap, subst, ◌∙◌, arith, AllZip, list_any, append_assoc, append-nil, take-append-le, length-append, length-drop, filter_map-append, each_after, Declaration, Variable, IdCode, code_of, variables_of, variable_of, Row, Code, HasTexts, IsRow, IsRowOf, AreRows, IsCode, slice_get-front}
+use Rattle.vcd_model.specs.Declarations.{codes_of}
 
 -- ---- texts
 

@@ -1,30 +1,7 @@
 -- A draft that holds some declarations holds one more.
-use Rattle.std.proofs.Common.{◌≡◌, ◌≢◌, ℕ, suc, ◌+◌, ◌-◌, ◌^◌, ◌<◌, ◌≤◌, cond, List, [], ◌∷◌, ◌++◌, length, map, reverse, take, drop, slice_range, slice_get, find, filter_map, sum_by, bytes_eq, Option, Some, None, IfSome, is_some, option_map, unwrap_or, refl, sym, ap, subst, ◌∙◌, arith}
-use Rattle.std.specs.Global.{Vec}
-use Rattle.std.specs.List.{AllByRecursion, list_any, join_with_byte, last_or}
-use Rattle.std.proofs.lemmas.List.{append_assoc, append-nil, length-append, length_push, reverse-append, length-reverse, length-map, map-append}
-use Rattle.std.proofs.lemmas.List.Elements.{filter_map-append}
-use Rattle.std.proofs.lemmas.List.Sums.{sum_by_push}
-use Rattle.vcd_model.specs.Bound.{kept_bytes}
-use Rattle.vcd_model.specs.Declarations.{Declaration, Variable, IdCode, code_of, codes_of, variables_of, variable_of, has_text, is_scope, is_up, first_token, parent, enclosing, open_scopes}
-use Rattle.vcd_model.specs.HeaderPhrases.{HeaderPhrase, declarations_of, declaration_of, date_of, version_of, timescale_of}
+use Rattle.vcd_head.proofs.Cited.{◌≡◌, ◌≢◌, ℕ, suc, ◌+◌, ◌-◌, ◌^◌, ◌<◌, ◌≤◌, cond, List, [], ◌∷◌, ◌++◌, length, map, reverse, take, drop, slice_range, slice_get, find, filter_map, sum_by, bytes_eq, Option, Some, None, IfSome, is_some, option_map, unwrap_or, refl, sym, ap, subst, ◌∙◌, arith, Vec, AllByRecursion, list_any, join_with_byte, last_or, append_assoc, append-nil, length-append, length_push, reverse-append, length-reverse, length-map, map-append, filter_map-append, sum_by_push, kept_bytes, Declaration, Variable, IdCode, code_of, codes_of, variables_of, variable_of, has_text, is_scope, is_up, first_token, parent, enclosing, open_scopes, HeaderPhrase, declarations_of, declaration_of, date_of, version_of, timescale_of, Row, Scale, Codes, AreHeld, HasTexts, IsRow, AreRows, IsExponent, IsSize, counted_from_one, keys_of, AreKeysOf, Code, Draft, spaced, HasCodes, Declares, IsDraftOf, slice_get_within, enclosing-scope, enclosing-up, enclosing-var, innermost, codes_few, rows_len, slice_get-seam}
 use Rattle.vcd_view.specs.declared.view.Kind.TheVariants as kind
-use Rattle.vcd_view.specs.declared.view.Row.{Row}
-use Rattle.vcd_view.specs.declared.view.Scale.{Scale}
-use Rattle.vcd_head.specs.declared.codes.Codes.{Codes}
-use Rattle.vcd_view.specs.Views.{AreHeld, HasTexts, IsRow, AreRows, IsExponent, IsSize, counted_from_one}
-use Rattle.vcd_head.specs.Codes.{keys_of}
-use Rattle.vcd_head.specs.Keys.{AreKeysOf}
-use Rattle.vcd_view.specs.declared.view.Code.{Code}
-use Rattle.vcd_head.specs.declared.draft.Draft.{Draft}
-use Rattle.vcd_head.specs.Texts.{spaced}
-use Rattle.vcd_head.specs.Draft.{HasCodes, Declares, IsDraftOf}
-use Rattle.std.proofs.lemmas.Option.{slice_get_within}
-use Rattle.vcd_model.proofs.ScopeLemmas.{enclosing-scope, enclosing-up, enclosing-var, innermost}
 use Rattle.vcd_head.proofs.DraftGrows.{are_codes_grow, are_rows_grow, are_rows_push, codes-other, codes_grown, variables_push}
-use Rattle.vcd_view.proofs.RoomLemmas.{codes_few}
-use Rattle.vcd_view.proofs.RowLemmas.{rows_len}
-use Rattle.vcd_view.proofs.ListLemmas.{slice_get-seam}
 use Rattle.vcd_head.proofs.TextSteps.{joined}
 
 -- ---- texts

@@ -1,23 +1,6 @@
 -- A draft carries one phrase more.
-use Rattle.std.proofs.Common.{◌≡◌, ℕ, ◌<◌, ◌≤◌, Bool, true, false, cond, List, [], ◌∷◌, ◌++◌, length, Option, Some, None, unwrap_or, refl, sym, ap, subst, ◌∙◌}
-use Rattle.std.specs.Prelude.{option_to_list}
-use Rattle.std.proofs.lemmas.List.{map-append}
-use Rattle.std.proofs.lemmas.Bool.{lt-ltb, le-ltb, ltb-true}
-use Rattle.vcd_model.specs.Input.{Input}
-use Rattle.vcd_model.specs.Checks.{first_failed}
-use Rattle.vcd_model.specs.HeaderChecks.{start_checks}
-use Rattle.vcd_model.specs.HeaderPhrases.{HeaderPhrase, declarations_of}
-use Rattle.vcd_model.specs.Reading.{Placed, phrases_of}
-use Rattle.vcd_text.specs.declared.device.Source.{Ghosts}
-use Rattle.vcd_text.specs.declared.feed.Feed.{Feed}
-use Rattle.vcd_head.specs.declared.draft.Draft.{Draft}
-use Rattle.vcd_head.specs.Reads.{Reads}
-use Rattle.vcd_head.specs.Declares.{IsBarred, MayStart, keyword_for}
-use Rattle.vcd_head.specs.Draft.{IsDraftOf, DraftsUpTo}
-use Rattle.vcd_head.specs.declared.fault.HeadFault.TheVariants.{TooDeep, NoScope}
-use Rattle.vcd_view.specs.declared.view.Kind.{Kind}
+use Rattle.vcd_head.proofs.Cited.{◌≡◌, ℕ, ◌<◌, ◌≤◌, Bool, true, false, cond, List, [], ◌∷◌, ◌++◌, length, Option, Some, None, unwrap_or, refl, sym, ap, subst, ◌∙◌, option_to_list, map-append, lt-ltb, le-ltb, ltb-true, Input, first_failed, start_checks, HeaderPhrase, declarations_of, Placed, phrases_of, Ghosts, Feed, Draft, Reads, IsBarred, MayStart, keyword_for, IsDraftOf, DraftsUpTo, TooDeep, NoScope, Kind, rows_len}
 use Rattle.vcd_view.specs.declared.view.Kind.TheVariants as kind
-use Rattle.vcd_view.proofs.RowLemmas.{rows_len}
 use Rattle.vcd_head.proofs.DraftLemmas.{open_is}
 
 pub carried : {X : Type 0} {g : Ghosts X} (most : ℕ) (i : Input) (d : Draft) (f : Feed X g) (placed : List (Placed HeaderPhrase)) (p : Placed HeaderPhrase) → Reads most i (placed ++ p ∷ []) [] f → IsDraftOf most d (phrases_of placed ++ p.phrase ∷ []) → DraftsUpTo most i d f

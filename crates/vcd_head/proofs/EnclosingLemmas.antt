@@ -1,17 +1,6 @@
 -- The scopes around a declaration: what rows say of them, and a walk outwards that holds the last
 -- ones.
-use Rattle.std.proofs.Common.{◌≡◌, ◌≢◌, ℕ, zero, suc, ◌+◌, ◌-◌, ◌%◌, ◌<◌, ◌≤◌, List, [], ◌∷◌, ◌++◌, length, take, reverse, set, get_or, slice_get, min, Some, None, inl, inr, refl, sym, ap, subst, ◌∙◌, arith}
-use Rattle.std.specs.List.{AllByRecursion}
-use Rattle.std.proofs.Math.Seq.{take-append_seam}
-use Rattle.std.proofs.lemmas.Bool.{cases_eq}
-use Rattle.std.proofs.lemmas.List.{append_assoc, append-nil, reverse-append, get_or-set_other, get_or-set_same, length-append, length-set, length-take, length-take-le, take_min}
-use Rattle.vcd_model.specs.Declarations.{Declaration, enclosing, parent}
-use Rattle.vcd_model.specs.Header.{Header}
-use Rattle.vcd_model.proofs.ScopeLemmas.{enclosing_below, innermost, slice_get-take}
-use Rattle.vcd_head.specs.declared.enclosing.Enclosing.{Enclosing}
-use Rattle.vcd_head.specs.ScopesLeft.{GivesNext, IsHeld, LeavesScopes, Walks}
-use Rattle.vcd_view.proofs.ListLemmas.{slice_get-front, slice_get-seam}
-use Rattle.vcd_view.proofs.ParentLemmas.{around_some, around_none, parent_before}
+use Rattle.vcd_head.proofs.Cited.{◌≡◌, ◌≢◌, ℕ, zero, suc, ◌+◌, ◌-◌, ◌%◌, ◌<◌, ◌≤◌, List, [], ◌∷◌, ◌++◌, length, take, reverse, set, get_or, slice_get, min, Some, None, inl, inr, refl, sym, ap, subst, ◌∙◌, arith, AllByRecursion, take-append_seam, cases_eq, append_assoc, append-nil, reverse-append, get_or-set_other, get_or-set_same, length-append, length-set, length-take, length-take-le, take_min, Declaration, enclosing, parent, Header, enclosing_below, innermost, slice_get-take, Enclosing, GivesNext, IsHeld, LeavesScopes, Walks, slice_get-front, slice_get-seam, around_some, around_none, parent_before}
 
 -- fewer scopes than declarations
 few_by : (n : ℕ) (ds : List Declaration) → length ds ≤ n → (ps : List ℕ) → enclosing ds ≡ ps → length ps ≤ length ds

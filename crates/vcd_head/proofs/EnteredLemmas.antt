@@ -1,15 +1,5 @@
 -- The code of a variable, whose key is inserted.
-use Rattle.std.proofs.Common.{◌≡◌, ℕ, Bool, true, false, List, [], ◌∷◌, ◌++◌, length, find, None, Some, slice_get, refl, sym, ap, subst, ◌∙◌}
-use Rattle.vcd_model.specs.Declarations.{Declaration, IdCode, Variable, code_of, codes_of, has_text}
-use Rattle.vcd_view.specs.Finds.{Finds}
-use Rattle.vcd_view.specs.declared.view.Code.{Code}
-use Rattle.vcd_view.specs.Keys.{AreBytes}
-use Rattle.vcd_view.specs.Views.{AreHeld, IsSize}
-use Rattle.vcd_head.specs.declared.codes.Codes.{Codes}
-use Rattle.vcd_head.specs.Codes.{Rises, is_of, keys_of}
-use Rattle.vcd_head.specs.Draft.{HasCodes, IsEntered}
-use Rattle.vcd_head.specs.Entered.{AddsKey, HasKey}
-use Rattle.vcd_head.specs.Keys.{AreKeysOf}
+use Rattle.vcd_head.proofs.Cited.{◌≡◌, ℕ, Bool, true, false, List, [], ◌∷◌, ◌++◌, length, find, None, Some, slice_get, refl, sym, ap, subst, ◌∙◌, Declaration, IdCode, Variable, code_of, codes_of, has_text, Finds, Code, AreBytes, AreHeld, IsSize, Codes, Rises, is_of, keys_of, HasCodes, IsEntered, AddsKey, HasKey, AreKeysOf}
 use Rattle.vcd_head.proofs.CodeKeys.{finds_entered, len_of, none_entered}
 use Rattle.vcd_head.proofs.CodesLemmas.{listed}
 use Rattle.vcd_head.proofs.DraftCodes.{agrees_at, agrees_new, found_is, held_alias, held_new}

@@ -1,32 +1,7 @@
 -- The order of codes by their bytes.
-use Rattle.std.proofs.Common.{◌≡◌, ◌⊎◌, inl, inr, ℕ, zero, suc, ◌+◌, ◌*◌, ◌^◌, ◌<◌, ◌≤◌, Bool, true, false, List, [], ◌∷◌, ◌++◌, length, map, get_or, bytes_eq, option_map, unwrap_or, refl, sym, ap, subst, ◌∙◌, arith}
-use Rattle.std.specs.Prelude.{IsPermutation}
-use Rattle.std.specs.Cmp.{IsStrictWeakOrder, nat_cmp_is}
-use Rattle.std.specs.List.{AllByRecursion, All, IsDistinct, range_with_len}
-use Rattle.std.specs.List.Sorted.{IsSortedBy, IsStrictlySortedBy}
-use Rattle.std.specs.Ordering.{nat_cmp, is_eq, is_lt, ordering_reverse}
-use Rattle.std.specs.declared.cmp.Ordering.{Ordering}
-use Rattle.std.specs.declared.cmp.Ordering.TheVariants.{Less, Equal, Greater}
-use Rattle.std.specs.Cmp.Lexicographic.{slice_cmp}
-use Rattle.std.proofs.lemmas.Bool.{cases_lt}
-use Rattle.std.proofs.lemmas.Cmp.{nat_list_cmp_total}
-use Rattle.std.proofs.Math.Nat.{pow-le-pow_right}
-use Rattle.std.proofs.lemmas.List.{get_or-map, length-map}
-use Rattle.std.proofs.lemmas.List.FromFn.{get_or-range_with_len, length-range_with_len}
-use Rattle.std.proofs.lemmas.List.MinMax.{ranks_by}
-use Rattle.std.proofs.lemmas.List.Sorted.{All-permutation, IsPermutation-map, sorted_far}
-use Rattle.std.proofs.lemmas.Map.Keys.{IsDistinct-IsPermutation, apart_from_distinct}
-use Rattle.std.proofs.lemmas.Map.Text.{is_eq-slice_cmp}
-use Rattle.std.proofs.lemmas.Option.{slice_get-get_or}
-use Rattle.vcd_model.specs.Declarations.{IdCode}
-use Rattle.vcd_view.specs.declared.view.Code.{Code}
-use Rattle.vcd_view.specs.Views.{AreHeld, IsIndex, code_text}
-use Rattle.vcd_view.specs.Entries.{text_in}
-use Rattle.vcd_head.specs.Fronts.{bytes_at, prefix_in}
-use Rattle.vcd_view.specs.Keys.{AreBytes}
-use Rattle.vcd_view.proofs.ListLemmas.{bytes_flip}
-use Rattle.vcd_view.proofs.LookUpLemmas.{codes_len, text_at, texts_range}
-use Rattle.vcd_view.proofs.RowLemmas.{text_within, code_of_shown}
+use Rattle.vcd_head.proofs.Cited.{◌≡◌, ◌⊎◌, inl, inr, ℕ, zero, suc, ◌+◌, ◌*◌, ◌^◌, ◌<◌, ◌≤◌, Bool, true, false, List, [], ◌∷◌, ◌++◌, length, map, get_or, bytes_eq, option_map, unwrap_or, refl, sym, ap, subst, ◌∙◌, arith, IsPermutation, IsStrictWeakOrder, nat_cmp_is, AllByRecursion, All, IsDistinct, range_with_len, IsSortedBy, nat_cmp, is_eq, is_lt, ordering_reverse, Ordering, Less, Equal, Greater, slice_cmp, cases_lt, nat_list_cmp_total, pow-le-pow_right, get_or-map, length-map, get_or-range_with_len, length-range_with_len, ranks_by, All-permutation, IsPermutation-map, sorted_far, IsDistinct-IsPermutation, apart_from_distinct, is_eq-slice_cmp, slice_get-get_or, IdCode, Code, AreHeld, IsIndex, code_text, text_in, bytes_at, prefix_in, AreBytes, bytes_flip, codes_len, texts_range, text_within, code_of_shown}
+use Rattle.std.specs.List.Sorted.{IsStrictlySortedBy}
+use Rattle.vcd_view.proofs.LookUpLemmas.{text_at}
 
 -- ---- prefixes
 

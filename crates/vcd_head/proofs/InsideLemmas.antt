@@ -1,35 +1,8 @@
 -- The names that continue inside open scopes.
-use Rattle.std.proofs.Common.{◌≡◌, ◌≢◌, ◌⊎◌, ℕ, zero, suc, ◌+◌, ◌-◌, ◌<◌, ◌≤◌, Bool, true, false, ◌||◌, ◌==◌, List, [], ◌∷◌, ◌++◌, length, map, take, drop, get_or, set, slice_range, reverse, slice_get, Option, Some, None, option_map, inl, inr, refl, sym, ap, subst, ◌∙◌, arith}
-use Rattle.std.specs.List.{AllByRecursion, list_any}
-use Rattle.std.proofs.lemmas.Bool.{ne_eqb}
-use Rattle.std.proofs.lemmas.Grind.{flat_map-append}
-use Rattle.std.proofs.lemmas.List.{append_assoc, append-nil, reverse-append, length-drop, length-take, length-take-le, take-append-drop}
-use Rattle.std.proofs.Math.Seq.{take-append-add}
-use Rattle.std.proofs.lemmas.List.Elements.{filter_map-append}
-use Rattle.std.proofs.lemmas.Option.{none-some, same_Some, slice_get_within}
-use Rattle.vcd_model.specs.Bytes.{is_empty}
-use Rattle.vcd_model.specs.Declarations.{Declaration, IdCode, Variable, enclosing, name_of, names_at, parent}
-use Rattle.vcd_model.specs.Header.{Header}
-use Rattle.vcd_model.specs.Selection.{is_selected, is_variable, selects_path}
-use Rattle.vcd_model.proofs.ScopeLemmas.{enclosing_below, slice_get-take}
-use Rattle.vcd_head.specs.declared.inside.Inside.{Inside}
-use Rattle.vcd_head.specs.declared.inside.Open.{Open}
-use Rattle.vcd_head.specs.declared.names.NameRun.{NameRun}
-use Rattle.vcd_head.specs.Inside.{AreOpen, HasEntered, front}
-use Rattle.vcd_head.specs.ScopesLeft.{GivesNext, LeavesScopes}
-use Rattle.vcd_head.specs.declared.enclosing.Enclosing.{Enclosing}
+use Rattle.vcd_head.proofs.Cited.{◌≡◌, ◌≢◌, ◌⊎◌, ℕ, zero, suc, ◌+◌, ◌-◌, ◌<◌, ◌≤◌, Bool, true, false, ◌||◌, ◌==◌, List, [], ◌∷◌, ◌++◌, length, map, take, drop, get_or, set, slice_range, reverse, slice_get, Option, Some, None, option_map, inl, inr, refl, sym, ap, subst, ◌∙◌, arith, AllByRecursion, list_any, ne_eqb, flat_map-append, append_assoc, append-nil, reverse-append, length-drop, length-take, length-take-le, take-append-drop, take-append-add, filter_map-append, none-some, same_Some, slice_get_within, is_empty, Declaration, IdCode, Variable, enclosing, name_of, names_at, parent, Header, is_selected, is_variable, selects_path, enclosing_below, slice_get-take, Inside, Open, NameRun, AreOpen, HasEntered, front, GivesNext, LeavesScopes, Enclosing, Matched, Matches, AreSame, Notes, SelectsAll, text_at, names_text, Follows, IsDecided, Row, HeadShown, IsRow, Views, counted_from_one, row_of, rows_len, all_push, all_weaker, there, around_none, around_some, parent_before}
 use Rattle.vcd_head.proofs.RunSteps.{notes_behind, notes_both}
-use Rattle.vcd_head.specs.Matched.{Matched, Matches}
-use Rattle.vcd_head.specs.NameOrder.{AreSame, Notes, SelectsAll, text_at}
-use Rattle.vcd_head.specs.Paths.{names_text, scopes_text}
-use Rattle.vcd_head.specs.Runs.{Follows, IsDecided}
+use Rattle.vcd_head.specs.Paths.{scopes_text}
 use Rattle.vcd_view.specs.declared.view.Kind.TheVariants as kind
-use Rattle.vcd_view.specs.declared.view.Row.{Row}
-use Rattle.vcd_view.specs.Shown.{HeadShown}
-use Rattle.vcd_view.specs.Views.{IsRow, Views, counted_from_one}
-use Rattle.vcd_view.proofs.RowLemmas.{row_of, rows_len}
-use Rattle.vcd_view.proofs.ListLemmas.{all_push, all_weaker, there}
-use Rattle.vcd_view.proofs.ParentLemmas.{around_none, around_some, parent_before}
 use Rattle.vcd_head.proofs.MatchLemmas.{or_true}
 use Rattle.vcd_head.proofs.RunLemmas.{text_is}
 

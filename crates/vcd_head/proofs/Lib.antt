@@ -34,3 +34,5 @@ pub mod PhraseSteps
 pub mod MomentLemmas
 pub mod RenamedLemmas
 pub mod MergedLemmas
+pub mod Cited
+pub mod Facts

@@ -1,18 +1,6 @@
 -- Marks that are set, one index after the other.
-use Rattle.std.proofs.Common.{◌≡◌, ◌⊎◌, ℕ, zero, suc, ◌<◌, ◌≤◌, Bool, true, false, cond, ◌&&◌, ◌||◌, ◌==◌, flat_map, List, [], ◌∷◌, ◌++◌, length, map, take, set, IfSome, get_or, Option, Some, None, inl, inr, refl, sym, ap, subst, ◌∙◌, arith}
-use Rattle.std.specs.List.{range_with_len}
-use Rattle.std.proofs.lemmas.Bool.{cases_eq, cases_lt, eq-eqb, ne_eqb}
-use Rattle.std.proofs.lemmas.List.{get_or-set_other, get_or-set_same, get_or_past, length-set}
-use Rattle.std.proofs.lemmas.List.FromFn.{fill_by_all}
-use Rattle.vcd_model.specs.Declarations.{Declaration, enclosing, parent, path_of}
-use Rattle.std.specs.List.{list_any}
-use Rattle.std.proofs.lemmas.List.Folds.{list_any-append}
-use Rattle.vcd_model.specs.Backward.{each_after}
-use Rattle.vcd_model.specs.Bytes.{is_empty}
-use Rattle.vcd_model.specs.Selection.{is_among, is_selected, is_variable, marked_places, selects_path}
-use Rattle.vcd_head.specs.Marks.{AllMarked, AreClosed, Marked}
-use Rattle.vcd_view.specs.Views.{counted_from_one}
-use Rattle.vcd_view.proofs.ParentLemmas.{around_some, around_none, parent_before, with_scopes, scopes_around}
+use Rattle.vcd_head.proofs.Cited.{◌≡◌, ◌⊎◌, ℕ, zero, suc, ◌<◌, ◌≤◌, Bool, true, false, cond, ◌&&◌, ◌||◌, ◌==◌, flat_map, List, [], ◌∷◌, ◌++◌, length, map, take, set, IfSome, get_or, Option, Some, None, inl, inr, refl, sym, ap, subst, ◌∙◌, arith, range_with_len, cases_eq, cases_lt, eq-eqb, ne_eqb, get_or-set_other, get_or-set_same, get_or_past, length-set, fill_by_all, Declaration, enclosing, parent, path_of, list_any, list_any-append, each_after, is_empty, is_among, is_selected, is_variable, selects_path, AllMarked, AreClosed, Marked, counted_from_one, around_some, around_none, parent_before, with_scopes, scopes_around}
+use Rattle.vcd_model.specs.Selection.{marked_places}
 
 -- ---- indexes in a row
 

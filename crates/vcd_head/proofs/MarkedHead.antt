@@ -1,22 +1,9 @@
 -- The marks that names give, and the header of these.
-use Rattle.std.proofs.Common.{◌≡◌, ◌⊎◌, inl, inr, ℕ, ◌+◌, ◌<◌, ◌≤◌, ◌==◌, Bool, true, false, cond, List, [], ◌∷◌, ◌++◌, length, map, flat_map, option_map, unwrap_or, refl, sym, ap, ◌∙◌, ne_eqb, arith}
-use Rattle.std.specs.List.{AllByRecursion, range_with_len}
-use Rattle.std.proofs.lemmas.List.{length_push}
-use Rattle.std.proofs.lemmas.List.FromFn.{length-map-range_with_len, get_or-map-range_with_len}
-use Rattle.std.proofs.lemmas.Option.{slice_get_past, unwrap_or-slice_get}
-use Rattle.vcd_model.specs.Backward.{each_after}
-use Rattle.vcd_model.specs.Declarations.{Declaration, enclosing}
-use Rattle.vcd_model.specs.Header.{Header}
-use Rattle.vcd_model.specs.HeadText.{head_text, head_for, rows_text, three_lines_of, end_line}
-use Rattle.vcd_model.specs.Keywords.{Keyword}
-use Rattle.vcd_model.specs.Scales.{scale_text}
-use Rattle.vcd_model.specs.Selection.{is_among, is_selected, marked_places}
-use Rattle.vcd_model.proofs.ScopeLemmas.{enclosing_below}
-use Rattle.vcd_view.specs.declared.view.Scale.{Scale}
-use Rattle.vcd_head.specs.Marks.{is_marked, marks_of}
-use Rattle.vcd_view.specs.Shown.{HeadShown}
-use Rattle.vcd_view.specs.Views.{Views}
-use Rattle.vcd_text.proofs.Steps.{before_or_from}
+use Rattle.vcd_head.proofs.Cited.{◌≡◌, ◌⊎◌, inl, inr, ℕ, ◌+◌, ◌<◌, ◌≤◌, ◌==◌, Bool, true, false, cond, List, [], ◌∷◌, ◌++◌, length, map, flat_map, option_map, unwrap_or, refl, sym, ap, ◌∙◌, arith, AllByRecursion, range_with_len, length_push, length-map-range_with_len, get_or-map-range_with_len, slice_get_past, unwrap_or-slice_get, each_after, Declaration, enclosing, Header, rows_text, three_lines_of, end_line, Keyword, scale_text, is_among, is_selected, enclosing_below, Scale, is_marked, HeadShown, Views, before_or_from}
+use Rattle.std.proofs.Common.{ne_eqb}
+use Rattle.vcd_model.specs.HeadText.{head_text, head_for}
+use Rattle.vcd_model.specs.Selection.{marked_places}
+use Rattle.vcd_head.specs.Marks.{marks_of}
 
 all_append : (P : ℕ → Type 0) (xs ys : List ℕ) → AllByRecursion P xs → AllByRecursion P ys → AllByRecursion P (xs ++ ys)
 all_append P [] ys h k = k

@@ -1,18 +1,7 @@
 -- Which names of a group have matched, one row after the other.
-use Rattle.std.proofs.Common.{◌≡◌, ◌≢◌, ℕ, zero, suc, ◌+◌, ◌<◌, ◌≤◌, Bool, true, false, not, cond, ◌&&◌, ◌||◌, List, [], ◌∷◌, ◌++◌, length, take, set, replicate, get_or, filter_map, slice_get, Option, Some, None, IfSome, option_map, inl, inr, refl, sym, ap, ◌∙◌, arith, add-one}
-use Rattle.std.specs.List.{list_any}
-use Rattle.std.proofs.lemmas.Bool.{cases_eq}
-use Rattle.std.proofs.lemmas.List.{get_or-replicate, get_or-set_other, get_or-set_same, take_all}
-use Rattle.std.proofs.lemmas.List.Folds.{list_any_more}
-use Rattle.std.proofs.lemmas.Option.{get_or_from_slice_get, none-some, same_Some, slice_get_within}
-use Rattle.vcd_model.specs.Backward.{each_after}
-use Rattle.vcd_model.specs.Bytes.{is_empty}
-use Rattle.vcd_model.specs.Declarations.{Declaration, path_of}
-use Rattle.vcd_model.specs.Selection.{first_unmatched, is_selected, is_variable, selected, selects_path, with_path}
-use Rattle.vcd_model.proofs.Growing.{each_after-append}
-use Rattle.vcd_head.specs.Matched.{HaveMatched, IsFirstFalse, Matched, Matches}
+use Rattle.vcd_head.proofs.Cited.{◌≡◌, ◌≢◌, ℕ, zero, suc, ◌+◌, ◌<◌, ◌≤◌, Bool, true, false, not, cond, ◌&&◌, ◌||◌, List, [], ◌∷◌, ◌++◌, length, take, set, replicate, get_or, filter_map, slice_get, Option, Some, None, IfSome, option_map, inl, inr, refl, sym, ap, ◌∙◌, arith, add-one, list_any, cases_eq, get_or-replicate, get_or-set_other, get_or-set_same, take_all, list_any_more, get_or_from_slice_get, none-some, same_Some, slice_get_within, each_after, is_empty, Declaration, path_of, first_unmatched, is_selected, is_variable, selects_path, with_path, each_after-append, HaveMatched, IsFirstFalse, Matched, Matches, there}
+use Rattle.vcd_model.specs.Selection.{selected}
 use Rattle.vcd_head.proofs.SelectionLemmas.{has_path, take-next, without_path}
-use Rattle.vcd_view.proofs.ListLemmas.{there}
 
 -- ---- tests
 

@@ -1,22 +1,7 @@
 -- The heads of a merge, one after the other, and the lines that they are written in.
-use Rattle.std.proofs.Common.{◌≡◌, Bool, true, false, subst, ℕ, zero, suc, ◌+◌, ◌*◌, ◌^◌, ◌<◌, ◌≤◌, ℤ, pos, negsuc, cond, List, [], ◌∷◌, ◌++◌, length, map, take, get_or, slice_get, add-one, decimal, codes, Option, Some, None, refl, sym, ap, ◌∙◌, append_assoc, arith}
-use Rattle.std.specs.Prelude.{nat_lt, nat_le, nat_abs, int_le, unwrap_or, option_map, IfSome, fold, ◌-ℤ◌}
-use Rattle.std.specs.Int.{int_min}
-use Rattle.std.specs.List.{reduce}
-use Rattle.std.proofs.lemmas.Bool.Decides.{nat_tests}
-use Rattle.std.proofs.lemmas.Int.{ints}
-use Rattle.std.proofs.lemmas.List.{map-append, take_all}
-use Rattle.std.proofs.lemmas.List.Sums.{fold-append, sum_by-append}
-use Rattle.std.proofs.lemmas.Slice.Zip.{AllZip-long}
-use Rattle.vcd_model.specs.Header.{Header}
-use Rattle.vcd_model.specs.HeadText.{exponent, least_exponent, first_number, input_head, rows_text, scope_line, smaller, up_line}
-use Rattle.vcd_model.specs.Selection.{is_among, marked_places}
-use Rattle.vcd_head.specs.declared.head.Head.{Head}
-use Rattle.vcd_head.specs.Merged.{ShowHeaders, numbered}
-use Rattle.vcd_view.specs.declared.view.Scale.{Scale}
-use Rattle.vcd_view.specs.Shown.{HeadShown}
-use Rattle.vcd_head.specs.Shown.{shown}
-use Rattle.vcd_view.specs.Views.{IsExponent, Views}
+use Rattle.vcd_head.proofs.Cited.{◌≡◌, Bool, true, false, subst, ℕ, zero, suc, ◌+◌, ◌*◌, ◌^◌, ◌<◌, ◌≤◌, ℤ, pos, negsuc, cond, List, [], ◌∷◌, ◌++◌, length, map, take, get_or, slice_get, add-one, decimal, codes, Option, Some, None, refl, sym, ap, ◌∙◌, arith, nat_lt, nat_le, nat_abs, int_le, unwrap_or, option_map, IfSome, fold, ◌-ℤ◌, int_min, reduce, nat_tests, ints, map-append, take_all, fold-append, sum_by-append, AllZip-long, Header, exponent, first_number, input_head, rows_text, scope_line, smaller, up_line, is_among, marked_places, Head, ShowHeaders, numbered, Scale, HeadShown, shown, IsExponent, Views}
+use Rattle.std.proofs.Common.{append_assoc}
+use Rattle.vcd_model.specs.HeadText.{least_exponent}
 use Rattle.vcd_head.proofs.SelectionLemmas.{take-next}
 
 -- ---- a head among them

@@ -1,16 +1,6 @@
 -- Ticks of a unit by the power of ten between unit and tick.
-use Rattle.std.proofs.Common.{◌≡◌, ℕ, zero, suc, ◌+◌, ◌-◌, ◌*◌, ◌/◌, ◌%◌, ◌^◌, ◌<◌, ◌≤◌, min, ℤ, pos, ◌+ℤ◌, nat_abs, Bool, true, false, ◌==◌, List, [], ◌∷◌, length, option_map, Option, Some, None, Result, Ok, refl, sym, ap, ◌∙◌, arith}
-use Rattle.std.specs.Int.{div_ceil}
-use Rattle.std.specs.Option.{SomeIff, ok_or}
-use Rattle.std.proofs.Math.Nat.{one-le-pow, mul_assoc, mul-div_cancel, mul-mod_left, mul-div-mul_right, mod-eq-sub-div-mul}
-use Rattle.std.proofs.lemmas.Nat.{pow-add, div-add-mod'}
-use Rattle.std.proofs.lemmas.Bool.{lt-ltb, le-ltb}
-use Rattle.vcd_model.specs.Ticks.{ticks, in_range}
-use Rattle.vcd_head.specs.declared.moment.TickFault.{TickFault}
-use Rattle.vcd_head.specs.declared.moment.TickFault.TheVariants.{OutOfRange}
-use Rattle.vcd_model.specs.Bytes.{is_empty}
-use Rattle.vcd_head.specs.Moments.{told, with_unit}
-use Rattle.vcd_head.specs.Words.{unit_in}
+use Rattle.vcd_head.proofs.Cited.{◌≡◌, ℕ, zero, suc, ◌+◌, ◌-◌, ◌*◌, ◌/◌, ◌%◌, ◌^◌, ◌<◌, ◌≤◌, min, ℤ, pos, ◌+ℤ◌, nat_abs, Bool, true, false, ◌==◌, List, [], ◌∷◌, length, option_map, Option, Some, None, Result, Ok, refl, sym, ap, ◌∙◌, arith, div_ceil, SomeIff, ok_or, one-le-pow, mul_assoc, mul-div_cancel, mul-mod_left, mul-div-mul_right, mod-eq-sub-div-mul, pow-add, div-add-mod', lt-ltb, le-ltb, in_range, TickFault, OutOfRange, is_empty, told, with_unit, unit_in}
+use Rattle.vcd_model.specs.Ticks.{ticks}
 use Rattle.vcd_head.proofs.ScaleLemmas.{unit_exponent_is}
 
 pub some_power : (k : ℕ) → 0 < 10 ^ k

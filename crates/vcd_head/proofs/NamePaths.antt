@@ -1,16 +1,6 @@
 -- Names and the front of a path.
-use Rattle.std.proofs.Common.{◌≡◌, ◌≢◌, ℕ, true, false, ◌&&◌, List, [], ◌∷◌, ◌++◌, ◌==◌, ◌+◌, length, drop, take, reverse, nat_eq, Some, inl, inr, refl, sym, ap, ◌∙◌, suc, add-one}
-use Rattle.std.proofs.lemmas.Bool.{eq-eqb, ne_eqb, eqb-true, cases_eq, and_parts, and_from, false_from_ne_true}
-use Rattle.std.proofs.lemmas.List.{append_assoc, append-nil}
-use Rattle.std.specs.List.{starts_with}
-use Rattle.vcd_model.specs.Declarations.{Declaration, enclosing, name_of, path_of}
-use Rattle.vcd_model.specs.Header.{Header}
-use Rattle.vcd_model.specs.Selection.{selects_path}
-use Rattle.vcd_head.specs.declared.enclosing.Enclosing.{Enclosing}
-use Rattle.vcd_head.specs.Paths.{names_text, scopes_text}
-use Rattle.vcd_head.specs.declared.selection.Match.{Match}
-use Rattle.vcd_head.specs.Selects.{selects_after}
-use Rattle.vcd_head.specs.ScopesLeft.{GivesNext, LeavesScopes}
+use Rattle.vcd_head.proofs.Cited.{◌≡◌, ◌≢◌, ℕ, true, false, ◌&&◌, List, [], ◌∷◌, ◌++◌, ◌==◌, ◌+◌, length, drop, take, reverse, nat_eq, Some, inl, inr, refl, sym, ap, ◌∙◌, suc, add-one, eq-eqb, ne_eqb, eqb-true, cases_eq, and_parts, and_from, false_from_ne_true, append_assoc, append-nil, starts_with, Declaration, enclosing, name_of, path_of, Header, selects_path, Enclosing, names_text, Match, selects_after, GivesNext, LeavesScopes}
+use Rattle.vcd_head.specs.Paths.{scopes_text}
 use Rattle.vcd_head.proofs.PathLemmas.{IsScopeAt, path_is, scope_at}
 use mathlib.Core.Logic.{◌⊎◌}
 

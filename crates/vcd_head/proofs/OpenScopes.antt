@@ -1,20 +1,7 @@
 -- The scopes that are still open after the last declaration, and the lines that close them.
-use Rattle.std.proofs.Common.{◌≡◌, ℕ, zero, suc, ◌<◌, Bool, cond, List, [], ◌∷◌, ◌++◌, length, take, drop, slice_get, IfSome, Option, Some, None, refl, sym, ap, subst, ◌∙◌, arith}
-use Rattle.std.specs.Io.KnownBytes.{Appends}
-use Rattle.std.proofs.Math.Seq.{take-length}
-use Rattle.std.proofs.lemmas.Grind.{flat_map-append}
-use Rattle.std.proofs.lemmas.List.{append_assoc, length-take-le}
-use Rattle.vcd_model.specs.Declarations.{Declaration, enclosing, parent}
-use Rattle.vcd_model.specs.Header.{Header}
-use Rattle.vcd_model.specs.HeadText.{up_line, up_lines_at}
-use Rattle.vcd_model.proofs.ScopeLemmas.{enclosing-scope, enclosing-up, enclosing-var}
-use Rattle.vcd_text.proofs.Writes.{AppendsSome, appends-none, appends-twice, appends-first, appends-some}
+use Rattle.vcd_head.proofs.Cited.{◌≡◌, ℕ, zero, suc, ◌<◌, Bool, cond, List, [], ◌∷◌, ◌++◌, length, take, drop, slice_get, IfSome, Option, Some, None, refl, sym, ap, subst, ◌∙◌, arith, Appends, take-length, flat_map-append, append_assoc, length-take-le, Declaration, parent, Header, up_line, up_lines_at, enclosing-scope, enclosing-up, enclosing-var, AppendsSome, appends-none, appends-twice, appends-first, appends-some, Row, HeadShown, IsRow, Views, around_none, around_some, parent_before, scopes_around, with_scopes, rows_len, row_at}
+use Rattle.vcd_model.specs.Declarations.{enclosing}
 use Rattle.vcd_view.specs.declared.view.Kind.TheVariants as kind
-use Rattle.vcd_view.specs.declared.view.Row.{Row}
-use Rattle.vcd_view.specs.Shown.{HeadShown}
-use Rattle.vcd_view.specs.Views.{IsRow, Views}
-use Rattle.vcd_view.proofs.ParentLemmas.{around_none, around_some, parent_before, scopes_around, with_scopes}
-use Rattle.vcd_view.proofs.RowLemmas.{rows_len, row_at}
 
 -- ---- the innermost scope after the last row
 

@@ -1,14 +1,5 @@
 -- Indexes of names, sorted.
-use Rattle.std.proofs.Common.{◌≡◌, ℕ, zero, suc, ◌-◌, ◌<◌, ◌≤◌, List, [], ◌++◌, get_or, length, replicate, inl, inr, refl, ◌∙◌, arith}
-use Rattle.std.specs.Cmp.{IsStrictWeakOrder}
-use Rattle.std.specs.List.{All, Contains}
-use Rattle.std.specs.List.Sorted.{IsSortedBy}
-use Rattle.std.proofs.lemmas.Bool.{cases_lt}
-use Rattle.std.proofs.lemmas.Cmp.{nat_list_cmp_total}
-use Rattle.std.proofs.lemmas.List.{get_or-append_right, get_or_append_left, get_or_default}
-use Rattle.std.proofs.lemmas.List.MinMax.{ranks_by}
-use Rattle.std.proofs.lemmas.List.Sorted.{sorted_far}
-use Rattle.vcd_head.specs.NameOrder.{IsOrder, comes_before}
+use Rattle.vcd_head.proofs.Cited.{◌≡◌, ℕ, zero, suc, ◌-◌, ◌<◌, ◌≤◌, List, [], ◌++◌, get_or, length, replicate, inl, inr, refl, ◌∙◌, arith, IsStrictWeakOrder, All, Contains, IsSortedBy, cases_lt, nat_list_cmp_total, get_or-append_right, get_or_append_left, get_or_default, ranks_by, sorted_far, IsOrder, comes_before}
 
 pub before_weak : (names : List (List ℕ)) → IsStrictWeakOrder (comes_before names)
 before_weak names = ranks_by nat_list_cmp_total (λ p. get_or names p [])

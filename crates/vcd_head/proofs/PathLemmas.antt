@@ -1,15 +1,7 @@
 -- The text of a path, scope by scope.
-use Rattle.std.proofs.Common.{◌≡◌, ℕ, zero, suc, ◌<◌, List, [], ◌∷◌, ◌++◌, length, reverse, take, slice_get, flat_map, Option, Some, refl, sym, ap, subst, ◌∙◌, arith}
-use Rattle.std.specs.Io.KnownBytes.{Appends}
-use Rattle.std.specs.List.{join_with_byte}
-use Rattle.std.proofs.lemmas.List.{append_assoc, append-nil}
-use Rattle.vcd_model.specs.Declarations.{Declaration, enclosing, name_of, names_at, path_of}
-use Rattle.vcd_model.specs.Header.{Header}
-use Rattle.vcd_model.proofs.ScopeLemmas.{slice_get-take}
-use Rattle.vcd_text.proofs.Writes.{AppendsSome, appends-none, appends-twice, appends-first, appends-some}
-use Rattle.vcd_head.specs.declared.enclosing.Enclosing.{Enclosing}
-use Rattle.vcd_head.specs.Paths.{names_text, scopes_text}
-use Rattle.vcd_head.specs.ScopesLeft.{GivesNext, LeavesScopes}
+use Rattle.vcd_head.proofs.Cited.{◌≡◌, ℕ, zero, suc, ◌<◌, List, [], ◌∷◌, ◌++◌, length, reverse, take, slice_get, flat_map, Option, Some, refl, sym, ap, subst, ◌∙◌, arith, Appends, join_with_byte, append_assoc, append-nil, Declaration, enclosing, name_of, names_at, Header, slice_get-take, AppendsSome, appends-none, appends-twice, appends-first, appends-some, Enclosing, names_text, GivesNext, LeavesScopes}
+use Rattle.vcd_model.specs.Declarations.{path_of}
+use Rattle.vcd_head.specs.Paths.{scopes_text}
 
 joined : (names : List (List ℕ)) (last : List ℕ) → join_with_byte 46 (names ++ last ∷ []) ≡ flat_map (λ name. name ++ 46 ∷ []) names ++ last
 joined [] last = refl

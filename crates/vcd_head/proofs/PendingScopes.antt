@@ -1,34 +1,13 @@
 -- The scopes of a merged head, whose lines are withheld until a variable is declared inside them.
-use Rattle.std.proofs.Common.{◌≡◌, ℕ, zero, suc, ◌+◌, ◌-◌, ◌^◌, ◌<◌, ◌≤◌, ◌==◌, Bool, true, false, cond, ◌||◌, List, [], ◌∷◌, ◌++◌, length, take, drop, reverse, flat_map, slice_get, add-one, Option, Some, refl, sym, ap, subst, ◌∙◌, arith}
-use Rattle.std.specs.List.{AllByRecursion, concat}
-use Rattle.std.specs.Io.KnownBytes.{Appends}
-use Rattle.std.proofs.Math.Seq.{take-length}
-use Rattle.std.proofs.lemmas.Bool.{eq-eqb, ne_eqb, or_parts}
-use Rattle.std.proofs.lemmas.Grind.{flat_map-append}
-use Rattle.std.proofs.lemmas.List.{append_assoc, append-nil, length-drop, length-take, length_push, reverse-append, take-append-drop}
-use Rattle.std.proofs.lemmas.List.Folds.{list_any-append}
-use Rattle.vcd_model.specs.Backward.{each, each_after}
-use Rattle.vcd_model.specs.Declarations.{Declaration, Variable, enclosing}
-use Rattle.vcd_model.specs.Header.{Header}
-use Rattle.vcd_model.specs.HeadText.{row_line, rows_text, up_line, up_lines_at, var_line}
-use Rattle.vcd_model.specs.Selection.{is_among, marked_places}
-use Rattle.vcd_model.proofs.MarkedPlaces.{around_marks, below_other, none_any, places_after, places_below, places_split}
-use Rattle.vcd_model.proofs.ScopeLemmas.{enclosing-scope, enclosing-up, enclosing-var, enclosing_below, innermost}
-use Rattle.vcd_text.proofs.Writes.{AppendsSome, appends-first, appends-none, appends-some, appends-twice}
-use Rattle.vcd_head.specs.Merged.{IsBehind, closing, due, numbered, opening, opening_of, openings, pending_behind, written_behind}
-use Rattle.vcd_head.specs.ScopesLeft.{GivesNext, LeavesScopes}
-use Rattle.vcd_head.specs.declared.enclosing.Enclosing.{Enclosing}
-use Rattle.vcd_view.specs.declared.view.Kind.{Kind}
+use Rattle.vcd_head.proofs.Cited.{◌≡◌, ℕ, zero, suc, ◌+◌, ◌-◌, ◌^◌, ◌<◌, ◌≤◌, ◌==◌, Bool, true, false, cond, ◌||◌, List, [], ◌∷◌, ◌++◌, length, take, drop, reverse, flat_map, slice_get, add-one, Option, Some, refl, sym, ap, subst, ◌∙◌, arith, AllByRecursion, concat, Appends, take-length, eq-eqb, ne_eqb, or_parts, flat_map-append, append_assoc, append-nil, length-drop, length-take, length_push, reverse-append, take-append-drop, list_any-append, each, each_after, Declaration, Variable, Header, row_line, up_line, up_lines_at, var_line, is_among, around_marks, below_other, none_any, places_after, places_below, places_split, enclosing-scope, enclosing-up, enclosing-var, enclosing_below, innermost, AppendsSome, appends-first, appends-none, appends-some, appends-twice, IsBehind, closing, due, numbered, opening, opening_of, openings, pending_behind, written_behind, GivesNext, LeavesScopes, Enclosing, Kind, Row, HeadShown, IsRow, Views, row_of, or-true}
+use Rattle.vcd_model.specs.Declarations.{enclosing}
+use Rattle.vcd_model.specs.HeadText.{rows_text}
+use Rattle.vcd_model.specs.Selection.{marked_places}
 use Rattle.vcd_view.specs.declared.view.Kind.TheVariants as kind
-use Rattle.vcd_view.specs.declared.view.Row.{Row}
-use Rattle.vcd_view.specs.Shown.{HeadShown}
-use Rattle.vcd_view.specs.Views.{IsRow, Views}
-use Rattle.vcd_view.proofs.RowLemmas.{row_of}
 use Rattle.vcd_head.proofs.EnclosingLemmas.{few_around}
 use Rattle.vcd_head.proofs.PathLemmas.{scope_at}
 use Rattle.vcd_head.proofs.WriteLemmas.{front-length, lines-append, lines-next}
 use Rattle.vcd_head.proofs.SelectionLemmas.{take-next}
-use Rattle.std.proofs.Math.Bool.{or-true}
 
 -- ---- lists
 

@@ -1,26 +1,8 @@
 -- One token on in a phrase that begins with a keyword.
-use Rattle.std.proofs.Common.{◌≡◌, ℕ, true, false, cond, List, [], ◌∷◌, ◌++◌, Option, Some, None, option_map, option_and_then, refl, ap, subst, ◌∙◌}
-use Rattle.vcd_model.specs.Input.{Input}
-use Rattle.vcd_model.specs.Keywords.{Keyword, keyword_of, keyword_text, is_end, is_unknown_command}
-use Rattle.vcd_model.specs.Checks.{first_failed, ◌or_fault◌}
-use Rattle.vcd_model.specs.Bytes.{is_decimal, decimal_value}
-use Rattle.vcd_model.specs.Declarations.{Declaration}
-use Rattle.vcd_model.specs.HeaderPhrases.{HeaderPhrase, header_phrase, phrase_with, phrase_behind, variable_with, until_end, declarations_of}
-use Rattle.vcd_model.specs.HeaderChecks.{header_fault, start_checks, start_of, inner_checks, inner_of, timescale_checks}
-use Rattle.vcd_model.specs.HeaderReading.{is_last}
-use Rattle.vcd_model.specs.Reading.{Placed, phrases_of}
-use Rattle.vcd_text.specs.Feed.{token_of}
-use Rattle.vcd_text.specs.declared.device.Source.{Ghosts}
-use Rattle.vcd_text.specs.declared.feed.Feed.{Feed}
-use Rattle.vcd_head.specs.Declares.{IsBarred, keyword_for}
-use Rattle.vcd_head.specs.Reads.{Reads, ReadsToken, ReadsWhole, Fails, FailsAtToken}
-use Rattle.vcd_head.specs.declared.fault.HeadFault.{HeadFault}
-use Rattle.vcd_head.specs.declared.fault.HeadFault.TheVariants.{TokenTooLong, EndOfInput, UnknownCommand, OutOfPlace, BadTimescale, BadScope, BadVariable, CodeDiffers, NoScope, TooDeep, TooMany, InputTooLong, ReadFailed, OutOfMemory}
-use Rattle.vcd_view.specs.declared.view.Kind.{Kind}
-use Rattle.vcd_view.specs.Keywords.{NoEnds}
-use Rattle.vcd_head.specs.Texts.{AsksEnd, RunsOn, Welcomes}
-use Rattle.vcd_view.proofs.KeywordLemmas.{until, not_until}
-use Rattle.vcd_model.proofs.HeaderGrammar.{keyword_of-text}
+use Rattle.vcd_head.proofs.Cited.{◌≡◌, ℕ, true, false, cond, List, [], ◌∷◌, ◌++◌, Option, Some, None, option_map, option_and_then, refl, ap, subst, ◌∙◌, Input, Keyword, keyword_of, keyword_text, is_end, first_failed, ◌or_fault◌, is_decimal, decimal_value, Declaration, HeaderPhrase, phrase_with, phrase_behind, variable_with, until_end, declarations_of, start_checks, start_of, inner_checks, inner_of, timescale_checks, is_last, Placed, phrases_of, token_of, Ghosts, Feed, IsBarred, keyword_for, Reads, ReadsToken, ReadsWhole, Fails, FailsAtToken, HeadFault, TokenTooLong, EndOfInput, UnknownCommand, OutOfPlace, BadTimescale, BadScope, BadVariable, CodeDiffers, NoScope, TooDeep, TooMany, InputTooLong, ReadFailed, OutOfMemory, Kind, NoEnds, AsksEnd, RunsOn, Welcomes, until, not_until, keyword_of-text}
+use Rattle.vcd_model.specs.Keywords.{is_unknown_command}
+use Rattle.vcd_model.specs.HeaderPhrases.{header_phrase}
+use Rattle.vcd_model.specs.HeaderChecks.{header_fault}
 use Rattle.vcd_head.proofs.TokenSteps.{taken, taken_phrase, taken_last, refused}
 
 pub start_fault : (most : ℕ) (ps : List HeaderPhrase) (k : Keyword) → header_fault most ps [] (keyword_text k) ≡ first_failed (start_checks most (declarations_of ps) k)

@@ -1,43 +1,10 @@
 -- Whole phrases that declare nothing, and the end of a header.
-use Rattle.std.proofs.Common.{◌≡◌, ℕ, true, false, List, [], ◌∷◌, ◌++◌, Option, IfSome, Some, None, option_map, Result, Ok, Err, MatchResult, IfOk, IfErr, ◌+◌, ◌≤◌, suc, map, reverse, length, arith, refl, sym, ap, subst, ◌∙◌}
-use Rattle.std.specs.Global.{Vec}
-use Rattle.std.specs.List.{join_with_byte}
-use Rattle.std.proofs.lemmas.List.{map-append}
-use Rattle.vcd_model.specs.Input.{Input}
-use Rattle.vcd_model.specs.Checks.{first_failed}
-use Rattle.vcd_model.specs.Keywords.{Keyword, keyword_text, is_end, is_command, is_unknown_command, keyword_of}
-use Rattle.vcd_model.specs.HeaderChecks.{start_checks, inner_checks, begins_change}
-use Rattle.vcd_model.specs.HeaderPhrases.{HeaderPhrase, declarations_of, phrase_with}
-use Rattle.vcd_model.specs.Reading.{Placed, phrases_of}
-use Rattle.vcd_text.proofs.ShownLemmas.{read_to_shown}
-use Rattle.vcd_text.specs.Feed.{token_of}
-use Rattle.vcd_text.specs.declared.device.Source.{Ghosts}
-use Rattle.vcd_text.specs.declared.feed.Feed.{Feed}
-use Rattle.vcd_head.specs.declared.draft.Draft.{Draft}
-use Rattle.vcd_head.specs.declared.fault.HeadFault.{HeadFault}
-use Rattle.vcd_head.specs.Calls.{ReadsEnd}
-use Rattle.vcd_head.specs.Reads.{Reads, ReadsToken, Fails, GivesHead}
-use Rattle.vcd_view.specs.Keywords.{NoEnds, model_keyword}
-use Rattle.vcd_head.specs.Texts.{RunsOn, EndsThere}
+use Rattle.vcd_head.proofs.Cited.{◌≡◌, ℕ, true, false, List, [], ◌∷◌, ◌++◌, Option, IfSome, Some, None, option_map, Result, Ok, Err, MatchResult, IfOk, IfErr, ◌+◌, ◌≤◌, suc, map, reverse, length, arith, refl, sym, ap, subst, ◌∙◌, Vec, join_with_byte, map-append, Input, first_failed, Keyword, keyword_text, is_end, is_command, is_unknown_command, keyword_of, start_checks, inner_checks, begins_change, HeaderPhrase, declarations_of, phrase_with, Placed, phrases_of, read_to_shown, token_of, Ghosts, Feed, Draft, HeadFault, ReadsEnd, Reads, ReadsToken, Fails, GivesHead, NoEnds, model_keyword, RunsOn, EndsThere, Codes, HasNone, IsDraftOf, HasCodes, IsNew, AtKeyword, AtFirstToken, AtOther, DraftsUpTo, DraftsAll, IsExponent, AreRows, Views, shown, Head, Scale, OutOfMemory, OutOfPlace, header_of, header_grammar, so_far-nothing, HasGiven, not_until, until, keyword_is}
 use Rattle.vcd_view.specs.declared.keyword.Keyword.{Keyword as WordOf}
-use Rattle.vcd_head.specs.declared.codes.Codes.{Codes}
-use Rattle.vcd_head.specs.Codes.{HasNone}
 use Rattle.vcd_head.proofs.CodesLemmas.{none_held}
-use Rattle.vcd_head.specs.Draft.{IsDraftOf, HasCodes, IsNew, AtKeyword, AtFirstToken, AtOther, DraftsUpTo, DraftsAll}
-use Rattle.vcd_view.specs.Views.{IsExponent, AreRows, Views}
-use Rattle.vcd_head.specs.Shown.{shown}
-use Rattle.vcd_head.specs.declared.head.Head.{Head}
-use Rattle.vcd_view.specs.declared.view.Scale.{Scale}
-use Rattle.vcd_head.specs.declared.fault.HeadFault.TheVariants.{OutOfMemory, OutOfPlace}
 use Rattle.vcd_model.specs.Declarations.{codes_of, enclosing}
-use Rattle.vcd_model.specs.Header.{header_of}
-use Rattle.vcd_model.specs.HeaderReading.{header_grammar}
-use Rattle.vcd_model.proofs.SoFarLemmas.{so_far-nothing}
-use Rattle.vcd_text.specs.Feed.{HasGiven}
 use Rattle.vcd_head.proofs.TokenSteps.{taken, taken_phrase, then_ok, faultless_whole}
 use Rattle.vcd_head.proofs.PhraseLemmas.{begun, ended, ended_all, header_asks_end, runs_freely, unknown_runs, unknown_is, unknown_free}
-use Rattle.vcd_view.proofs.KeywordLemmas.{not_until, until}
-use Rattle.vcd_model.proofs.HeaderGrammar.{keyword_is}
 use Rattle.vcd_head.proofs.WordLemmas.{fault_of_command, unknown_command}
 use Rattle.vcd_head.proofs.DraftLemmas.{holds_plain, holds_date, holds_version}
 use Rattle.vcd_head.proofs.DraftSteps.{carried, passed_test, whole_test}

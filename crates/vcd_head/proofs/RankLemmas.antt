@@ -1,28 +1,6 @@
 -- The order of short codes by their ranks.
-use Rattle.std.proofs.Common.{◌≡◌, ◌⊎◌, inl, inr, ℕ, zero, suc, ◌+◌, ◌*◌, ◌<◌, ◌≤◌, true, false, List, [], ◌∷◌, ◌++◌, length, map, set, take, drop, get_or, bytes_eq, refl, sym, ap, subst, ◌∙◌, arith, zero-add, add-one}
-use Rattle.std.specs.Prelude.{IsPermutation}
-use Rattle.std.specs.Cmp.{IsStrictWeakOrder, nat_cmp_is}
-use Rattle.std.specs.List.{AllByRecursion, All, IsDistinct, range_with_len}
-use Rattle.std.specs.List.Sorted.{IsSorted, IsStrictlySortedBy}
-use Rattle.std.specs.Ordering.{nat_cmp, is_lt}
-use Rattle.std.specs.declared.cmp.Ordering.TheVariants.{Less, Equal}
-use Rattle.std.specs.Cmp.Lexicographic.{slice_cmp}
-use Rattle.std.proofs.lemmas.Bool.{cases_lt}
-use Rattle.std.proofs.lemmas.Cmp.{nat_cmp_total}
-use Rattle.std.proofs.lemmas.Nat.{mod-mul-add}
-use Rattle.std.proofs.lemmas.List.{get_or-map, length-map, map-append}
-use Rattle.std.proofs.lemmas.List.MinMax.{ranks_by}
-use Rattle.std.proofs.lemmas.List.Sorted.{All-permutation, IsPermutation-map, sorted_far}
-use Rattle.std.proofs.lemmas.Map.Keys.{IsDistinct-IsPermutation, apart_from_distinct}
-use Rattle.std.proofs.lemmas.Slice.Eq.{bytes_eq-Decides}
-use Rattle.vcd_model.specs.Declarations.{IdCode}
-use Rattle.vcd_view.specs.declared.view.Code.{Code}
-use Rattle.vcd_view.specs.Views.{AreHeld, IsIndex, code_text}
-use Rattle.vcd_head.specs.Fronts.{AreShort, bytes_at, prefix_in, place_in_rank, rank_in, rank_of}
-use Rattle.vcd_view.specs.Keys.{AreBytes}
-use Rattle.vcd_view.proofs.ListLemmas.{bytes_flip, to_all}
+use Rattle.vcd_head.proofs.Cited.{◌≡◌, ◌⊎◌, inl, inr, ℕ, zero, suc, ◌+◌, ◌*◌, ◌<◌, ◌≤◌, true, false, List, [], ◌∷◌, ◌++◌, length, map, set, take, drop, get_or, bytes_eq, refl, sym, ap, subst, ◌∙◌, arith, zero-add, add-one, IsPermutation, IsStrictWeakOrder, nat_cmp_is, AllByRecursion, All, IsDistinct, range_with_len, IsSorted, IsStrictlySortedBy, nat_cmp, is_lt, Less, Equal, slice_cmp, cases_lt, nat_cmp_total, mod-mul-add, get_or-map, length-map, map-append, ranks_by, All-permutation, IsPermutation-map, sorted_far, IsDistinct-IsPermutation, apart_from_distinct, bytes_eq-Decides, IdCode, Code, AreHeld, IsIndex, code_text, AreShort, bytes_at, prefix_in, place_in_rank, rank_in, rank_of, AreBytes, bytes_flip, to_all, codes_len, texts_range}
 use Rattle.vcd_head.proofs.IndexLemmas.{bytes_are, front_less, map_map, range_push, same_front, sorted_from, texts_are}
-use Rattle.vcd_view.proofs.LookUpLemmas.{codes_len, texts_range}
 
 -- ---- ranks
 

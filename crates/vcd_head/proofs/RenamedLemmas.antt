@@ -1,14 +1,5 @@
 -- The new codes of variables, by their rows.
-use Rattle.std.proofs.Common.{◌≡◌, ℕ, ◌<◌, length, slice_get, Some}
-use Rattle.std.proofs.lemmas.Option.{slice_get_within}
-use Rattle.vcd_model.specs.Declarations.{Declaration, Variable, code_of}
-use Rattle.vcd_model.specs.Header.{Header}
-use Rattle.vcd_model.specs.HeadText.{code_place}
-use Rattle.vcd_view.specs.declared.view.Row.{Row}
-use Rattle.vcd_view.specs.Shown.{HeadShown}
-use Rattle.vcd_view.specs.Views.{Views}
-use Rattle.vcd_view.proofs.LookUpLemmas.{place_is}
-use Rattle.vcd_view.proofs.RowLemmas.{row_of}
+use Rattle.vcd_head.proofs.Cited.{◌≡◌, ℕ, ◌<◌, length, slice_get, Some, slice_get_within, Declaration, Variable, code_of, Header, code_place, Row, HeadShown, Views, place_is, row_of}
 
 -- the index of a variable's code, as its row says it
 pub record PlaceRead (h : Header) (r : Row) (v : Variable) : Type 0 where

@@ -1,23 +1,7 @@
 -- Numbers of codes that rise, and the keys that they encode.
-use Rattle.std.proofs.Common.{◌≡◌, ℕ, zero, suc, ◌+◌, ◌-◌, ◌<◌, ◌≤◌, ◌==◌, ◌||◌, not, nat_eq, nat_lt, Bool, true, false, cond, MatchResult, List, [], ◌∷◌, ◌++◌, length, map, get_or, slice_get, position, bytes_eq, unwrap_or, Result, Ok, Err, Some, None, refl, sym, ap, subst, ◌∙◌, arith, append_assoc}
-use Rattle.std.specs.Ordering.{nat_cmp}
-use Rattle.std.specs.List.{list_any, position_or_len}
-use Rattle.std.specs.List.Sorted.{IsBinarySearchResult}
-use Rattle.std.proofs.lemmas.Bool.{eq-eqb, eqb-false, eqb-true, le-ltb, lt-ltb, ltb-true, ltb-false, ne_eqb, or_parts}
-use Rattle.std.proofs.lemmas.List.{append-nil, length-append, length-map, map-append}
-use Rattle.std.proofs.lemmas.List.Folds.{list_any-append}
-use Rattle.std.proofs.lemmas.List.Sorted.{searched}
-use Rattle.std.proofs.lemmas.List.Sums.{passes_at_first, position_or_len_is}
-use Rattle.std.proofs.lemmas.Option.{none-some, same_Some}
-use Rattle.indexmap.specs.IndexSet.{insert_key}
-use Rattle.vcd_view.specs.Keys.{key_in}
-use Rattle.vcd_head.specs.Codes.{Rises, RisesFrom, keys_behind}
-use Rattle.vcd_head.specs.Entered.{EntersKey}
-use Rattle.vcd_head.specs.Keys.{is_key, same_shape, shape_in, shape_of}
-use Rattle.vcd_head.specs.declared.code_key.CodeKey.{CodeKey}
+use Rattle.vcd_head.proofs.Cited.{◌≡◌, ℕ, zero, suc, ◌+◌, ◌-◌, ◌<◌, ◌≤◌, ◌==◌, ◌||◌, not, nat_eq, nat_lt, Bool, true, false, cond, MatchResult, List, [], ◌∷◌, ◌++◌, length, map, get_or, slice_get, position, bytes_eq, unwrap_or, Result, Ok, Err, Some, None, refl, sym, ap, subst, ◌∙◌, arith, nat_cmp, list_any, position_or_len, IsBinarySearchResult, eq-eqb, eqb-false, eqb-true, le-ltb, lt-ltb, ltb-true, ltb-false, ne_eqb, or_parts, append-nil, length-append, length-map, map-append, list_any-append, searched, passes_at_first, position_or_len_is, none-some, same_Some, insert_key, key_in, Rises, RisesFrom, keys_behind, EntersKey, is_key, same_shape, shape_in, shape_of, CodeKey, Codes, and-false, and-true}
+use Rattle.std.proofs.Common.{append_assoc}
 use Rattle.vcd_head.specs.declared.code_key.CodeKey.TheVariants as key
-use Rattle.vcd_head.specs.declared.codes.Codes.{Codes}
-use Rattle.std.proofs.Math.Bool.{and-false, and-true}
 
 -- ---- the last of them
 

@@ -1,21 +1,6 @@
 -- The names that begin with the front of a path, among names in the order of their bytes.
-use Rattle.std.proofs.Common.{◌≡◌, ◌≢◌, ◌⊎◌, ℕ, suc, ◌+◌, ◌<◌, ◌≤◌, Bool, true, false, ◌&&◌, ◌||◌, List, [], ◌∷◌, ◌++◌, length, drop, get_or, set, bytes_eq, slice_get, Some, inl, inr, refl, sym, ap, subst, ◌∙◌, arith}
-use Rattle.std.specs.List.{list_any}
-use Rattle.std.specs.Cmp.{nat_cmp_is}
-use Rattle.std.specs.Cmp.Lexicographic.{slice_cmp}
-use Rattle.std.specs.Ordering.{nat_cmp, is_lt}
-use Rattle.std.specs.declared.cmp.Ordering.TheVariants.{Less, Equal}
-use Rattle.std.proofs.Math.Seq.{drop-append_seam, drop-length}
-use Rattle.std.proofs.lemmas.Bool.{cases_eq, cases_lt, eq-eqb, ne_eqb, false_from_ne_true}
-use Rattle.std.proofs.lemmas.List.{append_assoc, append-nil, get_or-set_other, get_or-set_same}
-use Rattle.std.proofs.lemmas.List.Folds.{list_any_at}
-use Rattle.std.proofs.lemmas.Option.{get_or_from_slice_get, slice_get-get_or, slice_get_within}
-use Rattle.vcd_model.specs.Selection.{selects_path}
-use Rattle.vcd_view.proofs.ListLemmas.{same_bytes}
-use Rattle.vcd_head.specs.Matched.{Matches}
-use Rattle.vcd_head.specs.NameOrder.{IsOrder, Rises, SelectsAll, first_of, next_in, text_at}
-use Rattle.vcd_head.specs.Runs.{Follows, IsDecided}
-use Rattle.vcd_head.specs.declared.names.NameRun.{NameRun}
+use Rattle.vcd_head.proofs.Cited.{◌≡◌, ◌≢◌, ◌⊎◌, ℕ, suc, ◌+◌, ◌<◌, ◌≤◌, Bool, true, false, ◌&&◌, ◌||◌, List, [], ◌∷◌, ◌++◌, length, drop, get_or, set, bytes_eq, slice_get, Some, inl, inr, refl, sym, ap, subst, ◌∙◌, arith, list_any, nat_cmp_is, slice_cmp, nat_cmp, is_lt, Less, Equal, drop-append_seam, drop-length, cases_eq, cases_lt, eq-eqb, ne_eqb, false_from_ne_true, append_assoc, append-nil, get_or-set_other, get_or-set_same, list_any_at, get_or_from_slice_get, slice_get-get_or, slice_get_within, selects_path, same_bytes, Matches, IsOrder, SelectsAll, first_of, next_in, text_at, Follows, IsDecided, NameRun}
+use Rattle.vcd_head.specs.NameOrder.{Rises}
 use Rattle.vcd_head.proofs.MatchLemmas.{match_none, or_false, or_true}
 use Rattle.vcd_head.proofs.NamePaths.{selects-byte, selects-front}
 

@@ -1,18 +1,6 @@
 -- A run, one byte of a path after the other.
-use Rattle.std.proofs.Common.{◌≡◌, ◌≢◌, ◌⊎◌, ℕ, zero, suc, ◌+◌, ◌-◌, ◌<◌, ◌≤◌, Bool, true, false, ◌&&◌, ◌||◌, ◌==◌, List, [], ◌∷◌, ◌++◌, length, take, drop, get_or, bytes_eq, slice_get, Some, inl, inr, refl, sym, ap, subst, ◌∙◌, arith, length-append}
-use Rattle.std.specs.Cmp.Lexicographic.{slice_cmp}
-use Rattle.std.specs.List.{list_any}
-use Rattle.std.specs.Ordering.{nat_cmp, is_lt}
-use Rattle.std.proofs.Math.Seq.{drop-append_seam, take-append-add}
-use Rattle.std.proofs.lemmas.Bool.{cases_eq, cases_lt, eq-eqb, eqb-true, and_parts, false_from_ne_true}
-use Rattle.std.proofs.lemmas.List.{append_assoc, append-nil, length-take-le, take-append-drop}
-use Rattle.vcd_model.specs.Selection.{selects_path}
-use Rattle.vcd_view.proofs.ListLemmas.{same_bytes}
-use Rattle.vcd_view.proofs.ParentLemmas.{take-take}
-use Rattle.vcd_head.specs.Matched.{Matches}
-use Rattle.vcd_head.specs.NameOrder.{AreShared, Notes, SelectsAll, first_of, next_bytes, next_in, text_at}
-use Rattle.vcd_head.specs.Runs.{Follows, GoesOn, IsDecided, Narrows}
-use Rattle.vcd_head.specs.declared.names.NameRun.{NameRun}
+use Rattle.vcd_head.proofs.Cited.{◌≡◌, ◌≢◌, ◌⊎◌, ℕ, zero, suc, ◌+◌, ◌-◌, ◌<◌, ◌≤◌, Bool, true, false, ◌&&◌, ◌||◌, ◌==◌, List, [], ◌∷◌, ◌++◌, length, take, drop, get_or, bytes_eq, slice_get, Some, inl, inr, refl, sym, ap, subst, ◌∙◌, arith, slice_cmp, list_any, nat_cmp, is_lt, drop-append_seam, take-append-add, cases_eq, cases_lt, eq-eqb, eqb-true, and_parts, false_from_ne_true, append_assoc, append-nil, length-take-le, take-append-drop, selects_path, same_bytes, take-take, Matches, AreShared, Notes, SelectsAll, first_of, next_bytes, next_in, text_at, Follows, GoesOn, IsDecided, Narrows, NameRun}
+use Rattle.std.proofs.Common.{length-append}
 use Rattle.vcd_head.proofs.MatchLemmas.{any_none, or_false, or_true}
 use Rattle.vcd_head.proofs.RunLemmas.{all_behind, between, byte_first, cancel, ends_at_point, ends_elsewhere, equal_bytes, found_at, is_itself, next_is, none_behind, not_shorter, other_byte, some_passes, text_is, who_passes}
 

@@ -1,20 +1,6 @@
 -- The checks of a time scale.
-use Rattle.std.proofs.Common.{◌≡◌, ℕ, ℤ, ◌+ℤ◌, List, [], ◌∷◌, Some, None, option_map, option_and_then, refl, sym, ap, subst, ◌∙◌}
-use mir.Val.{to_z, of_z}
-use mir.Syntax.{w8}
-use Rattle.vcd_model.specs.Input.{Input}
-use Rattle.vcd_model.specs.Keywords.{Keyword, keyword_text}
-use Rattle.vcd_model.specs.Scales.{exponent_of}
-use Rattle.vcd_model.specs.HeaderPhrases.{HeaderPhrase, scale_of}
-use Rattle.vcd_model.specs.Reading.{Placed}
-use Rattle.vcd_text.specs.Feed.{token_of}
-use Rattle.vcd_text.specs.declared.device.Source.{Ghosts}
-use Rattle.vcd_text.specs.declared.feed.Feed.{Feed}
-use Rattle.vcd_head.specs.Words.{power_in, unit_in}
-use Rattle.vcd_head.specs.Reads.{Reads, ReadsToken, FailsAtToken}
-use Rattle.vcd_head.specs.Scaled.{ScaleRead}
+use Rattle.vcd_head.proofs.Cited.{◌≡◌, ℕ, ℤ, ◌+ℤ◌, List, [], ◌∷◌, Some, None, option_map, option_and_then, refl, sym, ap, subst, ◌∙◌, to_z, of_z, w8, Input, Keyword, keyword_text, exponent_of, HeaderPhrase, scale_of, Placed, token_of, Ghosts, Feed, power_in, unit_in, Reads, ReadsToken, FailsAtToken, ScaleRead, not_until}
 use Rattle.vcd_head.proofs.PhraseLemmas.{inside, refused_inside}
-use Rattle.vcd_view.proofs.KeywordLemmas.{not_until}
 use Rattle.vcd_head.proofs.ScaleLemmas.{exponent_sum, number_test, number_test_none, number_no_end, unit_test, unit_test_none, unit_no_end, exponent_no_end, exponent_fits, sum_fits, unit_fits, number_fits}
 
 module _ {X : Type 0} {g : Ghosts X} (most : ℕ) (i : Input) (placed : List (Placed HeaderPhrase)) (f : Feed X g) where

@@ -1,15 +1,7 @@
 -- Numbers and units of time scales.
-use Rattle.std.proofs.Common.{◌≡◌, ◌≢◌, ℕ, ℤ, pos, negsuc, ◌+ℤ◌, Bool, true, false, cond, List, [], ◌∷◌, ◌++◌, bytes_eq, codes, Option, Some, None, option_map, find, MatchOption, refl, sym, ap, subst, ◌∙◌, ne_eqb}
-use Rattle.std.specs.Borrow.{Bor}
-use Rattle.std.proofs.lemmas.Slice.Eq.{bytes_eq-Decides}
-use Rattle.vcd_model.specs.Keywords.{is_end}
-use mir.Val.{to_z, of_z}
-use mir.Syntax.{w8}
-use Rattle.std.specs.List.{AllByRecursion}
-use Rattle.vcd_model.specs.Scales.{scales, exponent_of, is_scale_number, is_scale_unit}
-use Rattle.vcd_model.specs.Job.{unit_exponent}
-use Rattle.vcd_head.specs.Words.{power_in, unit_in}
-use Rattle.vcd_view.proofs.ListLemmas.{bytes_flip}
+use Rattle.vcd_head.proofs.Cited.{◌≡◌, ◌≢◌, ℕ, ℤ, pos, negsuc, ◌+ℤ◌, Bool, true, false, cond, List, [], ◌∷◌, ◌++◌, bytes_eq, codes, Option, Some, None, option_map, find, MatchOption, refl, sym, ap, subst, ◌∙◌, Bor, bytes_eq-Decides, is_end, to_z, of_z, w8, AllByRecursion, scales, unit_exponent, power_in, unit_in, bytes_flip}
+use Rattle.std.proofs.Common.{ne_eqb}
+use Rattle.vcd_model.specs.Scales.{exponent_of, is_scale_number, is_scale_unit}
 
 pub number_cases : (t : List ℕ) (x : ℤ) (Q : List ℕ → ℤ → Type 0) → power_in t ≡ Some x → Q (codes "1") (pos 0) → Q (codes "10") (pos 1) → Q (codes "100") (pos 2) → Q t x
 number_cases t x Q h q0 q1 q2 = by_tests (bytes_eq (codes "1") t) (bytes_eq (codes "10") t) (bytes_eq (codes "100") t) refl refl refl h

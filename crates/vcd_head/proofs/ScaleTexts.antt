@@ -1,12 +1,6 @@
 -- Which exponents time scales have.
-use Rattle.std.proofs.Common.{◌≡◌, ◌≢◌, ℕ, ℤ, Bool, true, false, ◌&&◌, cond, List, [], ◌∷◌, ◌++◌, bytes_eq, find, Some, None, refl, sym, ap, subst, arith}
-use Rattle.std.proofs.lemmas.Bool.Decides.{Decides-int_eq}
-use Rattle.std.specs.Ordering.{int_eq}
-use Rattle.std.specs.List.{AllByRecursion}
-use Rattle.std.specs.Prelude.{option_map, unwrap_or}
-use Rattle.vcd_model.specs.HeaderPhrases.{scale_of}
-use Rattle.vcd_model.specs.Scales.{exponent_of, is_scale_number, is_scale_unit, scales, scale_text}
-use Rattle.vcd_view.specs.Views.{IsExponent}
+use Rattle.vcd_head.proofs.Cited.{◌≡◌, ◌≢◌, ℕ, ℤ, Bool, true, false, ◌&&◌, cond, List, [], ◌∷◌, ◌++◌, bytes_eq, find, Some, None, refl, sym, ap, subst, arith, Decides-int_eq, int_eq, AllByRecursion, option_map, unwrap_or, scale_of, is_scale_number, is_scale_unit, scales, IsExponent}
+use Rattle.vcd_model.specs.Scales.{exponent_of, scale_text}
 
 none_found : (e : ℤ) (xs : List (List ℕ × ℤ)) → AllByRecursion (λ (s : List ℕ × ℤ). e ≢ s.1) xs → find (λ (s : List ℕ × ℤ). int_eq s.1 e) xs ≡ None
 none_found e [] h = refl

@@ -1,13 +1,6 @@
 -- Which declarations names select.
-use Rattle.std.proofs.Common.{◌≡◌, ℕ, zero, suc, ◌+◌, true, false, cond, List, [], ◌∷◌, ◌++◌, length, take, flat_map, slice_get, Some, None, refl, ap, ◌∙◌, add-one, arith}
-use Rattle.std.proofs.lemmas.Bool.{cond-true, cond-false}
-use Rattle.std.proofs.lemmas.Grind.{flat_map-append}
-use Rattle.std.proofs.lemmas.List.{append-nil, length-take-le}
-use Rattle.std.proofs.lemmas.Option.{slice_get_within}
-use Rattle.vcd_model.specs.Backward.{each_after}
-use Rattle.vcd_model.specs.Declarations.{Declaration, enclosing, path_of}
-use Rattle.vcd_model.specs.Selection.{Selected, is_selected, marked_places, with_path}
-use Rattle.vcd_model.proofs.Growing.{each_after-append}
+use Rattle.vcd_head.proofs.Cited.{◌≡◌, ℕ, zero, suc, ◌+◌, true, false, cond, List, [], ◌∷◌, ◌++◌, length, take, flat_map, slice_get, Some, None, refl, ap, ◌∙◌, add-one, arith, cond-true, cond-false, flat_map-append, append-nil, length-take-le, slice_get_within, each_after, Declaration, enclosing, path_of, Selected, is_selected, with_path, each_after-append}
+use Rattle.vcd_model.specs.Selection.{marked_places}
 
 -- ---- whether a name selects some variable
 

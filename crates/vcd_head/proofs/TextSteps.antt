@@ -1,20 +1,6 @@
 -- One token on in a phrase that runs to the first `$end`.
-use Rattle.std.proofs.Common.{◌≡◌, ℕ, true, false, List, [], ◌∷◌, ◌++◌, None, sym, ap, subst, ◌∙◌}
-use Rattle.std.specs.List.{join_with_byte}
-use Rattle.std.proofs.lemmas.List.{append_assoc, append-nil}
-use Rattle.vcd_model.specs.Input.{Input}
-use Rattle.vcd_model.specs.Keywords.{is_end}
-use Rattle.vcd_model.specs.HeaderPhrases.{HeaderPhrase, header_phrase}
-use Rattle.vcd_model.specs.HeaderChecks.{header_fault}
-use Rattle.vcd_model.specs.Reading.{Placed, phrases_of}
-use Rattle.vcd_text.specs.Feed.{token_of}
-use Rattle.vcd_text.specs.declared.device.Source.{Ghosts}
-use Rattle.vcd_text.specs.declared.feed.Feed.{Feed}
-use Rattle.vcd_head.specs.Reads.{Reads, ReadsToken, IsGoodSoFar}
-use Rattle.vcd_view.specs.Keywords.{NoEnds}
-use Rattle.vcd_head.specs.Texts.{RunsOn, spaced, ReadsOn, EndsThere}
+use Rattle.vcd_head.proofs.Cited.{◌≡◌, ℕ, true, false, List, [], ◌∷◌, ◌++◌, None, sym, ap, subst, ◌∙◌, join_with_byte, append_assoc, append-nil, Input, is_end, HeaderPhrase, header_phrase, header_fault, Placed, phrases_of, token_of, Ghosts, Feed, Reads, ReadsToken, IsGoodSoFar, NoEnds, RunsOn, spaced, ReadsOn, EndsThere, no_ends_more}
 use Rattle.vcd_head.proofs.TokenSteps.{taken, faultless}
-use Rattle.vcd_view.proofs.KeywordLemmas.{no_ends_more}
 
 pub spaced_more : (ts : List (List ℕ)) (t : List ℕ) → spaced (ts ++ t ∷ []) ≡ spaced ts ++ 32 ∷ t
 spaced_more [] t = append-nil (32 ∷ t)

@@ -1,25 +1,6 @@
 -- One token on in the reading of a header.
-use Rattle.std.proofs.Common.{◌≡◌, ◌≢◌, ℕ, true, false, List, [], ◌∷◌, ◌++◌, Option, Some, None, unwrap_or, Result, Ok, Err, MatchResult, refl, sym, ap, subst, ◌∙◌}
-use Rattle.std.proofs.lemmas.List.{append_assoc}
-use Rattle.vcd_model.specs.Input.{Input}
-use Rattle.vcd_model.specs.Laws.{IsPrefixOf}
-use Rattle.vcd_model.specs.Tokens.{Token, Stream, stream_of}
-use Rattle.vcd_model.specs.HeaderPhrases.{HeaderPhrase, header_phrase}
-use Rattle.vcd_model.specs.HeaderChecks.{header_fault}
-use Rattle.vcd_model.specs.HeaderReading.{header_grammar, read_header, header_fault_of, is_last}
-use Rattle.vcd_model.specs.Reading.{Placed, Reading, phrases_of, reading_of}
-use Rattle.vcd_model.specs.SoFar.{IsSoFar}
-use Rattle.vcd_model.proofs.SoFarLemmas.{so_far-nothing, so_far-token, so_far-phrase, whole-phrase, faulty-token, without-last, earlier-so_far}
-use Rattle.vcd_text.specs.Advances.{Advances, CallEnd}
-use Rattle.vcd_text.specs.Answer.{Ends}
-use Rattle.vcd_text.specs.Feed.{HasGiven, token_of, limit_of}
-use Rattle.vcd_text.proofs.ShownLemmas.{read_to_shown}
-use Rattle.vcd_text.specs.declared.device.Source.{Ghosts}
-use Rattle.vcd_text.specs.declared.feed.Feed.{Feed}
-use Rattle.vcd_head.specs.Reads.{Reads, ReadsToken, ReadsWhole, IsFaultless, HasFault, FailsAtEnd, FailsAtToken, IsGoodSoFar}
-use Rattle.vcd_text.specs.Calls.{StandsStill}
-use Rattle.vcd_head.specs.Texts.{Welcomes}
-use Rattle.vcd_model.specs.Keywords.{is_end}
+use Rattle.vcd_head.proofs.Cited.{◌≡◌, ◌≢◌, ℕ, true, false, List, [], ◌∷◌, ◌++◌, Option, Some, None, unwrap_or, Result, Ok, Err, MatchResult, refl, sym, ap, subst, ◌∙◌, append_assoc, Input, IsPrefixOf, Token, Stream, stream_of, HeaderPhrase, header_phrase, header_fault, header_grammar, header_fault_of, is_last, Placed, Reading, phrases_of, reading_of, IsSoFar, so_far-nothing, so_far-token, so_far-phrase, whole-phrase, faulty-token, without-last, earlier-so_far, Advances, CallEnd, Ends, HasGiven, token_of, limit_of, read_to_shown, Ghosts, Feed, Reads, ReadsToken, ReadsWhole, IsFaultless, HasFault, FailsAtEnd, FailsAtToken, IsGoodSoFar, StandsStill, Welcomes, is_end}
+use Rattle.vcd_model.specs.HeaderReading.{read_header}
 
 -- a token is missing: the input's stream has no more
 pub missing_token : (most limit : ℕ) (i : Input) (given : List Token) (placed : List (Placed HeaderPhrase)) (before : List (List ℕ)) (halt : Option ℕ) (line : ℕ) → IsSoFar (header_grammar most) given placed before → Ends limit i given halt line

@@ -1,14 +1,7 @@
 -- What the tests of words say.
-use Rattle.std.proofs.Common.{◌≡◌, ℕ, ◌+◌, ◌-◌, ◌*◌, ◌<◌, Bool, true, false, cond, ◌&&◌, nat_lt, List, [], length, take, get_or, Some, None, is_none, refl, ap, ◌∙◌}
-use Rattle.std.proofs.lemmas.List.{take_more}
-use Rattle.std.proofs.lemmas.Option.{cond_some}
-use Rattle.std.proofs.lemmas.Bool.{ltb-true, and_parts}
-use Rattle.vcd_model.specs.Bytes.{decimal_value, is_decimal}
-use Rattle.vcd_model.specs.Keywords.{keyword_of, is_unknown_command, is_command}
-use Rattle.vcd_model.specs.HeaderChecks.{is_size, begins_change, header_fault}
-use Rattle.vcd_head.specs.Words.{size_in}
-use Rattle.vcd_model.specs.HeaderPhrases.{HeaderPhrase}
-use Rattle.vcd_model.proofs.Decimals.{decimal_value-push}
+use Rattle.vcd_head.proofs.Cited.{◌≡◌, ℕ, ◌+◌, ◌-◌, ◌*◌, ◌<◌, Bool, true, false, cond, ◌&&◌, nat_lt, List, [], length, take, get_or, Some, None, is_none, refl, ap, ◌∙◌, take_more, cond_some, ltb-true, and_parts, decimal_value, is_decimal, keyword_of, is_command, is_size, begins_change, size_in, HeaderPhrase, decimal_value-push}
+use Rattle.vcd_model.specs.Keywords.{is_unknown_command}
+use Rattle.vcd_model.specs.HeaderChecks.{header_fault}
 
 -- ---- sizes
 

@@ -1,25 +1,7 @@
 -- The lines of a written header, by its rows.
-use Rattle.std.proofs.Common.{◌≡◌, ◌≢◌, ℕ, ◌+◌, ◌<◌, Bool, true, false, List, [], ◌∷◌, ◌++◌, length, take, drop, slice_get, get_or, flat_map, add-one, decimal, codes, Option, Some, None, option_map, unwrap_or, refl, sym, ap, subst, ◌∙◌, arith}
-use Rattle.std.specs.List.{concat, join_with_byte}
-use Rattle.std.specs.Io.KnownBytes.{Appends}
-use Rattle.std.proofs.Math.Seq.{take-length}
-use Rattle.std.proofs.lemmas.Grind.{flat_map-append}
-use Rattle.std.proofs.lemmas.List.{append_assoc, append-nil, take-append-drop, take_more, length-take-le}
-use Rattle.std.proofs.lemmas.List.Folds.{concat-append}
-use Rattle.std.proofs.lemmas.Option.{slice_get_within}
-use Rattle.vcd_model.specs.Backward.{each, each_after}
-use Rattle.vcd_model.specs.Declarations.{Declaration, IdCode, Variable, code_of, parent}
-use Rattle.vcd_model.specs.Header.{Header}
-use Rattle.vcd_model.specs.HeadText.{row_line, scope_line, var_line, up_lines_at, first_place}
-use Rattle.vcd_model.proofs.Growing.{each_after-append}
-use Rattle.vcd_text.proofs.Writes.{AppendsSome, appends-first, appends-some}
+use Rattle.vcd_head.proofs.Cited.{◌≡◌, ◌≢◌, ℕ, ◌+◌, ◌<◌, Bool, true, false, List, [], ◌∷◌, ◌++◌, length, take, drop, slice_get, get_or, flat_map, add-one, decimal, codes, Option, Some, None, option_map, unwrap_or, refl, sym, ap, subst, ◌∙◌, arith, concat, join_with_byte, Appends, take-length, flat_map-append, append_assoc, append-nil, take-append-drop, take_more, length-take-le, concat-append, slice_get_within, each, each_after, Declaration, IdCode, Variable, code_of, parent, Header, row_line, scope_line, var_line, up_lines_at, first_place, each_after-append, AppendsSome, appends-first, appends-some, Code, Row, HeadShown, IsCode, IsRow, Views, code_text, rows_len, row_at, row_of, row_of_variable, around_some, around_none}
 use Rattle.vcd_view.specs.declared.view.Kind.TheVariants as kind
-use Rattle.vcd_view.specs.declared.view.Code.{Code}
-use Rattle.vcd_view.specs.declared.view.Row.{Row}
-use Rattle.vcd_view.specs.Shown.{HeadShown}
-use Rattle.vcd_view.specs.Views.{IsCode, IsRow, Views, code_text}
-use Rattle.vcd_view.proofs.RowLemmas.{rows_len, there, row_at, row_of, row_of_variable}
-use Rattle.vcd_view.proofs.ParentLemmas.{around_some, around_none}
+use Rattle.vcd_view.proofs.RowLemmas.{there}
 use Rattle.vcd_head.proofs.SelectionLemmas.{take-next}
 
 -- ---- a line

@@ -1,19 +1,6 @@
 -- How many inputs a job has, and which they are.
-use Rattle.std.proofs.Common.{◌≡◌, ◌<◌, ◌≤◌, ◌&&◌, ◌==◌, ℕ, Bool, true, false, not, List, [], ◌∷◌, length, map, take, take_all, refl, ap, subst, sym, ◌∙◌, arith, cond, lit<, lit≤}
-use Rattle.std.specs.Prelude.{Option, Some, None, Result, Ok, Err, count_by, nat_lt, option_map, option_and_then, unwrap_or, codes}
-use Rattle.std.specs.Borrow.{Bor}
-use Rattle.std.specs.List.{slice_split}
-use Rattle.std.specs.Str.{byte, bytes_eq}
-use Rattle.std.proofs.lemmas.Bool.{ltb-false}
-use Rattle.std.proofs.lemmas.List.{length-map}
-use Rattle.clap.specs.Words.{Text, subcommand_name_of}
-use Rattle.clap.specs.declared.parser.matches.ArgMatches.{ArgMatches}
-use Rattle.vcd_model.specs.Bytes.{is_empty}
-use Rattle.vcd_model.specs.Job.{Want, has_unit, do_rise}
-use Rattle.vcd_model.specs.Ticks.{Moment}
-use Rattle.vcd_model.specs.Words.{Command, Job, UseFault, Words, cut_of, has_words, is_standard_input, job_of, job_with, limit_of, sample_of, time_of, times_of, want_of}
-use Rattle.vcd_words.specs.Words.{command_named, command_used, cut_between, files_asked, input_asked, job_asked, some_of, values_after, word_after}
-use Rattle.vcd_host.specs.Asked.{input_named, inputs_asked, inputs_for, inputs_of}
+use Rattle.vcd_host.proofs.Cited.{◌≡◌, ◌<◌, ◌≤◌, ◌&&◌, ◌==◌, ℕ, Bool, true, false, not, List, [], ◌∷◌, length, map, take, take_all, refl, ap, subst, sym, ◌∙◌, arith, cond, lit<, lit≤, Option, Some, None, Result, Ok, Err, count_by, nat_lt, option_map, option_and_then, unwrap_or, codes, Bor, slice_split, byte, bytes_eq, ltb-false, length-map, Text, subcommand_name_of, ArgMatches, is_empty, Want, has_unit, do_rise, Moment, Command, Job, UseFault, Words, cut_of, has_words, is_standard_input, job_with, limit_of, sample_of, time_of, times_of, want_of, command_named, command_used, cut_between, files_asked, input_asked, job_asked, some_of, values_after, word_after, input_named, inputs_asked, inputs_for, inputs_of}
+use Rattle.vcd_model.specs.Words.{job_of}
 
 -- which command is a merge, and which job
 abbrev pub merges : Command → Bool

@@ -1,8 +1,5 @@
 -- Which inputs words ask for: worked by hand.
-use Rattle.std.proofs.Common.{◌≡◌, [], ◌∷◌, codes, refl}
-use Rattle.std.specs.Prelude.{Some, None}
-use Rattle.vcd_model.specs.Words.{Command}
-use Rattle.vcd_host.specs.Asked.{inputs_of}
+use Rattle.vcd_host.proofs.Cited.{◌≡◌, [], ◌∷◌, codes, refl, Some, None, Command, inputs_of}
 
 no_file : inputs_of Command.Check None ≡ None ∷ []
 no_file = refl

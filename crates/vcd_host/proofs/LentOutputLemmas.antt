@@ -1,7 +1,5 @@
 -- What bytes that were lent are filled with.
-use Rattle.std.proofs.Common.{◌≡◌, ◌+◌, ◌<◌, ◌≤◌, ◌^◌, ◌∙◌, ◌∷◌, ◌++◌, [], ℕ, List, ap, sym, refl, length, take, suc, zero, arith, append-nil}
-use Rattle.std.proofs.lemmas.List.{length-take-le, take-take}
-use Rattle.std.proofs.Math.Seq.{take-append-add}
+use Rattle.vcd_host.proofs.Cited.{◌≡◌, ◌+◌, ◌<◌, ◌≤◌, ◌^◌, ◌∙◌, ◌∷◌, ◌++◌, [], ℕ, List, ap, sym, refl, length, take, suc, zero, arith, append-nil, length-take-le, take-take, take-append-add}
 
 -- where there is room, nothing was let go
 pub none-gone : (gone : List ℕ) (used size dropped : ℕ) → (dropped < 2 ^ 63 → dropped ≡ length gone) → used < size → (0 < dropped → used ≡ size) → gone ≡ []

@@ -1,14 +1,6 @@
 -- Inputs that are opened one by one.
-use Rattle.std.proofs.Common.{◌≡◌, ◌<◌, ◌+◌, ℕ, List, [], ◌∷◌, ◌++◌, length, map, take, drop, get_or, refl, sym, subst, ap, ◌∙◌, inl, inr, suc}
-use Rattle.std.specs.Prelude.{All, Option, Result, Ok, Err}
-use Rattle.std.specs.Borrow.{Bor}
-use Rattle.std.proofs.lemmas.List.{append_assoc, drop_more, map-append, take-append-drop, take_more}
-use Rattle.std.proofs.lemmas.List.Elements.{All-push}
-use Rattle.clap.specs.Words.{Text}
-use Rattle.vcd_host.specs.Opens.{called, text_of, Opens, OpensOne, StopsAmong, StopsAt}
-use Rattle.vcd_host.specs.declared.host.OpenFault.{OpenFault}
+use Rattle.vcd_host.proofs.Cited.{◌≡◌, ◌<◌, ◌+◌, ℕ, List, [], ◌∷◌, ◌++◌, length, map, take, drop, get_or, refl, sym, subst, ap, ◌∙◌, inl, inr, suc, All, Option, Result, Ok, Err, Bor, append_assoc, drop_more, map-append, take-append-drop, take_more, All-push, Text, called, text_of, Opens, OpensOne, StopsAmong, StopsAt, OpenFault, OpenStop}
 use Rattle.vcd_host.specs.declared.host.OpenFault.TheVariants as fault
-use Rattle.vcd_host.specs.declared.opened.OpenStop.{OpenStop}
 use Rattle.vcd_host.specs.declared.opened.OpenStop.TheVariants as stop
 
 -- one input more

@@ -1,31 +1,6 @@
 -- `sample` at any times, and `edges`, of what `merge` wrote, for whole inputs.
-use Rattle.std.proofs.Common.{◌≡◌, ◌≢◌, ℕ, suc, ◌+◌, ◌/◌, ◌<◌, ◌^◌, Bool, true, false, cond, ◌||◌, Contains, List, [], ◌∷◌, ◌++◌, length, map, filter, flat_map, decimal, None, Some, Result, Ok, Err, inl, inr, refl, sym, ap, ◌∙◌, subst, arith}
-use Rattle.std.specs.List.{AllByRecursion, list_any}
-use Rattle.std.proofs.lemmas.List.{append_assoc, map-append}
-use Rattle.std.proofs.lemmas.List.Concat.{flat_map-append}
-use Rattle.std.proofs.lemmas.List.Elements.{filter-append}
-use Rattle.vcd_model.specs.Bytes.{is_empty}
-use Rattle.vcd_model.specs.Backward.{each_after}
-use Rattle.vcd_model.specs.Input.{Input}
-use Rattle.vcd_model.specs.Declarations.{IdCode, code_of}
-use Rattle.vcd_model.specs.Header.{Header}
-use Rattle.vcd_model.specs.Items.{BodyItem}
-use Rattle.vcd_model.specs.History.{value_at}
-use Rattle.vcd_model.specs.HeadText.{words, least_exponent}
-use Rattle.vcd_model.specs.Sample.{shown, sample_lines}
-use Rattle.vcd_model.specs.Edges.{edges_line}
-use Rattle.vcd_model.specs.Selection.{Selected, selects_path, selected, first_unmatched}
-use Rattle.vcd_model.specs.Merge.{Dump, factor, headers_of}
-use Rattle.vcd_model.specs.Ticks.{Moment}
-use Rattle.vcd_model.specs.Outcome.{Request, Outcome, Opened, items_in, clean_outcome, dumps_of, over_dumps}
-use Rattle.vcd_model.specs.Job.{Want, IsJob, Refusal, request_of, refusal_outcome, outcome}
-use Rattle.vcd_model.specs.Laws.{renamed_code}
-use Rattle.vcd_laws.specs.Heads.{under_input, merged_variable}
-use Rattle.vcd_laws.specs.Dumps.{input_of, over_merged, AreReadable}
-use Rattle.vcd_laws.specs.OverMerge.{names_in, line_in, merged_row, SampleOfOneMerged, SampleOfAllMerged, selected_in_merge, EachSelects, EdgesOfOneMerged, EdgesOfAllMerged, SampleOfAnyMerged, EdgesOfAnyMerged}
-use Rattle.vcd_model.proofs.JobLemmas.{requests_are_valid}
-use Rattle.vcd_model.proofs.BodyFacts.{all_back}
-use Rattle.vcd_model.proofs.HeaderFacts.{inputs_good}
+use Rattle.vcd_laws.proofs.Cited.{◌≡◌, ◌≢◌, ℕ, suc, ◌+◌, ◌/◌, ◌<◌, ◌^◌, Bool, true, false, cond, ◌||◌, Contains, List, [], ◌∷◌, ◌++◌, length, map, filter, flat_map, decimal, None, Some, Result, Ok, Err, inl, inr, refl, sym, ap, ◌∙◌, subst, arith, AllByRecursion, list_any, append_assoc, map-append, flat_map-append, filter-append, is_empty, each_after, Input, IdCode, code_of, Header, BodyItem, value_at, words, least_exponent, shown, sample_lines, edges_line, Selected, selects_path, selected, first_unmatched, Dump, factor, headers_of, Moment, Request, Outcome, Opened, items_in, clean_outcome, dumps_of, over_dumps, Want, IsJob, Refusal, refusal_outcome, outcome, renamed_code, under_input, merged_variable, input_of, over_merged, AreReadable, names_in, line_in, merged_row, SampleOfOneMerged, SampleOfAllMerged, selected_in_merge, EachSelects, EdgesOfOneMerged, EdgesOfAllMerged, SampleOfAnyMerged, EdgesOfAnyMerged, requests_are_valid, all_back, inputs_good, each_after-append}
+use Rattle.vcd_model.specs.Job.{request_of}
 use Rattle.vcd_laws.proofs.MergeDumps.{dumps_good}
 use Rattle.vcd_laws.proofs.MergeLaw.{merge_values_at}
 use Rattle.vcd_laws.proofs.WrittenCodes.{In, from_contained, to_contained, in_left, in_right, in_map, from_filter, to_filter}
@@ -34,7 +9,6 @@ use Rattle.vcd_laws.proofs.MergedBack.{all_can, many}
 use Rattle.vcd_laws.proofs.RunLaws.{opened_run}
 use Rattle.vcd_laws.proofs.PickUses.{chosen, selected_is, sampled, sample_run}
 use Rattle.vcd_laws.proofs.PickedAlone.{all_matched}
-use Rattle.vcd_model.proofs.Growing.{each_after-append}
 use Rattle.vcd_laws.proofs.EdgesOfPick.{counted, edges_run}
 use Rattle.vcd_laws.proofs.DumpLaws.{merge_is_a_dump}
 use Rattle.vcd_laws.proofs.CheckOfMerge.{MergeItems, merge_items}

@@ -1,36 +1,8 @@
 -- `check` of what `cut` wrote.
-use Rattle.std.proofs.Common.{◌≡◌, ℕ, ◌+◌, ◌≤◌, ◌==◌, Bool, true, false, cond, not, ◌&&◌, ◌||◌, nat_lt, List, [], ◌∷◌, ◌++◌, length, map, filter, filter_map, flat_map, count_by, Option, Some, None, is_some, Result, Ok, refl, sym, ap, ◌∙◌, subst, arith}
-use Rattle.std.specs.List.{last_or}
-use Rattle.std.proofs.lemmas.List.{append-nil}
-use Rattle.std.proofs.lemmas.List.Sums.{sum_by-cons, sum_by-append}
-use Rattle.std.proofs.lemmas.Bool.{eqb-true}
-use Rattle.vcd_model.specs.Input.{Input}
-use Rattle.vcd_model.specs.Declarations.{IdCode, is_scope, variables_of, codes_of}
-use Rattle.vcd_model.specs.Header.{Header}
-use Rattle.vcd_model.specs.Items.{BodyItem, Entry, is_begin, change_of, marks}
-use Rattle.vcd_model.specs.Items.SectionKind.{Vars}
-use Rattle.vcd_model.specs.ItemText.{last_mark}
-use Rattle.vcd_model.specs.Values.{Value}
-use Rattle.vcd_model.specs.History.{value_before}
-use Rattle.vcd_model.specs.Merge.{is_change}
-use Rattle.vcd_model.specs.Cut.{ends_cut, within, cut_kept, times_of}
-use Rattle.vcd_model.specs.Ticks.{Moment, moment_ticks}
-use Rattle.vcd_model.specs.Outcome.{Opened, items_in}
-use Rattle.vcd_model.specs.Job.{Want, IsJob}
-use Rattle.vcd_laws.specs.KeptValues.{written_by}
-use Rattle.vcd_laws.specs.Dumps.{input_of, IsReadable, IsDumpFor}
-use Rattle.vcd_laws.specs.OverCut.{as_list}
-use Rattle.vcd_laws.specs.Counted.{tally_outcome, scopes_around, distinct, changes_in, cut_closing, cut_times, set_before, CheckOfCut}
-use Rattle.vcd_model.proofs.Times.{marks-append}
-use Rattle.vcd_model.proofs.ItemStates.{time_behind, at_start, entries_are}
-use Rattle.vcd_model.proofs.Lines.{plain_line, IsRead, is_read}
-use Rattle.vcd_model.proofs.Assembled.{parts_items, parts_fit, parts_shut}
+use Rattle.vcd_laws.proofs.Cited.{◌≡◌, ℕ, ◌+◌, ◌≤◌, ◌==◌, Bool, true, false, cond, not, ◌&&◌, ◌||◌, nat_lt, List, [], ◌∷◌, ◌++◌, length, map, filter, filter_map, flat_map, count_by, Option, Some, None, is_some, Result, Ok, refl, sym, ap, ◌∙◌, subst, arith, last_or, append-nil, sum_by-cons, sum_by-append, eqb-true, Input, IdCode, is_scope, variables_of, codes_of, Header, BodyItem, Entry, is_begin, change_of, Vars, last_mark, Value, value_before, is_change, ends_cut, within, cut_kept, times_of, Moment, moment_ticks, Opened, items_in, Want, IsJob, written_by, input_of, IsReadable, IsDumpFor, as_list, tally_outcome, scopes_around, distinct, changes_in, cut_closing, cut_times, set_before, CheckOfCut, marks-append, time_behind, at_start, entries_are, plain_line, IsRead, is_read, parts_items, parts_fit, parts_shut, all_within, item_if_set, set_items, cuts, cut_mark, written}
+use Rattle.vcd_model.specs.Items.{marks}
 use Rattle.vcd_laws.proofs.OpenedBodies.{opens_good}
-use Rattle.vcd_model.proofs.CutGrows.{all_within}
-use Rattle.vcd_model.proofs.StartSections.{item_if_set, set_items}
-use Rattle.vcd_model.proofs.CutKept.{cuts, cut_mark}
 use Rattle.vcd_laws.proofs.CutLaw.{cut_entries, cut_start, cut_end, CutBehind, cut_behind}
-use Rattle.vcd_model.proofs.WrittenRows.{written}
 use Rattle.vcd_laws.proofs.WrittenCodes.{In, from_contained, to_contained}
 use Rattle.vcd_laws.proofs.HeadBack.{marks as marks_of, own_code, opens_header}
 use Rattle.vcd_laws.proofs.RunLaws.{cut_run, opened_run}

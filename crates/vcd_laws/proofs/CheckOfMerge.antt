@@ -1,24 +1,6 @@
 -- `check` of what `merge` wrote.
-use Rattle.std.proofs.Common.{◌≡◌, ℕ, ◌+◌, Bool, true, false, cond, not, ◌&&◌, List, [], ◌∷◌, ◌++◌, length, map, filter, filter_map, count_by, sum_by, None, refl, sym, ap, ◌∙◌, subst, arith}
-use Rattle.std.specs.List.{AllByRecursion, last_or}
-use Rattle.std.proofs.lemmas.List.{length-map}
-use Rattle.std.proofs.lemmas.List.Sums.{sum_by-cons}
-use Rattle.vcd_model.specs.Input.{Input}
-use Rattle.vcd_model.specs.Declarations.{is_scope, variables_of}
-use Rattle.vcd_model.specs.Header.{Header}
-use Rattle.vcd_model.specs.Items.{BodyItem, Entry, is_begin, change_of, marks}
-use Rattle.vcd_model.specs.ItemText.{last_mark}
-use Rattle.vcd_model.specs.HeadText.{merged_head}
-use Rattle.vcd_model.specs.Merge.{Keyed, headers_of, merged_items, merge_kept, greatest_mark, is_change}
-use Rattle.vcd_model.specs.Selection.{Selected, selected}
-use Rattle.vcd_model.specs.Outcome.{Outcome, Opened, items_in, dumps_of}
-use Rattle.vcd_model.specs.Job.{Want, over_opened, outcome}
-use Rattle.vcd_model.specs.Laws.{merged_codes}
-use Rattle.vcd_laws.specs.Dumps.{input_of, AreReadable, IsMergedDump}
-use Rattle.vcd_laws.specs.Counted.{tally_outcome, scopes_around, distinct, changes_in, merge_times, merged_changes, CheckOfMerge}
-use Rattle.vcd_model.proofs.Lines.{IsRead}
-use Rattle.vcd_model.proofs.Assembled.{Parts, parts_items}
-use Rattle.vcd_model.proofs.HeaderFacts.{AreCodes, inputs_good}
+use Rattle.vcd_laws.proofs.Cited.{◌≡◌, ℕ, ◌+◌, Bool, true, false, cond, not, ◌&&◌, List, [], ◌∷◌, ◌++◌, length, map, filter, filter_map, count_by, sum_by, None, refl, sym, ap, ◌∙◌, subst, arith, AllByRecursion, last_or, length-map, sum_by-cons, Input, is_scope, variables_of, Header, BodyItem, Entry, is_begin, change_of, last_mark, merged_head, Keyed, headers_of, merged_items, merge_kept, greatest_mark, is_change, Selected, selected, Outcome, Opened, items_in, dumps_of, Want, over_opened, outcome, merged_codes, input_of, AreReadable, IsMergedDump, tally_outcome, scopes_around, distinct, changes_in, merge_times, merged_changes, CheckOfMerge, IsRead, Parts, parts_items, AreCodes, inputs_good}
+use Rattle.vcd_model.specs.Items.{marks}
 use Rattle.vcd_laws.proofs.MergeDumps.{merged_is, dumps_good}
 use Rattle.vcd_laws.proofs.MergeLaw.{merges, merge_parts, merge_text, merge_text_is, merge_read, merge_keeps_text}
 use Rattle.vcd_laws.proofs.RunLaws.{merge_case, same_status}

@@ -1,23 +1,9 @@
 -- `check` of what was written.
-use Rattle.std.proofs.Common.{◌≡◌, ℕ, Bool, true, false, cond, not, ◌&&◌, List, [], ◌∷◌, ◌++◌, length, map, filter, filter_map, count_by, Option, None, Contains, IsTrue, ◌↔◌, refl, sym, ap, ◌∙◌, subst, arith}
-use Rattle.std.specs.List.{list_any, last_or}
-use Rattle.std.proofs.lemmas.List.{length-map}
-use Rattle.std.proofs.lemmas.List.Sums.{sum_by-cons, length-filter}
-use Rattle.vcd_model.specs.Input.{Input}
-use Rattle.vcd_model.specs.Declarations.{IdCode, is_scope, variables_of, codes_of}
-use Rattle.vcd_model.specs.Header.{Header}
-use Rattle.vcd_model.specs.Items.{BodyItem, Entry, is_begin, change_of, marks}
-use Rattle.vcd_model.specs.ItemText.{last_mark}
+use Rattle.vcd_laws.proofs.Cited.{◌≡◌, ℕ, Bool, true, false, cond, not, ◌&&◌, List, [], ◌∷◌, ◌++◌, length, map, filter, filter_map, count_by, Option, None, Contains, IsTrue, ◌↔◌, refl, sym, ap, ◌∙◌, subst, arith, list_any, last_or, length-map, sum_by-cons, length-filter, Input, IdCode, is_scope, variables_of, codes_of, Header, BodyItem, Entry, is_begin, change_of, last_mark, Selected, selected, selects_code, pick_kept, Request, Opened, items_in, fault_in, ends_early, at_end, over_dumps, Want, outcome, Opens, written_by, input_of, as_list, Tally, tally_outcome, scopes_around, distinct, changes_in, pick_times, CheckOfPick, entries_from, at_start, entries_are}
+use Rattle.vcd_model.specs.Items.{marks}
 use Rattle.vcd_model.specs.CheckAndList.{check_close}
-use Rattle.vcd_model.specs.Selection.{Selected, selected, selects_code}
-use Rattle.vcd_model.specs.Pick.{pick_kept}
-use Rattle.vcd_model.specs.Outcome.{Request, Opened, items_in, fault_in, ends_early, at_end, over_body, over_dump, over_dumps}
-use Rattle.vcd_model.specs.Job.{Want, request_of, outcome}
-use Rattle.vcd_laws.specs.KeptValues.{Opens, written_by}
-use Rattle.vcd_laws.specs.Dumps.{input_of}
-use Rattle.vcd_laws.specs.OverCut.{as_list}
-use Rattle.vcd_laws.specs.Counted.{Tally, tally_outcome, scopes_around, distinct, changes_in, pick_times, CheckOfPick}
-use Rattle.vcd_model.proofs.ItemStates.{entries_from, at_start, entries_are}
+use Rattle.vcd_model.specs.Outcome.{over_body, over_dump}
+use Rattle.vcd_model.specs.Job.{request_of}
 use Rattle.vcd_laws.proofs.OpenedBodies.{opens_good, opened_fit, opened_shut}
 use Rattle.vcd_laws.proofs.PickLaw.{picks, pick_parts}
 use Rattle.vcd_laws.proofs.WrittenCodes.{from_filter, to_filter, from_contained, to_contained}

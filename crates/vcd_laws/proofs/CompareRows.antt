@@ -1,11 +1,7 @@
 -- Two dumps compared: worked rows. `;` stands for a line feed.
-use Rattle.std.proofs.Common.{◌≡◌, ◌^◌, true, [], ◌∷◌, ◌-◌, codes, refl}
-use Prim.Native.String.{String}
+use Rattle.vcd_laws.proofs.Cited.{◌≡◌, ◌^◌, true, [], ◌∷◌, ◌-◌, codes, refl, String, Input, Outcome, Asked, Extent, compared, exactly}
 use Rattle.vcd_laws.proofs.Computing.{model}
 use Rattle.vcd_laws.proofs.RowText.{clean, dump, gives, limit}
-use Rattle.vcd_model.specs.Input.{Input}
-use Rattle.vcd_model.specs.Outcome.{Outcome}
-use Rattle.vcd_model.specs.Compare.{Asked, Extent, compared, exactly}
 
 -- all is compared, exactly, and the first difference of each pair is due
 abbrev pub all : Asked

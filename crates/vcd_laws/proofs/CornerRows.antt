@@ -1,12 +1,7 @@
 -- Rows at the corners of the rules, computed.
-use Rattle.std.proofs.Common.{◌≡◌, [], ◌∷◌, ◌++◌, codes, Some, refl}
+use Rattle.vcd_laws.proofs.Cited.{◌≡◌, [], ◌∷◌, ◌++◌, codes, Some, refl, Mark, stream_of, read_header, header_fault_of, Want, outcome, Command}
 use Rattle.vcd_laws.proofs.Computing.{model}
 use Rattle.vcd_laws.proofs.RowText.{written, clean, limit, on, gives, cut, sample, asked, merged}
-use Rattle.vcd_model.specs.Input.{Mark}
-use Rattle.vcd_model.specs.Tokens.{stream_of}
-use Rattle.vcd_model.specs.HeaderReading.{read_header, header_fault_of}
-use Rattle.vcd_model.specs.Job.{Want, outcome}
-use Rattle.vcd_model.specs.Words.{Command}
 
 -- ---- header texts and where they may be
 

@@ -1,22 +1,5 @@
 -- The items that a cut wrote, cut again: those of the input between the times of the second cut.
-use Rattle.std.proofs.Common.{◌≡◌, ℕ, ◌+◌, ◌<◌, ◌≤◌, ◌==◌, Bool, true, false, cond, not, ◌&&◌, nat_lt, nat_le, List, [], ◌∷◌, ◌++◌, map, filter, Option, Some, None, ◌⊎◌, inl, inr, refl, sym, ap, ◌∙◌, subst, arith}
-use Rattle.std.specs.List.{AllByRecursion, list_any}
-use Rattle.std.proofs.lemmas.List.{append_assoc}
-use Rattle.std.proofs.lemmas.List.Elements.{filter-append}
-use Rattle.std.proofs.lemmas.Bool.{cases_lt, and_parts, and_right, lt-ltb, le-ltb, le-leb, lt-leb}
-use Rattle.vcd_model.specs.Declarations.{IdCode}
-use Rattle.vcd_model.specs.Items.{BodyItem, Entry}
-use Rattle.vcd_model.specs.Items.SectionKind.{Vars}
-use Rattle.vcd_model.specs.Values.{Value}
-use Rattle.vcd_model.specs.ItemText.{item_line, may_keep, time_unless, text_after}
-use Rattle.vcd_model.specs.Cut.{within}
-use Rattle.vcd_model.proofs.ItemStates.{next_open, AreFit, time_behind, open_behind, entries_from}
-use Rattle.vcd_model.proofs.ChangeLines.{read_again, read_again_is}
-use Rattle.vcd_model.proofs.Rewritten.{read_item, time_items, written_items, IsWritable, AreWritable, Stand, stand_more, at_most}
-use Rattle.vcd_model.proofs.Assembled.{fit_front, fit_back, entries_from-append, closing_items}
-use Rattle.vcd_model.proofs.StartSections.{item_if_set, set_items, start_items}
-use Rattle.vcd_model.proofs.CutSplit.{Split, split_at_time, times_from, within_is}
-use Rattle.vcd_model.proofs.CutKept.{cuts, none_cut}
+use Rattle.vcd_laws.proofs.Cited.{◌≡◌, ℕ, ◌+◌, ◌<◌, ◌≤◌, ◌==◌, Bool, true, false, cond, not, ◌&&◌, nat_lt, nat_le, List, [], ◌∷◌, ◌++◌, map, filter, Option, Some, None, ◌⊎◌, inl, inr, refl, sym, ap, ◌∙◌, subst, arith, AllByRecursion, list_any, append_assoc, filter-append, cases_lt, and_parts, and_right, lt-ltb, le-ltb, le-leb, lt-leb, IdCode, BodyItem, Entry, Vars, Value, item_line, may_keep, time_unless, text_after, within, next_open, AreFit, time_behind, open_behind, entries_from, read_again, read_again_is, read_item, time_items, written_items, IsWritable, AreWritable, Stand, stand_more, at_most, fit_front, fit_back, entries_from-append, closing_items, item_if_set, set_items, start_items, Split, split_at_time, times_from, within_is, cuts, none_cut}
 use Rattle.vcd_laws.proofs.PickedAlone.{both_tests}
 use Rattle.vcd_laws.proofs.PickTwice.{Insides, reread, item_again, all_kept}
 

@@ -1,30 +1,9 @@
 -- What `cut` writes, and that it keeps values.
-use Rattle.std.proofs.Common.{◌≡◌, ℕ, zero, suc, ◌^◌, ◌<◌, ◌≤◌, Bool, true, false, cond, not, ◌||◌, ◌==◌, nat_le, List, [], ◌∷◌, ◌++◌, filter, flat_map, Option, Some, None, IsTrue, refl, sym, ap, ◌∙◌, subst, arith, ◌⊎◌, inl, inr}
-use Rattle.std.specs.List.{list_any}
-use Rattle.std.proofs.lemmas.List.{append_assoc, append-nil}
-use Rattle.std.proofs.lemmas.Bool.{or_parts}
-use Rattle.vcd_model.specs.Declarations.{IdCode}
-use Rattle.vcd_model.specs.Header.{Header}
-use Rattle.vcd_model.specs.Items.{BodyItem, Entry, marks, time_after}
-use Rattle.vcd_model.specs.Values.{Value}
-use Rattle.vcd_model.specs.History.{value_at, value_before}
-use Rattle.vcd_model.specs.ItemText.{time_unless, text_after, closing, last_mark}
-use Rattle.vcd_model.specs.BodyPhrases.{declared_code}
-use Rattle.vcd_model.specs.HeadText.{head_for}
-use Rattle.vcd_model.specs.Cut.{is_mark_above, ends_cut, within, cut_kept, start_section, is_started, times_of, cut_open, cut_close, closing_above}
-use Rattle.vcd_model.specs.Outcome.{Opened, items_in, fault_in}
-use Rattle.vcd_laws.specs.KeptValues.{KeepsValues, CutKeeps, cut_text}
-use Rattle.vcd_model.proofs.ItemStates.{AreFit, time_behind, open_behind, entries_from, at_start, entries_are}
-use Rattle.vcd_model.proofs.Lines.{plain_line, IsRead, stands_behind}
-use Rattle.vcd_model.proofs.Rewritten.{last_time}
-use Rattle.vcd_model.proofs.Assembled.{Parts, parts_items, parts_text, parts_read, last_mark_is, time_behind_small, fit_front}
-use Rattle.vcd_model.proofs.HeaderFacts.{AreCodes, IsGoodInput, filter_words}
+use Rattle.vcd_laws.proofs.Cited.{◌≡◌, ℕ, zero, suc, ◌^◌, ◌<◌, ◌≤◌, Bool, true, false, cond, not, ◌||◌, ◌==◌, nat_le, List, [], ◌∷◌, ◌++◌, filter, flat_map, Option, Some, None, IsTrue, refl, sym, ap, ◌∙◌, subst, arith, ◌⊎◌, inl, inr, list_any, append_assoc, append-nil, or_parts, IdCode, Header, BodyItem, Entry, time_after, Value, value_at, value_before, time_unless, text_after, closing, last_mark, declared_code, head_for, is_mark_above, ends_cut, within, cut_kept, start_section, is_started, times_of, closing_above, Opened, items_in, fault_in, KeepsValues, CutKeeps, cut_text, AreFit, time_behind, open_behind, entries_from, at_start, entries_are, plain_line, IsRead, stands_behind, last_time, Parts, parts_items, parts_text, parts_read, last_mark_is, time_behind_small, fit_front, AreCodes, IsGoodInput, filter_words, at_contained, all_within, none_kept, all_below, within_is, times_within, start_items, start_text, cuts, cut_mark, closing_above_is, above_is, cut_parts, cut_values, cut_facts, later_none, last_below}
+use Rattle.vcd_model.specs.Items.{marks}
+use Rattle.vcd_model.specs.Cut.{cut_open, cut_close}
 use Rattle.vcd_laws.proofs.OpenedBodies.{opened_fit, opened_shut, opens_good}
-use Rattle.vcd_model.proofs.FoundCodes.{at_contained}
-use Rattle.vcd_model.proofs.CutGrows.{all_within, none_kept, all_below}
-use Rattle.vcd_model.proofs.CutSplit.{within_is, times_within, ended}
-use Rattle.vcd_model.proofs.StartSections.{start_items, start_text}
-use Rattle.vcd_model.proofs.CutKept.{cuts, cut_mark, closing_above_is, above_is, cut_parts, cut_values, cut_facts, later_none, last_below}
+use Rattle.vcd_model.proofs.CutSplit.{ended}
 
 regroup : (h s t u : List ℕ) → h ++ s ++ t ++ u ≡ h ++ (s ++ (t ++ u))
 regroup h s t u = append_assoc (h ++ s) t u ∙ append_assoc h s (t ++ u)

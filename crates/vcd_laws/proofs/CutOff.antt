@@ -1,13 +1,5 @@
 -- If sources fail earlier, the output is a prefix of what it would have been.
-use Rattle.std.proofs.Common.{◌≡◌, ◌≢◌, ℕ, List, [], ◌∷◌, ◌++◌, None, inl, inr, refl, sym, ap, subst}
-use Rattle.vcd_model.specs.Input.{Input, Mark}
-use Rattle.vcd_model.specs.Tokens.{stream_of}
-use Rattle.vcd_model.specs.Job.{Want, outcome}
-use Rattle.vcd_model.specs.SettledMerge.{Seen}
-use Rattle.vcd_model.specs.Laws.{IsPrefixOf}
-use Rattle.vcd_laws.specs.Checked.{run_of}
-use Rattle.vcd_laws.specs.Final.{AreSeen}
-use Rattle.vcd_laws.specs.Due.{IsCutOff, AreCutOff, GiveNoMore, CutOffIsAPrefix, CutOffMergeIsAPrefix, CutOffIsAllThatIsKnown, CutOffMergeIsAllThatIsKnown}
+use Rattle.vcd_laws.proofs.Cited.{◌≡◌, ◌≢◌, ℕ, List, [], ◌∷◌, ◌++◌, None, inl, inr, refl, sym, ap, subst, Input, Mark, stream_of, Want, outcome, Seen, IsPrefixOf, run_of, AreSeen, IsCutOff, AreCutOff, GiveNoMore, CutOffIsAPrefix, CutOffMergeIsAPrefix, CutOffIsAllThatIsKnown, CutOffMergeIsAllThatIsKnown}
 use Rattle.vcd_laws.proofs.FrontTokens.{front_tokens, front_halts}
 use Rattle.vcd_laws.proofs.DueText.{same_text, longer_text, due_is_left_at_a_halt, due_is_never_revised}
 use Rattle.vcd_laws.proofs.MergeDue.{merge_due_is_left_at_halts, merge_due_is_never_revised}

@@ -1,23 +1,12 @@
 -- Rows on what `cut` wrote, read again: that the premises of the laws can be met.
-use Rattle.std.proofs.Common.{◌≡◌, ◌<◌, true, false, [], ◌∷◌, ◌++◌, length, map, refl, arith, zero, suc, flat_map}
-use Rattle.std.specs.List.Sorted.{IsStrictlyIncreasing}
-use Rattle.vcd_model.specs.Declarations.{Declaration}
-use Rattle.vcd_model.specs.Selection.{selected}
-use Rattle.vcd_model.specs.Cut.{within, cut_kept}
+use Rattle.vcd_laws.proofs.Cited.{◌≡◌, ◌<◌, true, false, [], ◌∷◌, ◌++◌, length, map, refl, arith, zero, suc, flat_map, IsStrictlyIncreasing, Declaration, selected, within, cut_kept, at_contained, clean_outcome, items_in, Want, IsJob, written_by, over_written, IsReadable, declarations_kept, given, given_before, IsWholeDump, line_of_cut, cut_row}
 use Rattle.vcd_laws.proofs.CutUses.{sample_of_cut}
 use Rattle.vcd_laws.proofs.CutTwice.{cut_twice}
 use Rattle.vcd_laws.proofs.EdgesOfCut.{edges_of_cut}
 use Rattle.vcd_laws.proofs.SampleOfCut.{sample_of_cut_anywhere}
 use Rattle.vcd_laws.proofs.KeepsAll.{cut_keeps_all}
 use Rattle.vcd_laws.proofs.Computing.{model}
-use Rattle.vcd_model.proofs.FoundCodes.{at_contained}
 use Rattle.vcd_laws.proofs.RowText.{clean, limit, gives, on, cut, sample, at, time}
-use Rattle.vcd_model.specs.Outcome.{clean_outcome, items_in}
-use Rattle.vcd_model.specs.Job.{Want, IsJob}
-use Rattle.vcd_laws.specs.KeptValues.{written_by}
-use Rattle.vcd_laws.specs.Dumps.{over_written, IsReadable}
-use Rattle.vcd_laws.specs.Whole.{declarations_kept, given, given_before, IsWholeDump}
-use Rattle.vcd_laws.specs.OverCut.{line_of_cut, cut_row}
 use Rattle.vcd_laws.proofs.DumpBase.{stdin, aliased, some_names, opened, over_cut, rising_alone, bit}
 
 -- the premises of the laws of `cut` are met

@@ -1,36 +1,6 @@
 -- What `cut` writes has tokens no longer than the token limit, if its codes are shorter.
-use Rattle.std.proofs.Common.{◌≡◌, ℕ, ◌<◌, ◌≤◌, ◌^◌, Bool, true, false, not, ◌&&◌, nat_lt, List, [], ◌∷◌, ◌++◌, length, map, filter, flat_map, Option, Some, None, option_and_then, refl, sym, ap, ◌∙◌, subst, arith}
-use Rattle.std.specs.List.{AllByRecursion}
-use Rattle.std.proofs.lemmas.Bool.{and_parts, not-true}
-use Rattle.vcd_model.specs.Backward.{later_or, last_where}
-use Rattle.vcd_model.specs.Input.{Input}
-use Rattle.vcd_model.specs.Tokens.{first_halt}
-use Rattle.vcd_model.specs.Keywords.{Keyword}
-use Rattle.vcd_model.specs.Declarations.{IdCode, has_text}
-use Rattle.vcd_model.specs.Items.{BodyItem, Entry, entries}
-use Rattle.vcd_model.specs.Values.{Value, value_of}
-use Rattle.vcd_model.specs.History.{gives_to, value_in, value_before}
-use Rattle.vcd_model.specs.BodyPhrases.{declared_code}
-use Rattle.vcd_model.specs.Cut.{within}
-use Rattle.vcd_model.specs.Outcome.{Opened, items_in}
-use Rattle.vcd_model.specs.Ticks.{Moment}
-use Rattle.vcd_model.specs.Job.{Want, IsJob}
-use Rattle.vcd_laws.specs.KeptValues.{Opens, written_by}
-use Rattle.vcd_laws.specs.Dumps.{CodesFit, input_of, IsReadable}
-use Rattle.vcd_model.proofs.TokenTexts.{texts_from}
-use Rattle.vcd_model.proofs.ItemStates.{time_behind, IsGoodChange, IsFit, next_time, next_open, AreFit, entries_from, at_start, entries_are}
-use Rattle.vcd_model.proofs.ReadBack.{item_tokens}
-use Rattle.vcd_model.proofs.Lines.{plain_line, lines_words}
-use Rattle.vcd_model.proofs.ChangeLines.{IsGoodValue, value_change, value_is_good}
-use Rattle.vcd_model.proofs.Rewritten.{written_items}
-use Rattle.vcd_model.proofs.Assembled.{parts_items, parts_fit, closing_items}
-use Rattle.vcd_model.proofs.BodyFacts.{all_front, all_append}
-use Rattle.vcd_model.proofs.HeaderFacts.{AreCodes, filter_words}
+use Rattle.vcd_laws.proofs.Cited.{◌≡◌, ℕ, ◌<◌, ◌≤◌, ◌^◌, Bool, true, false, not, ◌&&◌, nat_lt, List, [], ◌∷◌, ◌++◌, length, map, filter, flat_map, Option, Some, None, option_and_then, refl, sym, ap, ◌∙◌, subst, arith, AllByRecursion, and_parts, not-true, later_or, last_where, Input, first_halt, Keyword, IdCode, has_text, BodyItem, Entry, entries, Value, value_of, gives_to, value_in, value_before, declared_code, within, Opened, items_in, Moment, Want, IsJob, Opens, written_by, CodesFit, input_of, IsReadable, texts_from, time_behind, IsGoodChange, IsFit, next_time, next_open, AreFit, entries_from, at_start, entries_are, item_tokens, plain_line, lines_words, IsGoodValue, value_change, value_is_good, written_items, parts_items, parts_fit, closing_items, all_front, all_append, AreCodes, filter_words, all_kept, find_all, same_declared, within_is, item_if_set, set_items, cuts}
 use Rattle.vcd_laws.proofs.OpenedBodies.{opens_good}
-use Rattle.vcd_model.proofs.FoundCodes.{all_kept, find_all, same_declared}
-use Rattle.vcd_model.proofs.CutSplit.{within_is}
-use Rattle.vcd_model.proofs.StartSections.{item_if_set, set_items}
-use Rattle.vcd_model.proofs.CutKept.{cuts}
 use Rattle.vcd_laws.proofs.CutLaw.{cut_entries, cut_start, cut_end, CutBehind, cut_behind}
 use Rattle.vcd_laws.proofs.WrittenCodes.{to_contained, from_find}
 use Rattle.vcd_laws.proofs.RunLaws.{cut_run, opened_run}

@@ -1,39 +1,9 @@
 -- `cut` of what `cut` wrote, from a later time on, is `cut` of its input.
-use Rattle.std.proofs.Common.{◌≡◌, ℕ, ◌+◌, ◌-◌, ◌<◌, ◌≤◌, ◌==◌, Bool, true, false, cond, not, ◌&&◌, ◌||◌, nat_lt, nat_le, List, [], ◌∷◌, ◌++◌, map, filter, flat_map, Option, Some, None, Result, Ok, Err, ◌⊎◌, inl, inr, refl, sym, ap, ◌∙◌, subst, arith, bytes_eq}
-use Rattle.std.specs.List.{AllByRecursion, list_any, last_or}
-use Rattle.std.proofs.lemmas.List.{append-nil}
-use Rattle.std.proofs.lemmas.Bool.{cases_lt, and_right, lt-ltb, le-ltb, le-leb, lt-leb, eq-eqb, eqb-true, not-true}
-use Rattle.vcd_model.specs.Backward.{each_some}
-use Rattle.vcd_model.specs.Input.{Input}
-use Rattle.vcd_model.specs.Declarations.{Declaration, Variable, IdCode, variables_of, code_of, codes_of}
-use Rattle.vcd_model.specs.Header.{Header}
-use Rattle.vcd_model.specs.Items.{BodyItem, Entry, entries}
-use Rattle.vcd_model.specs.Items.SectionKind.{Vars}
-use Rattle.vcd_model.specs.Values.{Value}
-use Rattle.vcd_model.specs.History.{value_at, value_before}
-use Rattle.vcd_model.specs.ItemText.{kept_by, time_unless, text_after, closing, last_mark}
-use Rattle.vcd_model.specs.HeadText.{head_for}
-use Rattle.vcd_model.specs.Selection.{Selected, selected}
-use Rattle.vcd_model.specs.Cut.{ends_cut, within, cut_kept, start_section, times_of}
-use Rattle.vcd_model.specs.Reading.{Fault}
-use Rattle.vcd_model.specs.Ticks.{Moment, moment_ticks}
-use Rattle.vcd_model.specs.Outcome.{Request, Outcome, Opened, items_in, fault_in, clean_outcome, at_end, over_body, over_dump, over_dumps}
-use Rattle.vcd_model.specs.Job.{Want, IsJob, Refusal, request_of, cut_request, has_unit, refusal_outcome}
-use Rattle.vcd_laws.specs.KeptValues.{Opens, written_by, cut_text}
-use Rattle.vcd_laws.specs.Dumps.{input_of, IsReadable}
-use Rattle.vcd_laws.specs.OverCut.{as_list, CutTwice, CutPastEnd}
-use Rattle.vcd_model.proofs.JobLemmas.{requests_are_valid}
-use Rattle.vcd_model.proofs.ItemStates.{AreFit, time_behind, entries_from, at_start, entries_are}
-use Rattle.vcd_model.proofs.Lines.{plain_line}
-use Rattle.vcd_model.proofs.Latest.{gives_at, latest_agree}
-use Rattle.vcd_model.proofs.Rewritten.{last_time, written_items, AreWritable, Stand}
-use Rattle.vcd_model.proofs.Assembled.{closing_items, time_behind_le, last_mark_from, last_mark_is}
-use Rattle.vcd_model.proofs.HeaderFacts.{filter_words}
+use Rattle.vcd_laws.proofs.Cited.{◌≡◌, ℕ, ◌+◌, ◌-◌, ◌<◌, ◌≤◌, ◌==◌, Bool, true, false, cond, not, ◌&&◌, ◌||◌, nat_lt, nat_le, List, [], ◌∷◌, ◌++◌, map, filter, flat_map, Option, Some, None, Result, Ok, Err, ◌⊎◌, inl, inr, refl, sym, ap, ◌∙◌, subst, arith, bytes_eq, AllByRecursion, list_any, last_or, append-nil, cases_lt, and_right, lt-ltb, le-ltb, le-leb, lt-leb, eq-eqb, eqb-true, not-true, each_some, Input, Declaration, Variable, IdCode, variables_of, code_of, Header, BodyItem, Entry, entries, Vars, Value, value_at, value_before, kept_by, time_unless, text_after, closing, last_mark, head_for, Selected, selected, ends_cut, within, cut_kept, start_section, times_of, Fault, Moment, moment_ticks, Request, Outcome, Opened, items_in, fault_in, clean_outcome, at_end, over_dumps, Want, IsJob, Refusal, cut_request, has_unit, refusal_outcome, Opens, written_by, cut_text, input_of, IsReadable, as_list, CutTwice, CutPastEnd, requests_are_valid, AreFit, time_behind, entries_from, at_start, entries_are, plain_line, gives_at, latest_agree, last_time, written_items, AreWritable, Stand, closing_items, time_behind_le, last_mark_from, last_mark_is, filter_words, all_within, times_within, item_if_set, set_items, start_items, start_text, start_behind, cuts, above, cut_mark, last_below, before_is, later_none}
+use Rattle.vcd_model.specs.Declarations.{codes_of}
+use Rattle.vcd_model.specs.Outcome.{over_body, over_dump}
+use Rattle.vcd_model.specs.Job.{request_of}
 use Rattle.vcd_laws.proofs.OpenedBodies.{opens_good, opened_fit}
-use Rattle.vcd_model.proofs.CutGrows.{all_within}
-use Rattle.vcd_model.proofs.CutSplit.{times_within}
-use Rattle.vcd_model.proofs.StartSections.{item_if_set, set_items, start_items, start_text, start_behind}
-use Rattle.vcd_model.proofs.CutKept.{cuts, above, cut_mark, last_below, before_is, later_none}
 use Rattle.vcd_laws.proofs.CutLaw.{cut_body, within_fit, cut_entries, cut_start, cut_end, cut_text_after_head}
 use Rattle.vcd_laws.proofs.WrittenCodes.{In, from_filter, to_contained}
 use Rattle.vcd_laws.proofs.HeadBack.{variables_are, opens_header}

@@ -1,17 +1,8 @@
 -- What `cut` wrote is read by `list` as its input was, and by `sample` at times that were kept.
-use Rattle.std.proofs.Common.{◌≡◌, ◌≢◌, ℕ, ◌≤◌, true, false, List, [], ◌∷◌, None, Result, Ok, Err, ◌⊎◌, inl, inr, IsTrue, flat_map, refl, sym, ap, ◌∙◌, subst}
-use Rattle.std.specs.List.{AllByRecursion, list_any}
-use Rattle.vcd_model.specs.Declarations.{code_of}
-use Rattle.vcd_model.specs.Selection.{Selected, selected}
-use Rattle.vcd_model.specs.Cut.{ends_cut}
-use Rattle.vcd_model.specs.CheckAndList.{list_line, list_text}
-use Rattle.vcd_model.specs.Ticks.{moment_ticks}
-use Rattle.vcd_model.specs.Outcome.{Request, Outcome, Opened, items_in, fault_in, ends_early, clean_outcome, over_dump, over_dumps}
-use Rattle.vcd_model.specs.Job.{Want, Refusal, request_of, refusal_outcome, outcome}
-use Rattle.vcd_laws.specs.KeptValues.{written_by}
-use Rattle.vcd_laws.specs.Dumps.{input_of, IsDumpFor}
-use Rattle.vcd_laws.specs.OverCut.{ListOfCut, SampleOfCut}
-use Rattle.vcd_model.proofs.JobLemmas.{requests_are_valid}
+use Rattle.vcd_laws.proofs.Cited.{◌≡◌, ◌≢◌, ℕ, ◌≤◌, true, false, List, [], ◌∷◌, None, Result, Ok, Err, ◌⊎◌, inl, inr, IsTrue, flat_map, refl, sym, ap, ◌∙◌, subst, AllByRecursion, list_any, code_of, Selected, selected, ends_cut, list_line, moment_ticks, Request, Outcome, Opened, items_in, fault_in, ends_early, clean_outcome, over_dumps, Want, Refusal, refusal_outcome, outcome, written_by, input_of, IsDumpFor, ListOfCut, SampleOfCut, requests_are_valid}
+use Rattle.vcd_model.specs.CheckAndList.{list_text}
+use Rattle.vcd_model.specs.Outcome.{over_dump}
+use Rattle.vcd_model.specs.Job.{request_of}
 use Rattle.vcd_laws.proofs.WrittenCodes.{In, from_filter, to_contained, in_map, to_codes_of}
 use Rattle.vcd_laws.proofs.HeadBack.{variables_are, opens_header}
 use Rattle.vcd_laws.proofs.RunLaws.{cut_run, opened_run}

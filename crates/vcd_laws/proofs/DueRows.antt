@@ -1,15 +1,7 @@
 -- What is due with first tokens, computed.
-use Rattle.std.proofs.Common.{◌≡◌, ℕ, List, [], ◌∷◌, ◌++◌, codes, drop, map, take, refl}
-use Prim.Native.String.{String}
+use Rattle.vcd_laws.proofs.Cited.{◌≡◌, ℕ, List, [], ◌∷◌, ◌++◌, codes, drop, map, take, refl, String, Input, Mark, Want, IsPrefixOf, declarations_allowed, Seen, stream_of, tokens_of, run_of}
 use Rattle.vcd_laws.proofs.Computing.{model}
 use Rattle.vcd_laws.proofs.RowText.{clean, limit, written, at}
-use Rattle.vcd_model.specs.Input.{Input, Mark}
-use Rattle.vcd_model.specs.Job.{Want}
-use Rattle.vcd_model.specs.Laws.{IsPrefixOf}
-use Rattle.vcd_model.specs.Outcome.{declarations_allowed}
-use Rattle.vcd_model.specs.SettledMerge.{Seen}
-use Rattle.vcd_model.specs.Tokens.{stream_of, tokens_of}
-use Rattle.vcd_laws.specs.Checked.{run_of}
 use Rattle.vcd_model.specs.Due.{due}
 use Rattle.vcd_laws.specs.Due.{due_of_merge}
 use Rattle.vcd_laws.proofs.CutOff.{cut_off_is_a_prefix}

@@ -1,31 +1,13 @@
 -- What is due with the first tokens of an input, and the output over it.
-use Rattle.std.proofs.Common.{◌≡◌, ◌≢◌, ℕ, ℤ, Bool, true, false, cond, not, ◌&&◌, ◌||◌, ◌==◌, nat_lt, is_some, is_none, is_ok, List, [], ◌∷◌, ◌++◌, map, filter_map, Option, Some, None, Result, Ok, Err, inl, inr, refl, sym, ap, ◌∙◌, subst, append-nil, append_assoc}
-use Rattle.std.specs.List.{list_any, list_all}
-use Rattle.vcd_model.specs.Backward.{up_to_first}
-use Rattle.vcd_model.specs.Input.{Input}
-use Rattle.vcd_model.specs.Tokens.{Token, Stream, stream_of}
-use Rattle.vcd_model.specs.Declarations.{IdCode}
-use Rattle.vcd_model.specs.Header.{Header, header_of}
-use Rattle.vcd_model.specs.HeaderPhrases.{HeaderPhrase}
-use Rattle.vcd_model.specs.HeaderReading.{header_grammar, read_header, header_fault_of}
-use Rattle.vcd_model.specs.Items.{BodyItem}
-use Rattle.vcd_model.specs.BodyPhrases.{BodyPhrase}
-use Rattle.vcd_model.specs.BodyReading.{read_body, body_items, body_fault_of}
-use Rattle.vcd_model.specs.Reading.{Fault, missing, phrases_of, Ending, Reading, reading_of}
-use Rattle.vcd_model.specs.Reading.Ending.{AtFault, AtEnd, AtLast}
-use Rattle.vcd_model.specs.Selection.{first_unmatched}
-use Rattle.vcd_model.specs.Ticks.{moment_ticks}
-use Rattle.vcd_model.specs.Outcome.{Request, Outcome, fault_outcome, open_text, close_text, declarations_allowed, open_from, body_of, items_in, fault_in, name_at, names_of, ends_early, at_end, over_body, over_dump, unmatched_outcome}
-use Rattle.vcd_model.specs.Job.{Want, Refusal, request_of, refusal_outcome, over_opened, has_unit, do_rise, ok_of, cut_request, first_refusal}
-use Rattle.vcd_model.specs.Settled.{is_faulty, body_settles, is_settled_behind, is_settled_by, is_settled_at, is_over, is_settled}
-use Rattle.vcd_model.specs.Laws.{IsPrefixOf, IsValid}
-use Rattle.vcd_laws.specs.Checked.{run_of}
-use Rattle.vcd_laws.specs.Final.{BeginsWith, first_tokens}
-use Rattle.vcd_model.specs.Due.{due_of_body, due_after, due_of_request, due_at, due}
-use Rattle.vcd_laws.specs.Due.{DueGrows, DueIsNeverRevised, DueIsLeftAtAHalt, DueIsAllThatIsKnown, SettledDueIsAll}
-use Rattle.vcd_model.proofs.CutGrows.{goes_on}
-use Rattle.vcd_model.proofs.JobLemmas.{requests_are_valid}
-use Rattle.vcd_model.proofs.Revised.{nothing_revised}
+use Rattle.vcd_laws.proofs.Cited.{◌≡◌, ◌≢◌, ℕ, ℤ, Bool, true, false, cond, not, ◌&&◌, ◌||◌, ◌==◌, nat_lt, is_some, is_none, is_ok, List, [], ◌∷◌, ◌++◌, map, filter_map, Option, Some, None, Result, Ok, Err, inl, inr, refl, sym, ap, ◌∙◌, subst, list_any, list_all, up_to_first, Input, Token, Stream, stream_of, IdCode, Header, header_of, HeaderPhrase, header_grammar, header_fault_of, BodyItem, BodyPhrase, body_items, body_fault_of, Fault, missing, phrases_of, Ending, Reading, AtFault, AtEnd, AtLast, first_unmatched, moment_ticks, Request, Outcome, fault_outcome, open_text, close_text, declarations_allowed, items_in, fault_in, name_at, names_of, ends_early, at_end, unmatched_outcome, Want, Refusal, refusal_outcome, over_opened, has_unit, do_rise, ok_of, cut_request, first_refusal, is_faulty, body_settles, is_settled_behind, is_settled_by, is_settled_at, is_over, IsPrefixOf, IsValid, run_of, BeginsWith, first_tokens, due_of_body, due_after, due_of_request, due_at, DueGrows, DueIsNeverRevised, DueIsLeftAtAHalt, DueIsAllThatIsKnown, SettledDueIsAll, goes_on, requests_are_valid, nothing_revised}
+use Rattle.std.proofs.Common.{append-nil, append_assoc}
+use Rattle.vcd_model.specs.HeaderReading.{read_header}
+use Rattle.vcd_model.specs.BodyReading.{read_body}
+use Rattle.vcd_model.specs.Reading.{reading_of}
+use Rattle.vcd_model.specs.Outcome.{open_from, body_of, over_body, over_dump}
+use Rattle.vcd_model.specs.Job.{request_of}
+use Rattle.vcd_model.specs.Settled.{is_settled}
+use Rattle.vcd_model.specs.Due.{due}
 use Rattle.vcd_laws.proofs.Settling.{with_more, over_whatever, items_first, faulty_body, at_fault, opened_at, first_part, ended_early, opening, opened_with, opening_with, opens_by, opening_faulty, opening_whole, run_over, run_is, asked}
 use Rattle.vcd_laws.proofs.Unsettled.{not_last, OpenFault, open_fault, two_ends}
 

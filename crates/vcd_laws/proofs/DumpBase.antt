@@ -1,17 +1,6 @@
 -- What the rows on written dumps share.
-use Rattle.std.proofs.Common.{ℕ, Bool, false, Some, List, [], ◌∷◌, codes, Result, Ok, arith, zero, suc}
-use Rattle.std.specs.List.Sorted.{IsStrictlyIncreasing}
+use Rattle.vcd_laws.proofs.Cited.{ℕ, Bool, false, Some, List, [], ◌∷◌, codes, Result, Ok, arith, zero, suc, IsStrictlyIncreasing, String, Variable, Value, Given, header_of, Fault, Outcome, Opened, open_from, Want, stream_over, over_written}
 use Rattle.vcd_laws.proofs.RowText.{clean, limit, cut}
-use Prim.Native.String.{String}
-use Rattle.vcd_model.specs.Declarations.{Variable}
-use Rattle.vcd_model.specs.Values.{Value}
-use Rattle.vcd_laws.specs.Whole.{Given}
-use Rattle.vcd_model.specs.Header.{header_of}
-use Rattle.vcd_model.specs.Reading.{Fault}
-use Rattle.vcd_model.specs.Outcome.{Outcome, Opened, open_from}
-use Rattle.vcd_model.specs.Job.{Want}
-use Rattle.vcd_model.specs.Laws.{stream_over}
-use Rattle.vcd_laws.specs.Dumps.{over_written}
 
 abbrev pub stdin : List ℕ
 stdin = codes "(stdin)"

@@ -1,35 +1,11 @@
 -- What runs with status 0 have written is a dump.
-use Rattle.std.proofs.Common.{◌≡◌, ℕ, ◌*◌, ◌≤◌, true, false, List, [], ◌∷◌, ◌++◌, length, filter, Option, Some, None, Result, Ok, Err, IsTrue, bytes_eq, refl, sym, ap, ◌∙◌, subst, arith}
-use Rattle.std.specs.List.{AllByRecursion}
-use Rattle.std.proofs.lemmas.Slice.Eq.{bytes_eq-Decides}
-use Rattle.vcd_model.specs.Input.{Input}
-use Rattle.vcd_model.specs.Tokens.{Stream, tokens_of, token_places, line_at, comes_before, end_at, first_halt, given_places, stream_of}
-use Rattle.vcd_model.specs.Declarations.{Variable, IdCode, has_text}
-use Rattle.vcd_model.specs.Header.{Header, header_of}
-use Rattle.vcd_model.specs.Items.{BodyItem}
-use Rattle.vcd_model.specs.History.{value_at}
-use Rattle.vcd_model.specs.HeadText.{head_for, merged_head}
-use Rattle.vcd_model.specs.Selection.{Selected, selected, selects_code}
-use Rattle.vcd_model.specs.Reading.{Fault, phrases_of}
-use Rattle.vcd_model.specs.HeaderReading.{read_header, header_fault_of}
-use Rattle.vcd_model.specs.BodyPhrases.{declared_code}
-use Rattle.vcd_model.specs.BodyReading.{read_body, body_items}
-use Rattle.vcd_model.specs.Merge.{Dump, factor, headers_of, first_fault}
-use Rattle.vcd_model.specs.Ticks.{Moment, moment_ticks}
-use Rattle.vcd_model.specs.Outcome.{Opened, dumps_of, declarations_allowed, open_from, body_of, items_in}
-use Rattle.vcd_model.specs.Job.{Want, outcome}
-use Rattle.vcd_model.specs.Laws.{stream_over, read_text, renamed_code, merged_codes}
-use Rattle.vcd_laws.specs.KeptValues.{Opens, KeepsValues, written_by, OpenAll, MergeKeepsValues}
-use Rattle.vcd_laws.specs.Heads.{most_declared, IsShallow, most_merged}
-use Rattle.vcd_laws.specs.Dumps.{input_of, IsDumpFor, PickIsADump, CutIsADump, IsMergedDump, MergeIsADump}
-use Rattle.vcd_model.proofs.TokenTexts.{texts_from, texts_of-tokens}
-use Rattle.vcd_model.proofs.HeaderFacts.{AreCodes}
+use Rattle.vcd_laws.proofs.Cited.{◌≡◌, ℕ, ◌*◌, ◌≤◌, true, false, List, [], ◌∷◌, ◌++◌, length, filter, Option, Some, None, Result, Ok, Err, IsTrue, bytes_eq, refl, sym, ap, ◌∙◌, subst, arith, AllByRecursion, bytes_eq-Decides, Input, Stream, token_places, line_at, comes_before, end_at, first_halt, Variable, IdCode, has_text, Header, header_of, BodyItem, value_at, head_for, merged_head, Selected, selected, selects_code, Fault, phrases_of, read_header, header_fault_of, declared_code, read_body, body_items, Dump, factor, headers_of, first_fault, Moment, moment_ticks, Opened, dumps_of, declarations_allowed, items_in, Want, outcome, stream_over, read_text, renamed_code, merged_codes, Opens, KeepsValues, written_by, OpenAll, MergeKeepsValues, most_declared, IsShallow, most_merged, input_of, IsDumpFor, PickIsADump, CutIsADump, IsMergedDump, MergeIsADump, texts_from, texts_of-tokens, AreCodes, find-filter, all_kept, written}
+use Rattle.vcd_model.specs.Tokens.{tokens_of, given_places, stream_of}
+use Rattle.vcd_model.specs.Outcome.{open_from, body_of}
 use Rattle.vcd_laws.proofs.OpenedBodies.{opens_good}
-use Rattle.vcd_model.proofs.FoundCodes.{find-filter, all_kept}
 use Rattle.vcd_laws.proofs.HeadersGood.{IsGoodHeader}
 use Rattle.vcd_laws.proofs.WrittenCodes.{In, from_filter, to_filter, from_contained, to_contained, from_map, any_of, from_codes_of, found_same}
 use Rattle.vcd_laws.proofs.SameReadings.{bodies_alike, same_items, same_whole}
-use Rattle.vcd_model.proofs.WrittenRows.{written}
 use Rattle.vcd_laws.proofs.HeadBack.{marks, own_code, variables_are, head_read, IsHeadRead, opens_header}
 use Rattle.vcd_laws.proofs.MergedHead.{all_rows}
 use Rattle.vcd_laws.proofs.MergedBack.{merged_found, IsMergedRead, merged_read, all_can}

@@ -1,16 +1,5 @@
 -- What `pick` and `cut` wrote of what `pick` and `cut` wrote is a dump of the first input.
-use Rattle.std.proofs.Common.{◌≡◌, ℕ, ◌≤◌, true, false, List, [], bytes_eq, Ok, refl, sym, ap, ◌∙◌, subst}
-use Rattle.vcd_model.specs.Declarations.{IdCode}
-use Rattle.vcd_model.specs.Header.{Header}
-use Rattle.vcd_model.specs.Selection.{Selected, selected, selects_code}
-use Rattle.vcd_model.specs.Ticks.{Moment, moment_ticks}
-use Rattle.vcd_model.specs.Input.{Input}
-use Rattle.vcd_model.specs.Outcome.{Opened}
-use Rattle.vcd_model.specs.Job.{Want, IsJob}
-use Rattle.vcd_laws.specs.KeptValues.{Opens, written_by}
-use Rattle.vcd_laws.specs.Heads.{IsHeadFor}
-use Rattle.vcd_laws.specs.Dumps.{input_of, IsDumpFor, IsReadable}
-use Rattle.vcd_laws.specs.OverCut.{CutOfPick, PickOfCut, CutOfCut}
+use Rattle.vcd_laws.proofs.Cited.{◌≡◌, ℕ, ◌≤◌, true, false, List, [], bytes_eq, Ok, refl, sym, ap, ◌∙◌, subst, IdCode, Header, Selected, selected, selects_code, Moment, moment_ticks, Input, Opened, Want, IsJob, Opens, written_by, IsHeadFor, input_of, IsDumpFor, IsReadable, CutOfPick, PickOfCut, CutOfCut}
 use Rattle.vcd_laws.proofs.WrittenCodes.{from_any, any_of}
 use Rattle.vcd_laws.proofs.RunLaws.{same_opened}
 use Rattle.vcd_laws.proofs.DumpLaws.{pick_is_a_dump, cut_is_a_dump}

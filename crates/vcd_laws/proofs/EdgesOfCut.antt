@@ -1,37 +1,8 @@
 -- `edges` of what `cut` wrote counts from the value before it on.
-use Rattle.std.proofs.Common.{◌≡◌, ℕ, ◌+◌, ◌-◌, ◌<◌, ◌≤◌, Bool, true, false, cond, not, ◌&&◌, ◌||◌, nat_lt, nat_le, List, [], ◌∷◌, ◌++◌, map, filter, flat_map, count_by, decimal, Option, Some, None, ◌⊎◌, inl, inr, refl, sym, ap, ◌∙◌, subst, arith}
-use Rattle.std.specs.List.{AllByRecursion, list_any}
-use Rattle.std.proofs.lemmas.List.{append-nil}
-use Rattle.std.proofs.lemmas.List.Sums.{sum_by-cons}
-use Rattle.std.proofs.lemmas.Bool.{cases_lt, and_right, le-ltb}
-use Rattle.vcd_model.specs.Input.{Input}
-use Rattle.vcd_model.specs.Declarations.{IdCode, code_of, same_code}
-use Rattle.vcd_model.specs.Items.{BodyItem, Entry, entries}
-use Rattle.vcd_model.specs.Items.SectionKind.{Vars}
-use Rattle.vcd_model.specs.Values.{Value}
-use Rattle.vcd_model.specs.History.{gives_to, value_at, value_before, values_of}
-use Rattle.vcd_model.specs.ItemText.{may_keep}
-use Rattle.vcd_model.specs.HeadText.{words}
-use Rattle.vcd_model.specs.Edges.{counts_of, counts_for, event_count, edges_line}
-use Rattle.vcd_model.specs.BodyPhrases.{declared_code}
-use Rattle.vcd_model.specs.Selection.{Selected, selected, first_unmatched}
-use Rattle.vcd_model.specs.Cut.{within, cut_kept}
-use Rattle.vcd_model.specs.Ticks.{Moment, moment_ticks}
-use Rattle.vcd_model.specs.Outcome.{Opened, items_in, clean_outcome}
-use Rattle.vcd_model.specs.Job.{Want, request_of}
-use Rattle.vcd_laws.specs.KeptValues.{Opens, written_by}
-use Rattle.vcd_laws.specs.Dumps.{input_of}
-use Rattle.vcd_laws.specs.OverCut.{as_list, values_in_cut, counts_in_cut, cut_row, EdgesOfCut}
-use Rattle.vcd_model.proofs.TokenTexts.{IsWord}
-use Rattle.vcd_model.proofs.ItemStates.{IsGoodChange, next_open, AreFit, entries_from, at_start, entries_are}
-use Rattle.vcd_model.proofs.ChangeLines.{IsGoodValue, value_change, value_change_gives, read_again_is}
-use Rattle.vcd_model.proofs.Latest.{gives_at, last_value_is, latest_none, latest_agree}
-use Rattle.vcd_model.proofs.Rewritten.{read_item, written_items, IsWritable, AreWritable}
-use Rattle.vcd_model.proofs.Assembled.{parts_fit, closing_items}
+use Rattle.vcd_laws.proofs.Cited.{◌≡◌, ℕ, ◌+◌, ◌-◌, ◌<◌, ◌≤◌, Bool, true, false, cond, not, ◌&&◌, ◌||◌, nat_lt, nat_le, List, [], ◌∷◌, ◌++◌, map, filter, flat_map, count_by, decimal, Option, Some, None, ◌⊎◌, inl, inr, refl, sym, ap, ◌∙◌, subst, arith, AllByRecursion, list_any, append-nil, sum_by-cons, cases_lt, and_right, le-ltb, Input, IdCode, code_of, same_code, BodyItem, Entry, entries, Vars, Value, gives_to, value_at, value_before, values_of, may_keep, words, counts_of, counts_for, event_count, edges_line, declared_code, Selected, selected, first_unmatched, within, cut_kept, Moment, moment_ticks, Opened, items_in, clean_outcome, Want, Opens, written_by, input_of, as_list, values_in_cut, counts_in_cut, cut_row, EdgesOfCut, IsWord, IsGoodChange, next_open, AreFit, entries_from, at_start, entries_are, IsGoodValue, value_change, value_change_gives, read_again_is, gives_at, last_value_is, latest_none, latest_agree, read_item, written_items, IsWritable, AreWritable, parts_fit, closing_items, same_declared, IsSettable, item_if_set, set_items, start_items, start_behind, cuts, settable}
+use Rattle.vcd_model.specs.Job.{request_of}
 use Rattle.vcd_laws.proofs.OpenedBodies.{opens_good, opened_fit}
-use Rattle.vcd_model.proofs.FoundCodes.{same_declared}
-use Rattle.vcd_model.proofs.StartSections.{IsSettable, item_if_set, set_items, start_items, start_behind}
-use Rattle.vcd_model.proofs.CutKept.{cuts, settable, among}
+use Rattle.vcd_model.proofs.CutKept.{among}
 use Rattle.vcd_laws.proofs.CutLaw.{cut_entries, cut_start, cut_end}
 use Rattle.vcd_laws.proofs.WrittenCodes.{In, from_filter, from_any, to_codes_of, found_in}
 use Rattle.vcd_laws.proofs.HeadBack.{in_selected, opens_header}

@@ -1,35 +1,6 @@
 -- `edges` of what `merge` wrote gives the counts of its inputs.
-use Rattle.std.proofs.Common.{◌≡◌, ℕ, ◌+◌, ◌<◌, ◌^◌, Bool, true, false, cond, not, ◌&&◌, List, [], ◌∷◌, ◌++◌, length, map, filter, filter_map, flat_map, count_by, decimal, Some, None, option_map, inl, inr, refl, sym, ap, ◌∙◌, subst, arith}
-use Rattle.std.specs.List.{AllByRecursion, cons_option}
-use Rattle.std.proofs.lemmas.List.{append-nil, length-map}
-use Rattle.std.proofs.lemmas.List.Sums.{sum_by-cons, length-filter}
-use Rattle.vcd_model.specs.Backward.{each_after}
-use Rattle.vcd_model.specs.Input.{Input}
-use Rattle.vcd_model.specs.Declarations.{IdCode, code_of, same_code}
-use Rattle.vcd_model.specs.Header.{Header}
-use Rattle.vcd_model.specs.Items.{BodyItem, Entry, change_of, entries}
-use Rattle.vcd_model.specs.Values.{value_of}
-use Rattle.vcd_model.specs.History.{gives_to, value_in, values_of}
-use Rattle.vcd_model.specs.HeadText.{words, renamed}
-use Rattle.vcd_model.specs.Edges.{counts_of, counts_for, event_count, edges_line}
-use Rattle.vcd_model.specs.BodyPhrases.{declared_code}
-use Rattle.vcd_model.specs.Selection.{Selected, selected, first_unmatched}
-use Rattle.vcd_model.specs.Merge.{Keyed, factor, headers_of, is_change, scaled_item, merged_items, merge_kept, greatest_mark}
-use Rattle.vcd_model.specs.Outcome.{Opened, items_in, clean_outcome, dumps_of}
-use Rattle.vcd_model.specs.Job.{Want, request_of, outcome}
-use Rattle.vcd_model.specs.Laws.{renamed_code, merged_codes, merged_entry, changes_kept}
-use Rattle.vcd_laws.specs.Heads.{under_input, merged_variable}
-use Rattle.vcd_laws.specs.Dumps.{input_of, AreReadable}
-use Rattle.vcd_laws.specs.OverMerge.{merged_row, names_under, EdgesOfMerge}
-use Rattle.vcd_model.proofs.ItemStates.{IsGoodChange, next_open, AreFit, entries_from, at_start, entries_are}
-use Rattle.vcd_model.proofs.ChangeLines.{read_again_is}
-use Rattle.vcd_model.proofs.Rewritten.{read_item, written_items, IsWritable, AreWritable}
-use Rattle.vcd_model.proofs.Assembled.{parts_items, parts_fit, closing_items}
-use Rattle.vcd_model.proofs.BodyFacts.{all_front, all_back}
-use Rattle.vcd_model.proofs.HeaderFacts.{AreCodes, inputs_good}
-use Rattle.vcd_model.proofs.FoundCodes.{same_declared}
-use Rattle.vcd_model.proofs.MergeCodes.{declared_in_merge}
-use Rattle.vcd_model.proofs.MergeChanges.{IsGoodDump}
+use Rattle.vcd_laws.proofs.Cited.{◌≡◌, ℕ, ◌+◌, ◌<◌, ◌^◌, Bool, true, false, cond, not, ◌&&◌, List, [], ◌∷◌, ◌++◌, length, map, filter, filter_map, flat_map, count_by, decimal, Some, None, option_map, inl, inr, refl, sym, ap, ◌∙◌, subst, arith, AllByRecursion, cons_option, append-nil, length-map, sum_by-cons, length-filter, each_after, Input, IdCode, code_of, same_code, Header, BodyItem, Entry, change_of, entries, value_of, gives_to, value_in, values_of, words, renamed, counts_of, counts_for, event_count, edges_line, declared_code, Selected, selected, first_unmatched, Keyed, factor, headers_of, is_change, scaled_item, merged_items, merge_kept, greatest_mark, Opened, items_in, clean_outcome, dumps_of, Want, outcome, renamed_code, merged_codes, merged_entry, changes_kept, under_input, merged_variable, input_of, AreReadable, merged_row, names_under, EdgesOfMerge, IsGoodChange, next_open, AreFit, entries_from, at_start, entries_are, read_again_is, read_item, written_items, IsWritable, AreWritable, parts_items, parts_fit, closing_items, all_front, all_back, AreCodes, inputs_good, same_declared, declared_in_merge, IsGoodDump}
+use Rattle.vcd_model.specs.Job.{request_of}
 use Rattle.vcd_laws.proofs.MergeDumps.{dumps_good, kept_all}
 use Rattle.vcd_laws.proofs.MergeLaw.{merges}
 use Rattle.vcd_laws.proofs.WrittenCodes.{In, to_contained, found_in}

@@ -1,28 +1,12 @@
 -- `edges` of what `pick` wrote is `edges` of its input.
-use Rattle.std.proofs.Common.{◌≡◌, ℕ, Bool, true, false, List, [], ◌∷◌, ◌++◌, map, filter, flat_map, Option, Some, None, inl, inr, refl, sym, ap, ◌∙◌, subst}
-use Rattle.std.specs.List.{list_any}
-use Rattle.std.proofs.lemmas.List.{append_assoc}
-use Rattle.vcd_model.specs.Input.{Input}
-use Rattle.vcd_model.specs.Declarations.{IdCode, code_of}
-use Rattle.vcd_model.specs.Items.{BodyItem, entries}
-use Rattle.vcd_model.specs.ItemText.{text_after, closing, last_mark}
-use Rattle.vcd_model.specs.Edges.{counts_of, counts_for, edges_line, edges_close}
-use Rattle.vcd_model.specs.BodyPhrases.{declared_code}
-use Rattle.vcd_model.specs.Selection.{Selected, selected, selects_code, first_unmatched}
-use Rattle.vcd_model.specs.HeadText.{head_for}
+use Rattle.vcd_laws.proofs.Cited.{◌≡◌, ℕ, Bool, true, false, List, [], ◌∷◌, ◌++◌, map, filter, flat_map, Option, Some, None, inl, inr, refl, sym, ap, ◌∙◌, subst, list_any, append_assoc, Input, IdCode, code_of, BodyItem, entries, text_after, closing, last_mark, counts_of, counts_for, edges_line, declared_code, Selected, selected, selects_code, first_unmatched, head_for, Request, Outcome, Opened, clean_outcome, name_at, items_in, fault_in, ends_early, at_end, unmatched_outcome, over_dumps, Want, over_opened, written_by, KeepsValues, input_of, IsReadable, IsDumpFor, EdgesOfPick, entries_from, at_start, entries_are, IsRead, parts_items, parts_read, written}
+use Rattle.vcd_model.specs.Edges.{edges_close}
 use Rattle.vcd_model.specs.Pick.{pick_open, pick_close}
-use Rattle.vcd_model.specs.Outcome.{Request, Outcome, Opened, clean_outcome, name_at, items_in, fault_in, ends_early, at_end, over_body, unmatched_outcome, over_dump, over_dumps}
-use Rattle.vcd_model.specs.Job.{Want, request_of, over_opened}
-use Rattle.vcd_laws.specs.KeptValues.{written_by, KeepsValues}
-use Rattle.vcd_laws.specs.Dumps.{input_of, IsReadable, IsDumpFor}
-use Rattle.vcd_laws.specs.OverPick.{EdgesOfPick}
-use Rattle.vcd_model.proofs.ItemStates.{entries_from, at_start, entries_are}
-use Rattle.vcd_model.proofs.Lines.{IsRead}
-use Rattle.vcd_model.proofs.Assembled.{parts_items, parts_read}
+use Rattle.vcd_model.specs.Outcome.{over_body, over_dump}
+use Rattle.vcd_model.specs.Job.{request_of}
 use Rattle.vcd_laws.proofs.OpenedBodies.{opens_good, opened_fit, opened_shut}
 use Rattle.vcd_laws.proofs.PickLaw.{picks, pick_parts, pick_keeps_items}
 use Rattle.vcd_laws.proofs.WrittenCodes.{In, from_filter, to_filter, in_map, to_contained, from_contained, to_codes_of, found_in}
-use Rattle.vcd_model.proofs.WrittenRows.{written}
 use Rattle.vcd_laws.proofs.HeadBack.{marks, own_code, variables_are, opens_header}
 use Rattle.vcd_laws.proofs.DumpLaws.{IsReadDump, is_dump, picked_codes}
 use Rattle.vcd_laws.proofs.ShortBodies.{pick_is_not_halted}

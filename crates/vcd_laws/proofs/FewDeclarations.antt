@@ -1,19 +1,8 @@
 -- A header without a fault is read alike wherever no fewer declarations are allowed than it has.
-use Rattle.std.proofs.Common.{◌≡◌, ℕ, ◌<◌, ◌≤◌, Bool, true, false, nat_lt, List, [], ◌∷◌, ◌++◌, length, Option, Some, None, refl, sym, ap, ◌∙◌, subst, arith, append_assoc, length-append}
-use Rattle.std.proofs.lemmas.Bool.{lt-ltb}
-use Rattle.std.proofs.lemmas.List.Elements.{filter_map-append}
-use Rattle.vcd_model.specs.Tokens.{Token, Stream}
-use Rattle.vcd_model.specs.Keywords.{Keyword, keyword_of}
-use Rattle.vcd_model.specs.Declarations.{Declaration}
-use Rattle.vcd_model.specs.HeaderPhrases.{HeaderPhrase, IsHeaderPhrase, header_phrase, phrase_with, scope_of, up_of, var_of, declaration_of, declarations_of}
-use Rattle.vcd_model.specs.HeaderPhrases.HeaderPhrase.{Declares}
-use Rattle.vcd_model.specs.Checks.{first_failed}
+use Rattle.vcd_laws.proofs.Cited.{◌≡◌, ℕ, ◌<◌, ◌≤◌, Bool, true, false, nat_lt, List, [], ◌∷◌, ◌++◌, length, Option, Some, None, refl, sym, ap, ◌∙◌, subst, arith, lt-ltb, filter_map-append, Token, Stream, Keyword, keyword_of, Declaration, HeaderPhrase, IsHeaderPhrase, phrase_with, scope_of, up_of, var_of, declaration_of, declarations_of, Declares, first_failed, header_grammar, read_header, Placed, phrases_of, texts_of, Ending, Reading, PassChecks, AreGood, Ends, IsReading, AtFault, AtEnd, AtLast, mapped, header_computes, header_reading_is_unique, passes}
+use Rattle.std.proofs.Common.{append_assoc, length-append}
+use Rattle.vcd_model.specs.HeaderPhrases.{header_phrase}
 use Rattle.vcd_model.specs.HeaderChecks.{start_of, header_fault}
-use Rattle.vcd_model.specs.HeaderReading.{header_grammar, read_header}
-use Rattle.vcd_model.specs.Reading.{Placed, phrases_of, texts_of, Ending, Reading, PassChecks, AreGood, Ends, IsReading}
-use Rattle.vcd_model.specs.Reading.Ending.{AtFault, AtEnd, AtLast}
-use Rattle.vcd_model.proofs.HeaderGrammar.{mapped, header_computes, header_reading_is_unique}
-use Rattle.vcd_model.proofs.BodyFacts.{passes}
 
 -- a phrase that begins so declares something
 abbrev begins_declaration : Option Keyword → Bool

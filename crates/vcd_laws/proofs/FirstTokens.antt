@@ -1,13 +1,8 @@
 -- The first tokens of a text are all those of some shorter text.
-use Rattle.std.proofs.Common.{◌≡◌, ℕ, zero, suc, ◌+◌, ◌≤◌, ◌==◌, Bool, true, false, not, cond, ◌&&◌, List, [], ◌∷◌, ◌++◌, length, map, filter, take, count_by, refl, sym, ap, ◌∙◌, arith, add-one, one-add, append_assoc}
-use Rattle.std.specs.List.{range_with_len, before_first, AllByRecursion}
-use Rattle.std.proofs.lemmas.List.{length_push}
-use Rattle.std.proofs.lemmas.List.Sums.{sum_by-append}
-use Rattle.std.proofs.Math.Seq.{take-append_seam}
-use Rattle.vcd_model.specs.Bytes.{is_white_space, as_line}
-use Rattle.vcd_model.specs.Tokens.{Token, begins_token, run_at, line_at, token_at, tokens_of}
-use Rattle.vcd_model.proofs.TokenLemmas.{at_white, run_of}
-use Rattle.vcd_model.proofs.TokenTexts.{map_first, index_of, drop_of, same_cond, plain_front}
+use Rattle.vcd_laws.proofs.Cited.{◌≡◌, ℕ, zero, suc, ◌+◌, ◌≤◌, ◌==◌, Bool, true, false, not, cond, ◌&&◌, List, [], ◌∷◌, ◌++◌, length, map, filter, take, count_by, refl, sym, ap, ◌∙◌, arith, add-one, one-add, range_with_len, before_first, AllByRecursion, length_push, sum_by-append, take-append_seam, is_white_space, as_line, Token, begins_token, run_at, line_at, token_at, at_white, map_first, index_of, drop_of, same_cond, plain_front}
+use Rattle.std.proofs.Common.{append_assoc}
+use Rattle.vcd_model.specs.Tokens.{tokens_of}
+use Rattle.vcd_model.proofs.TokenLemmas.{run_of}
 
 -- ---- tokens with their lines, read forward
 

@@ -1,13 +1,8 @@
 -- The tokens that a source gives which fails after the first bytes of a text are the first ones of
 -- that text.
-use Rattle.std.proofs.Common.{◌≡◌, ◌≢◌, ℕ, zero, suc, ◌+◌, ◌-◌, ◌^◌, ◌<◌, ◌≤◌, Bool, true, false, not, cond, ◌&&◌, ◌==◌, nat_lt, nat_le, count_by, List, [], ◌∷◌, ◌++◌, length, map, filter, fold, drop, slice_index, Option, Some, None, ◌⊎◌, inl, inr, refl, sym, ap, ◌∙◌, subst, arith, length-append, length-drop}
-use Rattle.std.specs.List.{AllByRecursion, range_with_len, before_first, reduce}
-use Rattle.std.proofs.lemmas.List.{drop-append-le, take-append-le, get_or_append_left}
-use Rattle.std.proofs.lemmas.Bool.{cases_lt, lt-ltb, ltb-true, le-ltb, leb-false}
-use Rattle.vcd_model.specs.Bytes.{is_white_space}
-use Rattle.vcd_model.specs.Input.{Input, Mark, is_failed}
-use Rattle.vcd_model.specs.Tokens.{Token, HaltPlace, begins_token, token_places, token_at, run_at, line_at, end_at, too_much_input, too_long_tokens, failed_read, earlier_halt, first_halt, comes_before, given_places, stream_until, stream_of}
-use Rattle.vcd_model.specs.Laws.{IsPrefixOf}
+use Rattle.vcd_laws.proofs.Cited.{◌≡◌, ◌≢◌, ℕ, zero, suc, ◌+◌, ◌-◌, ◌^◌, ◌<◌, ◌≤◌, Bool, true, false, not, cond, ◌&&◌, ◌==◌, nat_lt, nat_le, count_by, List, [], ◌∷◌, ◌++◌, length, map, filter, fold, drop, slice_index, Option, Some, None, ◌⊎◌, inl, inr, refl, sym, ap, ◌∙◌, subst, arith, length-drop, AllByRecursion, range_with_len, before_first, reduce, drop-append-le, take-append-le, get_or_append_left, cases_lt, lt-ltb, ltb-true, le-ltb, leb-false, is_white_space, Input, Mark, is_failed, Token, HaltPlace, begins_token, token_places, token_at, run_at, line_at, end_at, too_much_input, too_long_tokens, failed_read, earlier_halt, comes_before, stream_until, IsPrefixOf}
+use Rattle.std.proofs.Common.{length-append}
+use Rattle.vcd_model.specs.Tokens.{first_halt, given_places, stream_of}
 use Rattle.vcd_laws.proofs.FirstTokens.{plain_run, white_run}
 use Rattle.vcd_laws.proofs.ShortTokens.{reduce_least, long_in}
 use Rattle.vcd_laws.proofs.WrittenCodes.{In, in_left, in_right, in_map}

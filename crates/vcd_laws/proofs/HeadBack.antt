@@ -1,36 +1,12 @@
 -- A head is read again as what it was written from.
-use Rattle.std.proofs.Common.{◌≡◌, ℕ, ◌+◌, ◌<◌, ◌≤◌, Bool, true, false, cond, List, [], ◌∷◌, ◌++◌, length, map, filter_map, bytes_eq, Some, None, IsTrue, option_map, unwrap_or, inl, inr, refl, sym, ap, ◌∙◌, subst, arith}
-use Rattle.std.specs.List.{AllByRecursion, list_all, cons_option}
-use Rattle.std.proofs.lemmas.List.{append_assoc, append-nil}
-use Rattle.std.proofs.lemmas.Slice.Eq.{bytes_eq-Decides}
-use Rattle.vcd_model.specs.Bytes.{is_code_byte}
-use Rattle.vcd_model.specs.Backward.{each_after}
-use Rattle.vcd_model.specs.Input.{Input}
-use Rattle.vcd_model.specs.Tokens.{Stream, tokens_of}
-use Rattle.vcd_model.specs.Keywords.{Keyword}
-use Rattle.vcd_model.specs.Scales.{scale_text}
-use Rattle.vcd_model.specs.Declarations.{Declaration, Variable, IdCode, variables_of, code_of, codes_of, open_scopes, enclosing, path_of}
-use Rattle.vcd_model.specs.Header.{Header, header_of}
-use Rattle.vcd_model.specs.HeadText.{three_lines_of, end_line, head_text, head_for}
-use Rattle.vcd_model.specs.Selection.{Selected, is_selected, with_path, selected, marked_places, is_among, selects_code}
-use Rattle.vcd_model.specs.Reading.{Reading, reading_of, phrases_of, texts_of}
-use Rattle.vcd_model.specs.Reading.Ending.{AtLast}
-use Rattle.vcd_model.specs.HeaderReading.{read_header, header_fault_of}
-use Rattle.vcd_model.specs.HeaderPhrases.{HeaderPhrase}
-use Rattle.vcd_model.specs.BodyPhrases.{declared_code}
-use Rattle.vcd_model.specs.Outcome.{Opened}
-use Rattle.vcd_model.specs.Laws.{stream_over}
-use Rattle.vcd_laws.specs.KeptValues.{Opens}
-use Rattle.vcd_laws.specs.Heads.{most_declared, IsHeadFor, HeadIsReadBack}
-use Rattle.vcd_model.proofs.TokenTexts.{IsWord, texts_from, texts_of-tokens}
-use Rattle.vcd_model.proofs.HeaderFacts.{AreCodes}
+use Rattle.vcd_laws.proofs.Cited.{◌≡◌, ℕ, ◌+◌, ◌<◌, ◌≤◌, Bool, true, false, cond, List, [], ◌∷◌, ◌++◌, length, map, filter_map, bytes_eq, Some, None, IsTrue, option_map, unwrap_or, inl, inr, refl, sym, ap, ◌∙◌, subst, arith, AllByRecursion, list_all, cons_option, append_assoc, append-nil, bytes_eq-Decides, is_code_byte, each_after, Input, Stream, tokens_of, Keyword, scale_text, Declaration, Variable, IdCode, variables_of, code_of, codes_of, open_scopes, enclosing, path_of, Header, header_of, three_lines_of, end_line, Selected, is_selected, with_path, marked_places, is_among, selects_code, Reading, phrases_of, texts_of, AtLast, header_fault_of, HeaderPhrase, declared_code, Opened, stream_over, Opens, most_declared, IsHeadFor, HeadIsReadBack, IsWord, texts_from, texts_of-tokens, AreCodes, IsDeclared, AreDeclared, head_of, reads_head, header_back, Open, HasOpen, has_none, written, text_of_rows, opens_more, own_mark, around_marks}
+use Rattle.vcd_model.specs.HeadText.{head_text, head_for}
+use Rattle.vcd_model.specs.Selection.{selected}
+use Rattle.vcd_model.specs.Reading.{reading_of}
+use Rattle.vcd_model.specs.HeaderReading.{read_header}
 use Rattle.vcd_laws.proofs.OpenedBodies.{opens_good}
-use Rattle.vcd_model.proofs.HeadPhrases.{IsDeclared, AreDeclared}
-use Rattle.vcd_model.proofs.HeadLines.{head_of, reads_head, header_back}
 use Rattle.vcd_laws.proofs.HeadersGood.{IsGoodHeader, headers_good}
-use Rattle.vcd_model.proofs.WrittenRows.{Open, HasOpen, has_none, written, text_of_rows}
 use Rattle.vcd_laws.proofs.WrittenDeclared.{IsRenaming, IsInside, IsReady, AreReady, image, IsWritten, is_written}
-use Rattle.vcd_model.proofs.MarkedPlaces.{opens_more, own_mark, around_marks}
 use Rattle.vcd_laws.proofs.WrittenCodes.{In, from_contained, to_contained, in_map, from_map, any_of, from_any, from_codes_of, to_codes_of, found_in}
 
 -- ---- what may be written

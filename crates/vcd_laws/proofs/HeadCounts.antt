@@ -1,14 +1,6 @@
 -- How many scopes, variables and codes there are in a head that is written.
-use Rattle.std.proofs.Common.{◌≡◌, ℕ, ◌+◌, ◌≤◌, Bool, true, false, cond, ◌&&◌, ◌||◌, List, [], ◌∷◌, ◌++◌, length, filter, filter_map, count_by, bytes_eq, Option, Some, None, inl, inr, refl, sym, ap, ◌∙◌, subst, arith}
-use Rattle.std.specs.List.{list_any, cons_option}
-use Rattle.std.proofs.lemmas.List.{length-append}
-use Rattle.std.proofs.lemmas.List.Sums.{sum_by-cons, sum_by-append}
-use Rattle.std.proofs.lemmas.List.Folds.{list_any-append}
-use Rattle.std.proofs.lemmas.Slice.Eq.{bytes_eq-Decides}
-use Rattle.vcd_model.specs.Backward.{each_after}
-use Rattle.vcd_model.specs.Declarations.{Declaration, Variable, IdCode, is_scope, variables_of, code_of, codes_of, enclosing}
-use Rattle.vcd_model.specs.HeadText.{first_place}
-use Rattle.vcd_model.proofs.WrittenRows.{written, rows_from, row_of, ups_at}
+use Rattle.vcd_laws.proofs.Cited.{◌≡◌, ℕ, ◌+◌, ◌≤◌, Bool, true, false, cond, ◌&&◌, ◌||◌, List, [], ◌∷◌, ◌++◌, length, filter, filter_map, count_by, bytes_eq, Option, Some, None, inl, inr, refl, sym, ap, ◌∙◌, subst, arith, list_any, cons_option, length-append, sum_by-cons, sum_by-append, list_any-append, bytes_eq-Decides, each_after, Declaration, Variable, IdCode, is_scope, variables_of, code_of, enclosing, first_place, written, rows_from, row_of, ups_at}
+use Rattle.vcd_model.specs.Declarations.{codes_of}
 use Rattle.vcd_laws.proofs.WrittenCodes.{In, from_filter}
 
 -- ---- scopes

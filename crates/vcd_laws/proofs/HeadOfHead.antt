@@ -1,16 +1,6 @@
 -- The rows of a head that was written for some names, written for other names: those of the first
 -- header for what both select.
-use Rattle.std.proofs.Common.{◌≡◌, ℕ, suc, zero, Bool, true, false, cond, ◌&&◌, ◌||◌, List, [], ◌∷◌, ◌++◌, length, map, filter, reverse, ◌⊎◌, inl, inr, refl, sym, ap, ◌∙◌, subst, arith}
-use Rattle.std.specs.Prelude.{⊤}
-use Rattle.std.specs.List.{AllByRecursion, list_any, join_with_byte}
-use Rattle.std.proofs.lemmas.List.{append_assoc, append-nil}
-use Rattle.vcd_model.specs.Bytes.{is_empty}
-use Rattle.vcd_model.specs.Declarations.{Declaration, Variable, enclosing, path_of, name_of}
-use Rattle.vcd_model.specs.HeadText.{first_place}
-use Rattle.vcd_model.specs.Selection.{is_selected, selects_path, marked_places, is_among}
-use Rattle.vcd_model.proofs.HeadPhrases.{AreDeclared}
-use Rattle.vcd_model.proofs.WrittenRows.{Open, HasOpen, has_none, has_scope, has_up, has_var, open_count, path_is, ups_at, row_of, rows_from, written}
-use Rattle.vcd_model.proofs.MarkedPlaces.{own_mark, around_marks}
+use Rattle.vcd_laws.proofs.Cited.{◌≡◌, ℕ, suc, zero, Bool, true, false, cond, ◌&&◌, ◌||◌, List, [], ◌∷◌, ◌++◌, length, map, filter, reverse, ◌⊎◌, inl, inr, refl, sym, ap, ◌∙◌, subst, arith, ⊤, AllByRecursion, list_any, join_with_byte, append_assoc, append-nil, is_empty, Declaration, Variable, enclosing, path_of, name_of, first_place, is_selected, selects_path, marked_places, is_among, AreDeclared, Open, HasOpen, has_none, has_scope, has_up, has_var, open_count, path_is, ups_at, row_of, rows_from, written, own_mark, around_marks}
 use Rattle.vcd_laws.proofs.HeadBack.{marks, own_code, rows_written, rows_declared}
 use Rattle.vcd_laws.proofs.HeadTwice.{uses_selected, scope_mark}
 use Rattle.vcd_laws.proofs.PickTwice.{no_open}

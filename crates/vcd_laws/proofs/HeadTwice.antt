@@ -1,18 +1,7 @@
 -- A head that was written for some names is written again for them as it is.
-use Rattle.std.proofs.Common.{◌≡◌, ℕ, zero, suc, ◌<◌, ◌==◌, Bool, true, false, cond, ◌||◌, List, [], ◌∷◌, ◌++◌, length, map, filter, refl, sym, ap, ◌∙◌, subst, arith}
-use Rattle.std.specs.Prelude.{⊤}
-use Rattle.std.specs.List.{AllByRecursion, list_any}
-use Rattle.std.proofs.lemmas.List.{append_assoc, append-nil, length_push}
-use Rattle.std.proofs.lemmas.List.Folds.{list_any-append}
-use Rattle.std.proofs.lemmas.Bool.{eq-eqb, ne_eqb}
-use Rattle.vcd_model.specs.Declarations.{Declaration, Variable, enclosing}
-use Rattle.vcd_model.specs.HeadText.{first_place}
-use Rattle.vcd_model.specs.Selection.{is_selected, marked_places, is_among}
-use Rattle.vcd_model.proofs.ScopeLemmas.{enclosing_below}
-use Rattle.vcd_model.proofs.HeadPhrases.{AreDeclared}
-use Rattle.vcd_model.proofs.WrittenRows.{Open, HasOpen, has_none, has_scope, has_up, has_var, open_count, with_code, ups_at, row_of, rows_from, written}
+use Rattle.vcd_laws.proofs.Cited.{◌≡◌, ℕ, zero, suc, ◌<◌, ◌==◌, Bool, true, false, cond, ◌||◌, List, [], ◌∷◌, ◌++◌, length, map, filter, refl, sym, ap, ◌∙◌, subst, arith, ⊤, AllByRecursion, list_any, append_assoc, append-nil, length_push, list_any-append, eq-eqb, ne_eqb, Declaration, Variable, enclosing, first_place, is_selected, is_among, enclosing_below, AreDeclared, Open, HasOpen, has_none, has_scope, has_up, has_var, open_count, with_code, ups_at, row_of, rows_from, written, places_at, places_after, places_split, places_below, below_other, none_any, own_mark}
+use Rattle.vcd_model.specs.Selection.{marked_places}
 use Rattle.vcd_laws.proofs.HeadBack.{marks, own_code}
-use Rattle.vcd_model.proofs.MarkedPlaces.{places_at, places_after, places_split, places_below, below_other, none_any, own_mark}
 
 -- ---- what is inside a scope
 

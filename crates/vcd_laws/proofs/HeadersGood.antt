@@ -1,28 +1,9 @@
 -- What a header without a fault has: a head can be written from it.
-use Rattle.std.proofs.Common.{◌≡◌, ℕ, ℤ, ◌<◌, ◌&&◌, true, false, not, nat_lt, List, [], ◌∷◌, ◌++◌, length, filter_map, Option, Some, None, Ok, unwrap_or, refl, sym, ap, ◌∙◌, subst, arith}
-use Rattle.std.specs.List.{AllByRecursion, list_all, join_with_byte, last_or}
-use Rattle.std.proofs.lemmas.List.{append_assoc, append-nil, map-append}
-use Rattle.std.proofs.lemmas.List.Elements.{filter_map-append}
-use Rattle.std.proofs.lemmas.Bool.{and_parts, not-true, ltb-true}
-use Rattle.vcd_model.specs.Bytes.{is_code_byte, is_decimal, decimal_value}
-use Rattle.vcd_model.specs.Keywords.{Keyword, keyword_text, is_end}
-use Rattle.vcd_model.specs.Input.{Input}
-use Rattle.vcd_model.specs.Tokens.{Token, Stream, stream_of}
-use Rattle.vcd_model.specs.Declarations.{Declaration, open_scopes, codes_of}
-use Rattle.vcd_model.specs.Header.{Header, header_of}
-use Rattle.vcd_model.specs.HeaderPhrases.{HeaderPhrase, HasNoEnd, IsScale, IsDeclaration, declaration_of, declarations_of, date_of, version_of, timescale_of}
-use Rattle.vcd_model.specs.HeaderPhrases.HeaderPhrase.{Comment, Date, Version, Timescale, Declares, Unknown, EndDefinitions}
-use Rattle.vcd_model.specs.HeaderChecks.{header_fault, is_size, agrees}
-use Rattle.vcd_model.specs.HeaderReading.{header_grammar, read_header}
-use Rattle.vcd_model.specs.Reading.{Reading, reading_of, Placed, phrases_of, texts_of, PassChecks, IsGood, AreGood, IsReading}
-use Rattle.vcd_model.specs.Outcome.{Opened, open_from}
-use Rattle.vcd_model.proofs.Readings.{reading_is_one}
-use Rattle.vcd_model.proofs.HeaderGrammar.{header_computes, keyword_of-text, end_text}
-use Rattle.vcd_model.proofs.TokenTexts.{IsWord}
-use Rattle.vcd_model.proofs.BodyFacts.{passes, all_front, all_back}
-use Rattle.vcd_model.proofs.HeaderFacts.{stream_words, inputs_all}
-use Rattle.vcd_model.proofs.HeadPhrases.{IsGoodScale, scale_good, IsDeclared, AreDeclared}
-use Rattle.vcd_model.proofs.HeadLines.{AreGoodScales, AreParts}
+use Rattle.vcd_laws.proofs.Cited.{◌≡◌, ℕ, ℤ, ◌<◌, ◌&&◌, true, false, not, nat_lt, List, [], ◌∷◌, ◌++◌, length, filter_map, Option, Some, None, Ok, unwrap_or, refl, sym, ap, ◌∙◌, subst, arith, AllByRecursion, list_all, join_with_byte, last_or, append_assoc, append-nil, map-append, filter_map-append, and_parts, not-true, ltb-true, is_code_byte, is_decimal, decimal_value, Keyword, keyword_text, is_end, Input, Token, Stream, stream_of, Declaration, open_scopes, codes_of, Header, HeaderPhrase, HasNoEnd, IsScale, IsDeclaration, declaration_of, declarations_of, date_of, version_of, timescale_of, Date, Version, Timescale, Declares, Unknown, EndDefinitions, is_size, agrees, header_grammar, Reading, reading_of, Placed, phrases_of, texts_of, PassChecks, IsGood, AreGood, IsReading, Opened, open_from, reading_is_one, header_computes, keyword_of-text, end_text, IsWord, passes, all_front, all_back, stream_words, inputs_all, IsGoodScale, scale_good, IsDeclared, AreDeclared, AreGoodScales, AreParts}
+use Rattle.vcd_model.specs.Header.{header_of}
+use Rattle.vcd_model.specs.HeaderPhrases.HeaderPhrase.{Comment}
+use Rattle.vcd_model.specs.HeaderChecks.{header_fault}
+use Rattle.vcd_model.specs.HeaderReading.{read_header}
 
 -- ---- declarations
 

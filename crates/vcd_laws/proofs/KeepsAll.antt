@@ -1,24 +1,5 @@
 -- What `pick` and `cut` wrote has all declarations and changes that are kept, in order.
-use Rattle.std.proofs.Common.{◌≡◌, ℕ, ◌≤◌, Bool, true, false, cond, not, ◌==◌, List, [], ◌∷◌, ◌++◌, length, map, filter, filter_map, flat_map, Option, Some, None, option_map, refl, sym, ap, ◌∙◌, subst, arith}
-use Rattle.std.specs.List.{AllByRecursion, list_any, cons_option}
-use Rattle.std.proofs.lemmas.List.{append_assoc, append-nil}
-use Rattle.vcd_model.specs.Backward.{each_after}
-use Rattle.vcd_model.specs.Declarations.{Declaration, IdCode, enclosing}
-use Rattle.vcd_model.specs.Items.{BodyItem, Change, Entry, entries}
-use Rattle.vcd_model.specs.ItemText.{last_mark}
-use Rattle.vcd_model.specs.Values.{Value, value_of}
-use Rattle.vcd_model.specs.History.{value_before}
-use Rattle.vcd_model.specs.Selection.{selected, selects_code}
-use Rattle.vcd_model.specs.Cut.{within}
-use Rattle.vcd_model.specs.Outcome.{items_in}
-use Rattle.vcd_laws.specs.Whole.{row_kept, ups_kept, declarations_kept, Given, given, given_by, given_before, PickKeepsAll, CutKeepsAll}
-use Rattle.vcd_model.proofs.ItemStates.{next_open, entries_from, at_start, entries_are}
-use Rattle.vcd_model.proofs.ChangeLines.{read_again, read_again_is, value_change, value_change_gives}
-use Rattle.vcd_model.proofs.Rewritten.{read_item, time_items, written_items, IsWritable, AreWritable, last_time, last_open, Stand, stand_more, at_most}
-use Rattle.vcd_model.proofs.Assembled.{parts_items, parts_fit, closing_items}
-use Rattle.vcd_model.proofs.StartSections.{IsSettable, item_if_set, set_items, start_behind}
-use Rattle.vcd_model.proofs.CutKept.{cuts, settable}
-use Rattle.vcd_model.proofs.WrittenRows.{rows_from, written}
+use Rattle.vcd_laws.proofs.Cited.{◌≡◌, ℕ, ◌≤◌, Bool, true, false, cond, not, ◌==◌, List, [], ◌∷◌, ◌++◌, length, map, filter, filter_map, flat_map, Option, Some, None, option_map, refl, sym, ap, ◌∙◌, subst, arith, AllByRecursion, list_any, cons_option, append_assoc, append-nil, each_after, Declaration, IdCode, enclosing, BodyItem, Change, Entry, entries, last_mark, Value, value_of, value_before, selected, selects_code, within, items_in, row_kept, ups_kept, declarations_kept, Given, given, given_by, given_before, PickKeepsAll, CutKeepsAll, next_open, entries_from, at_start, entries_are, read_again, read_again_is, value_change, value_change_gives, read_item, time_items, written_items, IsWritable, AreWritable, last_time, last_open, Stand, stand_more, at_most, parts_items, parts_fit, closing_items, IsSettable, item_if_set, set_items, start_behind, cuts, settable, rows_from, written}
 use Rattle.vcd_laws.proofs.OpenedBodies.{opens_good, opened_fit, opened_shut}
 use Rattle.vcd_laws.proofs.HeadBack.{marks as marks_of, own_code}
 use Rattle.vcd_laws.proofs.PickLaw.{picks, pick_parts}

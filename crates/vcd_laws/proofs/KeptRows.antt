@@ -1,19 +1,6 @@
 -- What was written, read again: it has no fault, and gives the same values at the times that are
 -- listed.
-use Rattle.std.proofs.Common.{◌≡◌, ℕ, List, [], ◌∷◌, ◌++◌, map, filter, drop, length, not, Option, Some, None, Ok, Err, codes, refl}
-use Prim.Native.String.{String}
-use Rattle.vcd_model.specs.Declarations.{IdCode}
-use Rattle.vcd_model.specs.Items.{BodyItem}
-use Rattle.vcd_model.specs.Values.{Value}
-use Rattle.vcd_model.specs.History.{value_at}
-use Rattle.vcd_model.specs.HeadText.{head_for, merged_head}
-use Rattle.vcd_model.specs.Selection.{selected, selects_code}
-use Rattle.vcd_model.specs.Reading.{Fault}
-use Rattle.vcd_model.specs.BodyReading.{body_items, body_fault_of}
-use Rattle.vcd_model.specs.Laws.{read_text, stream_over, merged_codes}
-use Rattle.vcd_laws.specs.KeptValues.{cut_text}
-use Rattle.vcd_model.specs.Outcome.{Request, Opened, open_from, items_in, open_text, close_text, dumps_of}
-use Rattle.vcd_model.specs.Merge.{headers_of, merged_items, merge_open, merge_close}
+use Rattle.vcd_laws.proofs.Cited.{◌≡◌, ℕ, List, [], ◌∷◌, ◌++◌, map, filter, drop, length, not, Option, Some, None, Ok, Err, codes, refl, String, IdCode, BodyItem, Value, value_at, head_for, merged_head, selected, selects_code, Fault, body_items, body_fault_of, read_text, stream_over, merged_codes, cut_text, Request, Opened, open_from, items_in, open_text, close_text, dumps_of, headers_of, merged_items, merge_open, merge_close}
 use Rattle.vcd_laws.proofs.Computing.{model}
 use Rattle.vcd_laws.proofs.RowText.{clean}
 

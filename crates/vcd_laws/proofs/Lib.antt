@@ -83,3 +83,5 @@ pub mod CutTwice
 pub mod EdgesOfCut
 pub mod SampleOfCut
 pub mod KeepsAll
+pub mod Cited
+pub mod Facts

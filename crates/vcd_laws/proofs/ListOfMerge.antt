@@ -1,16 +1,8 @@
 -- `list` of what `merge` wrote has the rows of its inputs.
-use Rattle.std.proofs.Common.{◌≡◌, List, [], ◌∷◌, ◌++◌, map, flat_map, refl, ap, ◌∙◌}
-use Rattle.std.proofs.lemmas.List.Concat.{flat_map-append}
-use Rattle.vcd_model.specs.Backward.{each_after}
-use Rattle.vcd_model.specs.Header.{Header}
-use Rattle.vcd_model.specs.Selection.{Selected, selected}
-use Rattle.vcd_model.specs.CheckAndList.{list_line, list_text}
-use Rattle.vcd_model.specs.Merge.{headers_of}
-use Rattle.vcd_model.specs.Outcome.{clean_outcome, dumps_of, over_dump}
-use Rattle.vcd_model.specs.Job.{Want, request_of, outcome}
-use Rattle.vcd_laws.specs.Heads.{merged_variable}
-use Rattle.vcd_laws.specs.Dumps.{input_of}
-use Rattle.vcd_laws.specs.OverMerge.{merged_listing, ListOfMerge}
+use Rattle.vcd_laws.proofs.Cited.{◌≡◌, List, [], ◌∷◌, ◌++◌, map, flat_map, refl, ap, ◌∙◌, flat_map-append, each_after, Header, Selected, selected, list_line, headers_of, clean_outcome, dumps_of, Want, outcome, merged_variable, input_of, merged_listing, ListOfMerge}
+use Rattle.vcd_model.specs.CheckAndList.{list_text}
+use Rattle.vcd_model.specs.Outcome.{over_dump}
+use Rattle.vcd_model.specs.Job.{request_of}
 use Rattle.vcd_laws.proofs.MergedHead.{merged_selected}
 use Rattle.vcd_laws.proofs.RunLaws.{opened_run}
 use Rattle.vcd_laws.proofs.DumpLaws.{merge_is_a_dump}

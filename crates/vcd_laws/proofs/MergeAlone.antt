@@ -1,19 +1,9 @@
 -- A merge of one input: its dump is the input's own.
-use Rattle.std.proofs.Common.{◌≡◌, ℕ, ◌*◌, ◌^◌, ◌<◌, ℤ, nat_abs, ◌-ℤ◌, Bool, true, false, List, [], ◌∷◌, Option, Some, None, refl, sym, ap, ◌∙◌, subst, arith}
-use Rattle.std.specs.List.{AllByRecursion}
-use Rattle.std.proofs.lemmas.Bool.{lt-leb}
-use Rattle.std.proofs.lemmas.Int.{ints}
-use Rattle.vcd_model.specs.Declarations.{IdCode}
-use Rattle.vcd_model.specs.Header.{Header}
-use Rattle.vcd_model.specs.HeadText.{exponent, least_exponent}
-use Rattle.vcd_model.specs.Items.{BodyItem}
-use Rattle.vcd_model.specs.Reading.{Fault}
-use Rattle.vcd_model.specs.Merge.{Dump, dump_of, factor, is_too_large, first_fault}
-use Rattle.vcd_model.specs.Outcome.{Outcome, Opened, clean_outcome, fault_outcome, body_of, items_in, fault_in, dumps_of, merge_outcome}
-use Rattle.vcd_model.proofs.DumpItems.{dump_whole}
-use Rattle.vcd_model.proofs.ItemStates.{AreFit}
+use Rattle.vcd_laws.proofs.Cited.{◌≡◌, ℕ, ◌*◌, ◌^◌, ◌<◌, ℤ, nat_abs, ◌-ℤ◌, Bool, true, false, List, [], ◌∷◌, Option, Some, None, refl, sym, ap, ◌∙◌, subst, arith, AllByRecursion, lt-leb, ints, IdCode, Header, exponent, BodyItem, Fault, Dump, dump_of, is_too_large, Outcome, Opened, clean_outcome, fault_outcome, body_of, items_in, fault_in, dump_whole, AreFit, IsGoodInput}
+use Rattle.vcd_model.specs.HeadText.{least_exponent}
+use Rattle.vcd_model.specs.Merge.{factor, first_fault}
+use Rattle.vcd_model.specs.Outcome.{dumps_of, merge_outcome}
 use Rattle.vcd_laws.proofs.OpenedBodies.{opened_fit}
-use Rattle.vcd_model.proofs.HeaderFacts.{IsGoodInput}
 
 -- its times are not scaled
 factor_one : (h : Header) → factor (h ∷ []) h ≡ 1

@@ -1,25 +1,6 @@
 -- How many scopes, variables, codes and changes there are in what a merge writes.
-use Rattle.std.proofs.Common.{◌≡◌, ℕ, ◌+◌, Bool, true, false, cond, ◌&&◌, List, [], ◌∷◌, ◌++◌, length, map, filter, flat_map, count_by, sum_by, codes, Some, inl, inr, refl, sym, ap, ◌∙◌, subst, arith}
-use Rattle.std.specs.List.{AllByRecursion}
-use Rattle.std.proofs.lemmas.List.{length-append, length-map}
-use Rattle.std.proofs.lemmas.List.Sums.{sum_by-cons, sum_by-append, length-filter}
-use Rattle.std.proofs.lemmas.Slice.Eq.{bytes_eq-Decides}
-use Rattle.vcd_model.specs.Backward.{each_after}
-use Rattle.vcd_model.specs.Declarations.{Declaration, IdCode, is_scope, variables_of}
-use Rattle.vcd_model.specs.Header.{Header}
-use Rattle.vcd_model.specs.Items.{BodyItem, Entry, entry_after, leaves_open, entries}
-use Rattle.vcd_model.specs.ItemText.{may_keep}
-use Rattle.vcd_model.specs.BodyPhrases.{declared_code}
-use Rattle.vcd_model.specs.HeadText.{renamed, code_place, first_number}
-use Rattle.vcd_model.specs.Selection.{Selected, selected}
-use Rattle.vcd_model.specs.Merge.{Dump, Keyed, key_lt, keyed_after, keyed_items, factor, scaled_item, insert_by_key, by_key, is_change}
-use Rattle.vcd_model.specs.Laws.{renamed_code}
-use Rattle.vcd_laws.specs.Counted.{scopes_around, merged_changes}
-use Rattle.vcd_model.proofs.HeaderFacts.{AreCodes}
-use Rattle.vcd_model.proofs.CodeLemmas.{codes_differ}
-use Rattle.vcd_model.proofs.MergeCodes.{renamed_same, number_below, first_number_le}
+use Rattle.vcd_laws.proofs.Cited.{◌≡◌, ℕ, ◌+◌, Bool, true, false, cond, ◌&&◌, List, [], ◌∷◌, ◌++◌, length, map, filter, flat_map, count_by, sum_by, codes, Some, inl, inr, refl, sym, ap, ◌∙◌, subst, arith, AllByRecursion, length-append, length-map, sum_by-cons, sum_by-append, length-filter, bytes_eq-Decides, each_after, Declaration, IdCode, is_scope, variables_of, Header, BodyItem, Entry, entry_after, leaves_open, entries, may_keep, declared_code, renamed, code_place, first_number, Selected, selected, Dump, Keyed, key_lt, keyed_after, keyed_items, factor, scaled_item, insert_by_key, by_key, is_change, renamed_code, scopes_around, merged_changes, AreCodes, codes_differ, renamed_same, number_below, first_number_le, written}
 use Rattle.vcd_laws.proofs.MergeLaw.{merges}
-use Rattle.vcd_model.proofs.WrittenRows.{written}
 use Rattle.vcd_laws.proofs.WrittenCodes.{In, from_map, found_in}
 use Rattle.vcd_laws.proofs.HeadBack.{marks, variables_are}
 use Rattle.vcd_laws.proofs.MergedHead.{scope_name, input_rows, all_rows, merged_selected}

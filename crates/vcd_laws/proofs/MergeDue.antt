@@ -1,34 +1,10 @@
 -- What is due once something is known of the inputs of a merge, and the output of that merge.
-use Rattle.std.proofs.Common.{◌≡◌, ◌≢◌, ℕ, ◌+◌, Bool, true, false, cond, ◌||◌, is_some, List, [], ◌∷◌, ◌++◌, map, filter, find, Option, Some, None, option_map, Result, Ok, Err, ◌⊎◌, inl, inr, refl, sym, ap, ◌∙◌, subst, append-nil, append_assoc}
-use Rattle.std.specs.List.{AllByRecursion, cons_option}
-use Rattle.std.proofs.lemmas.Bool.{and_parts}
-use Rattle.std.proofs.lemmas.List.Elements.{filter-append}
-use Rattle.vcd_model.specs.Backward.{each_after}
-use Rattle.vcd_model.specs.Header.{Header, header_of}
-use Rattle.vcd_model.specs.HeaderReading.{header_grammar}
-use Rattle.vcd_model.specs.HeadText.{renamed}
-use Rattle.vcd_model.specs.Input.{Input}
-use Rattle.vcd_model.specs.Items.{BodyItem}
-use Rattle.vcd_model.specs.BodyPhrases.{BodyPhrase}
-use Rattle.vcd_model.specs.BodyReading.{read_body, body_fault_of}
-use Rattle.vcd_model.specs.Tokens.{Token, Stream, stream_of}
-use Rattle.vcd_model.specs.Reading.{Fault, Placed, phrases_of, Ending, reading_of}
-use Rattle.vcd_model.specs.Reading.Ending.{AtFault, AtEnd, AtLast}
-use Rattle.vcd_model.specs.Job.{Want, outcome, request_of}
-use Rattle.vcd_model.specs.Merge.{Dump, Key, Keyed, KeyedFault, dump_of, placed_is_too_large, key_lt, key_after, keyed_after, by_key, factor, first_fault, headers_of, merged_items, items_before, merge_open, merge_close}
-use Rattle.vcd_model.specs.MergeByInput.{keyed_own, keyed_rest}
-use Rattle.vcd_model.specs.Outcome.{Outcome, Opened, name_at, merge_outcome, allowed_after, with_opened, open_from, body_of, dumps_of}
-use Rattle.vcd_model.specs.SettledMerge.SeenHeaders.{Faulty, NotWhole, Whole}
-use Rattle.vcd_model.specs.SettledMerge.{Seen, SeenBody, SeenHeaders, seen_before, tokens_seen, whole_of, header_ends, seen_at, headers_seen, fault_seen, dump_seen, is_at_its_end, is_past, are_past, bodies_settle, settles_merge, is_settled_merge}
-use Rattle.vcd_model.specs.Laws.{IsPrefixOf}
-use Rattle.vcd_laws.specs.Final.{IsSeen, AreSeen}
-use Rattle.vcd_laws.specs.Due.{dump_cut_off, due_by_headers, due_of_merge, GivesNoMore, GiveNoMore, CanBeKnown, IsMore, AreMore, MergeDueGrows, MergeDueIsNeverRevised, MergeDueIsLeftAtHalts, MergeDueIsAllThatIsKnown, SettledMergeDueIsAll}
-use Rattle.vcd_model.proofs.DumpItems.{mark_or}
-use Rattle.vcd_model.proofs.Growing.{each_after-append, merge_grows}
-use Rattle.vcd_model.proofs.MergeOrder.{IsSorted, sorted_by_key, filter-by_key, key_trans}
-use Rattle.vcd_model.proofs.MergedLists.{merged_by}
-use Rattle.vcd_model.proofs.MergedPrefix.{GrownOne, AreGrown, late_none, sorted_begins, faults_rest}
-use Rattle.vcd_model.proofs.MergeSoFar.{still_late, first_all, with_fault, without_fault}
+use Rattle.vcd_laws.proofs.Cited.{◌≡◌, ◌≢◌, ℕ, ◌+◌, Bool, true, false, cond, ◌||◌, is_some, List, [], ◌∷◌, ◌++◌, map, filter, find, Option, Some, None, option_map, Result, Ok, Err, ◌⊎◌, inl, inr, refl, sym, ap, ◌∙◌, subst, AllByRecursion, cons_option, and_parts, filter-append, each_after, Header, header_of, header_grammar, renamed, Input, BodyItem, BodyPhrase, read_body, body_fault_of, Token, Stream, stream_of, Fault, Placed, phrases_of, Ending, reading_of, AtFault, AtEnd, AtLast, Want, outcome, Dump, Key, Keyed, KeyedFault, dump_of, placed_is_too_large, key_lt, key_after, keyed_after, by_key, factor, first_fault, headers_of, merged_items, items_before, merge_open, merge_close, keyed_own, keyed_rest, Outcome, Opened, name_at, merge_outcome, allowed_after, with_opened, dumps_of, Faulty, NotWhole, Whole, Seen, SeenBody, SeenHeaders, seen_before, tokens_seen, whole_of, header_ends, seen_at, headers_seen, fault_seen, dump_seen, is_at_its_end, is_past, are_past, bodies_settle, settles_merge, IsPrefixOf, IsSeen, AreSeen, dump_cut_off, due_by_headers, GivesNoMore, GiveNoMore, CanBeKnown, IsMore, AreMore, MergeDueGrows, MergeDueIsNeverRevised, MergeDueIsLeftAtHalts, MergeDueIsAllThatIsKnown, SettledMergeDueIsAll, mark_or, each_after-append, merge_grows, IsSorted, sorted_by_key, filter-by_key, key_trans, merged_by, GrownOne, AreGrown, late_none, sorted_begins, faults_rest, still_late, first_all, with_fault, without_fault}
+use Rattle.std.proofs.Common.{append-nil, append_assoc}
+use Rattle.vcd_model.specs.Job.{request_of}
+use Rattle.vcd_model.specs.Outcome.{open_from, body_of}
+use Rattle.vcd_model.specs.SettledMerge.{is_settled_merge}
+use Rattle.vcd_laws.specs.Due.{due_of_merge}
 use Rattle.vcd_laws.proofs.Settling.{opened_at, run_over, run_is, dump_in, dumps_in}
 use Rattle.vcd_laws.proofs.SettlingMerge.{GoesOn, GoOn, outcome_stays, dump_with, dump_is, IsSoFar, IsRest, DumpOf, dump_seen_of, AllSoFar, ended_same, seen_headers, opened_headers, merge_known, opens_faulty, opens_missing, opens_whole, BothOpen, both_open}
 use Rattle.vcd_laws.proofs.Unsettled.{two_ends}

@@ -1,27 +1,8 @@
 -- The dumps of a merge are good, and the changes that it keeps.
-use Rattle.std.proofs.Common.{◌≡◌, ℕ, Bool, true, false, List, [], ◌∷◌, ◌++◌, map, take, drop, filter, Some, Contains, refl, sym, ap, ◌∙◌, subst, one-add}
-use Rattle.std.specs.List.{AllByRecursion, before_first, position_or_len}
-use Rattle.std.proofs.lemmas.List.{map-append, take-append-drop}
-use Rattle.std.proofs.lemmas.List.Elements.{filter_map-append}
-use Rattle.vcd_model.specs.Declarations.{IdCode}
-use Rattle.vcd_model.specs.Header.{Header}
-use Rattle.vcd_model.specs.Items.{entries}
-use Rattle.vcd_model.specs.BodyPhrases.{BodyPhrase, item_of, items_of, declared_code}
-use Rattle.vcd_model.specs.BodyPhrases.BodyPhrase.{Comment, Gives}
-use Rattle.vcd_model.specs.Reading.{Placed, phrases_of}
-use Rattle.vcd_model.specs.History.{gives_to}
-use Rattle.vcd_model.specs.HeadText.{renamed}
-use Rattle.vcd_model.specs.Merge.{Dump, key_lt, factor, headers_of, is_too_large, placed_is_too_large, dump_of, by_key, merged_items, merge_kept, items_before}
-use Rattle.vcd_model.specs.Outcome.{Opened, body_of, fault_in, dumps_of}
-use Rattle.vcd_model.specs.Laws.{renamed_code, merged_entry, changes_kept}
-use Rattle.vcd_laws.specs.KeptValues.{MergeKeepsChanges, MergeKeepsChangesBefore}
-use Rattle.vcd_model.proofs.ItemStates.{AreFit}
-use Rattle.vcd_model.proofs.Assembled.{fit_front}
-use Rattle.vcd_model.proofs.BodyFacts.{all_back}
-use Rattle.vcd_model.proofs.HeaderFacts.{IsGoodInput, inputs_good}
+use Rattle.vcd_laws.proofs.Cited.{◌≡◌, ℕ, Bool, true, false, List, [], ◌∷◌, ◌++◌, map, take, drop, filter, Some, Contains, refl, sym, ap, ◌∙◌, subst, one-add, AllByRecursion, before_first, position_or_len, map-append, take-append-drop, filter_map-append, IdCode, Header, entries, BodyPhrase, item_of, items_of, declared_code, Comment, Gives, Placed, phrases_of, gives_to, renamed, Dump, key_lt, factor, headers_of, is_too_large, placed_is_too_large, by_key, merge_kept, items_before, Opened, body_of, fault_in, renamed_code, merged_entry, changes_kept, MergeKeepsChanges, MergeKeepsChangesBefore, AreFit, fit_front, all_back, IsGoodInput, inputs_good, at_contained, IsGoodDump, all_keyed, changes_where, changes_all}
+use Rattle.vcd_model.specs.Merge.{dump_of, merged_items}
+use Rattle.vcd_model.specs.Outcome.{dumps_of}
 use Rattle.vcd_laws.proofs.OpenedBodies.{opened_fit}
-use Rattle.vcd_model.proofs.FoundCodes.{at_contained}
-use Rattle.vcd_model.proofs.MergeChanges.{IsGoodDump, all_keyed, changes_where, changes_all}
 
 small_placed : (scale : ℕ) (ps : List (Placed BodyPhrase)) → AllByRecursion (λ p. placed_is_too_large scale p ≡ false) (before_first (placed_is_too_large scale) ps)
 small_placed scale [] = tt

@@ -1,23 +1,9 @@
 -- What a merge names: the fault of one input, or a timestamp that is too large.
-use Rattle.std.proofs.Common.{◌≡◌, ℕ, ◌+◌, ◌<◌, List, [], ◌∷◌, ◌++◌, length, map, find, sum_by, Option, Some, None, Ok, Err, ◌⊎◌, inl, inr, refl, sym, ap, ◌∙◌, subst, arith}
-use Rattle.std.specs.List.{AllByRecursion}
-use Rattle.std.proofs.lemmas.List.{length_push}
-use Rattle.std.proofs.lemmas.List.Sums.{sum_by-append, sum_by-cons}
-use Rattle.vcd_model.specs.Input.{Input}
-use Rattle.vcd_model.specs.Tokens.{stream_of}
-use Rattle.vcd_model.specs.Header.{Header, header_of}
-use Rattle.vcd_model.specs.HeaderPhrases.{declarations_of}
-use Rattle.vcd_model.specs.HeaderReading.{read_header, header_fault_of}
-use Rattle.vcd_model.specs.BodyPhrases.{BodyPhrase}
-use Rattle.vcd_model.specs.Reading.{Fault, Placed, phrases_of, Reading}
-use Rattle.vcd_model.specs.Merge.{KeyedFault, dump_of, factor, placed_is_too_large, scaled_fault, first_fault}
-use Rattle.vcd_model.specs.Outcome.{Outcome, Opened, fault_outcome, declarations_allowed, allowed_after, with_opened, open_from, body_of, fault_in, name_at, dumps_of, merge_outcome}
-use Rattle.vcd_model.specs.Job.{Want, outcome, request_of}
-use Rattle.vcd_laws.specs.KeptValues.{OpenAll}
-use Rattle.vcd_laws.specs.Checked.{run_of, EndsWell, NamesFault, header_in, NamesTooLarge, NamesFaultOfOne, MergeNamesTheFault}
-use Rattle.vcd_model.proofs.BodyFacts.{all_back}
-use Rattle.vcd_model.proofs.MergedPrefix.{faults_rest}
-use Rattle.vcd_model.proofs.MergeSoFar.{first_all, with_fault, without_fault}
+use Rattle.vcd_laws.proofs.Cited.{◌≡◌, ℕ, ◌+◌, ◌<◌, List, [], ◌∷◌, ◌++◌, length, map, find, sum_by, Option, Some, None, Ok, Err, ◌⊎◌, inl, inr, refl, sym, ap, ◌∙◌, subst, arith, AllByRecursion, length_push, sum_by-append, sum_by-cons, Input, stream_of, Header, declarations_of, read_header, header_fault_of, BodyPhrase, Fault, Placed, phrases_of, Reading, KeyedFault, factor, placed_is_too_large, scaled_fault, first_fault, Outcome, Opened, fault_outcome, declarations_allowed, allowed_after, with_opened, body_of, fault_in, name_at, dumps_of, merge_outcome, Want, outcome, OpenAll, run_of, EndsWell, NamesFault, header_in, NamesTooLarge, NamesFaultOfOne, MergeNamesTheFault, all_back, faults_rest, first_all, with_fault, without_fault}
+use Rattle.vcd_model.specs.Header.{header_of}
+use Rattle.vcd_model.specs.Merge.{dump_of}
+use Rattle.vcd_model.specs.Outcome.{open_from}
+use Rattle.vcd_model.specs.Job.{request_of}
 use Rattle.vcd_laws.proofs.MergeAlone.{ended}
 use Rattle.vcd_laws.proofs.Safe.{header_run, check_ends, names_fault}
 use Rattle.vcd_laws.proofs.Settling.{opening, opening_with, opens_by, run_over, run_is, dump_in}

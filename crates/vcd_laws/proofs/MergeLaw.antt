@@ -1,37 +1,9 @@
 -- `merge` keeps the values of the codes of its inputs, at scaled times.
-use Rattle.std.proofs.Common.{◌≡◌, ℕ, zero, suc, ◌+◌, ◌-◌, ◌*◌, ◌/◌, ◌^◌, ◌<◌, ◌≤◌, max, Bool, true, false, cond, not, ◌&&◌, nat_le, List, [], ◌∷◌, ◌++◌, length, map, filter, fold, flat_map, Some, Contains, refl, sym, ap, ◌∙◌, subst, arith, mul_comm, mul-zero, mul-le-mul_left, pow-suc, ◌⊎◌, inl, inr}
-use Rattle.std.specs.Prelude.{⊤}
-use Rattle.std.proofs.Math.Nat.{mul-div_cancel_left, mul-div-le, lt-div-mul-add}
-use Rattle.std.specs.List.{AllByRecursion, reduce}
-use Rattle.std.proofs.lemmas.List.{append_assoc}
-use Rattle.std.proofs.lemmas.Bool.{and_parts, leb-false, le-leb, lt-leb, cases_lt}
-use Rattle.vcd_model.specs.Backward.{each_after}
-use Rattle.vcd_model.specs.Declarations.{IdCode}
-use Rattle.vcd_model.specs.Header.{Header}
-use Rattle.vcd_model.specs.Items.{ChangeForm, Change, BodyItem, Entry, marks, time_after}
-use Rattle.vcd_model.specs.Items.ChangeForm.{Scalar, Vector, RealText}
-use Rattle.vcd_model.specs.History.{gives_to, value_in, value_at}
-use Rattle.vcd_model.specs.ItemText.{may_keep, text_after, closing}
-use Rattle.vcd_model.specs.BodyPhrases.{declared_code}
-use Rattle.vcd_model.specs.HeadText.{code_place, first_number, renamed, merged_head}
-use Rattle.vcd_model.specs.Merge.{Dump, key_lt, Keyed, factor, headers_of, is_too_large, scaled_item, is_change, keyed_after, keyed_items, insert_by_key, by_key, merged_items, merge_kept, merge_open, merge_close, greatest_mark}
-use Rattle.vcd_model.specs.Outcome.{dumps_of}
-use Rattle.vcd_model.specs.Laws.{renamed_code, merged_codes, merged_entry, changes_kept}
-use Rattle.vcd_laws.specs.KeptValues.{MergeKeeps, MergeKeepsValues}
-use Rattle.vcd_model.proofs.Times.{greatest_from}
-use Rattle.vcd_model.proofs.ItemStates.{IsGoodText, IsGoodChange, IsFit, AreFit, next_time, next_open, entries_from, StandsAt, at_start, stands_more, entries_are}
-use Rattle.vcd_model.proofs.Lines.{IsRead}
-use Rattle.vcd_model.proofs.Latest.{latest, gives_at, last_value_is, newer_same, latest-filter}
-use Rattle.vcd_model.proofs.Rewritten.{AreWritable, last_open}
-use Rattle.vcd_model.proofs.Assembled.{Parts, parts_items, parts_read, parts_values}
-use Rattle.vcd_model.proofs.BodyFacts.{all_front, all_back}
-use Rattle.vcd_model.proofs.HeaderFacts.{AreCodes, inputs_good, filter_words}
-use Rattle.vcd_model.proofs.FoundCodes.{find_all, gives_kept}
+use Rattle.vcd_laws.proofs.Cited.{◌≡◌, ℕ, zero, suc, ◌+◌, ◌-◌, ◌*◌, ◌/◌, ◌^◌, ◌<◌, ◌≤◌, max, Bool, true, false, cond, not, ◌&&◌, nat_le, List, [], ◌∷◌, ◌++◌, length, map, filter, fold, flat_map, Some, Contains, refl, sym, ap, ◌∙◌, subst, arith, mul_comm, mul-zero, mul-le-mul_left, pow-suc, ◌⊎◌, inl, inr, ⊤, mul-div_cancel_left, mul-div-le, lt-div-mul-add, AllByRecursion, reduce, append_assoc, and_parts, leb-false, le-leb, lt-leb, cases_lt, each_after, IdCode, Header, ChangeForm, Change, BodyItem, Entry, time_after, Scalar, Vector, RealText, gives_to, value_in, value_at, may_keep, text_after, closing, declared_code, code_place, first_number, renamed, merged_head, Dump, key_lt, Keyed, headers_of, is_too_large, scaled_item, is_change, keyed_after, keyed_items, insert_by_key, by_key, merged_items, merge_kept, greatest_mark, dumps_of, renamed_code, merged_codes, merged_entry, changes_kept, MergeKeeps, MergeKeepsValues, greatest_from, IsGoodText, IsGoodChange, IsFit, AreFit, next_time, next_open, entries_from, StandsAt, at_start, stands_more, entries_are, IsRead, latest, gives_at, last_value_is, newer_same, latest-filter, AreWritable, last_open, Parts, parts_items, parts_read, parts_values, all_front, all_back, AreCodes, inputs_good, filter_words, find_all, gives_kept, last_below, IsSorted, sorted_by_key, all_by_key, not_behind, renamed_same, declared_in_merge, new_code_word, IsGoodDump, headers-append, all_keyed}
+use Rattle.vcd_model.specs.Items.{marks}
+use Rattle.vcd_model.specs.Merge.{factor, merge_open, merge_close}
 use Rattle.vcd_laws.proofs.PickLaw.{behind-none}
-use Rattle.vcd_model.proofs.CutKept.{last_below}
-use Rattle.vcd_model.proofs.MergeOrder.{IsSorted, sorted_by_key, all_by_key, all_more, not_behind}
-use Rattle.vcd_model.proofs.MergeCodes.{renamed_same, declared_in_merge, new_code_word}
-use Rattle.vcd_model.proofs.MergeChanges.{IsGoodDump, headers-append, all_keyed}
+use Rattle.vcd_model.proofs.MergeOrder.{all_more}
 use Rattle.vcd_laws.proofs.MergeDumps.{dumps_good, merged_is, declared_of, kept_all}
 
 -- ---- what is known of each merged item

@@ -1,25 +1,9 @@
 -- Rows on what `merge` wrote, read again: that the premises of the laws can be met.
-use Rattle.std.proofs.Common.{◌≡◌, ℕ, ◌+◌, ◌<◌, ◌≤◌, Bool, true, false, cond, List, [], ◌∷◌, length, count_by, map, codes, Result, Ok, Err, refl, ap, ◌∙◌, arith, zero, suc, flat_map, drop}
-use Rattle.std.specs.List.{AllByRecursion}
-use Rattle.std.proofs.lemmas.List.{length-append}
-use Rattle.std.proofs.lemmas.List.Sums.{sum_by-cons}
-use Rattle.std.specs.List.Sorted.{IsStrictlyIncreasing}
+use Rattle.vcd_laws.proofs.Cited.{◌≡◌, ℕ, ◌+◌, ◌<◌, ◌≤◌, Bool, true, false, cond, List, [], ◌∷◌, length, count_by, map, codes, Result, Ok, Err, refl, ap, ◌∙◌, arith, zero, suc, flat_map, drop, AllByRecursion, length-append, sum_by-cons, IsStrictlyIncreasing, selected, each, String, Declaration, is_scope, Header, Fault, factor, headers_of, Outcome, Opened, open_from, dumps_of, clean_outcome, items_in, Want, IsJob, outcome, IsShallow, input_of, AreReadable, over_merged, names_under, merged_lines, line_in}
 use Rattle.vcd_laws.proofs.SampleOfMerge.{sample_of_merge}
-use Rattle.vcd_model.specs.Selection.{selected}
 use Rattle.vcd_laws.proofs.AllMerged.{sample_of_all_merged}
-use Rattle.vcd_model.specs.Backward.{each}
 use Rattle.vcd_laws.proofs.Computing.{model}
 use Rattle.vcd_laws.proofs.RowText.{clean, limit, gives, on, sample, at}
-use Prim.Native.String.{String}
-use Rattle.vcd_model.specs.Declarations.{Declaration, is_scope}
-use Rattle.vcd_model.specs.Header.{Header}
-use Rattle.vcd_model.specs.Reading.{Fault}
-use Rattle.vcd_model.specs.Merge.{factor, headers_of}
-use Rattle.vcd_model.specs.Outcome.{Outcome, Opened, open_from, dumps_of, clean_outcome, items_in}
-use Rattle.vcd_model.specs.Job.{Want, IsJob, outcome}
-use Rattle.vcd_laws.specs.Heads.{IsShallow}
-use Rattle.vcd_laws.specs.Dumps.{input_of, AreReadable, over_merged}
-use Rattle.vcd_laws.specs.OverMerge.{names_under, merged_lines, line_in}
 use Rattle.vcd_laws.proofs.DumpBase.{stdin, aliased, some_names, opened}
 
 -- a dump at a finer scale

@@ -1,40 +1,13 @@
 -- What `merge` writes has tokens no longer than the token limit.
-use Rattle.std.proofs.Common.{◌≡◌, ℕ, zero, suc, ◌+◌, ◌/◌, ◌%◌, ◌<◌, ◌≤◌, ◌^◌, Bool, true, false, cond, nat_lt, List, [], ◌∷◌, ◌++◌, length, map, take, drop, filter_map, flat_map, sum_by, decimal, codes, bytes_eq, Option, Some, None, refl, sym, ap, ◌∙◌, subst, arith}
-use Rattle.std.specs.List.{AllByRecursion, list_any, position_or_len, cons_option}
-use Rattle.std.proofs.lemmas.List.{append_assoc, map-append, length-append, length_push, take-append-drop}
-use Rattle.std.proofs.lemmas.List.Elements.{filter_map-append}
-use Rattle.std.proofs.lemmas.List.Sums.{sum_by-cons, sum_by-append}
-use Rattle.std.proofs.lemmas.Bool.{lt-ltb}
-use Rattle.vcd_model.specs.Backward.{each_after}
-use Rattle.vcd_model.specs.Input.{Input}
-use Rattle.vcd_model.specs.Tokens.{first_halt}
-use Rattle.vcd_model.specs.Declarations.{Declaration, Variable, IdCode, variable_of, variables_of, codes_of, code_of, has_text}
-use Rattle.vcd_model.specs.Header.{Header}
-use Rattle.vcd_model.specs.Items.{BodyItem, Entry}
-use Rattle.vcd_model.specs.ItemText.{text_after, closing}
-use Rattle.vcd_model.specs.BodyPhrases.{BodyPhrase, declared_code, items_of, item_of}
-use Rattle.vcd_model.specs.Reading.{Placed, phrases_of}
-use Rattle.vcd_model.specs.HeadText.{base94, new_code, code_place, first_number, renamed, merged_head}
-use Rattle.vcd_model.specs.Merge.{Dump, Keyed, keyed_after, keyed_items, scaled_item, factor, headers_of, dump_of, placed_is_too_large, by_key, merged_items, merge_kept, greatest_mark, merge_open, merge_close}
-use Rattle.vcd_model.specs.Outcome.{Outcome, Opened, body_of, fault_in, dumps_of, declarations_allowed}
-use Rattle.vcd_model.specs.Job.{Want, over_opened, outcome}
-use Rattle.vcd_model.specs.Laws.{merged_codes}
-use Rattle.vcd_laws.specs.KeptValues.{OpenAll}
-use Rattle.vcd_laws.specs.Heads.{most_declared}
-use Rattle.vcd_laws.specs.Dumps.{input_of, AreReadable}
-use Rattle.vcd_model.proofs.TokenTexts.{texts_from}
-use Rattle.vcd_model.proofs.ReadBack.{item_tokens}
-use Rattle.vcd_model.proofs.Lines.{lines_words}
-use Rattle.vcd_model.proofs.Rewritten.{written_items}
-use Rattle.vcd_model.proofs.Assembled.{parts_items, parts_fit, parts_text, closing_items}
-use Rattle.vcd_model.proofs.BodyFacts.{all_front, all_append}
-use Rattle.vcd_model.proofs.HeaderFacts.{IsGoodInput, inputs_good, filter_words}
-use Rattle.vcd_model.proofs.MergeChanges.{all_keyed}
-use Rattle.vcd_model.proofs.MergeOrder.{all_by_key}
+use Rattle.vcd_laws.proofs.Cited.{◌≡◌, ℕ, zero, suc, ◌+◌, ◌/◌, ◌%◌, ◌<◌, ◌≤◌, ◌^◌, Bool, true, false, cond, nat_lt, List, [], ◌∷◌, ◌++◌, length, map, take, drop, filter_map, flat_map, sum_by, decimal, codes, bytes_eq, Option, Some, None, refl, sym, ap, ◌∙◌, subst, arith, AllByRecursion, list_any, position_or_len, cons_option, append_assoc, map-append, length-append, length_push, take-append-drop, filter_map-append, sum_by-cons, sum_by-append, lt-ltb, each_after, Input, first_halt, Declaration, Variable, IdCode, variable_of, variables_of, code_of, has_text, Header, BodyItem, Entry, text_after, closing, BodyPhrase, declared_code, items_of, item_of, Placed, phrases_of, base94, code_place, first_number, renamed, merged_head, Dump, Keyed, keyed_after, keyed_items, scaled_item, factor, headers_of, placed_is_too_large, by_key, merged_items, merge_kept, greatest_mark, Outcome, Opened, body_of, fault_in, declarations_allowed, Want, over_opened, merged_codes, OpenAll, most_declared, input_of, AreReadable, texts_from, item_tokens, lines_words, written_items, parts_items, parts_fit, parts_text, closing_items, all_front, all_append, IsGoodInput, inputs_good, filter_words, all_keyed, all_by_key, has_none, written}
+use Rattle.vcd_model.specs.Declarations.{codes_of}
+use Rattle.vcd_model.specs.HeadText.{new_code}
+use Rattle.vcd_model.specs.Merge.{dump_of, merge_open, merge_close}
+use Rattle.vcd_model.specs.Outcome.{dumps_of}
+use Rattle.vcd_model.specs.Job.{outcome}
 use Rattle.vcd_laws.proofs.MergeDumps.{headers_are, merged_is, dumps_good}
 use Rattle.vcd_laws.proofs.MergeLaw.{merges, merge_parts}
 use Rattle.vcd_laws.proofs.RunLaws.{merge_case, same_status}
-use Rattle.vcd_model.proofs.WrittenRows.{has_none, written}
 use Rattle.vcd_laws.proofs.WrittenCodes.{from_find}
 use Rattle.vcd_laws.proofs.HeadBack.{marks}
 use Rattle.vcd_laws.proofs.MergedHead.{CanMerge, input_rows, all_rows, all_more}

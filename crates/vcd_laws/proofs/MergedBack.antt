@@ -1,34 +1,11 @@
 -- A merged head is read again as what it was written from.
-use Rattle.std.proofs.Common.{◌≡◌, ℕ, ◌+◌, ◌<◌, ◌≤◌, ◌^◌, true, false, List, [], ◌∷◌, ◌++◌, length, map, flat_map, sum_by, Some, None, ◌⊎◌, inl, inr, refl, sym, ap, ◌∙◌, subst, arith}
-use Rattle.std.specs.List.{AllByRecursion}
-use Rattle.std.proofs.lemmas.List.{append_assoc, append-nil}
-use Rattle.std.proofs.lemmas.List.Sums.{sum_by-cons}
-use Rattle.vcd_model.specs.Bytes.{is_empty}
-use Rattle.vcd_model.specs.Backward.{each_after}
-use Rattle.vcd_model.specs.Keywords.{Keyword}
-use Rattle.vcd_model.specs.Scales.{scale_text}
-use Rattle.vcd_model.specs.Input.{Input}
-use Rattle.vcd_model.specs.Tokens.{Stream, tokens_of}
-use Rattle.vcd_model.specs.Declarations.{IdCode, variables_of, code_of, codes_of}
-use Rattle.vcd_model.specs.Header.{Header, header_of}
-use Rattle.vcd_model.specs.HeadText.{three_lines, end_line, least_exponent, merged_head}
-use Rattle.vcd_model.specs.Selection.{Selected, selected}
-use Rattle.vcd_model.specs.HeaderPhrases.{HeaderPhrase}
-use Rattle.vcd_model.specs.Reading.{Reading, reading_of, phrases_of, texts_of}
-use Rattle.vcd_model.specs.HeaderReading.{read_header, header_fault_of}
-use Rattle.vcd_model.specs.BodyPhrases.{declared_code}
-use Rattle.vcd_model.specs.Merge.{headers_of}
-use Rattle.vcd_model.specs.Outcome.{Opened, dumps_of}
-use Rattle.vcd_model.specs.Laws.{stream_over, renamed_code, merged_codes}
-use Rattle.vcd_laws.specs.KeptValues.{OpenAll}
-use Rattle.vcd_laws.specs.Heads.{most_declared, IsShallow, merged_variable, IsMergedHead, MergedHeadIsReadBack}
-use Rattle.vcd_model.proofs.TokenTexts.{texts_from, texts_of-tokens}
-use Rattle.vcd_model.proofs.HeaderFacts.{AreCodes, IsGoodInput, inputs_good}
-use Rattle.vcd_model.proofs.MergeCodes.{declared_in_merge}
+use Rattle.vcd_laws.proofs.Cited.{◌≡◌, ℕ, ◌+◌, ◌<◌, ◌≤◌, ◌^◌, true, false, List, [], ◌∷◌, ◌++◌, length, map, flat_map, sum_by, Some, None, ◌⊎◌, inl, inr, refl, sym, ap, ◌∙◌, subst, arith, AllByRecursion, append_assoc, append-nil, sum_by-cons, is_empty, each_after, Keyword, scale_text, Input, Stream, tokens_of, IdCode, variables_of, code_of, codes_of, Header, header_of, three_lines, end_line, least_exponent, Selected, HeaderPhrase, Reading, phrases_of, texts_of, header_fault_of, declared_code, headers_of, Opened, dumps_of, stream_over, renamed_code, merged_codes, OpenAll, most_declared, IsShallow, merged_variable, IsMergedHead, MergedHeadIsReadBack, texts_from, texts_of-tokens, AreCodes, IsGoodInput, inputs_good, declared_in_merge, AreParts, head_of, reads_head, header_back, has_none}
+use Rattle.vcd_model.specs.HeadText.{merged_head}
+use Rattle.vcd_model.specs.Selection.{selected}
+use Rattle.vcd_model.specs.Reading.{reading_of}
+use Rattle.vcd_model.specs.HeaderReading.{read_header}
 use Rattle.vcd_laws.proofs.MergeDumps.{headers_are}
-use Rattle.vcd_model.proofs.HeadLines.{AreParts, head_of, reads_head, header_back}
 use Rattle.vcd_laws.proofs.HeadersGood.{IsGoodHeader, headers_good}
-use Rattle.vcd_model.proofs.WrittenRows.{has_none}
 use Rattle.vcd_laws.proofs.WrittenCodes.{In, in_left, in_right, from_contained, to_contained, in_map, from_map, from_codes_of, to_codes_of, found_in}
 use Rattle.vcd_laws.proofs.HeadBack.{variables_are, in_selected, no_fault}
 use Rattle.vcd_laws.proofs.MergedHead.{CanMerge, all_rows, all_text, merged_selected, all_more, AreAllMore, least_good, all_in}

@@ -1,30 +1,10 @@
 -- A merged head declares the variables of all its inputs, each input in a scope of its own and with
 -- new codes.
-use Rattle.std.proofs.Common.{◌≡◌, ℕ, ℤ, pos, zero, suc, ◌+◌, ◌/◌, ◌%◌, ◌<◌, ◌≤◌, ◌^◌, int_le, Bool, true, false, cond, nat_lt, List, [], ◌∷◌, ◌++◌, length, fold, map, filter_map, flat_map, sum_by, reverse, decimal, codes, bytes_eq, Option, Some, None, unwrap_or, inl, inr, refl, sym, ap, ◌∙◌, subst, arith}
-use Rattle.std.specs.List.{AllByRecursion, list_all, concat, join_with_byte}
-use Rattle.std.proofs.lemmas.List.{append_assoc, append-nil, length-append, length_push, reverse-append}
-use Rattle.std.proofs.lemmas.List.Concat.{flat_map-append}
-use Rattle.std.proofs.lemmas.List.Elements.{filter_map-append}
-use Rattle.std.proofs.lemmas.List.Sums.{sum_by-cons}
-use Rattle.std.proofs.lemmas.Bool.{and_from, le-leb}
-use Rattle.vcd_model.specs.Bytes.{is_code_byte}
+use Rattle.vcd_laws.proofs.Cited.{◌≡◌, ℕ, ℤ, pos, zero, suc, ◌+◌, ◌/◌, ◌%◌, ◌<◌, ◌≤◌, ◌^◌, int_le, Bool, true, false, cond, nat_lt, List, [], ◌∷◌, ◌++◌, length, fold, map, filter_map, flat_map, sum_by, reverse, decimal, codes, bytes_eq, Option, Some, None, unwrap_or, inl, inr, refl, sym, ap, ◌∙◌, subst, arith, AllByRecursion, list_all, concat, join_with_byte, append_assoc, append-nil, length-append, length_push, reverse-append, flat_map-append, filter_map-append, sum_by-cons, and_from, le-leb, is_code_byte, each_after, Declaration, Variable, IdCode, variable_of, variables_of, code_of, open_scopes, Header, scope_line, up_line, base94, code_place, first_number, renamed, exponent, smaller, input_head, Selected, with_path, declared_code, most_declared, IsShallow, merged_variable, IsWord, all_append, AreCodes, each_after-append, renamed_same, number_below, first_number_le, numbers_apart, new_code_word, IsGoodScale, scale_good, AreDeclared, declaration_line, decimal_word, plain_word, AreGoodScales, Open, HasOpen, has_scope, has_up, open_count, with_code, written, text_of_rows}
 use Rattle.vcd_model.specs.Scales.{exponent_of}
-use Rattle.vcd_model.specs.Backward.{each_after}
-use Rattle.vcd_model.specs.Declarations.{Declaration, Variable, IdCode, variable_of, variables_of, code_of, open_scopes}
-use Rattle.vcd_model.specs.Header.{Header}
-use Rattle.vcd_model.specs.HeadText.{scope_line, up_line, base94, new_code, code_place, first_number, renamed, exponent, smaller, least_exponent, input_head}
-use Rattle.vcd_model.specs.Selection.{Selected, with_path, selected}
-use Rattle.vcd_model.specs.BodyPhrases.{declared_code}
-use Rattle.vcd_laws.specs.Heads.{most_declared, IsShallow, merged_variable}
-use Rattle.vcd_model.proofs.TokenTexts.{IsWord}
-use Rattle.vcd_model.proofs.BodyFacts.{all_append}
-use Rattle.vcd_model.proofs.HeaderFacts.{AreCodes}
-use Rattle.vcd_model.proofs.Growing.{each_after-append}
-use Rattle.vcd_model.proofs.MergeCodes.{renamed_same, number_below, first_number_le, numbers_apart, new_code_word}
-use Rattle.vcd_model.proofs.HeadPhrases.{IsGoodScale, scale_good, AreDeclared}
-use Rattle.vcd_model.proofs.HeadLines.{declaration_line, decimal_word, plain_word, AreGoodScales}
+use Rattle.vcd_model.specs.HeadText.{new_code, least_exponent}
+use Rattle.vcd_model.specs.Selection.{selected}
 use Rattle.vcd_laws.proofs.HeadersGood.{IsGoodHeader}
-use Rattle.vcd_model.proofs.WrittenRows.{Open, HasOpen, has_scope, has_up, open_count, with_code, written, text_of_rows}
 use Rattle.vcd_laws.proofs.WrittenDeclared.{fits, AllFit, IsRenaming, IsInside, image, IsWritten, is_written, AreDeclared-append}
 use Rattle.vcd_laws.proofs.WrittenCodes.{In, to_codes_of, found_in}
 use Rattle.vcd_laws.proofs.HeadBack.{marks, all_ready, variables_are, all_selected}

@@ -1,18 +1,5 @@
 -- Which variables of a merge the names of one input's variables select, under its scope.
-use Rattle.std.proofs.Common.{◌≡◌, ◌≢◌, ℕ, suc, ◌+◌, ◌^◌, ◌<◌, ◌≤◌, ◌==◌, Bool, true, false, cond, ◌||◌, List, [], ◌∷◌, ◌++◌, length, map, filter, flat_map, decimal, codes, Option, Some, None, option_map, ◌⊎◌, inl, inr, refl, sym, ap, ◌∙◌, subst, arith}
-use Rattle.std.specs.List.{list_any, list_all}
-use Rattle.std.specs.Char.{is_ascii_digit}
-use Rattle.std.proofs.lemmas.List.{append_assoc, append-nil, length-append}
-use Rattle.std.proofs.lemmas.List.Elements.{filter-append}
-use Rattle.std.proofs.lemmas.Bool.{eq-eqb, eqb-true, ne_eqb, and_parts}
-use Rattle.vcd_model.specs.Bytes.{is_empty, decimal_value}
-use Rattle.vcd_model.specs.Backward.{each_after}
-use Rattle.vcd_model.specs.Declarations.{Declaration}
-use Rattle.vcd_model.specs.Header.{Header}
-use Rattle.vcd_model.specs.Selection.{Selected, selects_path, selected, first_unmatched}
-use Rattle.vcd_laws.specs.Heads.{input_scope, under_input, merged_variable}
-use Rattle.vcd_laws.specs.OverMerge.{names_in}
-use Rattle.vcd_model.proofs.Decimals.{spells}
+use Rattle.vcd_laws.proofs.Cited.{◌≡◌, ◌≢◌, ℕ, suc, ◌+◌, ◌^◌, ◌<◌, ◌≤◌, ◌==◌, Bool, true, false, cond, ◌||◌, List, [], ◌∷◌, ◌++◌, length, map, filter, flat_map, decimal, codes, Option, Some, None, option_map, ◌⊎◌, inl, inr, refl, sym, ap, ◌∙◌, subst, arith, list_any, list_all, is_ascii_digit, append_assoc, append-nil, length-append, filter-append, eq-eqb, eqb-true, ne_eqb, and_parts, is_empty, decimal_value, each_after, Declaration, Header, Selected, selects_path, selected, first_unmatched, input_scope, under_input, merged_variable, names_in, spells}
 use Rattle.vcd_laws.proofs.MergedHead.{merged_selected}
 use Rattle.vcd_laws.proofs.PickUses.{chosen, selected_is}
 

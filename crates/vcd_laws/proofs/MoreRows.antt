@@ -1,8 +1,6 @@
 -- The definitions, computed at more rows.
-use Rattle.std.proofs.Common.{◌≡◌, [], ◌∷◌, codes, refl}
+use Rattle.vcd_laws.proofs.Cited.{◌≡◌, [], ◌∷◌, codes, refl, Mark, Want, outcome}
 use Rattle.vcd_laws.proofs.Computing.{model}
-use Rattle.vcd_model.specs.Input.{Mark}
-use Rattle.vcd_model.specs.Job.{Want, outcome}
 use Rattle.vcd_laws.proofs.RowText.{written, clean, limit, on, gives, cut, sample}
 
 odd_code : on Want.Listing "$timescale 1 ns $end;$var wire 1 $end a [0] $end;$enddefinitions $end;" ≡ gives "a wire 1 $end;" "" 0

@@ -1,15 +1,7 @@
 -- Rows on the order of checks, on ends of input and on reports, computed.
-use Rattle.std.proofs.Common.{◌≡◌, ℕ, List, [], ◌∷◌, length, map, codes, Some, None, Err, refl}
+use Rattle.vcd_laws.proofs.Cited.{◌≡◌, ℕ, List, [], ◌∷◌, length, map, codes, Some, None, Err, refl, Input, Mark, stream_of, Declaration, Header, Fault, read_header, header_fault_of, Want, outcome, Command, allowed_after}
 use Rattle.vcd_laws.proofs.Computing.{model}
-use Rattle.vcd_model.specs.Input.{Input, Mark}
-use Rattle.vcd_model.specs.Tokens.{stream_of}
-use Rattle.vcd_model.specs.Declarations.{Declaration}
-use Rattle.vcd_model.specs.Header.{Header}
-use Rattle.vcd_model.specs.Reading.{Fault}
-use Rattle.vcd_model.specs.HeaderReading.{read_header, header_fault_of}
-use Rattle.vcd_model.specs.Job.{Want, outcome}
-use Rattle.vcd_model.specs.Words.{Command}
-use Rattle.vcd_model.specs.Outcome.{allowed_after, open_from}
+use Rattle.vcd_model.specs.Outcome.{open_from}
 use Rattle.vcd_laws.proofs.RowText.{written, clean, limit, on, gives, cut, sample, asked}
 
 -- ---- of two checks that fail the first counts

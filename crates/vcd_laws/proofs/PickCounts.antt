@@ -1,24 +1,6 @@
 -- The changes of a picked code are read again, in order.
-use Rattle.std.proofs.Common.{◌≡◌, ℕ, ◌+◌, ◌<◌, ◌==◌, Bool, true, false, cond, not, ◌&&◌, List, [], ◌∷◌, ◌++◌, map, filter, filter_map, count_by, Option, Some, None, option_map, refl, sym, ap, ◌∙◌, subst, arith}
-use Rattle.std.specs.List.{list_any}
-use Rattle.std.proofs.lemmas.List.{append_assoc, append-nil}
-use Rattle.std.proofs.lemmas.List.Elements.{filter-append, filter_map-append}
-use Rattle.std.proofs.lemmas.List.Sums.{sum_by-cons}
-use Rattle.vcd_model.specs.Declarations.{IdCode, same_code, has_text}
-use Rattle.vcd_model.specs.Items.{BodyItem, Entry, change_of}
-use Rattle.vcd_model.specs.Values.{value_of}
-use Rattle.vcd_model.specs.History.{gives_to, values_of}
-use Rattle.vcd_model.specs.ItemText.{last_mark}
-use Rattle.vcd_model.specs.Edges.{event_count}
-use Rattle.vcd_model.specs.BodyPhrases.{declared_code}
-use Rattle.vcd_model.specs.Selection.{Selected, selects_code}
-use Rattle.vcd_model.proofs.ItemStates.{IsGoodChange, next_time, next_open, AreFit, open_behind, entries_from, at_start, entries_are}
-use Rattle.vcd_model.proofs.ChangeLines.{read_again, read_again_is}
-use Rattle.vcd_model.proofs.Rewritten.{read_item, time_items, written_items, IsWritable, AreWritable}
-use Rattle.vcd_model.proofs.Assembled.{parts_items, parts_fit, closing_items}
-use Rattle.vcd_model.proofs.FoundCodes.{find-filter, same_declared, find_all}
+use Rattle.vcd_laws.proofs.Cited.{◌≡◌, ℕ, ◌+◌, ◌<◌, ◌==◌, Bool, true, false, cond, not, ◌&&◌, List, [], ◌∷◌, ◌++◌, map, filter, filter_map, count_by, Option, Some, None, option_map, refl, sym, ap, ◌∙◌, subst, arith, list_any, append_assoc, append-nil, filter-append, filter_map-append, sum_by-cons, IdCode, same_code, has_text, BodyItem, Entry, change_of, value_of, gives_to, values_of, last_mark, event_count, declared_code, Selected, selects_code, IsGoodChange, next_time, next_open, AreFit, open_behind, entries_from, at_start, entries_are, read_again, read_again_is, read_item, time_items, written_items, IsWritable, AreWritable, parts_items, parts_fit, closing_items, find-filter, same_declared, find_all, AreCodes}
 use Rattle.vcd_laws.proofs.PickLaw.{picks, pick_parts}
-use Rattle.vcd_model.proofs.HeaderFacts.{AreCodes}
 
 pub values-append : (xs ys : List BodyItem) (c : IdCode)
     → values_of (xs ++ ys) c ≡ values_of xs c ++ values_of ys c

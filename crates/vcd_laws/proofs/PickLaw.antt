@@ -1,26 +1,7 @@
 -- `pick` keeps the values of the selected codes.
-use Rattle.std.proofs.Common.{◌≡◌, ℕ, ◌<◌, Bool, true, false, not, ◌&&◌, nat_le, List, [], ◌++◌, map, filter, Option, Some, None, refl, sym, ap, ◌∙◌, arith}
-use Rattle.std.proofs.lemmas.List.{append_assoc}
-use Rattle.std.proofs.lemmas.Bool.{and_parts}
-use Rattle.vcd_model.specs.Declarations.{IdCode, has_text}
-use Rattle.vcd_model.specs.Items.{BodyItem, Entry, entries}
-use Rattle.vcd_model.specs.History.{value_at}
-use Rattle.vcd_model.specs.ItemText.{may_keep, text_after, closing, last_mark}
-use Rattle.vcd_model.specs.BodyPhrases.{declared_code}
-use Rattle.vcd_model.specs.HeadText.{head_for}
-use Rattle.vcd_model.specs.Selection.{Selected, selected, selects_code}
-use Rattle.vcd_model.specs.Pick.{is_picked, pick_open, pick_close}
-use Rattle.vcd_model.specs.Outcome.{items_in}
-use Rattle.vcd_model.specs.Values.{Value}
-use Rattle.vcd_laws.specs.KeptValues.{KeepsValues, PickKeeps}
-use Rattle.vcd_model.proofs.ItemStates.{AreFit, open_behind, entries_from, at_start, entries_are}
-use Rattle.vcd_model.proofs.Latest.{latest, gives_at, behind, last_value_is, latest-filter}
-use Rattle.vcd_model.proofs.Lines.{IsRead}
-use Rattle.vcd_model.proofs.Assembled.{Parts, parts_items, parts_read, parts_values, last_mark_is, time_behind_small}
-use Rattle.vcd_model.proofs.KeptEntries.{KeepsSections, kept_writable, kept_open, kept_last}
-use Rattle.vcd_model.proofs.HeaderFacts.{AreCodes}
+use Rattle.vcd_laws.proofs.Cited.{◌≡◌, ℕ, ◌<◌, Bool, true, false, not, ◌&&◌, nat_le, List, [], ◌++◌, map, filter, Option, Some, None, refl, sym, ap, ◌∙◌, arith, append_assoc, and_parts, IdCode, has_text, BodyItem, Entry, entries, value_at, may_keep, text_after, closing, last_mark, declared_code, head_for, Selected, selected, selects_code, is_picked, items_in, Value, KeepsValues, PickKeeps, AreFit, open_behind, entries_from, at_start, entries_are, latest, gives_at, behind, last_value_is, latest-filter, IsRead, Parts, parts_items, parts_read, parts_values, last_mark_is, time_behind_small, KeepsSections, kept_writable, kept_open, kept_last, AreCodes, find_all, find-filter, all_kept, at_contained, gives_kept}
+use Rattle.vcd_model.specs.Pick.{pick_open, pick_close}
 use Rattle.vcd_laws.proofs.OpenedBodies.{opened_fit, opened_shut, opens_good}
-use Rattle.vcd_model.proofs.FoundCodes.{find_all, find-filter, all_kept, at_contained, gives_kept}
 
 abbrev pub picks : List Selected → Entry → Bool
 picks vs e = is_picked vs e.item && may_keep e.item e.inside

@@ -1,31 +1,9 @@
 -- `pick` of what `pick` wrote is `pick` of its input, for what both select.
-use Rattle.std.proofs.Common.{◌≡◌, ◌≢◌, ℕ, Bool, true, false, cond, not, ◌&&◌, bytes_eq, List, [], ◌∷◌, ◌++◌, map, filter, Option, Some, None, inl, inr, refl, sym, ap, ◌∙◌, subst}
-use Rattle.std.specs.List.{last_or}
-use Rattle.std.proofs.lemmas.List.{append_assoc, append-nil}
-use Rattle.vcd_model.specs.Declarations.{Declaration, Variable, IdCode, path_of}
-use Rattle.vcd_model.specs.Header.{Header}
-use Rattle.vcd_model.specs.Items.{BodyItem, Entry, entries}
-use Rattle.vcd_model.specs.ItemText.{item_line, time_unless, text_after, closing, last_mark}
-use Rattle.vcd_model.specs.HeadText.{head_for}
-use Rattle.vcd_model.specs.Selection.{Selected, is_selected, selected, selects_code}
+use Rattle.vcd_laws.proofs.Cited.{◌≡◌, ◌≢◌, ℕ, Bool, true, false, cond, not, ◌&&◌, bytes_eq, List, [], ◌∷◌, ◌++◌, map, filter, Option, Some, None, inl, inr, refl, sym, ap, ◌∙◌, subst, last_or, append_assoc, append-nil, Declaration, Variable, IdCode, path_of, Header, BodyItem, Entry, entries, item_line, time_unless, text_after, closing, last_mark, head_for, Selected, is_selected, selects_code, items_in, clean_outcome, Want, written_by, IsHeadFor, input_of, SelectBoth, PickOfPick, as_list, next_open, AreFit, open_behind, entries_from, at_start, entries_are, read_again_is, read_item, time_items, written_items, IsWritable, AreWritable, Stand, stand_more, last_time, last_open, parts_items, parts_fit, closing_items, AreCodes, AreDeclared, head_of, written}
+use Rattle.vcd_model.specs.Selection.{selected}
 use Rattle.vcd_model.specs.Pick.{pick_open, pick_close}
-use Rattle.vcd_model.specs.Outcome.{items_in, clean_outcome}
-use Rattle.vcd_model.specs.Job.{Want}
-use Rattle.vcd_laws.specs.KeptValues.{written_by}
-use Rattle.vcd_laws.specs.Heads.{IsHeadFor}
-use Rattle.vcd_laws.specs.Dumps.{input_of}
-use Rattle.vcd_laws.specs.OverPick.{SelectBoth, PickOfPick}
-use Rattle.vcd_laws.specs.OverCut.{as_list}
-use Rattle.vcd_model.proofs.ItemStates.{next_open, AreFit, open_behind, entries_from, at_start, entries_are}
-use Rattle.vcd_model.proofs.ChangeLines.{read_again_is}
-use Rattle.vcd_model.proofs.Rewritten.{read_item, time_items, written_items, IsWritable, AreWritable, Stand, stand_more, last_time, last_open}
-use Rattle.vcd_model.proofs.Assembled.{parts_items, parts_fit, closing_items}
-use Rattle.vcd_model.proofs.HeaderFacts.{AreCodes}
 use Rattle.vcd_laws.proofs.PickLaw.{picks, pick_parts}
 use Rattle.vcd_laws.proofs.OpenedBodies.{opens_good, opened_fit, opened_shut}
-use Rattle.vcd_model.proofs.HeadPhrases.{AreDeclared}
-use Rattle.vcd_model.proofs.HeadLines.{head_of}
-use Rattle.vcd_model.proofs.WrittenRows.{written}
 use Rattle.vcd_laws.proofs.WrittenCodes.{In, from_contained, to_contained, from_any, any_of}
 use Rattle.vcd_laws.proofs.MergedHead.{selected_after, selected_more}
 use Rattle.vcd_laws.proofs.HeadBack.{marks as marks_of, own_code, head_is, opens_header}

@@ -1,24 +1,11 @@
 -- Rows on what `pick` wrote, read again: that the premises of the laws can be met.
-use Rattle.std.proofs.Common.{◌≡◌, ℕ, ◌<◌, false, List, [], ◌∷◌, length, map, codes, None, Contains, inl, inr, refl, arith}
-use Rattle.vcd_model.specs.Selection.{Selected, selected}
-use Rattle.vcd_model.specs.Declarations.{Declaration}
-use Rattle.vcd_model.specs.Pick.{pick_kept}
-use Rattle.vcd_model.specs.Outcome.{items_in}
+use Rattle.vcd_laws.proofs.Cited.{◌≡◌, ℕ, ◌<◌, false, List, [], ◌∷◌, length, map, codes, None, Contains, inl, inr, refl, arith, Selected, selected, Declaration, pick_kept, items_in, at_contained, String, first_halt, Want, IsJob, written_by, input_of, over_written, IsReadable, declarations_kept, given, IsWholeDump, SelectBoth, distinct}
 use Rattle.vcd_laws.proofs.KeepsAll.{pick_keeps_all}
 use Rattle.vcd_laws.proofs.PickedAlone.{sample_of_all_picked, edges_of_all_picked, edges_of_some_picked}
 use Rattle.vcd_laws.proofs.PickOfPick.{pick_of_pick}
 use Rattle.vcd_laws.proofs.WrittenCodes.{from_contained, to_contained}
 use Rattle.vcd_laws.proofs.Computing.{model}
-use Rattle.vcd_model.proofs.FoundCodes.{at_contained}
 use Rattle.vcd_laws.proofs.RowText.{clean, limit, gives, on, sample, at}
-use Prim.Native.String.{String}
-use Rattle.vcd_model.specs.Tokens.{first_halt}
-use Rattle.vcd_model.specs.Job.{Want, IsJob}
-use Rattle.vcd_laws.specs.KeptValues.{written_by}
-use Rattle.vcd_laws.specs.Dumps.{input_of, over_written, IsReadable}
-use Rattle.vcd_laws.specs.Whole.{declarations_kept, given, IsWholeDump}
-use Rattle.vcd_laws.specs.OverPick.{SelectBoth}
-use Rattle.vcd_laws.specs.Counted.{distinct}
 use Rattle.vcd_laws.proofs.DumpBase.{stdin, aliased, some_names, opened, over_pick, rising_alone, wire, bit}
 
 abbrev picked_text : String

@@ -1,37 +1,12 @@
 -- `pick` of what `pick` wrote writes it again.
-use Rattle.std.proofs.Common.{◌≡◌, ℕ, ◌<◌, ◌≤◌, ◌==◌, Bool, true, false, cond, not, ◌&&◌, ◌||◌, List, [], ◌∷◌, ◌++◌, map, filter, Option, Some, None, inl, inr, refl, sym, ap, ◌∙◌, subst, arith}
-use Rattle.std.specs.Prelude.{⊤}
-use Rattle.std.specs.List.{AllByRecursion, list_any, last_or}
-use Rattle.std.proofs.lemmas.List.{append_assoc, append-nil}
-use Rattle.std.proofs.lemmas.List.Folds.{list_any-append}
-use Rattle.std.proofs.lemmas.Bool.{eq-eqb}
-use Rattle.vcd_model.specs.Bytes.{as_line}
-use Rattle.vcd_model.specs.Declarations.{Declaration, Variable, IdCode, path_of}
-use Rattle.vcd_model.specs.Items.{Change, BodyItem, Entry, entries, marks}
-use Rattle.vcd_model.specs.Values.{Value, value_of, value_line, change_line}
-use Rattle.vcd_model.specs.ItemText.{item_line, time_unless, text_after, closing, last_mark}
-use Rattle.vcd_model.specs.Selection.{Selected, is_selected, selected, selects_code, first_unmatched}
-use Rattle.vcd_model.specs.Header.{Header}
-use Rattle.vcd_model.specs.HeadText.{head_for}
+use Rattle.vcd_laws.proofs.Cited.{◌≡◌, ℕ, ◌<◌, ◌≤◌, ◌==◌, Bool, true, false, cond, not, ◌&&◌, ◌||◌, List, [], ◌∷◌, ◌++◌, map, filter, Option, Some, None, inl, inr, refl, sym, ap, ◌∙◌, subst, arith, ⊤, AllByRecursion, list_any, last_or, append_assoc, append-nil, list_any-append, eq-eqb, as_line, Declaration, Variable, IdCode, path_of, Change, BodyItem, Entry, entries, Value, value_of, value_line, change_line, item_line, time_unless, text_after, closing, last_mark, Selected, is_selected, selects_code, first_unmatched, Header, head_for, Request, Outcome, Opened, name_at, items_in, fault_in, at_end, over_body, unmatched_outcome, Want, over_opened, written_by, IsHeadFor, input_of, PickTwice, marks-append, IsGoodChange, next_open, AreFit, open_behind, entries_from, at_start, entries_are, read_again, read_again_is, read_item, time_items, written_items, IsWritable, AreWritable, Stand, stand_more, at_most, last_time, last_open, parts_items, parts_fit, closing_items, all_append, AreCodes, AreDeclared, head_of, Open, HasOpen, written}
+use Rattle.vcd_model.specs.Items.{marks}
+use Rattle.vcd_model.specs.Selection.{selected}
 use Rattle.vcd_model.specs.Pick.{pick_open, pick_close}
-use Rattle.vcd_model.specs.Outcome.{Request, Outcome, Opened, name_at, items_in, fault_in, at_end, over_body, unmatched_outcome, over_dump}
-use Rattle.vcd_model.specs.Job.{Want, request_of, over_opened}
-use Rattle.vcd_laws.specs.KeptValues.{written_by}
-use Rattle.vcd_laws.specs.Heads.{IsHeadFor}
-use Rattle.vcd_laws.specs.Dumps.{input_of}
-use Rattle.vcd_laws.specs.OverPick.{PickTwice}
-use Rattle.vcd_model.proofs.Times.{marks-append}
-use Rattle.vcd_model.proofs.ItemStates.{IsGoodChange, next_open, AreFit, open_behind, entries_from, at_start, entries_are}
-use Rattle.vcd_model.proofs.ChangeLines.{read_again, read_again_is}
-use Rattle.vcd_model.proofs.Rewritten.{read_item, time_items, written_items, IsWritable, AreWritable, Stand, stand_more, at_most, last_time, last_open}
-use Rattle.vcd_model.proofs.Assembled.{parts_items, parts_fit, closing_items}
-use Rattle.vcd_model.proofs.BodyFacts.{all_append}
+use Rattle.vcd_model.specs.Outcome.{over_dump}
+use Rattle.vcd_model.specs.Job.{request_of}
 use Rattle.vcd_laws.proofs.PickLaw.{picks, pick_parts}
-use Rattle.vcd_model.proofs.HeaderFacts.{AreCodes}
 use Rattle.vcd_laws.proofs.OpenedBodies.{opens_good, opened_fit, opened_shut}
-use Rattle.vcd_model.proofs.HeadPhrases.{AreDeclared}
-use Rattle.vcd_model.proofs.HeadLines.{head_of}
-use Rattle.vcd_model.proofs.WrittenRows.{Open, HasOpen, written}
 use Rattle.vcd_laws.proofs.WrittenCodes.{In}
 use Rattle.vcd_laws.proofs.HeadBack.{marks as marks_of, own_code, rows_written, rows_declared, rows_selected, head_is, opens_header}
 use Rattle.vcd_laws.proofs.MergedHead.{selected_after, selected_more}

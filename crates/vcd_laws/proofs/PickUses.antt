@@ -1,26 +1,11 @@
 -- What `pick` wrote is read by `list` and `sample` as its input was.
-use Rattle.std.proofs.Common.{◌≡◌, ℕ, Bool, true, false, cond, ◌&&◌, ◌||◌, List, [], ◌∷◌, ◌++◌, map, filter, filter_map, flat_map, Option, Some, None, ◌⊎◌, Result, Ok, Err, is_ok, not, inl, inr, refl, sym, ap, ◌∙◌, subst}
-use Rattle.std.specs.List.{AllByRecursion, list_all, list_any, cons_option}
-use Rattle.vcd_model.specs.Bytes.{is_empty}
-use Rattle.vcd_model.specs.Backward.{each_after}
-use Rattle.vcd_model.specs.Input.{Input}
-use Rattle.vcd_model.specs.Declarations.{Declaration, code_of, path_of}
-use Rattle.vcd_model.specs.Header.{Header}
-use Rattle.vcd_model.specs.Items.{BodyItem}
-use Rattle.vcd_model.specs.History.{value_at}
-use Rattle.vcd_model.specs.Selection.{Selected, selects_path, with_path, selected, first_unmatched}
-use Rattle.vcd_model.specs.CheckAndList.{list_line, list_text}
-use Rattle.vcd_model.specs.Sample.{sample_lines}
-use Rattle.vcd_model.specs.Ticks.{moment_ticks}
-use Rattle.vcd_model.specs.Outcome.{Request, Outcome, Opened, clean_outcome, name_at, items_in, fault_in, ends_early, over_body, unmatched_outcome, over_dump, over_dumps}
-use Rattle.vcd_model.specs.Job.{Want, Refusal, first_refusal, do_rise, ok_of, sample_at, has_unit, request_of, refusal_outcome, sample_request}
-use Rattle.vcd_model.specs.Laws.{IsValid}
-use Rattle.vcd_laws.specs.KeptValues.{written_by}
-use Rattle.vcd_laws.specs.Dumps.{input_of, IsReadable}
-use Rattle.vcd_laws.specs.OverPick.{SelectWithin, ListOfPick, SampleOfPick}
+use Rattle.vcd_laws.proofs.Cited.{◌≡◌, ℕ, Bool, true, false, cond, ◌&&◌, ◌||◌, List, [], ◌∷◌, ◌++◌, map, filter, filter_map, flat_map, Option, Some, None, ◌⊎◌, Result, Ok, Err, is_ok, not, inl, inr, refl, sym, ap, ◌∙◌, subst, AllByRecursion, list_all, list_any, cons_option, is_empty, each_after, Input, Declaration, code_of, path_of, Header, BodyItem, value_at, Selected, selects_path, with_path, first_unmatched, list_line, sample_lines, moment_ticks, Request, Outcome, Opened, clean_outcome, name_at, items_in, fault_in, ends_early, over_body, unmatched_outcome, over_dumps, Want, Refusal, first_refusal, do_rise, ok_of, sample_at, has_unit, refusal_outcome, sample_request, IsValid, written_by, input_of, IsReadable, SelectWithin, ListOfPick, SampleOfPick, requests_are_valid}
+use Rattle.vcd_model.specs.Selection.{selected}
+use Rattle.vcd_model.specs.CheckAndList.{list_text}
+use Rattle.vcd_model.specs.Outcome.{over_dump}
+use Rattle.vcd_model.specs.Job.{request_of}
 use Rattle.vcd_laws.proofs.WrittenCodes.{In, from_filter, to_filter, from_contained, to_contained, in_map, any_of, to_codes_of}
 use Rattle.vcd_laws.proofs.HeadBack.{variables_are, opens_header}
-use Rattle.vcd_model.proofs.JobLemmas.{requests_are_valid}
 use Rattle.vcd_laws.proofs.SampleText.{sample_is}
 use Rattle.vcd_laws.proofs.RunLaws.{pick_run_keeps, opened_run, same_opened}
 use Rattle.vcd_laws.proofs.DumpLaws.{pick_is_a_dump}

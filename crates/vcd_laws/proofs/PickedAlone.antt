@@ -1,23 +1,7 @@
 -- What `pick` wrote is read by `sample` and `edges` as its input was, whichever names select what
 -- was picked.
-use Rattle.std.proofs.Common.{◌≡◌, ℕ, Bool, true, false, cond, ◌&&◌, not, List, [], ◌∷◌, filter, filter_map, flat_map, Some, None, Result, Ok, Err, is_ok, map, ◌⊎◌, inl, inr, refl, sym, ap, ◌∙◌, subst}
-use Rattle.std.specs.List.{list_all}
-use Rattle.vcd_model.specs.Input.{Input}
-use Rattle.vcd_model.specs.Bytes.{is_empty}
-use Rattle.vcd_model.specs.Declarations.{code_of}
-use Rattle.vcd_model.specs.Header.{Header}
-use Rattle.vcd_model.specs.Items.{BodyItem}
-use Rattle.vcd_model.specs.Selection.{Selected, selected, first_unmatched}
-use Rattle.vcd_model.specs.Sample.{sample_lines}
-use Rattle.vcd_model.specs.Edges.{edges_line}
-use Rattle.vcd_model.specs.BodyPhrases.{declared_code}
-use Rattle.vcd_model.specs.Ticks.{Moment, moment_ticks}
-use Rattle.vcd_model.specs.Outcome.{Request, Outcome, Opened, clean_outcome, items_in, fault_in, over_dumps}
-use Rattle.vcd_model.specs.Job.{Want, IsJob, Refusal, first_refusal, do_rise, ok_of, sample_at, has_unit, request_of, refusal_outcome, sample_request, outcome}
-use Rattle.vcd_laws.specs.KeptValues.{written_by}
-use Rattle.vcd_laws.specs.Dumps.{input_of, over_written, IsReadable}
-use Rattle.vcd_laws.specs.OverPick.{SelectBoth, SampleOfAllPicked, EdgesOfAllPicked, SampleOfSomePicked, EdgesOfSomePicked}
-use Rattle.vcd_model.proofs.JobLemmas.{requests_are_valid}
+use Rattle.vcd_laws.proofs.Cited.{◌≡◌, ℕ, Bool, true, false, cond, ◌&&◌, not, List, [], ◌∷◌, filter, filter_map, flat_map, Some, None, Result, Ok, Err, is_ok, map, ◌⊎◌, inl, inr, refl, sym, ap, ◌∙◌, subst, list_all, Input, is_empty, code_of, Header, BodyItem, Selected, selected, first_unmatched, sample_lines, edges_line, declared_code, Moment, moment_ticks, Request, Outcome, Opened, clean_outcome, items_in, fault_in, over_dumps, Want, IsJob, Refusal, first_refusal, do_rise, ok_of, sample_at, has_unit, refusal_outcome, sample_request, outcome, written_by, input_of, over_written, IsReadable, SelectBoth, SampleOfAllPicked, EdgesOfAllPicked, SampleOfSomePicked, EdgesOfSomePicked, requests_are_valid}
+use Rattle.vcd_model.specs.Job.{request_of}
 use Rattle.vcd_laws.proofs.OpenedBodies.{opens_good, opened_fit, opened_shut}
 use Rattle.vcd_laws.proofs.WrittenCodes.{In, from_filter, to_filter, from_contained, to_contained, to_codes_of, found_in}
 use Rattle.vcd_laws.proofs.HeadBack.{in_selected, opens_header}

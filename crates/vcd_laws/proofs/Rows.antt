@@ -1,7 +1,6 @@
 -- The definitions, computed at worked rows.
-use Rattle.std.proofs.Common.{◌≡◌, [], ◌∷◌, codes, refl}
+use Rattle.vcd_laws.proofs.Cited.{◌≡◌, [], ◌∷◌, codes, refl, Want, outcome}
 use Rattle.vcd_laws.proofs.Computing.{model}
-use Rattle.vcd_model.specs.Job.{Want, outcome}
 use Rattle.vcd_laws.proofs.RowText.{clean, limit, on, gives, cut, sample}
 
 empty_input : on Want.Check "" ≡ gives "" "vcdkit: (stdin):1: unexpected end of input;" 1

@@ -1,22 +1,8 @@
 -- What runs with status 0 have written keeps values.
-use Rattle.std.proofs.Common.{◌≡◌, ◌≢◌, ℕ, ◌^◌, ◌<◌, ◌≤◌, ◌==◌, ℤ, Bool, true, false, cond, ◌&&◌, nat_lt, List, [], ◌∷◌, ◌++◌, filter, decimal, codes, Option, Some, None, Result, Ok, Err, IsTrue, ◌⊎◌, inl, inr, refl, sym, ap, ◌∙◌, subst}
-use Rattle.std.specs.List.{list_any}
-use Rattle.std.proofs.lemmas.Bool.{ltb-true}
-use Rattle.vcd_model.specs.Input.{Input}
-use Rattle.vcd_model.specs.Tokens.{stream_of}
-use Rattle.vcd_model.specs.Header.{Header, header_of}
-use Rattle.vcd_model.specs.HeaderReading.{read_header, header_fault_of}
-use Rattle.vcd_model.specs.Items.{BodyItem}
-use Rattle.vcd_model.specs.Reading.{Fault, phrases_of}
-use Rattle.vcd_model.specs.HeadText.{head_for, merged_head}
-use Rattle.vcd_model.specs.Selection.{selected, selects_code, first_unmatched}
-use Rattle.vcd_model.specs.Cut.{ends_cut}
-use Rattle.vcd_model.specs.Merge.{Dump, KeyedFault, headers_of, merged_items, first_fault, items_before, merge_open, merge_close}
-use Rattle.vcd_model.specs.Ticks.{Moment, in_range, unit_ticks, number_ticks, ticks, moment_ticks}
-use Rattle.vcd_model.specs.Outcome.{Request, Outcome, Opened, fault_text, program_line, fault_outcome, clean_outcome, allowed_after, open_from, items_in, fault_in, name_at, ends_early, open_text, close_text, at_end, over_body, unmatched_outcome, over_dump, dumps_of, merge_outcome, over_dumps}
-use Rattle.vcd_model.specs.Job.{Want, IsJob, IsTime, Refusal, request_of, cut_request, first_refusal, has_unit, refusal_outcome, over_opened, outcome}
-use Rattle.vcd_laws.specs.KeptValues.{IsBehind, KeepsValues, Opens, cut_text, PickRunKeeps, CutRunKeeps, MergeRunKeeps, MergeKeepsValues}
-use Rattle.vcd_model.proofs.JobLemmas.{requests_are_valid}
+use Rattle.vcd_laws.proofs.Cited.{◌≡◌, ◌≢◌, ℕ, ◌^◌, ◌<◌, ◌≤◌, ◌==◌, ℤ, Bool, true, false, cond, ◌&&◌, nat_lt, List, [], ◌∷◌, ◌++◌, filter, decimal, codes, Option, Some, None, Result, Ok, Err, IsTrue, ◌⊎◌, inl, inr, refl, sym, ap, ◌∙◌, subst, list_any, ltb-true, Input, stream_of, Header, header_of, read_header, header_fault_of, BodyItem, Fault, phrases_of, head_for, merged_head, selected, selects_code, first_unmatched, ends_cut, Dump, KeyedFault, headers_of, merged_items, first_fault, items_before, merge_open, merge_close, Moment, in_range, unit_ticks, number_ticks, ticks, Request, Outcome, Opened, fault_text, program_line, fault_outcome, clean_outcome, allowed_after, items_in, fault_in, name_at, ends_early, open_text, close_text, at_end, unmatched_outcome, dumps_of, over_dumps, Want, IsJob, IsTime, Refusal, cut_request, first_refusal, has_unit, refusal_outcome, over_opened, IsBehind, KeepsValues, Opens, cut_text, PickRunKeeps, CutRunKeeps, MergeRunKeeps, MergeKeepsValues, requests_are_valid}
+use Rattle.vcd_model.specs.Ticks.{moment_ticks}
+use Rattle.vcd_model.specs.Outcome.{open_from, over_body, over_dump, merge_outcome}
+use Rattle.vcd_model.specs.Job.{request_of, outcome}
 use Rattle.vcd_laws.proofs.PickLaw.{pick_keeps}
 use Rattle.vcd_laws.proofs.CutLaw.{cut_keeps}
 use Rattle.vcd_laws.proofs.MergeLaw.{merge_keeps}

@@ -1,24 +1,9 @@
 -- What `check` passes ends well for the other commands, and the fault that it names is theirs.
-use Rattle.std.proofs.Common.{◌≡◌, ◌≢◌, ℕ, zero, suc, ◌+◌, ◌<◌, ◌≤◌, Bool, true, false, ◌&&◌, nat_lt, List, [], ◌∷◌, ◌++◌, map, filter_map, slice_index, Option, Some, None, Result, Ok, Err, is_ok, IsTrue, ◌⊎◌, inl, inr, refl, sym, ap, ◌∙◌, subst, arith}
-use Rattle.std.specs.List.{list_any, list_all}
-use Rattle.std.specs.List.Sorted.{IsStrictlyIncreasing}
-use Rattle.std.proofs.lemmas.Bool.{lt-ltb, ltb-true}
-use Rattle.vcd_model.specs.Input.{Input}
-use Rattle.vcd_model.specs.Tokens.{stream_of}
-use Rattle.vcd_model.specs.Header.{Header, header_of}
-use Rattle.vcd_model.specs.HeaderReading.{read_header, header_fault_of}
-use Rattle.vcd_model.specs.Items.{BodyItem}
-use Rattle.vcd_model.specs.Reading.{Fault, phrases_of}
-use Rattle.vcd_model.specs.Selection.{first_unmatched}
-use Rattle.vcd_model.specs.Ticks.{moment_ticks}
-use Rattle.vcd_model.specs.CheckAndList.{list_text}
-use Rattle.vcd_model.specs.Outcome.{Request, Outcome, Opened, fault_outcome, clean_outcome, allowed_after, open_from, items_in, fault_in, name_at, names_of, ends_early, open_text, close_text, at_end, over_body, unmatched_outcome, over_dump, over_dumps, dumps_of, merge_outcome}
-use Rattle.vcd_model.specs.Job.{Want, Refusal, request_of, cut_request, has_unit, do_rise, ok_of, sample_request, refusal_outcome, over_opened, outcome}
-use Rattle.vcd_laws.specs.KeptValues.{Opens}
-use Rattle.vcd_laws.specs.Checked.{run_of, EndsWell, NamesFault, Suits, EndsBefore, CheckedIsSafe, CheckNamesTheFault, CleanIsChecked}
+use Rattle.vcd_laws.proofs.Cited.{◌≡◌, ◌≢◌, ℕ, zero, suc, ◌+◌, ◌<◌, ◌≤◌, Bool, true, false, ◌&&◌, nat_lt, List, [], ◌∷◌, ◌++◌, map, filter_map, slice_index, Option, Some, None, Result, Ok, Err, is_ok, IsTrue, ◌⊎◌, inl, inr, refl, sym, ap, ◌∙◌, subst, arith, list_any, list_all, IsStrictlyIncreasing, lt-ltb, ltb-true, Input, stream_of, Header, header_of, read_header, header_fault_of, BodyItem, Fault, phrases_of, first_unmatched, moment_ticks, list_text, Request, Outcome, Opened, fault_outcome, clean_outcome, allowed_after, items_in, fault_in, name_at, names_of, ends_early, open_text, close_text, at_end, unmatched_outcome, over_dumps, dumps_of, merge_outcome, Want, Refusal, cut_request, has_unit, do_rise, ok_of, sample_request, refusal_outcome, over_opened, Opens, run_of, EndsWell, NamesFault, Suits, EndsBefore, CheckedIsSafe, CheckNamesTheFault, CleanIsChecked, fault_output}
+use Rattle.vcd_model.specs.Outcome.{open_from, over_body, over_dump}
+use Rattle.vcd_model.specs.Job.{request_of, outcome}
 use Rattle.vcd_laws.proofs.MergeAlone.{ended, merge_alone}
 use Rattle.vcd_laws.proofs.OpenedBodies.{opens_good}
-use Rattle.vcd_model.proofs.MergeSoFar.{fault_output}
 use Rattle.vcd_laws.proofs.RunLaws.{fault_status, opened_run}
 
 -- ---- what is asked for, in ticks

@@ -1,25 +1,10 @@
 -- A merge of inputs that `check` passes.
-use Rattle.std.proofs.Common.{◌≡◌, ℕ, ◌+◌, ◌≤◌, false, List, [], ◌∷◌, ◌++◌, length, map, find, filter_map, is_none, sum_by, Option, Some, None, option_map, Ok, Err, ◌⊎◌, inl, inr, refl, sym, ap, ◌∙◌, subst, arith, append_assoc}
-use Rattle.std.specs.List.{AllByRecursion, reduce, cons_option}
-use Rattle.std.proofs.lemmas.List.{length_push}
-use Rattle.std.proofs.lemmas.List.Sums.{sum_by-append, sum_by-cons}
-use Rattle.vcd_model.specs.Backward.{each_after}
-use Rattle.vcd_model.specs.Input.{Input}
-use Rattle.vcd_model.specs.Tokens.{Stream, stream_of}
-use Rattle.vcd_model.specs.Header.{Header, header_of}
-use Rattle.vcd_model.specs.HeaderPhrases.{HeaderPhrase, declarations_of}
-use Rattle.vcd_model.specs.HeaderReading.{read_header, header_fault_of}
-use Rattle.vcd_model.specs.BodyPhrases.{BodyPhrase}
-use Rattle.vcd_model.specs.Reading.{Fault, Placed, phrases_of, Ending, Reading}
-use Rattle.vcd_model.specs.Reading.Ending.{AtFault, AtEnd, AtLast}
-use Rattle.vcd_model.specs.Merge.{Dump, KeyedFault, dump_of, factor, placed_is_too_large, scaled_fault, first_fault, earlier_fault, keyed_fault, key_after, headers_of, merged_items, items_before, merge_open}
-use Rattle.vcd_model.specs.Outcome.{Outcome, Opened, fault_outcome, declarations_allowed, allowed_after, open_from, body_of, fault_in, name_at, dumps_of, merge_outcome}
-use Rattle.vcd_model.specs.Job.{Want, outcome, request_of}
-use Rattle.vcd_laws.specs.KeptValues.{OpenAll, Opens}
-use Rattle.vcd_laws.specs.Checked.{run_of, EndsWell, header_in, first_too_large, NamesTooLarge, CheckedMergeIsSafe}
-use Rattle.vcd_model.proofs.BodyFacts.{all_back}
-use Rattle.vcd_model.proofs.MergedPrefix.{faults_rest, faults_are}
-use Rattle.vcd_model.proofs.MergeSoFar.{first_all, with_fault, without_fault}
+use Rattle.vcd_laws.proofs.Cited.{◌≡◌, ℕ, ◌+◌, ◌≤◌, false, List, [], ◌∷◌, ◌++◌, length, map, find, filter_map, is_none, sum_by, Option, Some, None, option_map, Ok, Err, ◌⊎◌, inl, inr, refl, sym, ap, ◌∙◌, subst, arith, AllByRecursion, reduce, cons_option, length_push, sum_by-append, sum_by-cons, each_after, Input, Stream, stream_of, Header, HeaderPhrase, declarations_of, read_header, header_fault_of, BodyPhrase, Fault, Placed, phrases_of, Ending, Reading, AtFault, AtEnd, AtLast, Dump, KeyedFault, factor, placed_is_too_large, scaled_fault, earlier_fault, keyed_fault, key_after, headers_of, merged_items, items_before, merge_open, Outcome, Opened, fault_outcome, declarations_allowed, allowed_after, body_of, fault_in, name_at, dumps_of, merge_outcome, Want, outcome, OpenAll, Opens, run_of, EndsWell, header_in, first_too_large, NamesTooLarge, CheckedMergeIsSafe, all_back, faults_rest, faults_are, first_all, with_fault, without_fault}
+use Rattle.std.proofs.Common.{append_assoc}
+use Rattle.vcd_model.specs.Header.{header_of}
+use Rattle.vcd_model.specs.Merge.{dump_of, first_fault}
+use Rattle.vcd_model.specs.Outcome.{open_from}
+use Rattle.vcd_model.specs.Job.{request_of}
 use Rattle.vcd_laws.proofs.RunLaws.{fault_status}
 use Rattle.vcd_laws.proofs.Safe.{header_run, check_ends, no_fault, names_fault}
 use Rattle.vcd_laws.proofs.Settling.{Opening, opening, opened_with, opening_with, opens_by, opening_whole, run_over, run_is, dump_in, dumps_in}

@@ -1,21 +1,11 @@
 -- Rows on what `check` says of the other commands, computed.
-use Rattle.std.proofs.Common.{Some, ◌≡◌, ℕ, zero, suc, List, [], ◌∷◌, map, replicate, option_map, codes, Result, Ok, refl, subst, arith}
-use Rattle.std.specs.List.Sorted.{IsStrictlyIncreasing}
-use Prim.Native.String.{String}
+use Rattle.vcd_laws.proofs.Cited.{Some, ◌≡◌, ℕ, zero, suc, List, [], ◌∷◌, map, replicate, option_map, codes, Result, Ok, refl, subst, arith, IsStrictlyIncreasing, String, read_header, header_fault_of, header_of, Fault, Outcome, Opened, open_from, Want, outcome, stream_over, Opens, run_of, EndsWell, Suits}
 use Rattle.vcd_laws.proofs.Computing.{model}
 use Rattle.vcd_laws.proofs.RowText.{clean, limit, gives, on, cut, sample}
 use Rattle.vcd_laws.proofs.RunLaws.{same_opened}
 use Rattle.vcd_laws.proofs.Safe.{checked_is_safe}
 use Rattle.vcd_laws.proofs.SafeMerge.{checked_merge_is_safe}
 use Rattle.vcd_laws.proofs.MergeFaults.{EndsOrNames, merge_names_the_fault}
-use Rattle.vcd_model.specs.HeaderReading.{read_header, header_fault_of}
-use Rattle.vcd_model.specs.Header.{header_of}
-use Rattle.vcd_model.specs.Reading.{Fault}
-use Rattle.vcd_model.specs.Outcome.{Outcome, Opened, open_from}
-use Rattle.vcd_model.specs.Job.{Want, outcome}
-use Rattle.vcd_model.specs.Laws.{stream_over}
-use Rattle.vcd_laws.specs.KeptValues.{Opens}
-use Rattle.vcd_laws.specs.Checked.{run_of, EndsWell, Suits}
 
 abbrev stdin : List ℕ
 stdin = codes "(stdin)"

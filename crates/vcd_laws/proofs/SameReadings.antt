@@ -1,18 +1,10 @@
 -- Texts that are on other lines, under codes in another order, are read alike.
-use Rattle.std.proofs.Common.{◌≡◌, ℕ, Bool, true, false, cond, List, [], ◌∷◌, ◌++◌, Option, Some, None, refl, sym, ap, ◌∙◌}
-use Rattle.std.specs.Prelude.{⊤}
-use Rattle.std.proofs.lemmas.List.{map-append}
-use Rattle.vcd_model.specs.Tokens.{Token, Stream}
-use Rattle.vcd_model.specs.Declarations.{IdCode}
-use Rattle.vcd_model.specs.Items.{ChangeForm}
-use Rattle.vcd_model.specs.Items.ChangeForm.{Scalar, Vector, RealText}
-use Rattle.vcd_model.specs.Reading.{Fault, missing, Placed, phrases_of, Ending, Reading, texts_of, Grammar, read_from, reading_of}
-use Rattle.vcd_model.specs.Reading.Ending.{AtFault, AtEnd, AtLast}
-use Rattle.vcd_model.specs.Checks.{first_failed}
-use Rattle.vcd_model.specs.BodyPhrases.{BodyPhrase, Start, start_of, declared_code, phrase_with, body_phrase, change_with, change_behind, items_of}
-use Rattle.vcd_model.specs.BodyPhrases.Start.{Command, Mark, Digit, Digits, Number, Other}
-use Rattle.vcd_model.specs.BodyChecks.{start_checks, inner_checks, body_fault}
-use Rattle.vcd_model.specs.BodyReading.{body_grammar, read_body, body_items, ends_well, body_fault_of}
+use Rattle.vcd_laws.proofs.Cited.{◌≡◌, ℕ, Bool, true, false, cond, List, [], ◌∷◌, ◌++◌, Option, Some, None, refl, sym, ap, ◌∙◌, ⊤, map-append, Token, Stream, IdCode, ChangeForm, Scalar, Vector, RealText, Fault, missing, Placed, phrases_of, Ending, Reading, texts_of, Grammar, read_from, AtFault, AtEnd, AtLast, first_failed, BodyPhrase, Start, start_of, declared_code, change_with, change_behind, items_of, Digit, Digits, Number, Other, start_checks, inner_checks, body_grammar, body_items, ends_well, body_fault_of}
+use Rattle.vcd_model.specs.Reading.{reading_of}
+use Rattle.vcd_model.specs.BodyPhrases.{phrase_with, body_phrase}
+use Rattle.vcd_model.specs.BodyPhrases.Start.{Command, Mark}
+use Rattle.vcd_model.specs.BodyChecks.{body_fault}
+use Rattle.vcd_model.specs.BodyReading.{read_body}
 
 -- one grammar says of tokens what the other says
 record Alike {P : Type 0} (g h : Grammar P) : Type 0 where

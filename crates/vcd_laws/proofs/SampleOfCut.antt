@@ -1,33 +1,7 @@
 -- `sample` of what `cut` wrote, at any times.
-use Rattle.std.proofs.Common.{◌≡◌, ℕ, ◌<◌, ◌≤◌, Bool, true, false, cond, not, nat_lt, nat_le, drop, List, [], ◌∷◌, ◌++◌, filter, flat_map, decimal, Option, Some, None, Result, Ok, Err, IsTrue, ◌⊎◌, inl, inr, refl, sym, ap, ◌∙◌, subst, arith}
-use Rattle.std.specs.Prelude.{min}
-use Rattle.std.specs.List.{AllByRecursion}
-use Rattle.std.proofs.lemmas.Bool.{cases_lt, lt-ltb, le-ltb, le-leb, lt-leb}
-use Rattle.vcd_model.specs.Input.{Input}
-use Rattle.vcd_model.specs.Declarations.{IdCode, code_of}
-use Rattle.vcd_model.specs.Items.{BodyItem, Entry}
-use Rattle.vcd_model.specs.Values.{Value}
-use Rattle.vcd_model.specs.History.{value_at, value_before}
-use Rattle.vcd_model.specs.HeadText.{words}
-use Rattle.vcd_model.specs.Sample.{shown, sample_lines}
-use Rattle.vcd_model.specs.BodyPhrases.{declared_code}
-use Rattle.vcd_model.specs.Selection.{Selected, selected, first_unmatched}
-use Rattle.vcd_model.specs.Cut.{ends_cut, within}
-use Rattle.vcd_model.specs.Ticks.{Moment, moment_ticks}
-use Rattle.vcd_model.specs.Outcome.{Request, Outcome, Opened, items_in, fault_in, clean_outcome, over_dumps}
-use Rattle.vcd_model.specs.Job.{Want, Refusal, request_of, refusal_outcome}
-use Rattle.vcd_laws.specs.KeptValues.{Opens, written_by}
-use Rattle.vcd_laws.specs.Dumps.{input_of}
-use Rattle.vcd_laws.specs.OverCut.{line_of_cut, SampleOfCutAnywhere}
-use Rattle.vcd_model.proofs.JobLemmas.{requests_are_valid}
-use Rattle.vcd_model.proofs.ItemStates.{next_open, entries_from}
-use Rattle.vcd_model.proofs.Latest.{latest, gives_at, behind, last_value_is, newer-false, latest_agree}
-use Rattle.vcd_model.proofs.Rewritten.{AreWritable}
-use Rattle.vcd_model.proofs.Assembled.{parts_items, parts_values}
+use Rattle.vcd_laws.proofs.Cited.{◌≡◌, ℕ, ◌<◌, ◌≤◌, Bool, true, false, cond, not, nat_lt, nat_le, drop, List, [], ◌∷◌, ◌++◌, filter, flat_map, decimal, Option, Some, None, Result, Ok, Err, IsTrue, ◌⊎◌, inl, inr, refl, sym, ap, ◌∙◌, subst, arith, min, AllByRecursion, cases_lt, lt-ltb, le-ltb, le-leb, lt-leb, Input, IdCode, code_of, BodyItem, Entry, Value, value_at, value_before, words, shown, sample_lines, declared_code, Selected, selected, first_unmatched, ends_cut, within, Moment, moment_ticks, Request, Outcome, Opened, items_in, fault_in, clean_outcome, over_dumps, Want, Refusal, refusal_outcome, Opens, written_by, input_of, line_of_cut, SampleOfCutAnywhere, requests_are_valid, next_open, entries_from, latest, gives_at, behind, last_value_is, newer-false, latest_agree, AreWritable, parts_items, parts_values, times_from, times_within, all_entries, nothing_at, start_behind, cut_values, later_none}
+use Rattle.vcd_model.specs.Job.{request_of}
 use Rattle.vcd_laws.proofs.OpenedBodies.{opens_good, opened_fit}
-use Rattle.vcd_model.proofs.CutSplit.{times_from, times_within, all_entries, nothing_at}
-use Rattle.vcd_model.proofs.StartSections.{start_behind}
-use Rattle.vcd_model.proofs.CutKept.{cut_values, later_none}
 use Rattle.vcd_laws.proofs.CutLaw.{within_shut, ends_or_shut, cut_entries, cut_start, cut_end}
 use Rattle.vcd_laws.proofs.WrittenCodes.{In, to_codes_of, found_in}
 use Rattle.vcd_laws.proofs.HeadBack.{in_selected, opens_header}

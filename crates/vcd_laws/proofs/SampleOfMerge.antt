@@ -1,26 +1,6 @@
 -- `sample` of what `merge` wrote gives the values of its inputs.
-use Rattle.std.proofs.Common.{◌≡◌, ℕ, ◌+◌, ◌*◌, ◌<◌, ◌^◌, Bool, true, false, cond, List, [], ◌∷◌, ◌++◌, length, map, flat_map, decimal, Option, Some, None, Result, Ok, Err, inl, inr, refl, sym, ap, ◌∙◌, subst, arith}
-use Rattle.std.specs.List.{AllByRecursion}
-use Rattle.std.proofs.lemmas.List.{map-append, length-map}
-use Rattle.vcd_model.specs.Input.{Input}
-use Rattle.vcd_model.specs.Backward.{each_after}
-use Rattle.vcd_model.specs.Declarations.{code_of}
-use Rattle.vcd_model.specs.Header.{Header}
-use Rattle.vcd_model.specs.Items.{BodyItem}
-use Rattle.vcd_model.specs.Values.{Value}
-use Rattle.vcd_model.specs.History.{value_at}
-use Rattle.vcd_model.specs.HeadText.{words, least_exponent}
-use Rattle.vcd_model.specs.Sample.{shown, sample_lines}
-use Rattle.vcd_model.specs.Selection.{Selected, selected, first_unmatched}
-use Rattle.vcd_model.specs.Merge.{Dump, factor, headers_of}
-use Rattle.vcd_model.specs.Outcome.{Request, Outcome, Opened, items_in, clean_outcome, dumps_of, over_dumps}
-use Rattle.vcd_model.specs.Job.{Want, Refusal, request_of, refusal_outcome, outcome}
-use Rattle.vcd_model.specs.Laws.{renamed_code}
-use Rattle.vcd_laws.specs.Heads.{under_input, merged_variable}
-use Rattle.vcd_laws.specs.Dumps.{input_of, AreReadable}
-use Rattle.vcd_laws.specs.OverMerge.{merged_lines, names_under, SampleOfMerge}
-use Rattle.vcd_model.proofs.JobLemmas.{requests_are_valid}
-use Rattle.vcd_model.proofs.BodyFacts.{all_back}
+use Rattle.vcd_laws.proofs.Cited.{◌≡◌, ℕ, ◌+◌, ◌*◌, ◌<◌, ◌^◌, Bool, true, false, cond, List, [], ◌∷◌, ◌++◌, length, map, flat_map, decimal, Option, Some, None, Result, Ok, Err, inl, inr, refl, sym, ap, ◌∙◌, subst, arith, AllByRecursion, map-append, length-map, Input, each_after, code_of, Header, BodyItem, Value, value_at, words, least_exponent, shown, sample_lines, Selected, selected, first_unmatched, Dump, factor, headers_of, Request, Outcome, Opened, items_in, clean_outcome, dumps_of, over_dumps, Want, Refusal, refusal_outcome, outcome, renamed_code, under_input, merged_variable, input_of, AreReadable, merged_lines, names_under, SampleOfMerge, requests_are_valid, all_back}
+use Rattle.vcd_model.specs.Job.{request_of}
 use Rattle.vcd_laws.proofs.WrittenCodes.{In, to_contained, to_codes_of}
 use Rattle.vcd_laws.proofs.HeadBack.{in_selected}
 use Rattle.vcd_laws.proofs.MergedHead.{CanMerge, merged_selected}

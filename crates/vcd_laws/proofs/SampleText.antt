@@ -1,18 +1,8 @@
 -- The whole output of a clean `sample`: the lines of each of its times.
-use Rattle.std.proofs.Common.{◌≡◌, ◌≢◌, ℕ, ◌<◌, ◌≤◌, Bool, true, false, not, ◌||◌, nat_lt, List, [], ◌∷◌, ◌++◌, filter, flat_map, Option, Some, None, ◌⊎◌, inl, inr, refl, sym, ap, ◌∙◌, arith}
-use Rattle.std.specs.List.{list_any, last_or, AllByRecursion}
-use Rattle.std.specs.List.Sorted.{IsStrictlyIncreasing}
-use Rattle.std.proofs.lemmas.List.Concat.{flat_map-append}
-use Rattle.std.proofs.lemmas.Bool.{cases_lt, ltb-true, lt-ltb}
-use Rattle.vcd_model.specs.Backward.{up_to_first}
-use Rattle.vcd_model.specs.Header.{Header}
-use Rattle.vcd_model.specs.Items.{BodyItem, marks}
-use Rattle.vcd_model.specs.Cut.{is_mark_above}
-use Rattle.vcd_model.specs.Selection.{Selected, selected}
-use Rattle.vcd_model.specs.Sample.{is_settled, sample_lines, sample_open, sample_close}
-use Rattle.vcd_model.specs.Reading.{Fault}
-use Rattle.vcd_model.specs.Outcome.{Request, clean_outcome, ends_early, over_body}
-use Rattle.vcd_model.proofs.SampleGrows.{lines_stay, rises_on, up_first, split_times, settled_below, same_lines}
+use Rattle.vcd_laws.proofs.Cited.{◌≡◌, ◌≢◌, ℕ, ◌<◌, ◌≤◌, Bool, true, false, not, ◌||◌, nat_lt, List, [], ◌∷◌, ◌++◌, filter, flat_map, Option, Some, None, ◌⊎◌, inl, inr, refl, sym, ap, ◌∙◌, arith, list_any, last_or, AllByRecursion, IsStrictlyIncreasing, flat_map-append, cases_lt, ltb-true, lt-ltb, up_to_first, Header, BodyItem, is_mark_above, Selected, selected, sample_lines, Fault, Request, clean_outcome, ends_early, lines_stay, rises_on, up_first, split_times, settled_below, same_lines}
+use Rattle.vcd_model.specs.Items.{marks}
+use Rattle.vcd_model.specs.Sample.{is_settled, sample_open, sample_close}
+use Rattle.vcd_model.specs.Outcome.{over_body}
 
 all_true : (ts : List ℕ) → filter (λ t. true) ts ≡ ts
 all_true [] = refl

@@ -1,21 +1,9 @@
 -- Inputs that are settled one by one settle their merge.
-use Rattle.std.proofs.Common.{◌≡◌, ℕ, ◌+◌, true, is_some, List, [], ◌∷◌, ◌++◌, find, Option, Some, None, ◌⊎◌, inl, inr, refl}
-use Rattle.std.specs.List.{AllByRecursion}
-use Rattle.vcd_model.specs.Tokens.{Token, Stream}
-use Rattle.vcd_model.specs.Header.{Header, header_of}
-use Rattle.vcd_model.specs.HeaderPhrases.{HeaderPhrase}
-use Rattle.vcd_model.specs.BodyPhrases.{BodyPhrase}
-use Rattle.vcd_model.specs.HeaderReading.{header_grammar}
-use Rattle.vcd_model.specs.BodyReading.{read_body}
-use Rattle.vcd_model.specs.Reading.{Placed, phrases_of, Ending, Reading, reading_of}
-use Rattle.vcd_model.specs.Reading.Ending.{AtFault, AtEnd, AtLast}
-use Rattle.vcd_model.specs.Merge.{KeyedFault, dump_of, factor, placed_is_too_large}
-use Rattle.vcd_model.specs.Outcome.{allowed_after}
-use Rattle.vcd_model.specs.Job.{Want, request_of}
-use Rattle.vcd_model.specs.Settled.{is_faulty, is_settled_at, is_settled}
-use Rattle.vcd_model.specs.SettledMerge.{Seen, SeenBody, SeenHeaders, tokens_seen, seen_before, seen_at, headers_seen, fault_met, dump_seen, is_at_its_end, are_past, settles_merge, is_settled_merge}
-use Rattle.vcd_model.specs.SettledMerge.SeenHeaders.{Faulty, NotWhole, Whole}
-use Rattle.vcd_laws.specs.Final.{header_seen, is_settled_alone, AreSettledAlone, SettledAloneSettlesMerge}
+use Rattle.vcd_laws.proofs.Cited.{◌≡◌, ℕ, ◌+◌, true, is_some, List, [], ◌∷◌, ◌++◌, find, Option, Some, None, ◌⊎◌, inl, inr, refl, AllByRecursion, Token, Stream, Header, header_of, HeaderPhrase, BodyPhrase, header_grammar, read_body, Placed, phrases_of, Ending, Reading, reading_of, AtFault, AtEnd, AtLast, KeyedFault, factor, placed_is_too_large, allowed_after, Want, is_faulty, is_settled_at, Seen, SeenBody, SeenHeaders, tokens_seen, seen_before, seen_at, headers_seen, fault_met, dump_seen, is_at_its_end, are_past, settles_merge, Faulty, NotWhole, Whole, header_seen, is_settled_alone, AreSettledAlone, SettledAloneSettlesMerge}
+use Rattle.vcd_model.specs.Merge.{dump_of}
+use Rattle.vcd_model.specs.Job.{request_of}
+use Rattle.vcd_model.specs.Settled.{is_settled}
+use Rattle.vcd_model.specs.SettledMerge.{is_settled_merge}
 use Rattle.vcd_laws.proofs.Settling.{merge_faulty}
 
 -- all of an input is known, or its body has a fault

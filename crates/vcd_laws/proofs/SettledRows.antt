@@ -1,9 +1,5 @@
 -- Rows on which first tokens settle a run, computed.
-use Rattle.std.proofs.Common.{◌≢◌, ◌≤◌, length, drop, arith, ◌≡◌, ℕ, Bool, true, false, List, [], ◌∷◌, codes, map, take, Some, refl}
-use Rattle.std.specs.Prelude.{pos, nat_le}
-use Rattle.std.specs.List.{AllByRecursion, list_all}
-use Rattle.std.proofs.lemmas.Bool.{and_parts, leb-true}
-use Prim.Native.String.{String}
+use Rattle.vcd_laws.proofs.Cited.{◌≢◌, ◌≤◌, length, drop, arith, ◌≡◌, ℕ, Bool, true, false, List, [], ◌∷◌, codes, map, take, Some, refl, pos, nat_le, AllByRecursion, list_all, and_parts, leb-true, String, Input, Mark, Outcome, Want, outcome, input_of, run_of, is_header_over, is_settled, Seen, is_settled_merge, Moment, Token, stream_of, tokens_of}
 use Rattle.vcd_laws.proofs.Computing.{model}
 use Rattle.vcd_laws.proofs.RowText.{clean, limit, written, at}
 use Rattle.vcd_laws.proofs.Settling.{settled_is_final}
@@ -11,15 +7,6 @@ use Rattle.vcd_laws.proofs.SettlingMerge.{settled_merge_is_final}
 use Rattle.vcd_laws.proofs.SettledAlone.{settled_alone_settles_merge}
 use Rattle.vcd_laws.proofs.Unsettled.{unsettled_is_open}
 use Rattle.vcd_laws.proofs.UnsettledMerge.{unsettled_merge_is_open}
-use Rattle.vcd_model.specs.Input.{Input, Mark}
-use Rattle.vcd_model.specs.Outcome.{Outcome}
-use Rattle.vcd_model.specs.Job.{Want, outcome}
-use Rattle.vcd_laws.specs.Dumps.{input_of}
-use Rattle.vcd_laws.specs.Checked.{run_of}
-use Rattle.vcd_model.specs.Settled.{is_header_over, is_settled}
-use Rattle.vcd_model.specs.SettledMerge.{Seen, is_settled_merge}
-use Rattle.vcd_model.specs.Ticks.{Moment}
-use Rattle.vcd_model.specs.Tokens.{Token, stream_of, tokens_of}
 
 -- a header of 8 tokens; a timestamp, a change, a timestamp that goes back, and a change
 abbrev dump : List ℕ

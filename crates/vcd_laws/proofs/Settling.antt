@@ -1,27 +1,13 @@
 -- Tokens that settle a run: nothing that follows them changes its outcome.
-use Rattle.std.proofs.Common.{◌≡◌, ℕ, Bool, true, false, ◌||◌, is_some, List, [], ◌∷◌, ◌++◌, length, map, Option, Some, None, Result, Ok, Err, refl, sym, ap, ◌∙◌, append-nil, append_assoc}
-use Rattle.std.specs.List.{list_any}
-use Rattle.std.proofs.lemmas.List.{map-append}
-use Rattle.std.proofs.lemmas.List.Elements.{filter_map-append}
-use Rattle.vcd_model.specs.Backward.{up_to_first}
-use Rattle.vcd_model.specs.Input.{Input}
-use Rattle.vcd_model.specs.Tokens.{Token, Stream, stream_of}
-use Rattle.vcd_model.specs.Declarations.{IdCode}
-use Rattle.vcd_model.specs.Header.{Header, header_of}
-use Rattle.vcd_model.specs.HeaderPhrases.{HeaderPhrase}
-use Rattle.vcd_model.specs.HeaderReading.{header_grammar, read_header, header_fault_of}
-use Rattle.vcd_model.specs.Items.{BodyItem}
-use Rattle.vcd_model.specs.BodyPhrases.{BodyPhrase, items_of}
-use Rattle.vcd_model.specs.BodyReading.{body_grammar, read_body, body_items, body_fault_of}
-use Rattle.vcd_model.specs.Reading.{Fault, Placed, phrases_of, Ending, Reading, Grammar, read_from, reading_of}
-use Rattle.vcd_model.specs.Reading.Ending.{AtFault, AtEnd, AtLast}
-use Rattle.vcd_model.specs.Selection.{first_unmatched}
-use Rattle.vcd_model.specs.Merge.{Dump, dump_of, factor}
-use Rattle.vcd_model.specs.Outcome.{Request, Outcome, Opened, fault_outcome, clean_outcome, open_text, declarations_allowed, allowed_after, with_opened, open_from, body_of, items_in, fault_in, name_at, names_of, ends_early, over_body, over_dump, dumps_of, merge_outcome, over_dumps, unmatched_outcome}
-use Rattle.vcd_model.specs.Job.{Want, Refusal, request_of, refusal_outcome, over_opened, outcome}
-use Rattle.vcd_model.specs.Settled.{is_faulty, body_settles, is_settled_behind, is_settled_by, is_settled_at, is_over, is_settled}
-use Rattle.vcd_laws.specs.Final.{SettledIsFinal, SettledIsFinalInMerge}
-use Rattle.vcd_model.proofs.SoFarLemmas.{behind_phrase, at_token, token_step}
+use Rattle.vcd_laws.proofs.Cited.{◌≡◌, ℕ, Bool, true, false, ◌||◌, is_some, List, [], ◌∷◌, ◌++◌, length, map, Option, Some, None, Result, Ok, Err, refl, sym, ap, ◌∙◌, list_any, map-append, filter_map-append, up_to_first, Input, Token, Stream, stream_of, IdCode, Header, header_of, HeaderPhrase, header_grammar, header_fault_of, BodyItem, BodyPhrase, items_of, body_grammar, body_items, body_fault_of, Fault, Placed, phrases_of, Ending, Reading, Grammar, read_from, AtFault, AtEnd, AtLast, first_unmatched, Dump, factor, Request, Outcome, Opened, fault_outcome, clean_outcome, open_text, declarations_allowed, allowed_after, with_opened, items_in, fault_in, name_at, names_of, ends_early, merge_outcome, over_dumps, unmatched_outcome, Want, Refusal, refusal_outcome, over_opened, is_faulty, body_settles, is_settled_behind, is_settled_by, is_settled_at, is_over, SettledIsFinal, SettledIsFinalInMerge, behind_phrase, at_token, token_step}
+use Rattle.std.proofs.Common.{append-nil, append_assoc}
+use Rattle.vcd_model.specs.HeaderReading.{read_header}
+use Rattle.vcd_model.specs.BodyReading.{read_body}
+use Rattle.vcd_model.specs.Reading.{reading_of}
+use Rattle.vcd_model.specs.Merge.{dump_of}
+use Rattle.vcd_model.specs.Outcome.{open_from, body_of, over_body, over_dump, dumps_of}
+use Rattle.vcd_model.specs.Job.{request_of, outcome}
+use Rattle.vcd_model.specs.Settled.{is_settled}
 
 -- ---- readings
 

@@ -1,35 +1,13 @@
 -- What settles a merge: nothing that may come of its inputs changes its outcome.
-use Rattle.std.proofs.Common.{◌≡◌, ℕ, ◌+◌, Bool, true, false, cond, ◌||◌, is_some, List, [], ◌∷◌, ◌++◌, length, map, filter, filter_map, find, fold, Option, Some, None, option_map, Ok, Err, ◌⊎◌, inl, inr, refl, sym, ap, ◌∙◌, subst, append-nil, one-add}
-use Rattle.std.specs.List.{AllByRecursion, reduce, before_first, cons_option}
-use Rattle.std.proofs.lemmas.Bool.{and_parts}
-use Rattle.std.proofs.lemmas.List.Elements.{filter-append}
-use Rattle.vcd_model.specs.Backward.{each_after}
-use Rattle.vcd_model.specs.Header.{Header, header_of}
-use Rattle.vcd_model.specs.Items.{BodyItem}
-use Rattle.vcd_model.specs.HeadText.{renamed}
-use Rattle.vcd_model.specs.Input.{Input}
-use Rattle.vcd_model.specs.Tokens.{Token, Stream, stream_of}
-use Rattle.vcd_model.specs.HeaderReading.{header_grammar, read_header, header_fault_of}
-use Rattle.vcd_model.specs.BodyPhrases.{BodyPhrase, items_of}
-use Rattle.vcd_model.specs.BodyReading.{body_grammar, read_body, body_fault_of}
-use Rattle.vcd_model.specs.Reading.{Fault, missing, Placed, phrases_of, Ending, Reading, reading_of}
-use Rattle.vcd_model.specs.Reading.Ending.{AtFault, AtEnd, AtLast}
-use Rattle.vcd_model.specs.Job.{Want, request_of}
-use Rattle.vcd_model.specs.Settled.{is_faulty, is_over}
-use Rattle.vcd_model.specs.SettledMerge.SeenHeaders.{Faulty, NotWhole, Whole}
-use Rattle.vcd_model.specs.SettledMerge.{Seen, SeenBody, SeenHeaders, seen_before, tokens_seen, whole_of, header_ends, seen_at, headers_seen, fault_met, fault_seen, dump_seen, is_at_its_end, is_past, are_past, bodies_settle, settles_merge, is_settled_merge}
-use Rattle.vcd_model.specs.Laws.{IsPrefixOf}
-use Rattle.vcd_laws.specs.Final.{IsSeen, AreSeen, SettledMergeIsFinal}
-use Rattle.vcd_model.proofs.DumpItems.{mark_or, before_past, items_append}
+use Rattle.vcd_laws.proofs.Cited.{◌≡◌, ℕ, ◌+◌, Bool, true, false, cond, ◌||◌, is_some, List, [], ◌∷◌, ◌++◌, length, map, filter, filter_map, find, fold, Option, Some, None, option_map, Ok, Err, ◌⊎◌, inl, inr, refl, sym, ap, ◌∙◌, subst, one-add, AllByRecursion, reduce, before_first, cons_option, and_parts, filter-append, each_after, Header, header_of, BodyItem, renamed, Input, Token, Stream, stream_of, header_grammar, header_fault_of, BodyPhrase, items_of, body_grammar, body_fault_of, Fault, missing, Placed, phrases_of, Ending, Reading, reading_of, AtFault, AtEnd, AtLast, Want, is_faulty, is_over, Faulty, NotWhole, Whole, Seen, SeenBody, SeenHeaders, seen_before, tokens_seen, whole_of, header_ends, seen_at, headers_seen, fault_met, fault_seen, dump_seen, is_at_its_end, is_past, are_past, bodies_settle, settles_merge, IsPrefixOf, IsSeen, AreSeen, SettledMergeIsFinal, mark_or, before_past, items_append, Dump, Key, Keyed, KeyedFault, placed_is_too_large, key_lt, key_after, keyed_after, by_key, factor, earlier_fault, keyed_fault, headers_of, merged_items, items_before, merge_open, keyed_own, keyed_rest, Opened, fault_outcome, name_at, merge_outcome, allowed_after, with_opened, dumps_of, each_after-append, filter-by_key, key_chain, key_never, key_trans, merged_by_input, late_none, faults_rest, faults_are, still_later, with_fault}
+use Rattle.std.proofs.Common.{append-nil}
+use Rattle.vcd_model.specs.HeaderReading.{read_header}
+use Rattle.vcd_model.specs.BodyReading.{read_body}
+use Rattle.vcd_model.specs.Job.{request_of}
+use Rattle.vcd_model.specs.SettledMerge.{is_settled_merge}
 use Rattle.vcd_laws.proofs.Settling.{with_more, placed_first, faulty_body, at_fault, opened_at, opened_with, opening, opening_with, opens_by, header_read, opening_faulty, opening_whole, run_over, run_is, dump_in, dumps_in}
-use Rattle.vcd_model.specs.Merge.{Dump, Key, Keyed, KeyedFault, dump_of, placed_is_too_large, key_lt, key_after, keyed_after, by_key, factor, first_fault, earlier_fault, keyed_fault, headers_of, merged_items, items_before, merge_open}
-use Rattle.vcd_model.specs.MergeByInput.{keyed_own, keyed_rest}
-use Rattle.vcd_model.specs.Outcome.{Opened, fault_outcome, name_at, merge_outcome, allowed_after, with_opened, open_from, body_of, dumps_of}
-use Rattle.vcd_model.proofs.Growing.{each_after-append}
-use Rattle.vcd_model.proofs.MergeOrder.{filter-by_key, key_chain, key_never, key_trans}
-use Rattle.vcd_model.proofs.MergedLists.{merged_by_input}
-use Rattle.vcd_model.proofs.MergedPrefix.{late_none, faults_rest, faults_are}
-use Rattle.vcd_model.proofs.MergeSoFar.{still_later, with_fault}
+use Rattle.vcd_model.specs.Merge.{dump_of, first_fault}
+use Rattle.vcd_model.specs.Outcome.{open_from, body_of}
 
 -- ---- more faults after the first
 

@@ -1,45 +1,10 @@
 -- What is written of a body has tokens no longer than the token limit, if its codes are shorter.
-use Rattle.std.proofs.Common.{◌≡◌, ◌≢◌, ℕ, ◌<◌, ◌≤◌, ◌^◌, ◌==◌, Bool, true, false, cond, List, [], ◌∷◌, ◌++◌, length, map, filter, flat_map, Option, Some, None, refl, sym, ap, ◌∙◌, subst, arith}
-use Rattle.std.specs.List.{AllByRecursion, list_any}
-use Rattle.std.specs.Str.{str_to_ascii_lowercase}
-use Rattle.std.proofs.lemmas.List.{append_assoc, map-append, length-append, length-map}
-use Rattle.std.proofs.lemmas.Bool.{eqb-true, leb-true}
-use Rattle.vcd_model.specs.Input.{Input}
-use Rattle.vcd_model.specs.Tokens.{Token, first_halt}
-use Rattle.vcd_model.specs.Keywords.{Keyword, keyword_text}
-use Rattle.vcd_model.specs.Declarations.{IdCode, has_text}
-use Rattle.vcd_model.specs.Items.{SectionKind, ChangeForm, Change, BodyItem, Entry, entries}
-use Rattle.vcd_model.specs.Items.SectionKind.{Vars, Off, On, All}
-use Rattle.vcd_model.specs.Items.ChangeForm.{Scalar, Vector, RealText}
-use Rattle.vcd_model.specs.Values.{Value, extend, short, value_with, value_of}
-use Rattle.vcd_model.specs.Values.Value.{Bits, Real}
-use Rattle.vcd_model.specs.ItemText.{text_after, closing, last_mark}
-use Rattle.vcd_model.specs.BodyPhrases.{BodyPhrase, IsItem, IsChange, declared_code, section_keyword, items_of}
-use Rattle.vcd_model.specs.BodyPhrases.BodyPhrase.{Comment, Gives}
-use Rattle.vcd_model.specs.BodyReading.{body_grammar, read_body, body_items}
-use Rattle.vcd_model.specs.Reading.{Reading, reading_of, Placed, phrases_of, texts_of, IsGood, AreGood, IsReading}
-use Rattle.vcd_model.specs.HeadText.{head_for}
-use Rattle.vcd_model.specs.Selection.{selected, selects_code}
+use Rattle.vcd_laws.proofs.Cited.{◌≡◌, ◌≢◌, ℕ, ◌<◌, ◌≤◌, ◌^◌, ◌==◌, Bool, true, false, cond, List, [], ◌∷◌, ◌++◌, length, map, filter, flat_map, Option, Some, None, refl, sym, ap, ◌∙◌, subst, arith, AllByRecursion, list_any, str_to_ascii_lowercase, append_assoc, map-append, length-append, length-map, eqb-true, leb-true, Input, Token, first_halt, Keyword, keyword_text, IdCode, has_text, SectionKind, ChangeForm, Change, BodyItem, Entry, entries, Vars, Off, On, All, Scalar, Vector, RealText, Value, extend, short, value_with, value_of, Bits, Real, text_after, closing, last_mark, BodyPhrase, IsItem, IsChange, declared_code, section_keyword, items_of, Comment, Gives, body_grammar, body_items, Reading, reading_of, Placed, phrases_of, texts_of, IsGood, AreGood, IsReading, head_for, selected, selects_code, Outcome, Opened, items_in, fault_in, Want, over_opened, Opens, written_by, CodesFit, input_of, IsReadable, reading_is_one, body_computes, texts_from, short_is_shortest, IsGoodText, IsGoodChange, next_time, next_open, entries_from, at_start, entries_are, item_tokens, plain_line, lines_words, IsGoodValue, value_change, read_again, value_is_good, length-extend, read_item, time_items, written_items, IsWritable, AreWritable, parts_items, parts_fit, parts_text, closing_items, all_front, all_back, all_append, filter_words, written}
+use Rattle.vcd_model.specs.BodyReading.{read_body}
 use Rattle.vcd_model.specs.Pick.{pick_open, pick_close}
-use Rattle.vcd_model.specs.Outcome.{Outcome, Opened, body_of, items_in, fault_in}
-use Rattle.vcd_model.specs.Job.{Want, over_opened}
-use Rattle.vcd_laws.specs.KeptValues.{Opens, written_by}
-use Rattle.vcd_laws.specs.Dumps.{CodesFit, input_of, IsReadable}
-use Rattle.vcd_model.proofs.Readings.{reading_is_one}
-use Rattle.vcd_model.proofs.BodyGrammar.{body_computes}
-use Rattle.vcd_model.proofs.TokenTexts.{texts_from}
-use Rattle.vcd_model.proofs.ShortLemmas.{short_is_shortest}
-use Rattle.vcd_model.proofs.ItemStates.{IsGoodText, IsGoodChange, next_time, next_open, entries_from, at_start, entries_are}
-use Rattle.vcd_model.proofs.ReadBack.{item_tokens}
-use Rattle.vcd_model.proofs.Lines.{plain_line, lines_words}
-use Rattle.vcd_model.proofs.ChangeLines.{IsGoodValue, value_change, read_again, value_is_good, length-extend}
-use Rattle.vcd_model.proofs.Rewritten.{read_item, time_items, written_items, IsWritable, AreWritable}
-use Rattle.vcd_model.proofs.Assembled.{parts_items, parts_fit, parts_text, closing_items}
-use Rattle.vcd_model.proofs.BodyFacts.{all_front, all_back, all_append}
-use Rattle.vcd_model.proofs.HeaderFacts.{filter_words}
+use Rattle.vcd_model.specs.Outcome.{body_of}
 use Rattle.vcd_laws.proofs.OpenedBodies.{opens_good, opened_fit, opened_shut}
 use Rattle.vcd_laws.proofs.PickLaw.{picks, pick_parts}
-use Rattle.vcd_model.proofs.WrittenRows.{written}
 use Rattle.vcd_laws.proofs.WrittenCodes.{from_filter, to_contained, from_find}
 use Rattle.vcd_laws.proofs.HeadBack.{marks, own_code, rows_declared, head_is, opens_header}
 use Rattle.vcd_laws.proofs.RunLaws.{pick_case, opened_run}

@@ -1,29 +1,9 @@
 -- A head that is written for a header has tokens no longer than those of the header, and no longer
 -- than 64 bytes otherwise.
-use Rattle.std.proofs.Common.{◌≡◌, ℕ, ℤ, ◌<◌, ◌≤◌, ◌^◌, Bool, true, false, cond, List, [], ◌∷◌, ◌++◌, length, filter_map, flat_map, decimal, Option, Some, None, Ok, unwrap_or, refl, sym, ap, ◌∙◌, subst, arith}
-use Rattle.std.specs.List.{AllByRecursion, join_with_byte, last_or, cons_option}
-use Rattle.std.proofs.lemmas.List.{append_assoc, append-nil, map-append}
-use Rattle.std.proofs.lemmas.Fmt.{length-decimal-le}
-use Rattle.vcd_model.specs.Bytes.{as_line}
-use Rattle.vcd_model.specs.Keywords.{Keyword, keyword_text}
-use Rattle.vcd_model.specs.Input.{Input}
-use Rattle.vcd_model.specs.Tokens.{Token, Stream, stream_of}
-use Rattle.vcd_model.specs.Declarations.{Declaration, enclosing}
-use Rattle.vcd_model.specs.Header.{Header, header_of}
-use Rattle.vcd_model.specs.HeadText.{first_place}
-use Rattle.vcd_model.specs.HeaderPhrases.{HeaderPhrase, IsDeclaration, declaration_of, declarations_of, date_of, version_of}
-use Rattle.vcd_model.specs.HeaderPhrases.HeaderPhrase.{Comment, Date, Version, Timescale, Declares, Unknown, EndDefinitions}
-use Rattle.vcd_model.specs.HeaderReading.{header_grammar, read_header}
-use Rattle.vcd_model.specs.Reading.{Reading, reading_of, Placed, phrases_of, texts_of, IsGood, AreGood, IsReading}
-use Rattle.vcd_model.specs.Outcome.{Opened, open_from}
-use Rattle.vcd_model.proofs.Readings.{reading_is_one}
-use Rattle.vcd_model.proofs.HeaderGrammar.{header_computes, end_text}
-use Rattle.vcd_model.proofs.TokenTexts.{IsWord, texts_from}
-use Rattle.vcd_model.proofs.BodyFacts.{all_front, all_back, all_append}
-use Rattle.vcd_model.proofs.HeaderFacts.{stream_words, inputs_all}
-use Rattle.vcd_model.proofs.HeadPhrases.{declaration_tokens, IsDeclared, AreDeclared}
-use Rattle.vcd_model.proofs.HeadLines.{line_words, AreGoodScales, AreParts, head_of, head_words, text_tokens, scale_tokens}
-use Rattle.vcd_model.proofs.WrittenRows.{with_code, ups_at, row_of, rows_from, written}
+use Rattle.vcd_laws.proofs.Cited.{◌≡◌, ℕ, ℤ, ◌<◌, ◌≤◌, ◌^◌, Bool, true, false, cond, List, [], ◌∷◌, ◌++◌, length, filter_map, flat_map, decimal, Option, Some, None, Ok, unwrap_or, refl, sym, ap, ◌∙◌, subst, arith, AllByRecursion, join_with_byte, last_or, cons_option, append_assoc, append-nil, map-append, length-decimal-le, as_line, Keyword, keyword_text, Input, Token, Stream, stream_of, Declaration, enclosing, Header, first_place, HeaderPhrase, IsDeclaration, declaration_of, declarations_of, date_of, version_of, Date, Version, Timescale, Declares, Unknown, EndDefinitions, header_grammar, Reading, reading_of, Placed, phrases_of, texts_of, IsGood, AreGood, IsReading, Opened, open_from, reading_is_one, header_computes, end_text, IsWord, texts_from, all_front, all_back, all_append, stream_words, inputs_all, declaration_tokens, IsDeclared, AreDeclared, line_words, AreGoodScales, AreParts, head_of, head_words, text_tokens, scale_tokens, with_code, ups_at, row_of, rows_from, written}
+use Rattle.vcd_model.specs.Header.{header_of}
+use Rattle.vcd_model.specs.HeaderPhrases.HeaderPhrase.{Comment}
+use Rattle.vcd_model.specs.HeaderReading.{read_header}
 use Rattle.vcd_laws.proofs.ShortTokens.{AllShort, stream_short}
 
 -- ---- what is short in a header

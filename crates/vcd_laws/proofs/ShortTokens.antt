@@ -1,14 +1,7 @@
 -- Tokens that are no longer than the token limit: those of a stream are such, and a text of such
 -- tokens is not halted.
-use Rattle.std.proofs.Common.{◌≡◌, ℕ, ◌+◌, ◌<◌, ◌≤◌, ◌^◌, Bool, true, false, cond, nat_lt, List, [], ◌∷◌, ◌++◌, length, map, filter, fold, Option, Some, None, ◌⊎◌, inl, inr, refl, sym, ap, ◌∙◌, subst, arith}
-use Rattle.std.specs.List.{AllByRecursion, reduce}
-use Rattle.std.proofs.lemmas.Bool.{le-ltb, ltb-true, ltb-false, lt-leb}
-use Rattle.vcd_model.specs.Input.{Input}
-use Rattle.vcd_model.specs.Tokens.{Token, HaltPlace, token_places, token_at, run_at, line_at, end_at, too_much_input, too_long_tokens, failed_read, earlier_halt, first_halt, comes_before, given_places, stream_until, stream_of}
-use Rattle.vcd_model.specs.Reading.{texts_of}
-use Rattle.vcd_laws.specs.Dumps.{input_of}
-use Rattle.vcd_model.proofs.TokenTexts.{texts_from, forward}
-use Rattle.vcd_model.proofs.HeaderFacts.{to_images}
+use Rattle.vcd_laws.proofs.Cited.{◌≡◌, ℕ, ◌+◌, ◌<◌, ◌≤◌, ◌^◌, Bool, true, false, cond, nat_lt, List, [], ◌∷◌, ◌++◌, length, map, filter, fold, Option, Some, None, ◌⊎◌, inl, inr, refl, sym, ap, ◌∙◌, subst, arith, AllByRecursion, reduce, le-ltb, ltb-true, ltb-false, lt-leb, Input, Token, HaltPlace, token_places, token_at, run_at, line_at, end_at, too_much_input, too_long_tokens, failed_read, earlier_halt, comes_before, stream_until, texts_of, input_of, texts_from, forward, to_images}
+use Rattle.vcd_model.specs.Tokens.{first_halt, given_places, stream_of}
 use Rattle.vcd_laws.proofs.WrittenCodes.{In, in_left, in_right, in_map}
 
 -- tokens no longer than the limit

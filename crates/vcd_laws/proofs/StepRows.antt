@@ -1,13 +1,5 @@
 -- What each item appends to what was written, computed.
-use Rattle.std.proofs.Common.{◌≡◌, ℕ, ℤ, pos, ◌+◌, Bool, true, false, List, [], ◌∷◌, map, take, drop, length, codes, Option, Some, None, Ok, Err, refl}
-use Prim.Native.String.{String}
-use Rattle.std.specs.List.{range_with_len}
-use Rattle.vcd_model.specs.Reading.{Fault}
-use Rattle.vcd_model.specs.Header.{Header}
-use Rattle.vcd_model.specs.Items.{BodyItem, ChangeForm, Entry, SectionKind}
-use Rattle.vcd_model.specs.Merge.{Dump, Keyed, headers_of}
-use Rattle.vcd_model.specs.MergeByInput.{due_with, entry_for, keyed_own, keyed_rest, with_item, written_with}
-use Rattle.vcd_model.specs.Outcome.{Request, Opened, open_from, items_in, fault_in, open_text}
+use Rattle.vcd_laws.proofs.Cited.{◌≡◌, ℕ, ℤ, pos, ◌+◌, Bool, true, false, List, [], ◌∷◌, map, take, drop, length, codes, Option, Some, None, Ok, Err, refl, String, range_with_len, Fault, Header, BodyItem, ChangeForm, Entry, SectionKind, Dump, Keyed, headers_of, due_with, entry_for, keyed_own, keyed_rest, with_item, written_with, Request, Opened, open_from, items_in, fault_in, open_text}
 use Rattle.vcd_laws.proofs.Computing.{model}
 use Rattle.vcd_laws.proofs.RowText.{written, clean}
 

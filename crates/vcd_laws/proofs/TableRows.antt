@@ -1,23 +1,6 @@
 -- Tables of values, codes, scales and sizes, computed.
-use Rattle.std.proofs.Common.{◌≡◌, ℕ, ℤ, pos, negsuc, ◌+◌, ◌*◌, ◌^◌, Bool, true, false, List, [], ◌∷◌, ◌++◌, filter, map, codes, replicate, Option, Some, None, Ok, Err, arith, refl}
-use Prim.Native.String.{String}
-use Rattle.std.specs.List.{range_with_len}
-use Rattle.std.specs.Str.{str_to_ascii_lowercase}
-use Rattle.vcd_model.specs.Bytes.{is_white_space, is_code_byte, is_decimal, decimal_value, as_line}
-use Rattle.vcd_model.specs.Scales.{exponent_of, scale_text}
-use Rattle.vcd_model.specs.Keywords.{is_unknown_command}
-use Rattle.vcd_model.specs.Declarations.{Declaration, IdCode}
-use Rattle.vcd_model.specs.Header.{Header}
-use Rattle.vcd_model.specs.HeaderPhrases.{HeaderPhrase}
-use Rattle.vcd_model.specs.HeaderChecks.{header_fault}
-use Rattle.vcd_model.specs.Items.{BodyItem, ChangeForm, SectionKind, open_section}
-use Rattle.vcd_model.specs.Values.{Value, extend, short, change_line}
-use Rattle.vcd_model.specs.History.{final_value, value_at, value_before, values_of}
-use Rattle.vcd_model.specs.Selection.{first_unmatched, marked_places, selected, selects_code, selects_path}
-use Rattle.vcd_model.specs.HeadText.{new_code}
-use Rattle.vcd_model.specs.Merge.{factor}
-use Rattle.vcd_model.specs.Outcome.{Opened, fault_text, open_from}
-use Rattle.vcd_model.specs.Bound.{AreAllWindows, AreMarks, AreViews, AreWindows, FitsBound, FitsInput, IsRoom, IsView, ViewSize, WindowSize, bound, marks_alone, no_room, room_count, room_of, value_room, view_count, window_count}
+use Rattle.vcd_laws.proofs.Cited.{◌≡◌, ℕ, ℤ, pos, negsuc, ◌+◌, ◌*◌, ◌^◌, Bool, true, false, List, [], ◌∷◌, ◌++◌, filter, map, codes, replicate, Option, Some, None, Ok, Err, arith, refl, String, range_with_len, str_to_ascii_lowercase, is_white_space, is_code_byte, is_decimal, decimal_value, as_line, exponent_of, scale_text, is_unknown_command, Declaration, IdCode, Header, HeaderPhrase, header_fault, BodyItem, ChangeForm, SectionKind, open_section, Value, extend, short, change_line, final_value, value_at, value_before, values_of, first_unmatched, marked_places, selected, selects_code, selects_path, new_code, factor, Opened, fault_text, open_from, AreAllWindows, AreMarks, AreViews, AreWindows, FitsBound, FitsInput, IsRoom, IsView, ViewSize, WindowSize, marks_alone, no_room, room_count, room_of, value_room, view_count, window_count}
+use Rattle.vcd_model.specs.Bound.{bound}
 use Rattle.vcd_laws.proofs.Computing.{model}
 use Rattle.vcd_laws.proofs.RowText.{written, clean}
 

@@ -1,12 +1,9 @@
 -- Rows on tokens, their lines and their ends, and on halts, computed; and what no row can compute
 -- of halts.
-use Rattle.std.proofs.Common.{◌≡◌, ℕ, ◌-◌, ◌^◌, List, [], ◌∷◌, ◌++◌, codes, length, map, Some, None, refl}
-use Prim.Native.String.{String}
+use Rattle.vcd_laws.proofs.Cited.{◌≡◌, ℕ, ◌-◌, ◌^◌, List, [], ◌∷◌, ◌++◌, codes, length, map, Some, None, refl, String, Input, Mark, end_of_tokens, failed_read, halt_place, line_at, too_long_tokens, too_much_input, Want, outcome}
 use Rattle.vcd_laws.proofs.Computing.{model}
 use Rattle.vcd_laws.proofs.RowText.{written, clean, limit, gives}
-use Rattle.vcd_model.specs.Input.{Input, Mark}
-use Rattle.vcd_model.specs.Tokens.{end_of_tokens, failed_read, first_halt, halt_place, line_at, too_long_tokens, too_much_input}
-use Rattle.vcd_model.specs.Job.{Want, outcome}
+use Rattle.vcd_model.specs.Tokens.{first_halt}
 
 -- ---- white space and lines
 

@@ -1,10 +1,8 @@
 -- Worked rows with commands that the standard does not have, and with times that have units,
 -- computed.
-use Rattle.std.proofs.Common.{◌≡◌, pos, negsuc, true, false, [], ◌∷◌, ◌++◌, map, codes, Some, None, Ok, Err, refl}
+use Rattle.vcd_laws.proofs.Cited.{◌≡◌, pos, negsuc, true, false, [], ◌∷◌, ◌++◌, map, codes, Some, None, Ok, Err, refl, moment_ticks, Want, is_unit, moment_of}
 use Rattle.vcd_laws.proofs.Computing.{model}
 use Rattle.vcd_laws.proofs.RowText.{on, gives, time, cut}
-use Rattle.vcd_model.specs.Ticks.{moment_ticks}
-use Rattle.vcd_model.specs.Job.{Want, is_unit, moment_of}
 
 -- ---- commands that the standard does not have
 

@@ -1,25 +1,8 @@
 -- Rows on outputs that are not as their inputs were: why the laws have their premises.
-use Rattle.std.proofs.Common.{◌≡◌, ℕ, false, List, [], ◌∷◌, map, replicate, codes, Option, Some, None, Result, Ok, Err, refl}
+use Rattle.vcd_laws.proofs.Cited.{◌≡◌, ℕ, false, List, [], ◌∷◌, map, replicate, codes, Option, Some, None, Result, Ok, Err, refl, String, Declaration, Header, entries, selected, first_failed, read_header, header_fault_of, head_for, Keyword, Fault, Opened, declarations_allowed, open_from, items_in, Want, outcome, stream_over, written_by, most_declared, input_scope, input_of, over_written, declarations_kept, Given, given}
 use Rattle.vcd_laws.proofs.Computing.{model}
 use Rattle.vcd_laws.proofs.RowText.{clean, limit, gives, on, cut, sample}
-use Prim.Native.String.{String}
-use Rattle.vcd_model.specs.Declarations.{Declaration}
-use Rattle.vcd_model.specs.Header.{Header}
-use Rattle.vcd_model.specs.Items.{entries}
-use Rattle.vcd_model.specs.Selection.{selected}
-use Rattle.vcd_model.specs.Checks.{first_failed}
 use Rattle.vcd_model.specs.HeaderChecks.{start_checks}
-use Rattle.vcd_model.specs.HeaderReading.{read_header, header_fault_of}
-use Rattle.vcd_model.specs.HeadText.{head_for}
-use Rattle.vcd_model.specs.Keywords.{Keyword}
-use Rattle.vcd_model.specs.Reading.{Fault}
-use Rattle.vcd_model.specs.Outcome.{Opened, declarations_allowed, open_from, items_in}
-use Rattle.vcd_model.specs.Job.{Want, outcome}
-use Rattle.vcd_model.specs.Laws.{stream_over}
-use Rattle.vcd_laws.specs.KeptValues.{written_by}
-use Rattle.vcd_laws.specs.Heads.{most_declared, input_scope}
-use Rattle.vcd_laws.specs.Dumps.{input_of, over_written}
-use Rattle.vcd_laws.specs.Whole.{declarations_kept, Given, given}
 use Rattle.vcd_laws.proofs.DumpBase.{stdin, aliased, some_names, over_pick, over_cut, wire, bit}
 
 -- an input that is opened

@@ -1,32 +1,15 @@
 -- Tokens that do not settle a run: an input that ends with them ends otherwise than one that fails
 -- there.
-use Rattle.std.proofs.Common.{◌≡◌, ◌≢◌, ℕ, zero, suc, ◌+◌, ◌-◌, ◌^◌, ◌<◌, ◌≤◌, Bool, true, false, not, cond, ◌&&◌, ◌||◌, is_some, is_none, List, [], ◌∷◌, ◌++◌, length, filter, drop, Option, Some, None, Result, Ok, Err, ◌⊎◌, inl, inr, refl, sym, ap, ◌∙◌, subst, arith, append-nil, length-append, length-drop}
-use Rattle.std.specs.List.{list_any, range_with_len, before_first}
-use Rattle.std.proofs.lemmas.List.{drop-append-le}
-use Rattle.std.proofs.lemmas.Bool.{lt-ltb, lt-leb, and_parts, or_parts}
-use Rattle.vcd_model.specs.Bytes.{is_white_space, as_line, is_empty}
-use Rattle.vcd_model.specs.Input.{Input, Mark}
-use Rattle.vcd_model.specs.Tokens.{Token, Stream, HaltPlace, begins_token, token_places, run_at, end_at, line_at, tokens_of, first_halt, comes_before, given_places, stream_of}
-use Rattle.vcd_model.specs.Declarations.{IdCode}
-use Rattle.vcd_model.specs.Header.{Header, header_of}
-use Rattle.vcd_model.specs.HeaderReading.{header_grammar, read_header, header_fault_of}
-use Rattle.vcd_model.specs.Items.{BodyItem, leaves_open}
-use Rattle.vcd_model.specs.BodyPhrases.{BodyPhrase}
-use Rattle.vcd_model.specs.BodyReading.{body_grammar, read_body, body_items, ends_well, body_fault_of}
-use Rattle.vcd_model.specs.Reading.{Fault, missing, Placed, phrases_of, texts_of, Ending, Reading, read_from, reading_of}
-use Rattle.vcd_model.specs.Reading.Ending.{AtFault, AtEnd, AtLast}
-use Rattle.vcd_model.specs.Selection.{first_unmatched}
-use Rattle.vcd_model.specs.Outcome.{Request, Outcome, fault_outcome, declarations_allowed, open_from, body_of, items_in, fault_in, name_at, names_of, ends_early, at_end, over_body, over_dump, unmatched_outcome, dumps_of, merge_outcome}
+use Rattle.vcd_laws.proofs.Cited.{◌≡◌, ◌≢◌, ℕ, zero, suc, ◌+◌, ◌-◌, ◌^◌, ◌<◌, ◌≤◌, Bool, true, false, not, cond, ◌&&◌, ◌||◌, is_some, is_none, List, [], ◌∷◌, ◌++◌, length, filter, drop, Option, Some, None, Result, Ok, Err, ◌⊎◌, inl, inr, refl, sym, ap, ◌∙◌, subst, arith, length-drop, list_any, range_with_len, before_first, drop-append-le, lt-ltb, lt-leb, and_parts, or_parts, is_white_space, as_line, is_empty, Input, Mark, Token, Stream, HaltPlace, begins_token, token_places, run_at, end_at, line_at, comes_before, IdCode, Header, header_of, header_grammar, header_fault_of, BodyItem, leaves_open, BodyPhrase, body_grammar, body_items, ends_well, body_fault_of, Fault, missing, Placed, phrases_of, texts_of, Ending, Reading, read_from, AtFault, AtEnd, AtLast, first_unmatched, Request, Outcome, fault_outcome, declarations_allowed, items_in, fault_in, name_at, names_of, ends_early, at_end, unmatched_outcome, dumps_of, Want, Refusal, request_of, over_opened, is_faulty, body_settles, is_settled_by, is_settled_at, input_of, run_of, Prefix, first_tokens, IsShort, UnsettledIsOpen, at_token, token_step, texts_from, forward, texts_of-tokens, IsGoodInput, inputs_good, to_images}
+use Rattle.std.proofs.Common.{append-nil, length-append}
+use Rattle.vcd_model.specs.Tokens.{tokens_of, first_halt, given_places, stream_of}
+use Rattle.vcd_model.specs.HeaderReading.{read_header}
+use Rattle.vcd_model.specs.BodyReading.{read_body}
+use Rattle.vcd_model.specs.Reading.{reading_of}
+use Rattle.vcd_model.specs.Outcome.{open_from, body_of, over_body, over_dump, merge_outcome}
 use Rattle.vcd_model.specs.Merge.{first_fault}
-use Rattle.vcd_model.specs.Job.{Want, Refusal, request_of, over_opened}
-use Rattle.vcd_model.specs.Settled.{is_faulty, body_settles, is_settled_by, is_settled_at, is_settled}
-use Rattle.vcd_laws.specs.Dumps.{input_of}
-use Rattle.vcd_laws.specs.Checked.{run_of}
-use Rattle.vcd_laws.specs.Final.{Prefix, first_tokens, IsShort, UnsettledIsOpen}
-use Rattle.vcd_model.proofs.SoFarLemmas.{at_token, token_step}
+use Rattle.vcd_model.specs.Settled.{is_settled}
 use Rattle.vcd_laws.proofs.ShortTokens.{AllShort, no_long, not_halted}
-use Rattle.vcd_model.proofs.TokenTexts.{texts_from, forward, texts_of-tokens}
-use Rattle.vcd_model.proofs.HeaderFacts.{IsGoodInput, inputs_good, to_images}
 use Rattle.vcd_laws.proofs.MergeAlone.{one_dump}
 use Rattle.vcd_laws.proofs.DumpLaws.{clean_stream}
 use Rattle.vcd_laws.proofs.FirstTokens.{first_tokens as shorter, plain_run, white_run}

@@ -1,39 +1,17 @@
 -- What does not settle a merge: inputs that end with these tokens end otherwise than those that
 -- fail there.
-use Rattle.std.proofs.Common.{◌≡◌, ◌≢◌, ℕ, ◌+◌, ◌<◌, ◌≤◌, ◌==◌, Bool, true, false, cond, ◌||◌, is_some, List, [], ◌∷◌, ◌++◌, length, map, find, fold, filter_map, unwrap_or, Option, Some, None, option_map, Result, Ok, Err, ◌⊎◌, inl, inr, refl, sym, ap, ◌∙◌, subst, arith, append-nil, append_assoc}
-use Rattle.std.specs.List.{AllByRecursion, reduce, before_first, cons_option}
-use Rattle.std.proofs.lemmas.Bool.{cases_lt, eqb-true}
-use Rattle.std.proofs.lemmas.List.{length_push}
-use Rattle.vcd_model.specs.Backward.{each_after}
-use Rattle.vcd_model.specs.Checks.{Check, first_failed}
-use Rattle.vcd_model.specs.Tokens.{Token, Stream, stream_of}
-use Rattle.vcd_model.specs.Declarations.{IdCode}
-use Rattle.vcd_model.specs.Items.{BodyItem}
-use Rattle.vcd_model.specs.Keywords.{Keyword}
-use Rattle.vcd_model.specs.BodyPhrases.{BodyPhrase, Start, start_of, items_of}
-use Rattle.vcd_model.specs.BodyChecks.{command_checks, start_checks, inner_checks, body_fault}
-use Rattle.vcd_model.specs.BodyReading.{body_grammar}
-use Rattle.vcd_model.specs.Reading.{Fault, Placed, phrases_of, Ending, Reading, read_from}
-use Rattle.vcd_model.specs.Reading.Ending.{AtFault, AtEnd, AtLast}
-use Rattle.vcd_model.specs.Input.{Input}
-use Rattle.vcd_model.specs.Header.{Header, header_of}
-use Rattle.vcd_model.specs.HeaderReading.{header_grammar}
-use Rattle.vcd_model.specs.BodyReading.{read_body, body_fault_of}
-use Rattle.vcd_model.specs.Reading.{missing, reading_of}
-use Rattle.vcd_model.specs.Merge.{Dump, Key, KeyedFault, dump_of, factor, placed_is_too_large, key_lt, key_after, keyed_fault, earlier_fault, first_fault, headers_of}
-use Rattle.vcd_model.specs.Outcome.{Outcome, Opened, fault_outcome, name_at, allowed_after, with_opened, open_from, body_of, dumps_of, merge_outcome}
-use Rattle.vcd_model.specs.Job.{Want, request_of}
-use Rattle.vcd_model.specs.SettledMerge.{Seen, SeenBody, SeenHeaders, tokens_seen, whole_of, header_ends, seen_before, seen_at, headers_seen, fault_met, fault_seen, dump_seen, is_at_its_end, are_past, bodies_settle, settles_merge, is_settled_merge}
-use Rattle.vcd_model.specs.SettledMerge.SeenHeaders.{Faulty, NotWhole, Whole}
-use Rattle.vcd_laws.specs.Final.{CanBeSeen, IsSeen, AreSeen, UnsettledMergeIsOpen}
-use Rattle.vcd_model.proofs.DumpItems.{mark_or}
-use Rattle.vcd_model.proofs.MergeOrder.{Before, before_key, not_behind, key_chain, key_never, key_trans}
-use Rattle.vcd_model.proofs.MergedPrefix.{faults_rest, faults_are}
-use Rattle.vcd_model.proofs.MergeSoFar.{first_all, with_fault, without_fault}
+use Rattle.vcd_laws.proofs.Cited.{◌≡◌, ◌≢◌, ℕ, ◌+◌, ◌<◌, ◌≤◌, ◌==◌, Bool, true, false, cond, ◌||◌, is_some, List, [], ◌∷◌, ◌++◌, length, map, find, fold, filter_map, unwrap_or, Option, Some, None, option_map, Result, Ok, Err, ◌⊎◌, inl, inr, refl, sym, ap, ◌∙◌, subst, arith, AllByRecursion, reduce, before_first, cons_option, cases_lt, eqb-true, length_push, each_after, Check, first_failed, Token, Stream, stream_of, IdCode, BodyItem, Keyword, BodyPhrase, Start, start_of, items_of, command_checks, start_checks, inner_checks, body_grammar, Fault, Placed, phrases_of, Ending, Reading, read_from, AtFault, AtEnd, AtLast, Input, Header, header_of, header_grammar, body_fault_of, missing, Dump, Key, KeyedFault, factor, placed_is_too_large, key_lt, key_after, keyed_fault, earlier_fault, headers_of, Outcome, Opened, fault_outcome, name_at, allowed_after, with_opened, dumps_of, merge_outcome, Want, Seen, SeenBody, SeenHeaders, tokens_seen, whole_of, header_ends, seen_before, seen_at, headers_seen, fault_met, fault_seen, dump_seen, is_at_its_end, are_past, bodies_settle, settles_merge, Faulty, NotWhole, Whole, CanBeSeen, IsSeen, AreSeen, UnsettledMergeIsOpen, mark_or, Before, before_key, not_behind, key_chain, key_never, key_trans, faults_rest, faults_are, first_all, with_fault, without_fault, at_token, token_step}
+use Rattle.std.proofs.Common.{append-nil, append_assoc}
+use Rattle.vcd_model.specs.BodyChecks.{body_fault}
+use Rattle.vcd_model.specs.BodyReading.{read_body}
+use Rattle.vcd_model.specs.Reading.{reading_of}
+use Rattle.vcd_model.specs.Merge.{dump_of, first_fault}
+use Rattle.vcd_model.specs.Outcome.{open_from, body_of}
+use Rattle.vcd_model.specs.Job.{request_of}
+use Rattle.vcd_model.specs.SettledMerge.{is_settled_merge}
 use Rattle.vcd_laws.proofs.Settling.{at_fault, opened_at, run_over, run_is, dump_in, dumps_in}
 use Rattle.vcd_laws.proofs.SettlingMerge.{dump_with, dump_is, seen_headers, opens_missing, opens_whole}
 use Rattle.vcd_laws.proofs.Unsettled.{OpenFault, open_fault, not_failed, not_last, two_ends}
-use Rattle.vcd_model.proofs.SoFarLemmas.{at_token, token_step}
 
 -- ---- the numbers of faults
 

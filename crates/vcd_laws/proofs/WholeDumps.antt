@@ -1,12 +1,7 @@
 -- In a merge without a fault each input is whole.
-use Rattle.std.proofs.Common.{◌≡◌, Bool, true, false, cond, List, [], ◌∷◌, ◌++◌, length, map, filter_map, find, Option, Some, None, option_map, refl, ap, ◌∙◌, one-add}
-use Rattle.std.specs.List.{AllByRecursion, before_first, reduce, cons_option}
-use Rattle.vcd_model.specs.Backward.{each_after}
-use Rattle.vcd_model.specs.Header.{Header}
-use Rattle.vcd_model.specs.BodyPhrases.{BodyPhrase, items_of}
-use Rattle.vcd_model.specs.Reading.{Fault, Placed, phrases_of}
-use Rattle.vcd_model.specs.Merge.{Dump, KeyedFault, keyed_fault, key_after, earlier_fault, first_fault, factor, headers_of, dump_of, placed_is_too_large}
-use Rattle.vcd_model.specs.Outcome.{Opened, body_of, items_in, fault_in, dumps_of}
+use Rattle.vcd_laws.proofs.Cited.{◌≡◌, Bool, true, false, cond, List, [], ◌∷◌, ◌++◌, length, map, filter_map, find, Option, Some, None, option_map, refl, ap, ◌∙◌, one-add, AllByRecursion, before_first, reduce, cons_option, each_after, Header, BodyPhrase, items_of, Fault, Placed, phrases_of, Dump, KeyedFault, keyed_fault, key_after, earlier_fault, factor, headers_of, placed_is_too_large, Opened, body_of, items_in, fault_in}
+use Rattle.vcd_model.specs.Merge.{first_fault, dump_of}
+use Rattle.vcd_model.specs.Outcome.{dumps_of}
 
 -- an input with all its items
 abbrev pub whole_dump : Opened → Dump

@@ -1,14 +1,9 @@
 -- Two parts of one dump compared, and what `merge` wrote: worked rows.
-use Rattle.std.proofs.Common.{◌≡◌, List, [], ◌∷◌, codes, refl}
-use Prim.Native.String.{String}
+use Rattle.vcd_laws.proofs.Cited.{◌≡◌, List, [], ◌∷◌, codes, refl, String, Mark, Outcome, Want, outcome, Asked, Extent, compared, Names}
 use Rattle.vcd_laws.proofs.Computing.{model}
 use Rattle.vcd_laws.proofs.CompareRows.{all}
 use Rattle.vcd_laws.proofs.RowText.{clean, dump, gives, limit}
-use Rattle.vcd_model.specs.Input.{Mark}
-use Rattle.vcd_model.specs.Outcome.{Outcome}
-use Rattle.vcd_model.specs.Job.{Want, outcome}
-use Rattle.vcd_model.specs.Compare.{Asked, Extent, compared}
-use Rattle.vcd_model.specs.Within.{Names, within}
+use Rattle.vcd_model.specs.Within.{within}
 
 abbrev cores : List Names
 cores = (codes "t.a", codes "t.b") ∷ []

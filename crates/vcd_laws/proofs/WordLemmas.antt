@@ -1,18 +1,8 @@
 -- What words ask for is a job.
-use Rattle.std.proofs.Common.{◌≡◌, ◌≢◌, ℕ, ◌^◌, ◌<◌, ◌≤◌, ℤ, Bool, true, false, not, cond, ◌&&◌, nat_lt, nat_le, IsFalse, List, [], ◌∷◌, map, length, count_by, codes, Option, Some, None, option_map, Result, Ok, Err, bytes_eq, drop, inl, inr, ◌==◌, refl, sym, subst, arith}
-use Rattle.std.specs.Char.{is_ascii_digit}
-use Rattle.std.specs.List.{list_any, slice_split, onto_first, take_while, AllByRecursion}
-use Rattle.std.specs.List.Sorted.{IsStrictlyIncreasing}
-use Rattle.std.specs.Str.{byte}
-use Rattle.std.proofs.lemmas.Bool.{ltb-true, ltb-false, leb-true, and_parts, not-false, or_cases}
-use Rattle.std.proofs.lemmas.Slice.Eq.{bytes_eq-Decides}
-use Rattle.vcd_model.specs.Bytes.{decimal_value, is_decimal, is_empty}
+use Rattle.vcd_laws.proofs.Cited.{◌≡◌, ◌≢◌, ℕ, ◌^◌, ◌<◌, ◌≤◌, ℤ, Bool, true, false, not, cond, ◌&&◌, nat_lt, nat_le, IsFalse, List, [], ◌∷◌, map, length, count_by, codes, Option, Some, None, option_map, Result, Ok, Err, bytes_eq, drop, inl, inr, ◌==◌, refl, sym, subst, arith, is_ascii_digit, list_any, slice_split, onto_first, take_while, AllByRecursion, IsStrictlyIncreasing, byte, ltb-true, ltb-false, leb-true, and_parts, not-false, or_cases, bytes_eq-Decides, decimal_value, is_decimal, is_empty, Moment, Want, IsJob, IsTime, is_number, is_unit, unit_exponent, has_unit, do_rise, Command, Job, UseFault, is_standard_input, is_limit, limit_of, time_or, time_of, with_time, cut_of, sample_of, want_of, job_with, has_words, JobsAreValid, rises_at}
 use Rattle.vcd_model.specs.Scales.{exponent_of, is_scale_unit}
-use Rattle.vcd_model.specs.Ticks.{Moment}
-use Rattle.vcd_model.specs.Job.{Want, IsJob, IsTime, is_number, is_unit, unit_exponent, moment_of, has_unit, do_rise}
-use Rattle.vcd_model.specs.Words.{Command, Job, UseFault, is_standard_input, is_limit, limit_of, time_or, time_of, with_time, times_of, cut_of, sample_of, want_of, job_with, has_words, job_of}
-use Rattle.vcd_laws.specs.Jobs.{JobsAreValid}
-use Rattle.vcd_model.proofs.JobLemmas.{rises_at}
+use Rattle.vcd_model.specs.Job.{moment_of}
+use Rattle.vcd_model.specs.Words.{times_of, job_of}
 
 -- ---- a time
 

@@ -1,9 +1,5 @@
 -- Command lines, computed.
-use Rattle.std.proofs.Common.{◌≡◌, ℕ, List, [], ◌∷◌, map, codes, replicate, negsuc, Option, Some, None, Result, Ok, Err, refl}
-use Prim.Native.String.{String}
-use Rattle.vcd_model.specs.Outcome.{Outcome}
-use Rattle.vcd_model.specs.Job.{Want}
-use Rattle.vcd_model.specs.Words.{Command, Job, UseFault, limit_of, want_of, job_of, command_outcome}
+use Rattle.vcd_laws.proofs.Cited.{◌≡◌, ℕ, List, [], ◌∷◌, map, codes, replicate, negsuc, Option, Some, None, Result, Ok, Err, refl, String, Outcome, Want, Command, Job, UseFault, limit_of, want_of, job_of, command_outcome}
 use Rattle.vcd_laws.proofs.Computing.{model}
 use Rattle.vcd_laws.proofs.RowText.{clean, gives, at, asked}
 

@@ -1,19 +1,6 @@
 -- The codes that variables carry, if those with one code agree.
-use Rattle.std.proofs.Common.{◌≡◌, ℕ, suc, ◌==◌, Bool, true, false, cond, ◌&&◌, ◌||◌, List, [], ◌∷◌, ◌++◌, map, filter, filter_map, find, bytes_eq, Option, Some, None, Contains, ◌⊎◌, inl, inr, refl, sym, ap, ◌∙◌, subst, arith}
-use Rattle.std.specs.List.{AllByRecursion, list_any, cons_option}
-use Rattle.std.proofs.lemmas.List.{append_assoc, append-nil}
-use Rattle.std.proofs.lemmas.List.Elements.{filter_map-append}
-use Rattle.std.proofs.lemmas.List.Folds.{list_any-append}
-use Rattle.std.proofs.lemmas.Bool.{and_parts, eqb-true}
-use Rattle.std.proofs.lemmas.Slice.Eq.{bytes_eq-Decides}
-use Rattle.vcd_model.specs.Backward.{each_after}
-use Rattle.vcd_model.specs.Declarations.{Declaration, Variable, IdCode, variable_of, variables_of, code_of, codes_of, has_text}
-use Rattle.vcd_model.specs.HeaderChecks.{same_flag}
-use Rattle.vcd_model.specs.BodyPhrases.{declared_code}
-use Rattle.vcd_model.proofs.BodyFacts.{all_front, all_back}
-use Rattle.vcd_model.proofs.HeaderFacts.{AreCodes}
-use Rattle.vcd_model.proofs.FoundCodes.{at_contained}
-use Rattle.vcd_model.proofs.HeadPhrases.{AreDeclared}
+use Rattle.vcd_laws.proofs.Cited.{◌≡◌, ℕ, suc, ◌==◌, Bool, true, false, cond, ◌&&◌, ◌||◌, List, [], ◌∷◌, ◌++◌, map, filter, filter_map, find, bytes_eq, Option, Some, None, Contains, ◌⊎◌, inl, inr, refl, sym, ap, ◌∙◌, subst, arith, AllByRecursion, list_any, cons_option, append_assoc, append-nil, filter_map-append, list_any-append, and_parts, eqb-true, bytes_eq-Decides, each_after, Declaration, Variable, IdCode, variable_of, variables_of, code_of, has_text, same_flag, declared_code, all_front, all_back, AreCodes, at_contained, AreDeclared}
+use Rattle.vcd_model.specs.Declarations.{codes_of}
 use Rattle.vcd_laws.proofs.WrittenDeclared.{fits, AllFit, all_true}
 
 -- ---- elements

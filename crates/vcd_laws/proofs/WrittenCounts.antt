@@ -1,19 +1,6 @@
 -- How many timestamps, sections and changes there are in what is written, and its last timestamp.
-use Rattle.std.proofs.Common.{◌≡◌, ℕ, ◌+◌, ◌≤◌, ◌==◌, Bool, true, false, cond, not, List, [], ◌∷◌, ◌++◌, length, map, filter_map, count_by, Option, Some, None, refl, sym, ap, ◌∙◌, subst, arith}
-use Rattle.std.specs.List.{list_any, last_or}
-use Rattle.std.proofs.lemmas.List.{append_assoc, append-nil, length-append}
-use Rattle.std.proofs.lemmas.List.Sums.{sum_by-cons, sum_by-append}
-use Rattle.vcd_model.specs.Backward.{each_after}
-use Rattle.vcd_model.specs.Declarations.{IdCode}
-use Rattle.vcd_model.specs.Items.{BodyItem, Entry, is_begin, change_of, marks}
-use Rattle.vcd_model.specs.ItemText.{last_mark}
-use Rattle.vcd_model.specs.Merge.{is_change}
-use Rattle.vcd_laws.specs.OverCut.{as_list}
-use Rattle.vcd_laws.specs.Counted.{distinct, changes_in}
-use Rattle.vcd_model.proofs.Times.{marks-append}
-use Rattle.vcd_model.proofs.ItemStates.{next_open, time_behind}
-use Rattle.vcd_model.proofs.Rewritten.{read_item, time_items, written_items, IsWritable, AreWritable, last_time, Stand, stand_more, at_most}
-use Rattle.vcd_model.proofs.Assembled.{Parts, parts_items, closing_items}
+use Rattle.vcd_laws.proofs.Cited.{◌≡◌, ℕ, ◌+◌, ◌≤◌, ◌==◌, Bool, true, false, cond, not, List, [], ◌∷◌, ◌++◌, length, map, filter_map, count_by, Option, Some, None, refl, sym, ap, ◌∙◌, subst, arith, list_any, last_or, append_assoc, append-nil, length-append, sum_by-cons, sum_by-append, each_after, IdCode, BodyItem, Entry, is_begin, change_of, last_mark, is_change, as_list, distinct, changes_in, marks-append, next_open, time_behind, read_item, time_items, written_items, IsWritable, AreWritable, last_time, Stand, stand_more, at_most, Parts, parts_items, closing_items}
+use Rattle.vcd_model.specs.Items.{marks}
 
 -- a closing timestamp, and the items before it
 abbrev rest_items : List ℕ → List Entry → Option ℕ → List BodyItem

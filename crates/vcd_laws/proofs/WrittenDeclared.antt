@@ -1,22 +1,6 @@
 -- What is written passes the checks of a header, and declares the selected variables with their
 -- paths.
-use Rattle.std.proofs.Common.{◌≡◌, ℕ, ◌+◌, ◌<◌, ◌≤◌, ◌==◌, Bool, true, false, cond, not, ◌&&◌, ◌||◌, List, [], ◌∷◌, ◌++◌, length, map, filter, filter_map, reverse, bytes_eq, Option, None, refl, sym, ap, ◌∙◌, subst, arith}
-use Rattle.std.specs.List.{AllByRecursion, list_all, join_with_byte}
-use Rattle.std.proofs.lemmas.List.{append_assoc, append-nil, map-append, length-append, length-map}
-use Rattle.std.proofs.lemmas.List.Elements.{filter_map-append}
-use Rattle.std.proofs.lemmas.Bool.{and_parts, and_from}
-use Rattle.std.specs.Prelude.{⊤}
-use Rattle.vcd_model.specs.Bytes.{is_code_byte}
-use Rattle.vcd_model.specs.Backward.{each_after}
-use Rattle.vcd_model.specs.Declarations.{Declaration, Variable, variable_of, variables_of, code_of, open_scopes, enclosing, name_of, path_of}
-use Rattle.vcd_model.specs.HeaderChecks.{same_flag}
-use Rattle.vcd_model.specs.HeadText.{first_place}
-use Rattle.vcd_model.specs.Selection.{Selected, is_selected, with_path}
-use Rattle.vcd_model.proofs.TokenTexts.{IsWord}
-use Rattle.vcd_model.proofs.BodyFacts.{all_front, all_back, all_append}
-use Rattle.vcd_model.proofs.Growing.{each_after-append}
-use Rattle.vcd_model.proofs.HeadPhrases.{IsToken, IsGoodVariable, AreDeclared}
-use Rattle.vcd_model.proofs.WrittenRows.{Open, HasOpen, has_none, has_scope, has_up, has_var, open_count, path_is, with_code, ups_at, row_of, rows_from, written}
+use Rattle.vcd_laws.proofs.Cited.{◌≡◌, ℕ, ◌+◌, ◌<◌, ◌≤◌, ◌==◌, Bool, true, false, cond, not, ◌&&◌, ◌||◌, List, [], ◌∷◌, ◌++◌, length, map, filter, filter_map, reverse, bytes_eq, Option, None, refl, sym, ap, ◌∙◌, subst, arith, AllByRecursion, list_all, join_with_byte, append_assoc, append-nil, map-append, length-append, length-map, filter_map-append, and_parts, and_from, ⊤, is_code_byte, each_after, Declaration, Variable, variable_of, variables_of, code_of, open_scopes, enclosing, name_of, path_of, same_flag, first_place, Selected, is_selected, with_path, IsWord, all_front, all_back, all_append, each_after-append, IsToken, IsGoodVariable, AreDeclared, Open, HasOpen, has_none, has_scope, has_up, has_var, open_count, path_is, with_code, ups_at, row_of, rows_from, written}
 
 -- ---- variables that agree
 

@@ -1,32 +1,8 @@
 -- Items of one input of a merge that lie ahead in its feed's chunk, taken one after the other.
-use Rattle.std.proofs.Common.{◌≡◌, ℕ, ◌+◌, ◌*◌, ◌^◌, ◌<◌, Bool, true, false, List, [], ◌∷◌, ◌++◌, length, Option, Result, Ok, Err, refl, sym, ap, subst, ◌∙◌, mul_comm, nat_le, arith}
-use Rattle.std.specs.Prelude.{IfOk}
-use Rattle.std.proofs.lemmas.Bool.{leb-false}
-use Rattle.vcd_model.specs.Declarations.{IdCode}
-use Rattle.vcd_model.specs.Header.{Header}
-use Rattle.vcd_model.specs.Items.{BodyItem}
-use Rattle.vcd_model.specs.Merge.{is_too_large}
-use Rattle.vcd_model.specs.MergeByInput.{due_with, entry_for, written_with}
-use Rattle.vcd_model.proofs.BodyFacts.{all_append}
-use Rattle.vcd_text.specs.Ahead.{bytes_of, longest_of, passed_of}
-use Rattle.vcd_text.specs.Device.{Counts, Takes, Writes, WritesSome}
-use Rattle.vcd_text.specs.declared.device.WriteFailed.{WriteFailed}
-use Rattle.vcd_text.proofs.Writes.{appends-none}
-use Rattle.vcd_view.specs.Views.{IsViewOf}
-use Rattle.vcd_view.specs.declared.view.HeadView.{HeadView}
-use Rattle.vcd_body.specs.Ahead.{GaveAhead, LooksOver}
-use Rattle.vcd_body.specs.Given.{IsItem}
-use Rattle.vcd_body.specs.Items.{AreRegsAfter, regs_after}
-use Rattle.vcd_body.specs.Taken.{IsSection, TakesItem}
-use Rattle.vcd_body.specs.Walk.{Begins, Further as Goes_further, Past, Trail, Walks}
-use Rattle.vcd_body.specs.declared.ahead.ScannedItem.{ScannedItem}
-use Rattle.vcd_body.specs.declared.item.Form.{Form}
-use Rattle.vcd_body.specs.declared.item.Item.{Item}
-use Rattle.vcd_body.specs.declared.item.Item.TheVariants.{Begin, Change, End, Finish, Time}
-use Rattle.vcd_body.specs.declared.item.Regs.{Regs}
-use Rattle.vcd_body.proofs.SectionLemmas.{section_time}
-use Rattle.vcd_merge.specs.MergeAhead.{Further, IsAhead, MergeStage, OneAhead, PutsDue, RunsAhead, SameMerging, StageAhead, TakesNext}
-use Rattle.vcd_merge.specs.declared.merging.Merging.{Merging}
+use Rattle.vcd_merge.proofs.Cited.{◌≡◌, ℕ, ◌+◌, ◌*◌, ◌^◌, ◌<◌, Bool, true, false, List, [], ◌∷◌, ◌++◌, length, Option, Result, Ok, Err, refl, sym, ap, subst, ◌∙◌, mul_comm, nat_le, arith, IfOk, leb-false, IdCode, Header, BodyItem, is_too_large, due_with, entry_for, written_with, all_append, bytes_of, longest_of, passed_of, Counts, Takes, Writes, WritesSome, WriteFailed, appends-none, IsViewOf, HeadView, GaveAhead, LooksOver, IsItem, AreRegsAfter, regs_after, IsSection, TakesItem, Begins, Past, Walks, ScannedItem, Form, Item, Begin, End, Finish, Time, Regs, section_time, IsAhead, MergeStage, OneAhead, PutsDue, RunsAhead, SameMerging, StageAhead, TakesNext, Merging}
+use Rattle.vcd_body.specs.Walk.{Further as Goes_further, Trail}
+use Rattle.vcd_body.specs.declared.item.Item.TheVariants.{Change}
+use Rattle.vcd_merge.specs.MergeAhead.{Further}
 use Rattle.vcd_merge.proofs.SeatLemmas.{not_large}
 
 -- ---- a section's begin or end

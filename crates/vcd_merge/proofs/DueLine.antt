@@ -1,23 +1,7 @@
 -- What is due with a change that was taken ahead, which is no event's: the line of its time, unless
 -- that was written last, and its own line.
-use Rattle.std.proofs.Common.{◌≡◌, ◌≢◌, ◌&&◌, false, ap, sym, subst, ◌∙◌, Err, Ok, ℕ, ◌+◌, ◌*◌, ◌%◌, ◌^◌, Some, Option, List, Result, arith, refl}
-use Rattle.vcd_model.specs.HeadText.{new_code}
-use Rattle.vcd_model.specs.ItemText.{time_due}
-use Rattle.vcd_model.specs.Items.{Change, leaves_open, time_after}
-use Rattle.vcd_model.proofs.MergedText.{line_due, time_written}
-use Rattle.vcd_text.specs.Device.{Device, Takes}
-use Rattle.vcd_text.specs.declared.device.WriteFailed.{WriteFailed}
-use Rattle.vcd_text.proofs.Writes.{appends-first, takes-twice}
-use Rattle.vcd_view.specs.Shown.{parts}
-use Rattle.vcd_view.specs.declared.view.Code.{Code}
-use Rattle.vcd_view.specs.Finds.{IsSized}
-use Rattle.vcd_body.specs.Items.{model_form}
-use Rattle.vcd_body.specs.Names.{line_under}
-use Rattle.vcd_body.specs.declared.item.Form.{Form}
+use Rattle.vcd_merge.proofs.Cited.{◌≡◌, ◌≢◌, ◌&&◌, false, ap, sym, subst, ◌∙◌, Err, Ok, ℕ, ◌+◌, ◌*◌, ◌%◌, ◌^◌, Some, Option, List, Result, arith, refl, new_code, time_due, Change, leaves_open, time_after, line_due, time_written, Device, Takes, WriteFailed, appends-first, takes-twice, parts, Code, IsSized, model_form, line_under, Form, Regs, if_ok, PutsDue}
 use Rattle.vcd_body.specs.declared.item.Item.TheVariants as item
-use Rattle.vcd_body.specs.declared.item.Regs.{Regs}
-use Rattle.vcd_body.proofs.Results.{if_ok}
-use Rattle.vcd_merge.specs.MergeAhead.{PutsDue}
 use Rattle.vcd_merge.proofs.MergeItem.{no_event, number_fits, sized_line}
 
 abbrev done : Result (Unit {0}) WriteFailed

@@ -1,24 +1,7 @@
 -- The dump that an input is in a merge: its items up to its first timestamp that is too large, or
 -- up to its own fault.
-use Rattle.std.proofs.Common.{◌≡◌, ℕ, true, false, List, [], ◌∷◌, ◌++◌, Option, Some, sym, ap, subst, ◌∙◌, append_assoc}
-use Rattle.std.specs.List.{AllByRecursion}
-use Rattle.vcd_model.specs.Input.{Input}
-use Rattle.vcd_model.specs.Tokens.{Token, stream_of}
-use Rattle.vcd_model.specs.Header.{Header}
-use Rattle.vcd_model.specs.Items.{BodyItem}
-use Rattle.vcd_model.specs.BodyPhrases.{BodyPhrase}
+use Rattle.vcd_merge.proofs.Cited.{◌≡◌, ℕ, true, false, List, [], ◌∷◌, ◌++◌, Option, Some, sym, ap, subst, ◌∙◌, append_assoc, AllByRecursion, Input, Token, stream_of, Header, BodyItem, BodyPhrase, read_body, body_fault_of, is_too_large, Fault, Placed, phrases_begin, dump_marked, dump_whole, limit_of, token_of, Ghosts, Feed, BodyHas, GaveItem, Regs, HasDump}
 use Rattle.vcd_model.specs.BodyPhrases.BodyPhrase.{Gives}
-use Rattle.vcd_model.specs.BodyReading.{read_body, body_fault_of}
-use Rattle.vcd_model.specs.Merge.{is_too_large}
-use Rattle.vcd_model.specs.Reading.{Fault, Placed}
-use Rattle.vcd_model.proofs.BodyPrefix.{phrases_begin}
-use Rattle.vcd_model.proofs.DumpItems.{dump_marked, dump_whole}
-use Rattle.vcd_text.specs.Feed.{limit_of, token_of}
-use Rattle.vcd_text.specs.declared.device.Source.{Ghosts}
-use Rattle.vcd_text.specs.declared.feed.Feed.{Feed}
-use Rattle.vcd_body.specs.Reads.{BodyHas, GaveItem}
-use Rattle.vcd_body.specs.declared.item.Regs.{Regs}
-use Rattle.vcd_merge.specs.Seat.{HasDump}
 
 module _ (scale limit : ℕ) (h : Header) (front : List Token) (i : Input) (items : List BodyItem) (small : AllByRecursion (λ x. is_too_large scale x ≡ false) items) where
   -- the body has these items, and this fault or none

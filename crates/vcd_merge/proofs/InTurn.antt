@@ -1,20 +1,6 @@
 -- Inputs after one was read on its turn: none of the others comes before the key that it reached.
-use Rattle.std.proofs.Common.{◌≡◌, ◌≢◌, ℕ, true, false, List, [], ◌∷◌, ◌++◌, length, slice_get, Option, Some, ◌⊎◌, inl, inr, refl, sym, ap, subst, ◌∙◌, append-nil, append_assoc}
-use Rattle.std.specs.List.{AllByRecursion}
-use Rattle.std.proofs.lemmas.Option.{slice_get_within, same_Some}
-use Rattle.vcd_model.specs.Header.{Header}
-use Rattle.vcd_model.specs.Input.{Input}
-use Rattle.vcd_model.specs.Items.{BodyItem}
-use Rattle.vcd_model.specs.Merge.{Dump, Key, factor, is_too_large, key_after, key_lt}
-use Rattle.vcd_model.specs.MergeByInput.{with_item}
-use Rattle.vcd_model.proofs.MergeSoFar.{still_later}
-use Rattle.vcd_merge.specs.MergeOrder.{IsNext}
-use Rattle.vcd_merge.specs.MergeStep.{AreGiven, Standing}
-use Rattle.vcd_merge.specs.MergeTrail.{GoOn, GoesOn, IsReached, ReadInTurn}
-use Rattle.vcd_merge.specs.Seat.{Lane, ReadsNoMore}
-use Rattle.vcd_merge.specs.declared.seat.Seat.{Seat}
+use Rattle.vcd_merge.proofs.Cited.{◌≡◌, ◌≢◌, ℕ, true, false, List, [], ◌∷◌, ◌++◌, length, slice_get, Option, Some, ◌⊎◌, inl, inr, refl, sym, ap, subst, ◌∙◌, append-nil, append_assoc, AllByRecursion, slice_get_within, same_Some, Header, Input, BodyItem, Dump, Key, factor, is_too_large, key_after, key_lt, with_item, still_later, IsNext, AreGiven, Standing, GoOn, GoesOn, IsReached, ReadInTurn, Lane, ReadsNoMore, Seat, same_or_not, get_other, get_set}
 use Rattle.vcd_merge.proofs.MergeSteps.{next_first, same_header, seat_spot}
-use Rattle.vcd_body.proofs.StoreLemmas.{same_or_not, get_other, get_set}
 
 -- ---- inputs that continue
 

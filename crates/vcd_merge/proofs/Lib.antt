@@ -26,3 +26,5 @@ pub mod WholesOpened
 pub mod WholesFit
 pub mod Unsettled
 pub mod MergeStops
+pub mod Cited
+pub mod Facts

@@ -1,28 +1,7 @@
 -- What a step of a merge answers, by what the step of its input gave.
-use Rattle.std.proofs.Common.{true≢false, ◌≡◌, ◌≢◌, ℕ, true, List, [], ◌∷◌, ◌++◌, length, take, slice_get, Option, Some, None, Ok, Err, refl, sym, ap, subst, ◌∙◌, inl, inr}
-use Rattle.std.specs.Prelude.{All, IfSome}
-use Rattle.std.specs.List.{AllByRecursion}
-use Rattle.std.proofs.lemmas.Option.{get_or_from_slice_get, slice_get_within}
-use Rattle.vcd_model.specs.Header.{Header}
-use Rattle.vcd_model.specs.HeadText.{first_number}
-use Rattle.vcd_model.specs.Input.{Clean}
-use Rattle.vcd_model.specs.Items.{BodyItem, Entry}
-use Rattle.vcd_model.specs.Merge.{Dump, key_lt, factor, key_after, merge_open, merged_items}
-use Rattle.vcd_model.specs.MergeByInput.{due_with, entry_for, keyed_rest, with_item, written_with}
-use Rattle.vcd_model.proofs.MergeOrder.{IsSorted, sorted_by_key, all_by_key}
-use Rattle.vcd_model.proofs.MergedLists.{merged_by, merged_more}
-use Rattle.vcd_model.proofs.MergedText.{IsTimed, text_more, timed_rest, written_more}
-use Rattle.vcd_text.specs.Answer.{failed_after}
-use Rattle.vcd_text.specs.ReadAhead.{HasRest}
-use Rattle.vcd_text.specs.Device.{Device, Writes}
-use Rattle.vcd_merge.specs.MergeStep.{AreGiven, AreMarked, Gives, HasFault, Holds, ReadsOne, Standing, Takes, cut_at, last_written, next_item}
-use Rattle.vcd_merge.specs.MergeOrder.{IsNext}
-use Rattle.vcd_merge.specs.MergeParts.{part_len, spot_at}
-use Rattle.vcd_merge.specs.Seat.{AtSeat, GivesOne, HasDump, HasReadNoMore, Lane, ReadsNoMore, Spot, Turns}
-use Rattle.vcd_body.specs.declared.answer.More.TheVariants.{Again}
-use Rattle.vcd_body.specs.declared.answer.Stop.{Stop}
-use Rattle.vcd_body.specs.declared.answer.Stop.TheVariants.{Dump as Faulty, Read, Write, Unmatched}
-use Rattle.vcd_merge.specs.declared.seat.Seat.{Seat}
+use Rattle.vcd_merge.proofs.Cited.{true≢false, ◌≡◌, ◌≢◌, ℕ, true, List, [], ◌∷◌, ◌++◌, length, take, slice_get, Option, Some, None, Ok, Err, refl, sym, ap, subst, ◌∙◌, inl, inr, All, IfSome, AllByRecursion, get_or_from_slice_get, slice_get_within, Header, first_number, Clean, BodyItem, Entry, Dump, key_lt, factor, key_after, merge_open, merged_items, due_with, entry_for, keyed_rest, with_item, written_with, IsSorted, sorted_by_key, all_by_key, merged_by, merged_more, IsTimed, text_more, timed_rest, written_more, failed_after, HasRest, Device, Writes, AreGiven, AreMarked, Gives, HasFault, Holds, ReadsOne, Standing, cut_at, last_written, next_item, IsNext, part_len, spot_at, AtSeat, GivesOne, HasDump, HasReadNoMore, Lane, ReadsNoMore, Spot, Turns, Again, Stop, Read, Write, Unmatched, Seat}
+use Rattle.vcd_merge.specs.MergeStep.{Takes}
+use Rattle.vcd_body.specs.declared.answer.Stop.TheVariants.{Dump as Faulty}
 use Rattle.vcd_merge.proofs.MergeSteps.{all_before, given_more, given_still, len_map, lane_at, same_header, seat_spot, spot_seat, time_at}
 use Rattle.vcd_merge.proofs.SpotLemmas.{seats_stay, spot_source}
 

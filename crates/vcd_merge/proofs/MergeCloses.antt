@@ -1,23 +1,6 @@
 -- The closing line of a merge: the greatest timestamp of the merged items is that of the seats.
-use Rattle.std.proofs.Common.{◌≡◌, ℕ, suc, ◌+◌, ◌*◌, ◌≤◌, max, Bool, true, false, cond, not, List, [], ◌∷◌, ◌++◌, length, map, slice_get, Option, Some, None, refl, sym, ap, subst, ◌∙◌, arith}
-use Rattle.std.specs.Prelude.{fold, ⊤}
-use Rattle.std.specs.List.{AllByRecursion}
-use Rattle.vcd_model.specs.Bytes.{is_empty}
-use Rattle.vcd_model.specs.Header.{Header}
-use Rattle.vcd_model.specs.HeadText.{renamed}
-use Rattle.vcd_model.specs.Items.{BodyItem, marks, time_after}
-use Rattle.vcd_model.specs.ItemText.{closing}
-use Rattle.vcd_model.specs.Merge.{Dump, factor, greatest_mark, merge_close, merge_kept, merged_items}
-use Rattle.vcd_model.proofs.MergeOrder.{IsSorted, sorted_by_key, all_by_key}
-use Rattle.vcd_model.specs.ItemText.{time_due}
-use Rattle.vcd_model.specs.MergeByInput.{keyed_own, keyed_rest}
-use Rattle.vcd_model.proofs.BodyFacts.{all_append}
-use Rattle.vcd_model.proofs.MergedLists.{merged_by}
-use Rattle.vcd_model.proofs.MergedMarks.{append_greatest, greater_assoc, greater_of, greatest_in, keyed_greatest, marks_greatest, own_greatest, own_most, reduce_is, sorted_greatest}
-use Rattle.vcd_model.proofs.MergedText.{IsTimed, timed_rest, unless_last}
-use Rattle.vcd_merge.specs.MergeStep.{AreMarked, last_written}
-use Rattle.vcd_merge.specs.MergeOrder.{greater_time, greatest_from, greatest_time}
-use Rattle.vcd_merge.specs.declared.seat.Seat.{Seat}
+use Rattle.vcd_merge.proofs.Cited.{◌≡◌, ℕ, suc, ◌+◌, ◌*◌, ◌≤◌, max, Bool, true, false, cond, not, List, [], ◌∷◌, ◌++◌, length, map, slice_get, Option, Some, None, refl, sym, ap, subst, ◌∙◌, arith, fold, ⊤, AllByRecursion, is_empty, Header, renamed, BodyItem, marks, time_after, closing, Dump, factor, greatest_mark, merge_kept, merged_items, IsSorted, sorted_by_key, all_by_key, time_due, keyed_own, keyed_rest, all_append, merged_by, append_greatest, greater_assoc, greater_of, greatest_in, keyed_greatest, marks_greatest, own_greatest, own_most, reduce_is, sorted_greatest, IsTimed, timed_rest, unless_last, AreMarked, last_written, greater_time, greatest_from, greatest_time, Seat}
+use Rattle.vcd_model.specs.Merge.{merge_close}
 
 -- ---- of the seats
 

@@ -1,15 +1,6 @@
 -- What a step of one input counts: failed reads, and how much is left.
-use Rattle.std.proofs.Common.{◌≡◌, ℕ, zero, suc, ◌+◌, ◌-◌, ◌^◌, ◌<◌, Bool, true, false, cond, List, [], ◌∷◌, length, map, slice_get, slice_set, Some, Err, refl, sym, ap, ◌∙◌, arith}
-use Rattle.std.specs.Prelude.{All, get_or, sum_by}
-use Rattle.std.proofs.lemmas.Option.{slice_get-get_or}
-use Rattle.vcd_merge.specs.Seat.{IsSeated}
-use Rattle.std.proofs.lemmas.List.Sums.{sum_by-append}
-use Rattle.vcd_text.specs.Feed.{parked_seen}
-use Rattle.vcd_body.specs.Answer.{NamesInput, writes_failed}
-use Rattle.vcd_body.specs.declared.answer.Stop.{Stop}
-use Rattle.vcd_body.specs.declared.answer.Stop.TheVariants.{Dump, Read, Write, Unmatched}
-use Rattle.vcd_merge.specs.MergeStep.{failures_with, left_of}
-use Rattle.vcd_merge.specs.declared.seat.Seat.{Seat}
+use Rattle.vcd_merge.proofs.Cited.{◌≡◌, ℕ, zero, suc, ◌+◌, ◌-◌, ◌^◌, ◌<◌, Bool, true, false, cond, List, [], ◌∷◌, length, map, slice_get, slice_set, Some, Err, refl, sym, ap, ◌∙◌, arith, All, get_or, sum_by, slice_get-get_or, IsSeated, sum_by-append, parked_seen, NamesInput, writes_failed, Stop, Read, Write, Unmatched, failures_with, left_of, Seat}
+use Rattle.vcd_body.specs.declared.answer.Stop.TheVariants.{Dump}
 
 pub map_set : {X Y : Type 0} (f : X → Y) (xs : List X) (k : ℕ) (x : X) → map f (slice_set xs k x) ≡ slice_set (map f xs) k (f x)
 map_set f [] k x = refl

@@ -1,25 +1,6 @@
 -- What a merge writes of one item.
-use Rattle.std.proofs.Common.{◌≡◌, ◌≢◌, ℕ, ◌+◌, ◌^◌, ◌<◌, Bool, true, false, List, length, slice_get, Some, is_some, refl, sym, ap, ap₂, ◌∙◌, arith}
-use Rattle.std.specs.Prelude.{nat_le}
-use Rattle.std.proofs.lemmas.Option.{slice_get_within}
-use Rattle.vcd_model.specs.Declarations.{IdCode}
-use Rattle.vcd_model.specs.Header.{Header}
-use Rattle.vcd_model.specs.HeadText.{new_code, code_place}
-use Rattle.vcd_model.specs.Items.{BodyItem, ChangeForm, leaves_open, time_after}
-use Rattle.vcd_model.specs.Values.{change_line}
-use Rattle.vcd_model.proofs.ItemStates.{leaves_open_is}
-use Rattle.vcd_view.specs.Entries.{size_or_zero_of}
-use Rattle.vcd_view.specs.Finds.{IsSized}
-use Rattle.vcd_view.specs.Shown.{HeadShown}
-use Rattle.vcd_view.specs.declared.view.Code.{Code}
-use Rattle.vcd_view.proofs.RowLemmas.{code_at}
+use Rattle.vcd_merge.proofs.Cited.{◌≡◌, ◌≢◌, ℕ, ◌+◌, ◌^◌, ◌<◌, Bool, true, false, List, length, slice_get, Some, is_some, refl, sym, ap, ap₂, ◌∙◌, arith, nat_le, slice_get_within, IdCode, Header, new_code, code_place, BodyItem, ChangeForm, leaves_open, time_after, change_line, leaves_open_is, size_or_zero_of, IsSized, HeadShown, Code, code_at, Views, IsGoodText, AreRegsAfter, Form, Scalar, Vector, RealText, Regs}
 use Rattle.vcd_view.proofs.LookUpLemmas.{place_is as place_of}
-use Rattle.vcd_view.specs.Views.{Views}
-use Rattle.vcd_body.specs.Given.{IsGoodText}
-use Rattle.vcd_body.specs.Items.{AreRegsAfter}
-use Rattle.vcd_body.specs.declared.item.Form.{Form}
-use Rattle.vcd_body.specs.declared.item.Form.TheVariants.{Scalar, Vector, RealText}
-use Rattle.vcd_body.specs.declared.item.Regs.{Regs}
 
 -- a section is open
 pub section_is : (items : List BodyItem) (r : Regs) → AreRegsAfter items r → is_some r.section ≡ leaves_open items

@@ -1,29 +1,7 @@
 -- How a merge has read its inputs, one by one, through its steps.
-use Rattle.std.proofs.Common.{◌≡◌, ◌≢◌, ℕ, zero, suc, ◌+◌, Bool, false, List, [], ◌∷◌, length, map, slice_get, Option, Some, None, Result, refl, sym, ap, subst, ◌∙◌, arith, ◌⊎◌, inl, inr}
-use Rattle.std.specs.Prelude.{IfSome, get_or}
-use Rattle.std.proofs.lemmas.Option.{get_or_from_slice_get, slice_get_within}
-use Rattle.std.proofs.Math.ListN.{length-set}
-use Rattle.vcd_model.specs.Input.{Clean, Input}
-use Rattle.vcd_model.specs.Header.{Header}
-use Rattle.vcd_model.specs.Merge.{Dump}
-use Rattle.vcd_model.specs.Tokens.{Token}
-use Rattle.vcd_text.specs.Answer.{failed_after}
-use Rattle.vcd_text.specs.Device.{Supply, supply}
-use Rattle.vcd_text.specs.ReadAhead.{HasRest, ReadsAsNeeded}
-use Rattle.vcd_text.specs.ReadAhead.ReadsAsNeeded.{Nothing}
-use Rattle.vcd_body.specs.Answer.{IsLeft, reads_failed}
-use Rattle.vcd_merge.specs.MergeParts.{part_len}
-use Rattle.vcd_merge.specs.MergeStep.{AreGiven, ReadsOne, Standing, cut_at, failures_with}
-use Rattle.vcd_merge.specs.MergeTrail.{GoOn, ReadInTurn}
-use Rattle.vcd_body.specs.Asked.{HaveJust}
-use Rattle.vcd_merge.specs.Seat.{Lane, ReadsNoMore}
-use Rattle.vcd_merge.specs.declared.seat.Seat.{Seat}
-use Rattle.vcd_body.specs.declared.answer.Stop.{Stop}
+use Rattle.vcd_merge.proofs.Cited.{◌≡◌, ◌≢◌, ℕ, zero, suc, ◌+◌, Bool, false, List, [], ◌∷◌, length, map, slice_get, Option, Some, None, Result, refl, sym, ap, subst, ◌∙◌, arith, ◌⊎◌, inl, inr, IfSome, get_or, get_or_from_slice_get, slice_get_within, length-set, Clean, Input, Header, Dump, Token, failed_after, Supply, supply, HasRest, ReadsAsNeeded, Nothing, IsLeft, reads_failed, part_len, AreGiven, ReadsOne, Standing, cut_at, failures_with, GoOn, ReadInTurn, HaveJust, Lane, ReadsNoMore, Seat, Stop, there, same_or_not, get_set, get_mapped}
 use Rattle.vcd_merge.proofs.InTurn.{in_turn, turn_on}
 use Rattle.vcd_merge.proofs.MergeSteps.{len_map}
-use Rattle.vcd_view.proofs.ListLemmas.{there}
-use Rattle.vcd_body.proofs.StoreLemmas.{same_or_not, get_set}
-use Rattle.vcd_head.proofs.InsideLemmas.{get_mapped}
 
 -- ---- lists
 

@@ -1,17 +1,5 @@
 -- What a merge is lent counts at most the bound.
-use Rattle.std.proofs.Common.{◌≡◌, ℕ, ◌+◌, ◌*◌, List, [], ◌∷◌, length, sym, subst, ap, arith}
-use Rattle.std.proofs.lemmas.List.Sums.{sum_by-cons}
-use Rattle.std.proofs.lemmas.Slice.Zip.{AllZip-long}
-use Rattle.vcd_model.specs.Bound.{AreAllWindows, AreViews, WindowSize, text_bytes}
-use Rattle.vcd_model.specs.Header.{Header}
-use Rattle.vcd_model.proofs.BoundLemmas.{bound_of_limit, merge_fits}
-use Rattle.vcd_view.proofs.RoomLemmas.{is_view}
-use Rattle.vcd_head.specs.Merged.{ShowHeaders}
-use Rattle.vcd_head.specs.Shown.{shown}
-use Rattle.vcd_head.specs.declared.head.Head.{Head}
-use Rattle.vcd_merge.specs.MergeParts.{SameLengths, part_len}
-use Rattle.vcd_merge.specs.MergeRoom.{MergeIsWithinBound, kept_in, kept_of, no_windows, windows_size}
-use Rattle.vcd_merge.specs.declared.windows.Windows.{Windows}
+use Rattle.vcd_merge.proofs.Cited.{◌≡◌, ℕ, ◌+◌, ◌*◌, List, [], ◌∷◌, length, sym, subst, ap, arith, sum_by-cons, AllZip-long, AreAllWindows, AreViews, WindowSize, text_bytes, Header, bound_of_limit, merge_fits, is_view, ShowHeaders, shown, Head, SameLengths, part_len, MergeIsWithinBound, kept_in, kept_of, no_windows, windows_size, Windows}
 
 -- ---- what is kept of heads
 

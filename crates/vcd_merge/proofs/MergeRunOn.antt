@@ -1,16 +1,5 @@
 -- Where a run of steps of one input has gone on to, before its last step.
-use Rattle.std.proofs.Common.{◌≡◌, ℕ, ◌⊎◌, Bool, List, length, map, Option, Result, sym, ap, subst, ◌∙◌, inl, inr}
-use Rattle.vcd_model.specs.Header.{Header}
-use Rattle.vcd_model.specs.Merge.{Dump, merge_open, merged_items}
-use Rattle.vcd_text.specs.Device.{Device, Supply, Writes}
-use Rattle.vcd_text.proofs.Writes.{both-written}
-use Rattle.vcd_merge.specs.MergeOrder.{IsNext}
-use Rattle.vcd_merge.specs.MergeParts.{part_len}
-use Rattle.vcd_merge.specs.MergeStep.{Standing, failures_with}
-use Rattle.vcd_merge.specs.MergeTrail.{ReadInTurn, RunGives}
-use Rattle.vcd_merge.specs.Seat.{Lane}
-use Rattle.vcd_body.specs.declared.answer.More.{More}
-use Rattle.vcd_body.specs.declared.answer.Stop.{Stop}
+use Rattle.vcd_merge.proofs.Cited.{◌≡◌, ℕ, ◌⊎◌, Bool, List, length, map, Option, Result, sym, ap, subst, ◌∙◌, inl, inr, Header, Dump, merge_open, merged_items, Device, Supply, Writes, both-written, IsNext, part_len, Standing, failures_with, ReadInTurn, RunGives, Lane, More, Stop}
 use Rattle.vcd_merge.proofs.SpotLemmas.{same_next}
 use Rattle.vcd_merge.proofs.MergeReads.{AreReadSoFar, read_along}
 use Rattle.vcd_merge.proofs.PartLemmas.{same_part}

@@ -1,40 +1,9 @@
 -- A merge as a loop over steps.
-use Rattle.std.proofs.Common.{◌≡◌, ◌≢◌, ◌∙◌, ℕ, zero, suc, ◌+◌, ◌-◌, ◌^◌, ◌<◌, ◌++◌, true, false, List, [], ◌∷◌, length, map, slice_get, slice_set, Some, None, ap, ap₂, sym, subst, refl, Result, Ok, Err, arith, ◌⊎◌, inl, inr, append-nil}
-use Rattle.std.specs.Prelude.{All, Option, get_or, option_map}
-use Rattle.std.specs.List.{list_any}
-use Rattle.std.proofs.lemmas.List.{set-get_or}
-use Rattle.vcd_model.specs.Header.{Header}
-use Rattle.vcd_model.specs.Items.{BodyItem}
-use Rattle.vcd_model.specs.BodyReading.{body_fault_of, read_body}
-use Rattle.vcd_model.specs.Settled.{is_settled_behind}
-use Rattle.vcd_model.specs.Merge.{Dump, dump_of, factor, headers_of, key_after, key_lt, merge_close, merge_open, merged_items}
-use Rattle.vcd_model.specs.MergeByInput.{with_item}
-use Rattle.vcd_model.specs.Outcome.{Opened, Outcome, Request, ends_early, fault_outcome, merge_outcome, name_at}
-use Rattle.vcd_model.specs.Reading.{Fault}
-use Rattle.vcd_model.specs.Tokens.{Token, stream_of}
-use Rattle.vcd_text.specs.Answer.{failed_after}
-use Rattle.vcd_text.specs.ReadAhead.{ReadsAsNeeded}
-use Rattle.vcd_text.specs.ReadAhead.ReadsAsNeeded.{Nothing}
-use Rattle.vcd_text.specs.Device.{Appends, Device, Supply, Writes, WritesSome, supply}
-use Rattle.vcd_text.proofs.Writes.{appends-twice, both-written, some-behind, some-first}
-use Rattle.vcd_body.specs.Answer.{IsLeft, reads_failed}
-use Rattle.vcd_merge.specs.MergeOrder.{IsNext}
-use Rattle.vcd_merge.specs.MergeParts.{part_len}
-use Rattle.vcd_merge.specs.MergeRun.{AreReadOnTurn, Belongs, Follows, settles_among}
-use Rattle.vcd_merge.specs.MergeRun.AreReadOnTurn.{OnTurn, Unread}
-use Rattle.vcd_merge.specs.MergeStep.{AreGiven, Gives, HasFault, Holds, IsReady, ReadsOne, Standing, failures_with}
-use Rattle.vcd_merge.specs.MergeTrail.{GoOn, ReadInTurn}
-use Rattle.vcd_body.specs.Asked.{HaveJust}
+use Rattle.vcd_merge.proofs.Cited.{◌≡◌, ◌≢◌, ◌∙◌, ℕ, zero, suc, ◌+◌, ◌-◌, ◌^◌, ◌<◌, ◌++◌, true, false, List, [], ◌∷◌, length, map, slice_get, slice_set, Some, None, ap, ap₂, sym, subst, refl, Result, Ok, Err, arith, ◌⊎◌, inl, inr, append-nil, All, Option, get_or, option_map, list_any, set-get_or, Header, BodyItem, body_fault_of, read_body, is_settled_behind, Dump, factor, headers_of, key_after, key_lt, merge_close, merge_open, merged_items, with_item, Opened, Outcome, Request, ends_early, fault_outcome, merge_outcome, name_at, Fault, Token, stream_of, failed_after, ReadsAsNeeded, Nothing, Appends, Device, Supply, Writes, WritesSome, supply, appends-twice, both-written, some-behind, some-first, IsLeft, reads_failed, IsNext, part_len, AreReadOnTurn, Belongs, Follows, settles_among, OnTurn, Unread, AreGiven, Gives, HasFault, Holds, IsReady, ReadsOne, Standing, failures_with, GoOn, ReadInTurn, HaveJust, Lane, Seat, Done, Early, More, Again, Ended, Stop, Read, Write, Unmatched, fault_output, head_first, same_or_not, get_mapped}
+use Rattle.vcd_model.specs.Merge.{dump_of}
 use Rattle.vcd_body.proofs.AskedLemmas.{unsettled as unsettled_alone}
-use Rattle.vcd_merge.specs.Seat.{Lane}
-use Rattle.vcd_merge.specs.declared.seat.Seat.{Seat}
-use Rattle.vcd_body.specs.declared.answer.Done.{Done}
-use Rattle.vcd_body.specs.declared.answer.Done.TheVariants.{Whole, Early}
-use Rattle.vcd_body.specs.declared.answer.More.{More}
-use Rattle.vcd_body.specs.declared.answer.More.TheVariants.{Again, Ended}
-use Rattle.vcd_body.specs.declared.answer.Stop.{Stop}
-use Rattle.vcd_body.specs.declared.answer.Stop.TheVariants.{Dump as Faulty, Read, Write, Unmatched}
-use Rattle.vcd_model.proofs.MergeSoFar.{fault_output, head_first}
+use Rattle.vcd_body.specs.declared.answer.Done.TheVariants.{Whole}
+use Rattle.vcd_body.specs.declared.answer.Stop.TheVariants.{Dump as Faulty}
 use Rattle.vcd_merge.proofs.MergeReads as reads
 use Rattle.vcd_merge.proofs.InTurn.{go_item, go_same, go_still}
 use Rattle.vcd_merge.proofs.OnTurn.{begins, on_turn}
@@ -47,8 +16,6 @@ use Rattle.vcd_merge.proofs.WholesFit.{left_all}
 use Rattle.vcd_merge.proofs.WholesOpened.{AreNeeded, entire_headers, follows, opened_dumps, opened_headers}
 use Rattle.vcd_merge.proofs.SpotLemmas.{same_next}
 use Rattle.vcd_merge.proofs.Unsettled.{unsettled}
-use Rattle.vcd_body.proofs.StoreLemmas.{same_or_not}
-use Rattle.vcd_head.proofs.InsideLemmas.{get_mapped}
 
 -- ---- what is counted
 

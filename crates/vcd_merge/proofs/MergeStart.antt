@@ -1,37 +1,9 @@
 -- Where a merge begins: its seats are set one after the other, and it holds the dumps of inputs
 -- that have given no item.
-use Rattle.std.proofs.Common.{◌≡◌, ℕ, zero, suc, ◌+◌, ◌<◌, ◌≤◌, true, false, List, [], ◌∷◌, ◌++◌, ◌^◌, length, take, map, slice_get, slice_set, get_or, Option, Some, None, refl, sym, ap, subst, ◌∙◌, arith, inl, inr, append-nil, append_assoc}
-use Rattle.std.specs.Prelude.{All, SomeIff, ℤ, nat_abs, option_map, unwrap_or, ◌-ℤ◌}
-use Rattle.std.specs.List.{AllByRecursion}
-use Rattle.std.proofs.Math.Nat.{pow-le-pow_right}
-use Rattle.std.proofs.lemmas.Bool.{cases_lt}
-use Rattle.std.proofs.lemmas.Option.{get_or_from_slice_get, slice_get-get_or, slice_get_within}
-use Rattle.std.proofs.lemmas.Slice.Zip.{AllZip-long}
-use Rattle.vcd_model.specs.Header.{Header}
-use Rattle.vcd_model.specs.HeadText.{first_number, merged_head}
-use Rattle.vcd_model.specs.Merge.{Dump, by_key, factor, headers_of, key_after, key_lt, merge_open, merged_items}
-use Rattle.vcd_model.specs.MergeByInput.{keyed_rest}
-use Rattle.vcd_model.specs.Tokens.{Token, stream_of}
-use Rattle.vcd_model.proofs.MergedLists.{merged_by}
-use Rattle.vcd_text.specs.Registers.{Fits}
-use Rattle.vcd_text.specs.Feed.{parked_answer}
-use Rattle.vcd_head.specs.declared.head.Head.{Head}
-use Rattle.vcd_head.specs.Merged.{ShowHeaders}
-use Rattle.vcd_head.specs.Shown.{shown}
-use Rattle.vcd_view.specs.Views.{IsExponent, Views}
-use Rattle.vcd_head.proofs.MergedLemmas.{few_powers, numbers_fit}
-use Rattle.vcd_merge.specs.declared.merge_state.Merge.{Merge}
-use Rattle.vcd_merge.specs.declared.seat.Seat.{Seat}
-use Rattle.vcd_merge.specs.declared.windows.Windows.{Windows}
-use Rattle.vcd_merge.specs.MergeParts.{AreParts, AreSeated, part, part_len, spot_at, spot_of}
-use Rattle.vcd_merge.specs.MergeStart.{AreBegun, AreOpen, HasBegun, HaveNoItems, begun, no_items}
-use Rattle.vcd_merge.specs.MergeStep.{Holds, IsReady, last_written, standing_of}
-use Rattle.vcd_merge.specs.Seat.{AtSeat, GaveParked, IsSeated, Lane, Spot}
+use Rattle.vcd_merge.proofs.Cited.{◌≡◌, ℕ, zero, suc, ◌+◌, ◌<◌, ◌≤◌, true, false, List, [], ◌∷◌, ◌++◌, ◌^◌, length, take, map, slice_get, slice_set, get_or, Option, Some, None, refl, sym, ap, subst, ◌∙◌, arith, inl, inr, append-nil, append_assoc, All, SomeIff, ℤ, nat_abs, option_map, unwrap_or, ◌-ℤ◌, AllByRecursion, pow-le-pow_right, cases_lt, get_or_from_slice_get, slice_get-get_or, slice_get_within, AllZip-long, Header, first_number, merged_head, Dump, by_key, factor, headers_of, key_after, key_lt, merged_items, keyed_rest, Token, stream_of, merged_by, Fits, parked_answer, Head, ShowHeaders, shown, IsExponent, Views, few_powers, numbers_fit, Merge, Seat, Windows, AreParts, AreSeated, part, part_len, spot_at, spot_of, AreBegun, AreOpen, HasBegun, HaveNoItems, begun, no_items, Holds, IsReady, last_written, standing_of, AtSeat, GaveParked, IsSeated, Lane, Spot, there, same_or_not, get_other, get_set, get_mapped}
+use Rattle.vcd_model.specs.Merge.{merge_open}
 use Rattle.vcd_merge.proofs.MergeSteps.{spot_seat}
 use Rattle.vcd_merge.proofs.PartLemmas.{part_long}
-use Rattle.vcd_view.proofs.ListLemmas.{there}
-use Rattle.vcd_body.proofs.StoreLemmas.{same_or_not, get_other, get_set}
-use Rattle.vcd_head.proofs.InsideLemmas.{get_mapped}
 
 -- ---- seats that are set one after the other
 

@@ -1,28 +1,7 @@
 -- What a merge holds after one item more of the input whose turn it is, and where that input has
 -- finished.
-use Rattle.std.proofs.Common.{◌≡◌, ◌≢◌, ℕ, suc, ◌*◌, ◌<◌, ◌≤◌, true, false, List, [], ◌∷◌, ◌++◌, length, take, map, slice_get, Option, Some, None, refl, sym, ap, subst, ◌∙◌, arith, ◌⊎◌, inl, inr}
-use Rattle.std.specs.Prelude.{option_map}
-use Rattle.std.specs.List.{AllByRecursion}
-use Rattle.std.proofs.lemmas.Bool.{cases_lt}
-use Rattle.std.proofs.lemmas.Option.{slice_get_within}
-use Rattle.vcd_model.specs.Header.{Header}
-use Rattle.vcd_model.specs.HeadText.{first_number}
-use Rattle.vcd_model.specs.Items.{BodyItem, time_after}
-use Rattle.vcd_model.specs.Merge.{Dump, key_lt, factor, key_after}
-use Rattle.vcd_model.proofs.MergeOrder.{IsSorted, Before, before_key, sorted_by_key, all_by_key}
+use Rattle.vcd_merge.proofs.Cited.{◌≡◌, ◌≢◌, ℕ, suc, ◌*◌, ◌<◌, ◌≤◌, true, false, List, [], ◌∷◌, ◌++◌, length, take, map, slice_get, Option, Some, None, refl, sym, ap, subst, ◌∙◌, arith, ◌⊎◌, inl, inr, option_map, AllByRecursion, cases_lt, slice_get_within, Header, first_number, BodyItem, time_after, Dump, key_lt, factor, key_after, IsSorted, Before, before_key, sorted_by_key, all_by_key, AreGiven, Standing, IsNext, part, part_len, spot_at, spot_of, AtSeat, Lane, Spot, Seat, keyed_rest, with_item, later_key, key_chain, all_with_item, headers_stay, there, same_or_not, get_other, get_set, get_mapped}
 use Rattle.vcd_model.proofs.MergeOrder as order
-use Rattle.vcd_merge.specs.MergeStep.{AreGiven, Standing}
-use Rattle.vcd_merge.specs.MergeOrder.{IsNext}
-use Rattle.vcd_merge.specs.MergeParts.{part, part_len, spot_at, spot_of}
-use Rattle.vcd_merge.specs.Seat.{AtSeat, Lane, Spot}
-use Rattle.vcd_merge.specs.declared.seat.Seat.{Seat}
-use Rattle.vcd_model.specs.MergeByInput.{keyed_rest, with_item}
-use Rattle.vcd_model.proofs.MergeChanges.{later_key}
-use Rattle.vcd_model.proofs.MergeOrder.{key_chain}
-use Rattle.vcd_model.proofs.MergedLists.{all_with_item, headers_stay}
-use Rattle.vcd_view.proofs.ListLemmas.{there}
-use Rattle.vcd_body.proofs.StoreLemmas.{same_or_not, get_other, get_set}
-use Rattle.vcd_head.proofs.InsideLemmas.{get_mapped}
 
 -- ---- positions
 

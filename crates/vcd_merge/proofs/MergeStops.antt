@@ -1,38 +1,13 @@
 -- How a merge ends: all inputs have ended, the input whose turn it is has a fault or a failed read,
 -- or a write fails.
-use Rattle.std.proofs.Common.{◌≡◌, ◌≢◌, ℕ, ◌+◌, ◌<◌, Bool, true, false, List, [], ◌∷◌, ◌++◌, length, take, map, slice_get, Option, Some, None, All, refl, sym, ap, subst, ◌∙◌, arith, ◌⊎◌, inl, inr, append-nil}
-use Rattle.std.specs.List.{AllByRecursion}
-use Rattle.std.proofs.lemmas.Option.{get_or_from_slice_get, slice_get_within}
-use Rattle.vcd_model.specs.Header.{Header}
-use Rattle.vcd_model.specs.HeadText.{first_number}
-use Rattle.vcd_model.specs.Items.{BodyItem}
-use Rattle.vcd_model.specs.Reading.{Fault}
-use Rattle.vcd_model.specs.Merge.{Dump, Key, Keyed, key_lt, factor, first_fault, headers_of, key_after, merge_close, merge_open, merged_items}
-use Rattle.vcd_model.specs.MergeByInput.{keyed_rest, with_item}
-use Rattle.vcd_model.specs.Outcome.{clean_outcome, fault_outcome, merge_outcome, name_at}
-use Rattle.vcd_model.proofs.BodyFacts.{all_back}
-use Rattle.vcd_model.proofs.MergedLists.{merged_by}
-use Rattle.vcd_model.proofs.MergedPrefix.{AreGrown, GrownOne, first_is}
-use Rattle.vcd_model.proofs.MergeOrder.{IsSorted, all_by_key, key_never, sorted_by_key}
-use Rattle.vcd_model.proofs.MergeOutcome.{clean, clear}
-use Rattle.vcd_text.specs.Device.{Device, Writes, WritesSome}
-use Rattle.vcd_text.proofs.Writes.{some-behind, some-first}
-use Rattle.vcd_body.specs.Device.{GrowsSome}
-use Rattle.vcd_merge.specs.MergeOrder.{IsNext}
-use Rattle.vcd_merge.specs.MergeParts.{part_len}
-use Rattle.vcd_merge.specs.MergeStep.{AreGiven, HasFault, IsReady, Standing, Takes, cut_at, next_item}
-use Rattle.vcd_merge.specs.Seat.{AtSeat, HasDump, Lane, Spot}
-use Rattle.vcd_merge.specs.declared.seat.Seat.{Seat}
+use Rattle.vcd_merge.proofs.Cited.{◌≡◌, ◌≢◌, ℕ, ◌+◌, ◌<◌, Bool, true, false, List, [], ◌∷◌, ◌++◌, length, take, map, slice_get, Option, Some, None, All, refl, sym, ap, subst, ◌∙◌, arith, ◌⊎◌, inl, inr, append-nil, AllByRecursion, get_or_from_slice_get, slice_get_within, Header, first_number, BodyItem, Fault, Dump, Key, Keyed, key_lt, factor, first_fault, headers_of, key_after, merge_close, merge_open, merged_items, keyed_rest, with_item, clean_outcome, fault_outcome, merge_outcome, name_at, all_back, merged_by, AreGrown, GrownOne, first_is, IsSorted, all_by_key, key_never, sorted_by_key, clean, clear, Device, Writes, WritesSome, some-behind, some-first, GrowsSome, IsNext, part_len, AreGiven, HasFault, IsReady, Standing, cut_at, next_item, AtSeat, HasDump, Lane, Spot, Seat, after_key, all_keyed, fault_outcome_is, none_between, outcome_begins, still_late, still_later, up_to_last, there, same_or_not, get_mapped}
+use Rattle.vcd_merge.specs.MergeStep.{Takes}
 use Rattle.vcd_merge.proofs.SpotLemmas.{token_len}
-use Rattle.vcd_model.proofs.MergeSoFar.{after_key, all_keyed, fault_outcome_is, none_between, outcome_begins, still_late, still_later, up_to_last}
 use Rattle.vcd_merge.proofs.MergeSteps.{all_before, dump_at, lane_at, len_map, next_first, same_header, seat_spot}
 use Rattle.vcd_merge.proofs.MergeWholes.{AllFit, Whole, Wholes, choose_all, entire, entire_of, fit_at, so_far}
 use Rattle.vcd_merge.proofs.WholesFit.{grown_all, late_all, others_all}
 use Rattle.vcd_merge.proofs.WholesOpened.{entire_headers}
 use Rattle.vcd_merge.proofs.WholeInputs.{finished, goes_on}
-use Rattle.vcd_view.proofs.ListLemmas.{there}
-use Rattle.vcd_body.proofs.StoreLemmas.{same_or_not}
-use Rattle.vcd_head.proofs.InsideLemmas.{get_mapped}
 
 -- a fault of the input comes after any position that was reached while it had not finished
 abbrev pub HasLaterFault : (hs : List Header) (limit : ℕ) → List Seat → (k : ℕ) → Whole hs limit → Type 0

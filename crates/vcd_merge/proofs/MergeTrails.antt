@@ -1,38 +1,12 @@
 -- What a merge holds after several items of the input whose turn it is.
-use Rattle.std.proofs.Common.{◌≡◌, ◌≢◌, ℕ, ◌+◌, ◌-◌, ◌*◌, ◌<◌, ◌≤◌, ◌⊎◌, Bool, true, false, List, [], ◌∷◌, ◌++◌, length, map, take, slice_get, slice_set, Option, Some, None, Result, Ok, Err, refl, sym, ap, subst, ◌∙◌, arith, inl, inr, append-nil, append_assoc}
-use Rattle.std.specs.Prelude.{All, option_map}
-use Rattle.std.proofs.lemmas.List.{set-get_or}
-use Rattle.std.proofs.lemmas.Option.{get_or_from_slice_get, slice_get_within}
-use Rattle.std.proofs.Math.ListN.{length-set}
-use borrow.Rule.Slice.PartMut.{put_mid}
-use Rattle.vcd_model.specs.Header.{Header}
-use Rattle.vcd_model.specs.HeadText.{first_number}
-use Rattle.vcd_model.specs.Items.{BodyItem}
-use Rattle.vcd_model.specs.Merge.{Dump, factor, merge_close, merge_open, merged_items}
-use Rattle.vcd_model.specs.MergeByInput.{due_with, entry_for, with_item}
-use Rattle.vcd_text.specs.Device.{Device, Writes, WritesSome}
-use Rattle.vcd_text.proofs.Writes.{both-written, some-behind}
-use Rattle.vcd_body.specs.Device.{Grows}
-use Rattle.vcd_merge.specs.MergeOrder.{IsNext}
-use Rattle.vcd_merge.specs.MergeParts.{part_len, spot_at}
-use Rattle.vcd_merge.specs.MergeStep.{AreMarked, Gives, Holds, IsReady, ReadsOne, Standing, last_written}
-use Rattle.vcd_merge.specs.MergeTrail.{GoOn, ReadInTurn, RunGives, Stage, StaysBack, TakesOn, Trail, Stands, Further, TurnsAt, spot_in}
-use Rattle.vcd_merge.specs.Order.{IsFirstBefore}
-use Rattle.vcd_merge.specs.Seat.{GivesOne, IsSeated, Lane, ReadsNoMore, Spot, Turns}
-use Rattle.vcd_body.specs.declared.answer.More.{More}
-use Rattle.vcd_body.specs.declared.answer.More.TheVariants.{Again, Ended}
+use Rattle.vcd_merge.proofs.Cited.{◌≡◌, ◌≢◌, ℕ, ◌+◌, ◌-◌, ◌*◌, ◌<◌, ◌≤◌, ◌⊎◌, Bool, true, false, List, [], ◌∷◌, ◌++◌, length, map, take, slice_get, slice_set, Option, Some, None, Result, Ok, Err, refl, sym, ap, subst, ◌∙◌, arith, inl, inr, append-nil, append_assoc, All, option_map, set-get_or, get_or_from_slice_get, slice_get_within, length-set, put_mid, Header, first_number, BodyItem, Dump, factor, merge_close, merge_open, merged_items, due_with, entry_for, with_item, Device, Writes, WritesSome, both-written, some-behind, Grows, IsNext, part_len, spot_at, AreMarked, Gives, Holds, IsReady, ReadsOne, Standing, last_written, GoOn, ReadInTurn, RunGives, Stage, StaysBack, TakesOn, Trail, Stands, Further, TurnsAt, spot_in, IsFirstBefore, GivesOne, IsSeated, Lane, ReadsNoMore, Spot, Turns, More, Again, Ended, Stop, Read, Write, Unmatched, Seat, writes-none, same_or_not, get_other, get_set, get_mapped}
 use Rattle.vcd_body.specs.declared.answer.Done.TheVariants.{Whole}
-use Rattle.vcd_body.specs.declared.answer.Stop.{Stop}
-use Rattle.vcd_body.specs.declared.answer.Stop.TheVariants.{Dump as Faulty, Read, Write, Unmatched}
-use Rattle.vcd_merge.specs.declared.seat.Seat.{Seat}
-use Rattle.vcd_body.proofs.Results.{writes-none}
+use Rattle.vcd_body.specs.declared.answer.Stop.TheVariants.{Dump as Faulty}
 use Rattle.vcd_merge.proofs.MergeAnswers.{again, are_marked, ended, open_with, stopped, taken, written_with_it}
 use Rattle.vcd_merge.proofs.InTurn.{go_item, go_still, go_through, in_turn, turn_on}
 use Rattle.vcd_merge.proofs.MergeCounts.{map_set}
 use Rattle.vcd_merge.proofs.PartLemmas.{len_put, parts_same, same_part, seated_put, spot_other, spot_put}
 use Rattle.vcd_merge.proofs.SpotLemmas.{Found, chunk_len, spot_source, token_len}
-use Rattle.vcd_body.proofs.StoreLemmas.{same_or_not, get_other, get_set}
-use Rattle.vcd_head.proofs.InsideLemmas.{get_mapped}
 
 -- the merge with one input at a stage
 abbrev lent : (n k : ℕ) → (xs ys : List ℕ) → List ℕ

@@ -1,16 +1,6 @@
 -- The inputs of a merge as wholes: from what is known of each to a list.
-use Rattle.std.proofs.Common.{◌≡◌, ℕ, zero, suc, ◌+◌, List, [], ◌∷◌, length, map, slice_get, Option, Some, refl, sym, ap, subst, ◌∙◌, arith}
-use Rattle.std.specs.Prelude.{⊤}
-use Rattle.vcd_model.specs.Header.{Header}
-use Rattle.vcd_model.specs.Input.{Input}
-use Rattle.vcd_model.specs.Items.{BodyItem}
-use Rattle.vcd_model.specs.Tokens.{stream_of}
-use Rattle.vcd_model.specs.Reading.{Fault}
-use Rattle.vcd_model.specs.Merge.{Dump, factor}
-use Rattle.vcd_model.specs.Outcome.{Opened}
-use Rattle.vcd_merge.specs.Seat.{HasDump, Lane}
+use Rattle.vcd_merge.proofs.Cited.{◌≡◌, ℕ, zero, suc, ◌+◌, List, [], ◌∷◌, length, map, slice_get, Option, Some, refl, sym, ap, subst, ◌∙◌, arith, ⊤, Header, Input, BodyItem, stream_of, Fault, Dump, factor, Opened, HasDump, Lane, same_Some}
 use Rattle.vcd_merge.proofs.PartLemmas.{none_is}
-use Rattle.std.proofs.lemmas.Option.{same_Some}
 
 -- the index of the first of a list that begins at n, and of the others
 pub at_first : (n : ℕ) → n ≡ n + 0

@@ -1,21 +1,10 @@
 -- Inputs of a merge that were each read on its turn, by what the inputs are.
-use Rattle.std.proofs.Common.{◌≡◌, ℕ, ◌⊎◌, Bool, true, false, List, length, slice_get, Option, Some, None, inl, inr, refl, sym, ap, subst, ◌∙◌, arith}
-use Rattle.std.proofs.lemmas.Option.{slice_get_within}
-use Rattle.vcd_model.specs.Header.{Header}
-use Rattle.vcd_model.specs.Input.{Input}
-use Rattle.vcd_model.specs.Merge.{Dump, Key, factor, key_after, key_lt}
-use Rattle.vcd_text.specs.Device.{Supply}
-use Rattle.vcd_merge.specs.MergeParts.{part_len}
-use Rattle.vcd_merge.specs.MergeRun.{BeginsWith, HasEnded, NoneBefore, ReadOnTurn}
-use Rattle.vcd_merge.specs.MergeStep.{AreGiven, IsReady, Standing}
-use Rattle.vcd_merge.specs.MergeTrail.{IsReached}
-use Rattle.vcd_merge.specs.Seat.{AtSeat, HasDump, Lane, Spot}
-use Rattle.vcd_merge.specs.declared.seat.Seat.{Seat}
+use Rattle.vcd_merge.proofs.Cited.{◌≡◌, ℕ, ◌⊎◌, Bool, true, false, List, length, slice_get, Option, Some, None, inl, inr, refl, sym, ap, subst, ◌∙◌, arith, slice_get_within, Header, Input, Dump, Key, factor, key_after, key_lt, Supply, part_len, BeginsWith, HasEnded, ReadOnTurn, AreGiven, IsReady, Standing, IsReached, AtSeat, HasDump, Lane, Spot, Seat, there}
+use Rattle.vcd_merge.specs.MergeRun.{NoneBefore}
 use Rattle.vcd_merge.proofs.MergeReads.{IsReadSo}
 use Rattle.vcd_merge.proofs.MergeSteps.{len_map, same_header, seat_spot}
 use Rattle.vcd_merge.proofs.SpotLemmas.{token_len}
 use Rattle.vcd_merge.proofs.WholeInputs.{goes_on}
-use Rattle.vcd_view.proofs.ListLemmas.{there}
 
 module _ {X : Type 0} (rest : X → Option (List ℕ)) (hs : List Header) (lanes : List Lane) (limit chunk : ℕ) (ds : List Dump) (s : Standing X) (g : AreGiven rest hs lanes ds s) (ready : IsReady s) (is_limit : part_len (length s.seats) s.tokens ≡ limit) where
   -- there is a seat for each input

@@ -1,13 +1,5 @@
 -- Inputs in the order of their turns.
-use Rattle.std.proofs.Common.{◌≡◌, ◌≢◌, ℕ, ◌+◌, ◌-◌, ◌<◌, ◌≤◌, ◌⊎◌, Bool, true, false, List, length, slice_get, Some, refl, sym, ap, ◌∙◌, subst, arith, inl, inr}
-use Rattle.std.specs.List.{CopiedTo, SameBelow}
-use Rattle.std.specs.Prelude.{All, get_or, slice_set}
-use Rattle.std.proofs.lemmas.Bool.{cases_lt}
-use Rattle.std.proofs.lemmas.List.{get_or-map, get_or-set_other, get_or-set_same}
-use Rattle.std.proofs.lemmas.Option.{get_or_from_slice_get, slice_get-get_or, slice_get_within}
-use Rattle.vcd_merge.specs.MergeOrder.{IsNext}
-use Rattle.vcd_merge.specs.Order.{AreInOrder, ComesBefore, IsFirstBefore, IsOrder, Waits, time_of}
-use Rattle.vcd_merge.specs.declared.seat.Seat.{Seat}
+use Rattle.vcd_merge.proofs.Cited.{◌≡◌, ◌≢◌, ℕ, ◌+◌, ◌-◌, ◌<◌, ◌≤◌, ◌⊎◌, Bool, true, false, List, length, slice_get, Some, refl, sym, ap, ◌∙◌, subst, arith, inl, inr, CopiedTo, SameBelow, All, get_or, slice_set, cases_lt, get_or-map, get_or-set_other, get_or-set_same, get_or_from_slice_get, slice_get-get_or, slice_get_within, IsNext, AreInOrder, ComesBefore, IsFirstBefore, IsOrder, Waits, time_of, Seat}
 
 pub before_both : (a i b j c k : ℕ) → ComesBefore a i b j → ComesBefore b j c k → ComesBefore a i c k
 before_both a i b j c k (inl l) (inl m) = inl (omega arith)

@@ -1,18 +1,5 @@
 -- The parts of the windows, where one of them was written.
-use Rattle.std.proofs.Common.{◌≡◌, ◌≢◌, ℕ, suc, ◌+◌, ◌-◌, ◌*◌, ◌/◌, ◌<◌, ◌≤◌, List, length, take, drop, slice_set, Option, Some, None, refl, sym, ap, subst, ◌∙◌, arith, ◌⊎◌, inl, inr, length-take, length-drop}
-use Rattle.std.specs.Prelude.{get_or, All}
-use Rattle.std.proofs.lemmas.Option.{slice_get-get_or}
-use Rattle.std.proofs.Math.Nat.{mul-le-mul_left}
-use Rattle.std.proofs.Math.ListN.{length-set}
-use Rattle.std.proofs.lemmas.List.{drop-take}
-use Rattle.std.proofs.lemmas.Slice.{take-put_mid_below, drop-put_mid, between-put_mid}
-use Rattle.std.proofs.lemmas.Bool.{cases_lt}
-use borrow.Rule.Slice.PartMut.{put_mid, same_len_mid}
-use Rattle.vcd_merge.specs.MergeParts.{AreParts, AreSeated, part, part_len, spot_at}
-use Rattle.std.proofs.lemmas.List.Elements.{All-set}
-use Rattle.vcd_merge.specs.Seat.{Spot, IsSeated}
-use Rattle.vcd_merge.specs.declared.seat.Seat.{Seat}
-use Rattle.vcd_body.proofs.StoreLemmas.{get_other, get_set}
+use Rattle.vcd_merge.proofs.Cited.{◌≡◌, ◌≢◌, ℕ, suc, ◌+◌, ◌-◌, ◌*◌, ◌/◌, ◌<◌, ◌≤◌, List, length, take, drop, slice_set, Option, Some, None, refl, sym, ap, subst, ◌∙◌, arith, ◌⊎◌, inl, inr, length-take, length-drop, get_or, All, slice_get-get_or, mul-le-mul_left, length-set, drop-take, take-put_mid_below, drop-put_mid, between-put_mid, cases_lt, put_mid, same_len_mid, AreParts, AreSeated, part, part_len, spot_at, All-set, Spot, IsSeated, Seat, get_other, get_set}
 
 -- a part ends where the next begins
 pub part_ends : (len n place : ℕ) → place < n → place * len + len ≤ n * len

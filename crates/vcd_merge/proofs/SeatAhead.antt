@@ -1,32 +1,6 @@
 -- The position of an input of a merge after items that lie ahead in its feed's chunk.
-use Rattle.std.proofs.Common.{◌≡◌, ◌≢◌, ℕ, ◌*◌, Bool, true, false, List, [], ◌∷◌, ◌++◌, Option, Result, Ok, Err, length, refl, sym, ap, subst, ◌∙◌, arith, append-nil, append_assoc, inl}
-use Rattle.std.specs.List.{AllByRecursion}
-use Rattle.vcd_model.specs.Items.{BodyItem}
-use Rattle.vcd_model.specs.Merge.{is_too_large}
-use Rattle.vcd_model.specs.Tokens.{Token, end_of_tokens}
-use Rattle.vcd_model.proofs.BodyFacts.{all_append}
-use Rattle.vcd_text.specs.Advances.{HasNotFailed}
-use Rattle.vcd_text.specs.Ahead.{ahead_of, lines_of}
-use Rattle.vcd_text.specs.Device.{Device}
-use Rattle.vcd_text.specs.Feed.{HasGiven, HasReadTo, limit_of, source_of, chunk_len_of}
-use Rattle.vcd_text.specs.Passed.{Passed}
-use Rattle.vcd_text.specs.Registers.{looked}
-use Rattle.vcd_text.specs.Window.{gone_on}
-use Rattle.vcd_text.specs.declared.device.Source.{Ghosts}
-use Rattle.vcd_text.specs.declared.feed.Feed.{Feed}
-use Rattle.vcd_text.proofs.Known.{near-more, parked-stands}
-use Rattle.vcd_text.proofs.PassedLemmas.{passed_within, ahead_fits, gone_fits, pass_stands, pass_far}
-use Rattle.vcd_body.specs.Ahead.{GaveAhead, GaveLast}
-use Rattle.vcd_body.specs.Items.{AreRegsAfter}
-use Rattle.vcd_body.specs.Reads.{GaveItems}
-use Rattle.vcd_body.specs.declared.item.Regs.{Regs}
-use Rattle.vcd_body.proofs.AheadLemmas.{gave_last}
-use Rattle.vcd_body.proofs.CallerLemmas.{gave_none_ahead}
-use Rattle.vcd_merge.specs.MergeAhead.{IsAhead, OneAhead, RunsAhead, StageAhead, TrailAhead, Further, Stands, seat_with}
-use Rattle.vcd_merge.specs.MergeTrail.{AheadTurns, Reaches, Stage, TakesOn, Trail, stage_with}
-use Rattle.vcd_merge.specs.Seat.{AtSeat, GivesOne, Lane, spot_with}
-use Rattle.vcd_body.specs.declared.answer.Stop.TheVariants.{Write}
-use Rattle.vcd_merge.specs.declared.seat.Seat.{Seat}
+use Rattle.vcd_merge.proofs.Cited.{◌≡◌, ◌≢◌, ℕ, ◌*◌, Bool, true, false, List, [], ◌∷◌, ◌++◌, Option, Result, Ok, Err, length, refl, sym, ap, subst, ◌∙◌, arith, append-nil, append_assoc, inl, AllByRecursion, BodyItem, is_too_large, Token, end_of_tokens, all_append, HasNotFailed, ahead_of, lines_of, Device, HasGiven, HasReadTo, limit_of, source_of, chunk_len_of, Passed, looked, gone_on, Ghosts, Feed, near-more, parked-stands, passed_within, ahead_fits, gone_fits, pass_stands, pass_far, GaveAhead, GaveLast, AreRegsAfter, GaveItems, Regs, gave_last, gave_none_ahead, IsAhead, OneAhead, RunsAhead, StageAhead, TrailAhead, seat_with, AheadTurns, Reaches, Stage, TakesOn, Trail, stage_with, AtSeat, GivesOne, Lane, spot_with, Write, Seat}
+use Rattle.vcd_merge.specs.MergeAhead.{Further, Stands}
 use Rattle.vcd_merge.proofs.SeatLemmas.{no_more_at_last, out_of}
 use Rattle.vcd_merge.proofs.SeatTrails.{reaches_on, turns_at}
 

@@ -1,33 +1,7 @@
 -- Where an input of a merge is after one item more, at its end, and at a fault, and how much
 -- of it was read.
-use Rattle.std.proofs.Common.{◌≡◌, ℕ, ◌+◌, ◌*◌, ◌^◌, ◌<◌, ◌≤◌, Bool, true, false, List, [], ◌∷◌, ◌++◌, Option, None, Err, refl, sym, ap, ◌∙◌, arith}
-use Rattle.std.proofs.lemmas.Bool.{le-leb, lt-leb}
-use Rattle.vcd_model.specs.Items.{BodyItem, time_after}
-use Rattle.vcd_model.specs.Merge.{is_too_large}
-use Rattle.vcd_model.specs.Input.{Input}
-use Rattle.vcd_model.specs.Tokens.{Token}
-use Rattle.vcd_model.proofs.BodyFacts.{all_append}
-use Rattle.vcd_text.specs.Feed.{chunk_len_of, limit_of, token_of, seen, supply_of}
-use Rattle.vcd_text.specs.declared.device.Source.{Ghosts}
-use Rattle.vcd_text.specs.declared.feed.Feed.{Feed}
-use Rattle.vcd_body.specs.Ahead.{GaveLast}
-use Rattle.vcd_body.specs.Given.{GivesItem}
-use Rattle.vcd_body.specs.Items.{AreRegsAfter}
-use Rattle.vcd_body.specs.Reads.{GaveAll, GaveItem, GaveItems, Fails, StopsAt}
-use Rattle.vcd_body.specs.declared.fault.BodyFault.{BodyFault}
-use Rattle.vcd_body.specs.declared.fault.BodyFault.TheVariants.{ReadFailed}
-use Rattle.vcd_body.specs.declared.item.Item.TheVariants.{Finish}
-use Rattle.vcd_body.specs.declared.item.Regs.{Regs}
-use Rattle.vcd_text.specs.Device.{Device, Supply}
-use Rattle.vcd_text.specs.ReadAhead.{ReadsAsNeeded}
-use Rattle.vcd_text.specs.ReadAhead.ReadsAsNeeded.{Nothing, ToToken, ToEnd}
-use Rattle.vcd_body.specs.Answer.{stop_of_body}
-use Rattle.vcd_merge.specs.Seat.{AtSeat, GaveParked, Lane, ReadsNoMore, Turns, spot_with}
-use Rattle.vcd_merge.specs.declared.seat.Seat.{Seat}
-use Rattle.vcd_body.proofs.Results.{writes-none}
+use Rattle.vcd_merge.proofs.Cited.{◌≡◌, ℕ, ◌+◌, ◌*◌, ◌^◌, ◌<◌, ◌≤◌, Bool, true, false, List, [], ◌∷◌, ◌++◌, Option, None, Err, refl, sym, ap, ◌∙◌, arith, le-leb, lt-leb, BodyItem, time_after, is_too_large, Input, Token, all_append, chunk_len_of, limit_of, token_of, seen, supply_of, Ghosts, Feed, GaveLast, GivesItem, AreRegsAfter, GaveAll, GaveItem, GaveItems, Fails, StopsAt, BodyFault, ReadFailed, Finish, Regs, Device, Supply, ReadsAsNeeded, Nothing, ToToken, ToEnd, stop_of_body, AtSeat, GaveParked, Lane, ReadsNoMore, Turns, spot_with, Seat, writes-none, last_given, asked_to_end, asked_to_item, asked_to_stop}
 use Rattle.vcd_merge.proofs.Dumps.{has_dump}
-use Rattle.vcd_body.proofs.CallerLemmas.{last_given}
-use Rattle.vcd_body.proofs.AskedLemmas.{asked_to_end, asked_to_item, asked_to_stop}
 
 -- ---- how much was read
 

@@ -1,19 +1,6 @@
 -- Items of one input of a merge, taken one after another over its feed.
-use Rattle.std.proofs.Common.{◌≡◌, ℕ, ◌<◌, Bool, true, false, List, [], ◌∷◌, ◌++◌, Option, Result, Ok, Err, ◌⊎◌, refl, sym, ap, subst, ◌∙◌, inl, inr}
-use Rattle.vcd_model.specs.Items.{BodyItem}
-use Rattle.vcd_text.specs.Advances.{HasNotFailed}
-use Rattle.vcd_model.specs.MergeByInput.{due_with, entry_for}
-use Rattle.vcd_text.specs.Device.{Device, Writes, WritesSome}
-use Rattle.vcd_text.proofs.Writes.{both-written, some-behind}
-use Rattle.vcd_text.specs.Feed.{chunk_len_of, limit_of, source_of}
-use Rattle.vcd_text.specs.declared.device.Source.{Ghosts}
-use Rattle.vcd_text.specs.declared.device.WriteFailed.{WriteFailed}
-use Rattle.vcd_text.specs.declared.feed.Feed.{Feed}
-use Rattle.vcd_merge.specs.MergeTrail.{AheadTurns, Reaches, RunTurns, Stage, StaysBack, TakesOn, Trail, Further, Stands, spot_in, stage_with}
-use Rattle.vcd_merge.specs.Seat.{AtSeat, GivesOne, Lane, Spot, Turns, spot_with}
-use Rattle.vcd_body.specs.declared.answer.Stop.{Stop}
-use Rattle.vcd_body.specs.declared.answer.Stop.TheVariants.{Dump as Faulty, Read, Write, Unmatched}
-use Rattle.vcd_merge.specs.declared.seat.Seat.{Seat}
+use Rattle.vcd_merge.proofs.Cited.{◌≡◌, ℕ, ◌<◌, Bool, true, false, List, [], ◌∷◌, ◌++◌, Option, Result, Ok, Err, ◌⊎◌, refl, sym, ap, subst, ◌∙◌, inl, inr, BodyItem, HasNotFailed, due_with, entry_for, Device, Writes, WritesSome, both-written, some-behind, chunk_len_of, limit_of, source_of, Ghosts, WriteFailed, Feed, AheadTurns, Reaches, RunTurns, Stage, StaysBack, TakesOn, Trail, Further, Stands, spot_in, stage_with, AtSeat, GivesOne, Lane, Spot, Turns, spot_with, Stop, Read, Write, Unmatched, Seat}
+use Rattle.vcd_body.specs.declared.answer.Stop.TheVariants.{Dump as Faulty}
 
 -- ---- trails
 

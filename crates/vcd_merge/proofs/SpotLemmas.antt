@@ -1,22 +1,8 @@
 -- What belongs to an input of a merge, before a step of it and after.
-use Rattle.std.proofs.Common.{◌≡◌, ℕ, ◌*◌, ◌<◌, ◌≤◌, ◌⊎◌, List, length, take, slice_get, Option, Some, None, refl, sym, ap, subst, ◌∙◌, arith, inl, inr}
-use Rattle.std.specs.Prelude.{option_map}
-use Rattle.std.proofs.lemmas.Option.{slice_get_within, same_Some}
-use Rattle.vcd_model.specs.Header.{Header}
-use Rattle.vcd_model.specs.HeadText.{first_number}
-use Rattle.vcd_model.specs.Merge.{Dump, factor}
-use Rattle.vcd_head.specs.Shown.{shown}
-use Rattle.vcd_view.specs.Views.{Views}
-use Rattle.vcd_head.specs.declared.head.Head.{Head}
-use Rattle.vcd_merge.specs.MergeStep.{AreGiven, IsReady, Standing}
-use Rattle.vcd_merge.specs.MergeOrder.{IsNext}
-use Rattle.vcd_merge.specs.MergeParts.{part, part_len, spot_at, spot_of}
-use Rattle.vcd_merge.specs.Seat.{AtSeat, Lane, Spot}
-use Rattle.vcd_merge.specs.declared.seat.Seat.{Seat}
+use Rattle.vcd_merge.proofs.Cited.{◌≡◌, ℕ, ◌*◌, ◌<◌, ◌≤◌, ◌⊎◌, List, length, take, slice_get, Option, Some, None, refl, sym, ap, subst, ◌∙◌, arith, inl, inr, option_map, slice_get_within, same_Some, Header, first_number, Dump, factor, shown, Views, Head, AreGiven, IsReady, Standing, IsNext, part, part_len, spot_at, spot_of, AtSeat, Lane, Spot, Seat, there}
 use Rattle.vcd_merge.proofs.PartLemmas.{part_long}
 use Rattle.vcd_merge.proofs.MergeSteps.{dump_at, lane_at, seat_spot, spot_seat}
 use Rattle.vcd_merge.proofs.PartLemmas.{same_part}
-use Rattle.vcd_view.proofs.ListLemmas.{there}
 
 -- all that belongs to the input whose turn it is
 pub record Found {X : Type 0} (rest : X → Option (List ℕ)) (hs : List Header) (lanes : List Lane) (ds : List Dump) (s : Standing X) (k : ℕ) : Type 0 where

@@ -1,28 +1,10 @@
 -- What does not settle a merge: the first tokens of one input, where its items come before the
 -- faults of all others.
-use Rattle.std.proofs.Common.{◌≡◌, ◌≢◌, ℕ, zero, suc, ◌+◌, Bool, true, false, ◌&&◌, ◌||◌, List, [], ◌∷◌, map, slice_get, slice_set, Option, Some, None, ◌⊎◌, inl, inr, refl, sym, ap, subst, ◌∙◌, arith}
-use Rattle.std.specs.List.{AllByRecursion}
-use Rattle.std.proofs.lemmas.Option.{slice_get_within}
-use Rattle.vcd_model.specs.Header.{Header}
-use Rattle.vcd_model.specs.Items.{BodyItem}
-use Rattle.vcd_model.specs.Tokens.{Token}
-use Rattle.vcd_model.specs.BodyReading.{read_body}
-use Rattle.vcd_model.specs.Reading.{Ending, Fault}
-use Rattle.vcd_model.specs.Reading.Ending.{AtFault, AtEnd, AtLast}
-use Rattle.vcd_model.specs.Settled.{is_faulty}
-use Rattle.vcd_model.specs.Merge.{Dump, Key, KeyedFault, dump_of, factor, first_fault, headers_of, is_too_large, key_after, key_lt}
-use Rattle.vcd_model.specs.Outcome.{Opened, body_of}
-use Rattle.vcd_model.proofs.DumpItems.{dump_whole}
-use Rattle.vcd_model.proofs.MergeOrder.{key_never}
+use Rattle.vcd_merge.proofs.Cited.{◌≡◌, ◌≢◌, ℕ, zero, suc, ◌+◌, Bool, true, false, ◌&&◌, ◌||◌, List, [], ◌∷◌, map, slice_get, slice_set, Option, Some, None, ◌⊎◌, inl, inr, refl, sym, ap, subst, ◌∙◌, arith, AllByRecursion, slice_get_within, Header, BodyItem, Token, read_body, Ending, Fault, AtFault, AtEnd, AtLast, is_faulty, Dump, Key, KeyedFault, factor, first_fault, headers_of, is_too_large, key_after, key_lt, Opened, dump_whole, key_never, AreLate, first_late, SeenBody, are_past, dump_seen, fault_met, is_at_its_end, is_past, known_first, known_whole, settles_among, HaveJust, and-false, same_or_not, get_other, get_set, get_mapped}
+use Rattle.vcd_model.specs.Merge.{dump_of}
+use Rattle.vcd_model.specs.Outcome.{body_of}
 use Rattle.vcd_model.proofs.MergeOutcome.{dump_under}
-use Rattle.vcd_model.proofs.MergeSoFar.{AreLate, first_late}
-use Rattle.vcd_model.specs.SettledMerge.{SeenBody, are_past, dump_seen, fault_met, is_at_its_end, is_past}
-use Rattle.vcd_merge.specs.MergeRun.{known_first, known_whole, settles_among}
-use Rattle.vcd_body.specs.Asked.{HaveJust}
 use Rattle.vcd_merge.proofs.MergeCounts.{map_set}
-use Rattle.std.proofs.Math.Bool.{and-false}
-use Rattle.vcd_body.proofs.StoreLemmas.{same_or_not, get_other, get_set}
-use Rattle.vcd_head.proofs.InsideLemmas.{get_mapped}
 
 -- ---- lists
 

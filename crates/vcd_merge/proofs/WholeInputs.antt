@@ -1,16 +1,5 @@
 -- An input of a merge as a whole: after the items so far come others, or it has ended.
-use Rattle.std.proofs.Common.{◌≡◌, ℕ, true, false, List, [], ◌++◌, length, Option, None, sym, ap, subst, ◌∙◌, append_assoc, append-nil}
-use Rattle.std.specs.Prelude.{find}
-use Rattle.std.specs.List.{AllByRecursion, before_first}
-use Rattle.vcd_model.specs.Tokens.{stream_of}
-use Rattle.vcd_model.specs.Items.{BodyItem}
-use Rattle.vcd_model.specs.BodyPhrases.{items_of}
-use Rattle.vcd_model.specs.BodyReading.{read_body, body_fault_of}
-use Rattle.vcd_model.specs.Merge.{is_too_large, placed_is_too_large}
-use Rattle.vcd_model.specs.Reading.{Fault, phrases_of}
-use Rattle.vcd_model.proofs.BodyPrefix.{phrases_begin}
-use Rattle.vcd_model.proofs.DumpItems.{dump_begins, mark_or}
-use Rattle.vcd_merge.specs.Seat.{AtSeat, HasDump, Lane, Spot}
+use Rattle.vcd_merge.proofs.Cited.{◌≡◌, ℕ, true, false, List, [], ◌++◌, length, Option, None, sym, ap, subst, ◌∙◌, append_assoc, append-nil, find, AllByRecursion, before_first, stream_of, BodyItem, items_of, read_body, body_fault_of, is_too_large, placed_is_too_large, Fault, phrases_of, phrases_begin, dump_begins, mark_or, AtSeat, HasDump, Lane, Spot}
 
 -- what an input is as a whole, that has given these items
 pub record Goes (scale limit : ℕ) (l : Lane) (items : List BodyItem) : Type 0 where

@@ -1,16 +1,5 @@
 -- What holds of each of the inputs of a merge, as lists.
-use Rattle.std.proofs.Common.{◌≡◌, ◌≢◌, ℕ, zero, suc, ◌+◌, ◌<◌, true, false, List, [], ◌∷◌, length, slice_get, Some, refl, sym, subst, ◌∙◌, arith}
-use Rattle.vcd_model.specs.Header.{Header}
-use Rattle.vcd_model.specs.Reading.{Fault}
-use Rattle.vcd_model.specs.Merge.{Key, key_lt, factor, key_after}
-use Rattle.vcd_model.specs.Outcome.{Request}
-use Rattle.vcd_model.specs.Settled.{is_settled_behind}
-use Rattle.vcd_model.proofs.MergedPrefix.{AreGrown, GrownOne, NoneBefore, OthersLater}
-use Rattle.vcd_text.specs.Device.{Supply}
-use Rattle.vcd_text.specs.ReadAhead.{ReadsAsNeeded}
-use Rattle.vcd_merge.specs.MergeRun.{AreLeft}
-use Rattle.vcd_body.specs.Answer.{IsLeft}
-use Rattle.vcd_model.proofs.MergeSoFar.{AreLate}
+use Rattle.vcd_merge.proofs.Cited.{◌≡◌, ◌≢◌, ℕ, zero, suc, ◌+◌, ◌<◌, true, false, List, [], ◌∷◌, length, slice_get, Some, refl, sym, subst, ◌∙◌, arith, Header, Fault, Key, key_lt, factor, key_after, Request, is_settled_behind, AreGrown, GrownOne, NoneBefore, OthersLater, Supply, ReadsAsNeeded, AreLeft, IsLeft, AreLate}
 use Rattle.vcd_merge.proofs.MergeWholes.{Whole, at_first, at_next, no_more, same_rest, entire, lanes_of, so_far, lefts_of, entire_of, AllFit}
 
 past_next : (m n : ℕ) → m < n → m < n + 1

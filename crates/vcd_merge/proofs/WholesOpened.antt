@@ -1,20 +1,9 @@
 -- The outcome of a merge of wholes, by what they are after their headers.
-use Rattle.std.proofs.Common.{◌≡◌, ℕ, List, [], ◌∷◌, map, slice_get, Some, Result, refl, sym, ap, subst, ◌∙◌}
-use Rattle.vcd_model.specs.Header.{Header}
-use Rattle.vcd_model.specs.Input.{Input}
-use Rattle.vcd_model.specs.Merge.{Dump, headers_of}
-use Rattle.vcd_model.specs.Outcome.{Opened, body_of, merge_outcome}
-use Rattle.vcd_model.proofs.MergeOutcome.{dump_under, dumps_under}
-use Rattle.vcd_text.specs.Device.{Device, Supply}
-use Rattle.vcd_text.specs.ReadAhead.{ReadsAsNeeded}
-use Rattle.vcd_merge.specs.MergeRun.{AreLeft, AreOpened, AreReadOnTurn, Belongs, Follows, settles_among}
-use Rattle.vcd_merge.specs.Seat.{Lane}
-use Rattle.vcd_body.specs.declared.answer.Done.{Done}
-use Rattle.vcd_body.specs.declared.answer.Stop.{Stop}
+use Rattle.vcd_merge.proofs.Cited.{◌≡◌, ℕ, List, [], ◌∷◌, map, slice_get, Some, Result, refl, sym, ap, subst, ◌∙◌, Header, Input, Dump, headers_of, Opened, merge_outcome, dumps_under, Device, Supply, ReadsAsNeeded, AreLeft, AreOpened, AreReadOnTurn, Belongs, Follows, settles_among, Lane, Done, Stop, get_mapped, same_Some}
+use Rattle.vcd_model.specs.Outcome.{body_of}
+use Rattle.vcd_model.proofs.MergeOutcome.{dump_under}
 use Rattle.vcd_merge.proofs.MergeReads.{unmap}
 use Rattle.vcd_merge.proofs.MergeWholes.{Whole, entire, opened_of, lanes_of, so_far, lefts_of, entire_of}
-use Rattle.vcd_head.proofs.InsideLemmas.{get_mapped}
-use Rattle.std.proofs.lemmas.Option.{same_Some}
 
 module _ (hs : List Header) (limit : ℕ) where
   opened_all : (ws : List (Whole hs limit)) → AreOpened limit (lanes_of hs limit ws) (lefts_of hs limit ws) (map (opened_of hs limit) ws)

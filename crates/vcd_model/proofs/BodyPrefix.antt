@@ -1,14 +1,7 @@
 -- Items that were given are the first ones of their body, whatever follows.
-use Rattle.std.proofs.Common.{◌≡◌, ℕ, List, [], ◌∷◌, ◌++◌, Option, Some, None, refl, sym, ap, subst, ◌∙◌, append-nil, append_assoc}
-use Rattle.std.proofs.lemmas.List.{map-append}
-use Rattle.std.proofs.lemmas.List.Elements.{filter_map-append}
-use Rattle.vcd_model.specs.Tokens.{Token}
-use Rattle.vcd_model.specs.Declarations.{IdCode}
-use Rattle.vcd_model.specs.Items.{BodyItem}
-use Rattle.vcd_model.specs.BodyPhrases.{BodyPhrase, items_of}
-use Rattle.vcd_model.specs.BodyReading.{body_grammar, read_body, body_items}
-use Rattle.vcd_model.specs.Reading.{Placed, Reading, reading_of, phrases_of}
-use Rattle.vcd_model.specs.SoFar.{IsSoFar}
+use Rattle.vcd_model.proofs.Cited.{◌≡◌, ℕ, List, [], ◌∷◌, ◌++◌, Option, Some, None, refl, sym, ap, subst, ◌∙◌, map-append, filter_map-append, Token, IdCode, BodyItem, BodyPhrase, items_of, body_grammar, body_items, Placed, Reading, reading_of, phrases_of, IsSoFar}
+use Rattle.std.proofs.Common.{append-nil, append_assoc}
+use Rattle.vcd_model.specs.BodyReading.{read_body}
 use Rattle.vcd_model.proofs.SoFarLemmas.{so_far-token, so_far-phrase, faulty-token}
 
 module _ (codes : List IdCode) where

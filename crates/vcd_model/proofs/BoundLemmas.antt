@@ -1,11 +1,6 @@
 -- What is lent counts at most the bound.
-use Rattle.std.proofs.Common.{◌≡◌, ℕ, ◌+◌, ◌*◌, ◌/◌, ◌%◌, ◌≤◌, List, [], ◌∷◌, length, sum_by, arith}
-use Rattle.std.proofs.lemmas.Nat.{div-add-mod'}
-use Rattle.std.proofs.lemmas.List.Sums.{sum_by-cons}
-use Rattle.vcd_model.specs.Declarations.{IdCode}
-use Rattle.vcd_model.specs.Header.{Header}
-use Rattle.vcd_model.specs.Bound.{text_bytes, input_bound, bound, value_room}
-use Rattle.vcd_model.specs.Laws.{RoomFits, MergeFits}
+use Rattle.vcd_model.proofs.Cited.{◌≡◌, ℕ, ◌+◌, ◌*◌, ◌/◌, ◌%◌, ◌≤◌, List, [], ◌∷◌, length, sum_by, arith, div-add-mod', sum_by-cons, IdCode, Header, text_bytes, input_bound, value_room, RoomFits, MergeFits}
+use Rattle.vcd_model.specs.Bound.{bound}
 
 -- a code's part of the values is at most its size and 64
 value_room-le : (c : IdCode) → value_room c ≤ c.size + 64

@@ -1,16 +1,6 @@
 -- `cut` with one item more, and at its end.
-use Rattle.std.proofs.Common.{◌≡◌, ℕ, zero, suc, ◌≤◌, ◌<◌, max, Bool, true, false, not, cond, ◌&&◌, ◌||◌, ◌==◌, nat_lt, nat_le, List, [], ◌∷◌, ◌++◌, map, filter, flat_map, fold, Option, Some, None, refl, sym, ap, ◌∙◌, arith}
-use Rattle.std.specs.List.{AllByRecursion, list_any, last_or}
-use Rattle.std.proofs.lemmas.List.{append_assoc, append-nil}
-use Rattle.std.proofs.lemmas.List.Folds.{list_any-append}
-use Rattle.std.proofs.lemmas.Bool.{le-leb, lt-leb, leb-true, le-ltb, ltb-false, or_parts}
-use Rattle.vcd_model.specs.Declarations.{IdCode}
-use Rattle.vcd_model.specs.Header.{Header}
-use Rattle.vcd_model.specs.Items.{BodyItem, Entry, entries, entry_after, marks, time_after}
-use Rattle.vcd_model.specs.History.{value_before}
-use Rattle.vcd_model.specs.ItemText.{text_after, time_unless, time_due, kept_by, may_keep, closing, last_mark}
-use Rattle.vcd_model.specs.HeadText.{head_for}
-use Rattle.vcd_model.specs.Cut.{is_mark_above, ends_cut, within, line_if_set, start_section, is_started, times_of, cut_open, cut_close, closing_above}
+use Rattle.vcd_model.proofs.Cited.{◌≡◌, ℕ, zero, suc, ◌≤◌, ◌<◌, max, Bool, true, false, not, cond, ◌&&◌, ◌||◌, ◌==◌, nat_lt, nat_le, List, [], ◌∷◌, ◌++◌, map, filter, flat_map, fold, Option, Some, None, refl, sym, ap, ◌∙◌, arith, AllByRecursion, list_any, last_or, append_assoc, append-nil, list_any-append, le-leb, lt-leb, leb-true, le-ltb, ltb-false, or_parts, IdCode, Header, BodyItem, Entry, entries, entry_after, marks, time_after, value_before, text_after, time_unless, time_due, kept_by, may_keep, closing, last_mark, head_for, is_mark_above, ends_cut, within, line_if_set, is_started, times_of, cut_open, closing_above}
+use Rattle.vcd_model.specs.Cut.{start_section, cut_close}
 use Rattle.vcd_model.proofs.Growing.{entries-append}
 use Rattle.vcd_model.proofs.Times.{marks-append}
 use Rattle.vcd_model.proofs.KeptLines.{keeps, kept_more, kept_same, kept_rise, last_is_enough, Rise}

@@ -1,17 +1,8 @@
 -- The dump that an input is in a merge, by the first phrases of its body: all their items if
 -- these are small.
-use Rattle.std.proofs.Common.{◌≡◌, ℕ, Bool, true, false, List, [], ◌∷◌, ◌++◌, Option, Some, None, refl, sym, ap, ◌∙◌, append-nil, one-add}
-use Rattle.std.specs.Prelude.{find}
-use Rattle.std.specs.List.{AllByRecursion, before_first}
-use Rattle.std.proofs.lemmas.List.{map-append}
-use Rattle.std.proofs.lemmas.List.Elements.{filter_map-append}
-use Rattle.vcd_model.specs.Header.{Header}
-use Rattle.vcd_model.specs.Items.{BodyItem}
-use Rattle.vcd_model.specs.BodyPhrases.{BodyPhrase, items_of}
-use Rattle.vcd_model.specs.BodyPhrases.BodyPhrase.{Comment, Gives}
-use Rattle.vcd_model.specs.BodyReading.{body_items}
-use Rattle.vcd_model.specs.Merge.{dump_of, is_too_large, placed_is_too_large}
-use Rattle.vcd_model.specs.Reading.{Fault, Placed, Reading, phrases_of}
+use Rattle.vcd_model.proofs.Cited.{◌≡◌, ℕ, Bool, true, false, List, [], ◌∷◌, ◌++◌, Option, Some, None, refl, sym, ap, ◌∙◌, one-add, find, AllByRecursion, before_first, map-append, filter_map-append, Header, BodyItem, BodyPhrase, items_of, Comment, Gives, body_items, is_too_large, placed_is_too_large, Fault, Placed, Reading, phrases_of}
+use Rattle.std.proofs.Common.{append-nil}
+use Rattle.vcd_model.specs.Merge.{dump_of}
 
 pub before_past : {X : Type 0} (test : X → Bool) (xs more : List X) → AllByRecursion (λ x. test x ≡ false) xs → before_first test (xs ++ more) ≡ xs ++ before_first test more
 before_past test [] more h = refl

@@ -1,18 +1,5 @@
 -- `edges` with one item more.
-use Rattle.std.proofs.Common.{◌≡◌, suc, ◌+◌, ◌≤◌, Bool, true, false, not, cond, ◌&&◌, List, [], ◌∷◌, ◌++◌, length, filter, count_by, drop, Option, Some, None, refl, sym, ap, ◌∙◌, arith}
-use Rattle.std.specs.Prelude.{option_map, filter_map}
-use Rattle.std.specs.List.{last_or}
-use Rattle.std.specs.Str.{byte}
-use Rattle.std.proofs.lemmas.List.{append-nil}
-use Rattle.std.proofs.lemmas.List.Elements.{filter-append, filter_map-append}
-use Rattle.std.proofs.lemmas.List.Sums.{count_by-le-length, length-filter, sum_by-append}
-use Rattle.std.proofs.lemmas.Slice.Zip.{length-zip}
-use Rattle.vcd_model.specs.Backward.{each_after}
-use Rattle.vcd_model.specs.Declarations.{IdCode, same_code}
-use Rattle.vcd_model.specs.Items.{BodyItem, Change, Entry, change_of, entries, entry_after, leaves_open}
-use Rattle.vcd_model.specs.Values.{Value, same_value, value_of}
-use Rattle.vcd_model.specs.History.{final_value, gives_to, values_of}
-use Rattle.vcd_model.specs.Edges.{Counts, counts_for, counts_of, event_count, goes, neighbours}
+use Rattle.vcd_model.proofs.Cited.{◌≡◌, suc, ◌+◌, ◌≤◌, Bool, true, false, not, cond, ◌&&◌, List, [], ◌∷◌, ◌++◌, length, filter, count_by, drop, Option, Some, None, refl, sym, ap, ◌∙◌, arith, option_map, filter_map, last_or, byte, append-nil, filter-append, filter_map-append, count_by-le-length, length-filter, sum_by-append, length-zip, each_after, IdCode, same_code, BodyItem, Change, Entry, change_of, entries, entry_after, leaves_open, Value, same_value, value_of, final_value, gives_to, values_of, Counts, counts_for, counts_of, event_count, goes, neighbours}
 use Rattle.vcd_model.proofs.Growing.{entries-append}
 use Rattle.vcd_model.proofs.Latest.{gives_at, last_value_is, latest, newer, newer-false}
 

@@ -1,14 +1,6 @@
 -- The values of codes after all items, with one item more; and when they are those before a time,
 -- or at it.
-use Rattle.std.proofs.Common.{◌≡◌, ℕ, ◌≤◌, ◌<◌, Bool, true, false, ◌&&◌, nat_lt, nat_le, List, [], ◌∷◌, ◌++◌, Some, refl, sym, ap, ◌∙◌, subst, arith}
-use Rattle.std.specs.List.{AllByRecursion}
-use Rattle.std.proofs.lemmas.List.{append_assoc}
-use Rattle.std.proofs.lemmas.Bool.{le-leb, lt-ltb}
-use Rattle.vcd_model.specs.Backward.{each_after}
-use Rattle.vcd_model.specs.Declarations.{IdCode, same_code}
-use Rattle.vcd_model.specs.Items.{BodyItem, Change, Entry, entries, entry_after, time_after}
-use Rattle.vcd_model.specs.Values.{value_of}
-use Rattle.vcd_model.specs.History.{gives_to, last_value, value_at, value_before, final_value}
+use Rattle.vcd_model.proofs.Cited.{◌≡◌, ℕ, ◌≤◌, ◌<◌, Bool, true, false, ◌&&◌, nat_lt, nat_le, List, [], ◌∷◌, ◌++◌, Some, refl, sym, ap, ◌∙◌, subst, arith, AllByRecursion, append_assoc, le-leb, lt-ltb, each_after, IdCode, same_code, BodyItem, Change, Entry, entries, entry_after, time_after, value_of, gives_to, last_value, value_at, value_before, final_value}
 use Rattle.vcd_model.proofs.Growing.{entries-append}
 use Rattle.vcd_model.proofs.Latest.{gives_at, last_value_is, latest, latest-append, latest_agree}
 use Rattle.vcd_model.proofs.Times.{time_after-append}

@@ -1,12 +1,5 @@
 -- Codes that are found in lists, and entries that count and are kept.
-use Rattle.std.proofs.Common.{◌≡◌, ℕ, ◌≤◌, Bool, true, false, cond, List, [], ◌∷◌, filter, find, Some, Contains, refl, sym, ap, ◌∙◌, subst, arith}
-use Rattle.std.specs.List.{AllByRecursion}
-use Rattle.std.proofs.lemmas.List.Elements.{All-contains, All-from_recursion}
-use Rattle.std.proofs.lemmas.Bool.{and_parts}
-use Rattle.std.proofs.lemmas.Slice.Eq.{bytes_eq-Decides}
-use Rattle.vcd_model.specs.Declarations.{IdCode, same_code}
-use Rattle.vcd_model.specs.Items.{Change, BodyItem, Entry}
-use Rattle.vcd_model.specs.BodyPhrases.{declared_code}
+use Rattle.vcd_model.proofs.Cited.{◌≡◌, ℕ, ◌≤◌, Bool, true, false, cond, List, [], ◌∷◌, filter, find, Some, Contains, refl, sym, ap, ◌∙◌, subst, arith, AllByRecursion, All-contains, All-from_recursion, and_parts, bytes_eq-Decides, IdCode, same_code, Change, BodyItem, Entry, declared_code}
 use Rattle.vcd_model.proofs.ItemStates.{IsGoodChange, AreFit, entries_from}
 use Rattle.vcd_model.proofs.Latest.{gives_at}
 

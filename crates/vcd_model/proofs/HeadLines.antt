@@ -1,19 +1,6 @@
 -- The lines of a head, read as a text: its phrases, and then what follows it.
-use Rattle.std.proofs.Common.{◌≡◌, ℕ, ℤ, ◌<◌, ◌≤◌, ◌^◌, true, false, not, List, [], ◌∷◌, ◌++◌, length, map, flat_map, filter_map, decimal, Option, Some, None, option_map, unwrap_or, refl, sym, ap, ◌∙◌, arith}
-use Rattle.std.specs.List.{AllByRecursion, list_all, join_with_byte}
-use Rattle.std.proofs.lemmas.List.{append_assoc, map-append}
-use Rattle.std.proofs.lemmas.List.Elements.{filter_map-append}
-use Rattle.std.proofs.lemmas.Bool.{and_parts, not-true}
-use Rattle.vcd_model.specs.Bytes.{is_white_space, is_empty, as_line}
-use Rattle.vcd_model.specs.Keywords.{Keyword, keyword_text}
-use Rattle.vcd_model.specs.Scales.{scale_text}
-use Rattle.vcd_model.specs.Tokens.{Token}
-use Rattle.vcd_model.specs.Declarations.{Declaration, codes_of}
-use Rattle.vcd_model.specs.Header.{Header, header_of}
-use Rattle.vcd_model.specs.HeadText.{three_lines, three_lines_of, scope_line, up_line, var_line, end_line}
-use Rattle.vcd_model.specs.Reading.{Placed, phrases_of, texts_of}
-use Rattle.vcd_model.specs.HeaderPhrases.{HeaderPhrase, HasNoEnd, declaration_of, declarations_of, date_of, version_of, timescale_of}
-use Rattle.vcd_model.specs.HeaderPhrases.HeaderPhrase.{Date, Version, Timescale, Declares, EndDefinitions}
+use Rattle.vcd_model.proofs.Cited.{◌≡◌, ℕ, ℤ, ◌<◌, ◌≤◌, ◌^◌, true, false, not, List, [], ◌∷◌, ◌++◌, length, map, flat_map, filter_map, decimal, Option, Some, None, option_map, unwrap_or, refl, sym, ap, ◌∙◌, arith, AllByRecursion, list_all, join_with_byte, append_assoc, map-append, filter_map-append, and_parts, not-true, is_white_space, is_empty, as_line, Keyword, keyword_text, scale_text, Token, Declaration, codes_of, Header, three_lines, three_lines_of, scope_line, up_line, var_line, end_line, Placed, phrases_of, texts_of, HeaderPhrase, HasNoEnd, declaration_of, declarations_of, date_of, version_of, timescale_of, Date, Version, Timescale, Declares, EndDefinitions}
+use Rattle.vcd_model.specs.Header.{header_of}
 use Rattle.vcd_model.proofs.TokenTexts.{IsWord, texts_from, texts_from-word}
 use Rattle.vcd_model.proofs.Decimals.{spells}
 use Rattle.vcd_model.proofs.HeaderGrammar.{end_text}

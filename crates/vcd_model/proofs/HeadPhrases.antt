@@ -1,21 +1,8 @@
 -- Tokens of a written head are read as its phrases.
-use Rattle.std.proofs.Common.{not, find, bytes_eq, ◌≡◌, ◌≢◌, ℕ, ℤ, ◌+◌, ◌<◌, ◌≤◌, true, false, List, [], ◌∷◌, ◌++◌, length, map, flat_map, decimal, Some, None, refl, sym, ap, ◌∙◌, subst, arith}
-use Rattle.std.specs.Prelude.{⊤}
-use Rattle.std.specs.List.{AllByRecursion, list_all}
-use Rattle.std.proofs.lemmas.List.{append_assoc, append-nil, map-append, length_push}
-use Rattle.std.proofs.lemmas.List.Elements.{filter_map-append}
-use Rattle.std.proofs.lemmas.Bool.{lt-ltb}
-use Rattle.vcd_model.specs.Bytes.{is_white_space, is_code_byte}
-use Rattle.vcd_model.specs.Keywords.{Keyword, keyword_text, is_end}
-use Rattle.vcd_model.specs.Scales.{scales, exponent_of, scale_text, is_scale_number}
-use Rattle.vcd_model.specs.Tokens.{Token}
-use Rattle.vcd_model.specs.Declarations.{Declaration, Variable, open_scopes}
-use Rattle.vcd_model.specs.Reading.{Reading, Placed, phrases_of, texts_of, read_from, PassChecks}
-use Rattle.vcd_model.specs.Reading.Ending.{AtLast}
-use Rattle.vcd_model.specs.HeaderPhrases.{HeaderPhrase, HasNoEnd, IsHeaderPhrase, until_end, header_phrase, declaration_of, declarations_of}
-use Rattle.vcd_model.specs.HeaderPhrases.HeaderPhrase.{Date, Version, Timescale, Declares, EndDefinitions}
-use Rattle.vcd_model.specs.HeaderChecks.{agrees, header_fault, is_size}
-use Rattle.vcd_model.specs.HeaderReading.{header_grammar, is_last}
+use Rattle.vcd_model.proofs.Cited.{not, find, bytes_eq, ◌≡◌, ◌≢◌, ℕ, ℤ, ◌+◌, ◌<◌, ◌≤◌, true, false, List, [], ◌∷◌, ◌++◌, length, map, flat_map, decimal, Some, None, refl, sym, ap, ◌∙◌, subst, arith, ⊤, AllByRecursion, list_all, append_assoc, append-nil, map-append, length_push, filter_map-append, lt-ltb, is_white_space, is_code_byte, Keyword, keyword_text, is_end, scales, Token, Declaration, Variable, open_scopes, Reading, Placed, phrases_of, texts_of, read_from, PassChecks, AtLast, HeaderPhrase, HasNoEnd, IsHeaderPhrase, until_end, declaration_of, declarations_of, Date, Version, Timescale, Declares, EndDefinitions, agrees, is_size, header_grammar, is_last}
+use Rattle.vcd_model.specs.Scales.{exponent_of, scale_text, is_scale_number}
+use Rattle.vcd_model.specs.HeaderPhrases.{header_phrase}
+use Rattle.vcd_model.specs.HeaderChecks.{header_fault}
 use Rattle.vcd_model.proofs.Readings.{at_last}
 use Rattle.vcd_model.proofs.HeaderGrammar.{end_text, no_end, mapped, keyword_of-text, header_computes}
 use Rattle.vcd_model.proofs.ReadBack.{at_more}

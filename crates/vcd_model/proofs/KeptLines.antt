@@ -1,16 +1,7 @@
 -- The text of kept items if one item more comes: it is enough to know the time whose line was
 -- written last.
-use Rattle.std.proofs.Common.{◌≡◌, ℕ, ◌≤◌, Bool, true, false, cond, ◌&&◌, ◌||◌, ◌==◌, List, [], ◌∷◌, ◌++◌, map, Option, Some, None, refl, sym, ap, ◌∙◌, subst, arith}
-use Rattle.std.specs.List.{list_any, last_or}
-use Rattle.std.proofs.lemmas.Bool.{eq-eqb, eqb-true}
-use Rattle.std.proofs.lemmas.List.{append_assoc, append-nil}
-use Rattle.vcd_model.specs.Backward.{each_after}
-use Rattle.vcd_model.specs.Header.{Header}
-use Rattle.vcd_model.specs.HeadText.{head_for}
-use Rattle.vcd_model.specs.Items.{BodyItem, Entry, entry_after, entries, time_after, leaves_open}
-use Rattle.vcd_model.specs.ItemText.{time_line, time_unless, time_due, may_keep, kept_by}
-use Rattle.vcd_model.specs.Pick.{is_picked, pick_open}
-use Rattle.vcd_model.specs.Selection.{selected}
+use Rattle.vcd_model.proofs.Cited.{◌≡◌, ℕ, ◌≤◌, Bool, true, false, cond, ◌&&◌, ◌||◌, ◌==◌, List, [], ◌∷◌, ◌++◌, map, Option, Some, None, refl, sym, ap, ◌∙◌, subst, arith, list_any, last_or, eq-eqb, eqb-true, append_assoc, append-nil, each_after, Header, head_for, BodyItem, Entry, entry_after, entries, time_after, leaves_open, time_line, time_unless, time_due, may_keep, kept_by, is_picked, selected}
+use Rattle.vcd_model.specs.Pick.{pick_open}
 use Rattle.vcd_model.proofs.Growing.{kept_by-append, entries-append}
 use Rattle.vcd_model.proofs.Times.{time_after-append}
 

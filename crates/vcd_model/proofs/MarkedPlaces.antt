@@ -1,19 +1,11 @@
 -- The marked indexes are those of the selected variables, and of the scopes around them.
-use Rattle.std.proofs.Common.{◌≡◌, ℕ, ◌+◌, ◌<◌, ◌≤◌, ◌==◌, Bool, true, false, cond, ◌||◌, List, [], ◌∷◌, ◌++◌, length, map, flat_map, slice_get, Some, refl, sym, ap, ◌∙◌, subst, arith}
-use Rattle.std.specs.List.{AllByRecursion, list_any}
-use Rattle.std.proofs.lemmas.List.{append_assoc, length_push}
-use Rattle.std.proofs.lemmas.List.Concat.{flat_map-append}
-use Rattle.std.proofs.lemmas.List.Folds.{list_any-append}
-use Rattle.std.proofs.lemmas.Bool.{eq-eqb, ne_eqb}
-use Rattle.vcd_model.specs.Backward.{each_after}
-use Rattle.vcd_model.specs.Declarations.{Declaration, Variable, enclosing}
-use Rattle.vcd_model.specs.Selection.{is_selected, marked_places, is_among}
+use Rattle.vcd_model.proofs.Cited.{◌≡◌, ℕ, ◌+◌, ◌<◌, ◌≤◌, ◌==◌, Bool, true, false, cond, ◌||◌, List, [], ◌∷◌, ◌++◌, length, map, flat_map, slice_get, Some, refl, sym, ap, ◌∙◌, subst, arith, AllByRecursion, list_any, append_assoc, length_push, flat_map-append, list_any-append, eq-eqb, ne_eqb, each_after, Declaration, Variable, enclosing, is_selected, is_among, slice_get_within}
+use Rattle.vcd_model.specs.Selection.{marked_places}
 use Rattle.vcd_model.proofs.BodyFacts.{all_append}
 use Rattle.vcd_model.proofs.Growing.{each_after-append}
 use Rattle.vcd_model.proofs.ScopeLemmas.{enclosing_below}
 use Rattle.vcd_model.proofs.HeadPhrases.{IsDeclared, AreDeclared}
 use Rattle.vcd_model.proofs.WrittenRows.{slice_get-more, slice_get-last, Open, IsNamed, HasOpen, has_scope, has_up, has_var, open_count}
-use Rattle.std.proofs.lemmas.Option.{slice_get_within}
 
 -- the scopes that are open after one more declaration
 pub opens_more : (earlier : List Declaration) (d : Declaration) (s : List Open) → HasOpen earlier s

@@ -1,10 +1,7 @@
 -- The outcome of a merge whose inputs have no fault.
-use Rattle.std.proofs.Common.{◌≡◌, ℕ, ◌+◌, List, [], ◌∷◌, ◌++◌, map, None, refl, sym, ap, ◌∙◌}
-use Rattle.std.specs.List.{reduce}
-use Rattle.vcd_model.specs.Header.{Header}
-use Rattle.vcd_model.specs.Merge.{Dump, dump_of, earlier_fault, factor, first_fault, headers_of, by_key, merge_close, merge_open, merged_items}
-use Rattle.vcd_model.specs.MergeByInput.{keyed_own, keyed_rest}
-use Rattle.vcd_model.specs.Outcome.{Opened, body_of, clean_outcome, dumps_of, fault_in, merge_outcome}
+use Rattle.vcd_model.proofs.Cited.{◌≡◌, ℕ, ◌+◌, List, [], ◌∷◌, ◌++◌, map, None, refl, sym, ap, ◌∙◌, reduce, Header, Dump, dump_of, earlier_fault, factor, headers_of, by_key, merge_close, merge_open, merged_items, keyed_own, keyed_rest, Opened, body_of, clean_outcome, fault_in}
+use Rattle.vcd_model.specs.Merge.{first_fault}
+use Rattle.vcd_model.specs.Outcome.{dumps_of, merge_outcome}
 use Rattle.vcd_model.proofs.MergedLists.{merged_by_input}
 use Rattle.vcd_model.proofs.MergedPrefix.{faults_are, faults_rest}
 

@@ -1,18 +1,9 @@
 -- The outcome of a merge, by what was merged of its inputs: if one of them has the first fault,
 -- and where they continue.
-use Rattle.std.proofs.Common.{◌≡◌, ℕ, ◌+◌, ◌<◌, ◌≤◌, Bool, true, false, cond, ◌==◌, List, [], ◌∷◌, ◌++◌, Option, Some, None, refl, sym, ap, subst, ◌∙◌, arith, ◌⊎◌, inl, inr, append-nil, append_assoc}
-use Rattle.std.specs.Prelude.{filter, filter_map, fold, option_map, ⊤}
-use Rattle.std.specs.List.{AllByRecursion, reduce, cons_option}
-use Rattle.std.proofs.lemmas.Bool.{cases_lt}
-use Rattle.std.proofs.lemmas.List.Elements.{filter-append}
-use Rattle.vcd_model.specs.Backward.{each_after}
-use Rattle.vcd_model.specs.Header.{Header}
-use Rattle.vcd_model.specs.Items.{BodyItem}
-use Rattle.vcd_model.specs.Laws.{IsPrefixOf}
-use Rattle.vcd_model.specs.Merge.{Dump, Key, key_lt, Keyed, KeyedFault, earlier_fault, factor, first_fault, headers_of, items_before, insert_by_key, key_after, keyed_fault, by_key, merge_close, merge_open, merged_items}
-use Rattle.vcd_model.specs.MergeByInput.{keyed_rest}
-use Rattle.vcd_model.specs.Outcome.{Outcome, clean_outcome, fault_outcome, merge_outcome, name_at}
-use Rattle.vcd_model.specs.Reading.{Fault}
+use Rattle.vcd_model.proofs.Cited.{◌≡◌, ℕ, ◌+◌, ◌<◌, ◌≤◌, Bool, true, false, cond, ◌==◌, List, [], ◌∷◌, ◌++◌, Option, Some, None, refl, sym, ap, subst, ◌∙◌, arith, ◌⊎◌, inl, inr, filter, filter_map, fold, option_map, ⊤, AllByRecursion, reduce, cons_option, cases_lt, filter-append, each_after, Header, BodyItem, IsPrefixOf, Dump, Key, key_lt, Keyed, KeyedFault, earlier_fault, factor, headers_of, items_before, insert_by_key, key_after, keyed_fault, by_key, merge_close, merge_open, merged_items, keyed_rest, Outcome, clean_outcome, fault_outcome, name_at, Fault}
+use Rattle.std.proofs.Common.{append-nil, append_assoc}
+use Rattle.vcd_model.specs.Merge.{first_fault}
+use Rattle.vcd_model.specs.Outcome.{merge_outcome}
 use Rattle.vcd_model.proofs.BodyFacts.{all_back}
 use Rattle.vcd_model.proofs.Growing.{merge_grows}
 use Rattle.vcd_model.proofs.MergeChanges.{later_key}

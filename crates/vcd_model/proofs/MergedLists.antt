@@ -1,14 +1,7 @@
 -- The merged list, if an input gives one item more, and if the inputs are whole.
-use Rattle.std.proofs.Common.{◌≡◌, ℕ, zero, suc, ◌+◌, true, List, [], ◌∷◌, ◌++◌, length, take, slice_get, Some, refl, sym, ap, subst, ◌∙◌, arith, append-nil, append_assoc}
-use Rattle.std.specs.Prelude.{flat_map}
-use Rattle.std.specs.List.{AllByRecursion}
-use Rattle.std.proofs.lemmas.List.{length_push, map-append}
-use Rattle.vcd_model.specs.Backward.{each, each_after}
-use Rattle.vcd_model.specs.Header.{Header}
-use Rattle.vcd_model.specs.Items.{BodyItem}
-use Rattle.vcd_model.specs.HeadText.{renamed}
-use Rattle.vcd_model.specs.Merge.{Dump, key_lt, Keyed, factor, headers_of, key_after, keyed_after, keyed_items, by_key, merged_items}
-use Rattle.vcd_model.specs.MergeByInput.{keyed_own, keyed_rest, with_item}
+use Rattle.vcd_model.proofs.Cited.{◌≡◌, ℕ, zero, suc, ◌+◌, true, List, [], ◌∷◌, ◌++◌, length, take, slice_get, Some, refl, sym, ap, subst, ◌∙◌, arith, flat_map, AllByRecursion, length_push, map-append, each, each_after, Header, BodyItem, renamed, Dump, key_lt, Keyed, factor, headers_of, key_after, keyed_after, keyed_items, by_key, keyed_own, keyed_rest, with_item}
+use Rattle.std.proofs.Common.{append-nil, append_assoc}
+use Rattle.vcd_model.specs.Merge.{merged_items}
 use Rattle.vcd_model.proofs.Growing.{each_after-append}
 use Rattle.vcd_model.proofs.BodyFacts.{all_append, all_front, all_back}
 use Rattle.vcd_model.proofs.MergeOrder.{by_key_last}

@@ -1,13 +1,7 @@
 -- The greatest timestamp of the merged items, input by input.
-use Rattle.std.proofs.Common.{◌≡◌, ℕ, ◌*◌, ◌<◌, ◌≤◌, max, Bool, true, false, cond, not, List, [], ◌∷◌, ◌++◌, map, Option, Some, None, refl, sym, ap, subst, ◌∙◌, arith, ◌⊎◌, inl, inr, append_assoc}
-use Rattle.std.specs.Prelude.{fold}
-use Rattle.std.specs.List.{AllByRecursion, reduce, cons_option}
+use Rattle.vcd_model.proofs.Cited.{◌≡◌, ℕ, ◌*◌, ◌<◌, ◌≤◌, max, Bool, true, false, cond, not, List, [], ◌∷◌, ◌++◌, map, Option, Some, None, refl, sym, ap, subst, ◌∙◌, arith, ◌⊎◌, inl, inr, fold, AllByRecursion, reduce, cons_option, cases_lt, each_after, is_empty, BodyItem, marks, time_after, time_mark, Keyed, key_lt, keyed_after, insert_by_key, by_key}
+use Rattle.std.proofs.Common.{append_assoc}
 use Rattle.std.proofs.Math.Nat.{mul-le-mul_left}
-use Rattle.std.proofs.lemmas.Bool.{cases_lt}
-use Rattle.vcd_model.specs.Backward.{each_after}
-use Rattle.vcd_model.specs.Bytes.{is_empty}
-use Rattle.vcd_model.specs.Items.{BodyItem, marks, time_after, time_mark}
-use Rattle.vcd_model.specs.Merge.{Keyed, key_lt, keyed_after, insert_by_key, by_key}
 use Rattle.vcd_model.proofs.Times.{time_after-append}
 
 -- ---- the greatest of numbers

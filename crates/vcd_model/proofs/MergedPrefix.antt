@@ -1,17 +1,8 @@
 -- The merged list of whole inputs, by what was merged of them so far: what comes before a position,
 -- and the first fault.
-use Rattle.std.proofs.Common.{◌≡◌, ℕ, zero, suc, ◌+◌, Bool, true, false, cond, List, [], ◌∷◌, ◌++◌, length, slice_get, Option, Some, None, refl, sym, ap, ◌∙◌, arith, ◌⊎◌, inl, inr, append-nil}
-use Rattle.std.specs.Prelude.{filter, filter_map, fold, option_map, ⊤}
-use Rattle.std.specs.List.{AllByRecursion, reduce, cons_option}
-use Rattle.std.proofs.lemmas.List.{length_push}
-use Rattle.std.proofs.lemmas.List.Elements.{filter-append}
-use Rattle.vcd_model.specs.Backward.{each_after}
-use Rattle.vcd_model.specs.Header.{Header}
-use Rattle.vcd_model.specs.HeadText.{renamed}
-use Rattle.vcd_model.specs.Items.{BodyItem}
-use Rattle.vcd_model.specs.Merge.{Dump, Key, key_lt, Keyed, KeyedFault, earlier_fault, factor, first_fault, headers_of, items_before, key_after, keyed_after, keyed_fault, by_key, merged_items}
-use Rattle.vcd_model.specs.MergeByInput.{keyed_own, keyed_rest}
-use Rattle.vcd_model.specs.Reading.{Fault}
+use Rattle.vcd_model.proofs.Cited.{◌≡◌, ℕ, zero, suc, ◌+◌, Bool, true, false, cond, List, [], ◌∷◌, ◌++◌, length, slice_get, Option, Some, None, refl, sym, ap, ◌∙◌, arith, ◌⊎◌, inl, inr, filter, filter_map, fold, option_map, ⊤, AllByRecursion, reduce, cons_option, length_push, filter-append, each_after, Header, renamed, BodyItem, Dump, Key, key_lt, Keyed, KeyedFault, earlier_fault, factor, headers_of, items_before, key_after, keyed_after, keyed_fault, by_key, merged_items, keyed_own, keyed_rest, Fault}
+use Rattle.std.proofs.Common.{append-nil}
+use Rattle.vcd_model.specs.Merge.{first_fault}
 use Rattle.vcd_model.proofs.BodyFacts.{all_front, all_back}
 use Rattle.vcd_model.proofs.Growing.{each_after-append}
 use Rattle.vcd_model.proofs.MergeChanges.{later_key}

@@ -1,15 +1,7 @@
 -- The text of a merge, if one item more comes after all others.
-use Rattle.std.proofs.Common.{◌≡◌, ℕ, ◌+◌, ◌*◌, ◌≤◌, Bool, true, false, cond, ◌&&◌, List, [], ◌∷◌, ◌++◌, map, Option, Some, None, refl, sym, ap, ◌∙◌, subst, arith, append-nil, append_assoc, inl, inr}
-use Rattle.std.specs.List.{AllByRecursion, last_or}
-use Rattle.std.proofs.lemmas.List.{map-append}
-use Rattle.vcd_model.specs.Backward.{each_after}
-use Rattle.vcd_model.specs.Header.{Header}
-use Rattle.vcd_model.specs.HeadText.{code_place, new_code, renamed, merged_head}
-use Rattle.vcd_model.specs.Items.{BodyItem, Change, Entry, leaves_open, time_after}
-use Rattle.vcd_model.specs.Values.{change_line}
-use Rattle.vcd_model.specs.ItemText.{item_line, time_unless, time_due, text_after, may_keep, kept_by}
-use Rattle.vcd_model.specs.Merge.{Dump, Key, key_lt, Keyed, factor, is_change, keyed_after, merge_kept, merge_open}
-use Rattle.vcd_model.specs.MergeByInput.{due_with, entry_for, is_merged, keyed_own, keyed_rest, written_with}
+use Rattle.vcd_model.proofs.Cited.{◌≡◌, ℕ, ◌+◌, ◌*◌, ◌≤◌, Bool, true, false, cond, ◌&&◌, List, [], ◌∷◌, ◌++◌, map, Option, Some, None, refl, sym, ap, ◌∙◌, subst, arith, inl, inr, AllByRecursion, last_or, map-append, each_after, Header, code_place, new_code, renamed, merged_head, BodyItem, Change, Entry, leaves_open, time_after, change_line, item_line, time_unless, time_due, text_after, may_keep, kept_by, Dump, Key, key_lt, Keyed, factor, is_change, keyed_after, merge_kept, due_with, entry_for, is_merged, keyed_own, keyed_rest, written_with}
+use Rattle.std.proofs.Common.{append-nil, append_assoc}
+use Rattle.vcd_model.specs.Merge.{merge_open}
 use Rattle.vcd_model.proofs.BodyFacts.{all_append}
 use Rattle.vcd_model.proofs.Growing.{text_after-append, kept_by-append}
 use Rattle.vcd_model.proofs.KeptLines.{Rise, last_is_enough, last_or-snoc}

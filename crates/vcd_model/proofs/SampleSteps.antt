@@ -1,26 +1,11 @@
 -- `sample` with one item more, and at its end.
-use Rattle.std.proofs.Common.{◌≡◌, ℕ, ◌≤◌, ◌<◌, max, Bool, true, false, not, cond, ◌||◌, nat_lt, nat_le, List, [], ◌∷◌, ◌++◌, filter, flat_map, fold, drop, zero, suc, ◌≢◌, Some, None, Option, refl, sym, ap, ◌∙◌, subst, arith}
-use Rattle.std.specs.List.{AllByRecursion, list_any, last_or}
-use Rattle.std.specs.List.Sorted.{IsStrictlyIncreasing}
-use Rattle.std.proofs.lemmas.List.{append_assoc, append-nil}
-use Rattle.std.proofs.lemmas.List.Concat.{flat_map-append}
-use Rattle.std.proofs.lemmas.List.Elements.{filter-append}
-use Rattle.std.proofs.lemmas.List.Folds.{list_any-append}
-use Rattle.std.proofs.lemmas.Bool.{lt-ltb, le-ltb, ltb-false, or_parts}
-use Rattle.vcd_model.specs.Declarations.{IdCode, code_of}
-use Rattle.vcd_model.specs.Header.{Header}
-use Rattle.vcd_model.specs.Items.{BodyItem, entries, entry_after, marks, time_after}
-use Rattle.vcd_model.specs.History.{value_at, final_value}
-use Rattle.vcd_model.specs.Selection.{Selected, selected}
-use Rattle.vcd_model.specs.Sample.{is_settled, sample_lines, sample_open, sample_close}
-use Rattle.vcd_model.specs.Cut.{is_mark_above}
-use Rattle.vcd_model.specs.Outcome.{Request, ends_early}
+use Rattle.vcd_model.proofs.Cited.{◌≡◌, ℕ, ◌≤◌, ◌<◌, max, Bool, true, false, not, cond, ◌||◌, nat_lt, nat_le, List, [], ◌∷◌, ◌++◌, filter, flat_map, fold, drop, zero, suc, ◌≢◌, Some, None, Option, refl, sym, ap, ◌∙◌, subst, arith, AllByRecursion, list_any, last_or, IsStrictlyIncreasing, append_assoc, append-nil, flat_map-append, filter-append, list_any-append, lt-ltb, le-ltb, ltb-false, or_parts, IdCode, code_of, Header, BodyItem, entries, entry_after, marks, time_after, value_at, final_value, Selected, selected, is_settled, sample_lines, is_mark_above, Request, ends_early, or-true}
+use Rattle.vcd_model.specs.Sample.{sample_open, sample_close}
 use Rattle.vcd_model.proofs.Growing.{entries-append}
 use Rattle.vcd_model.proofs.Times.{marks-append}
 use Rattle.vcd_model.proofs.FinalValues.{value_at_is}
 use Rattle.vcd_model.proofs.Latest.{gives_at, last_value_is, latest, latest-append}
 use Rattle.vcd_model.proofs.SampleGrows.{lines_stay, settled_more, rises_on, up_first}
-use Rattle.std.proofs.Math.Bool.{or-true}
 
 -- these times are settled, or none of them is
 abbrev pub AreSettled : Bool → List BodyItem → List ℕ → Type 0

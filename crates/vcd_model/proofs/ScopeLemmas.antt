@@ -1,12 +1,7 @@
 -- The enclosing scopes are a stack: what a declaration does to those that the declarations before
 -- it leave open.
-use Rattle.std.proofs.Common.{◌≡◌, ℕ, zero, suc, ◌+◌, ◌<◌, ◌≤◌, true, false, cond, List, [], ◌∷◌, ◌++◌, length, reverse, count_by, take, drop, slice_get, Some, refl, sym, ap, subst, ◌∙◌, arith}
-use Rattle.std.proofs.lemmas.Bool.{eq-eqb, ne_eqb}
-use Rattle.std.proofs.Math.Seq.{take-append_seam}
-use Rattle.std.proofs.lemmas.List.{append_assoc, reverse-append, reverse-reverse, length-reverse, length-append}
-use Rattle.std.specs.List.{AllByRecursion}
-use Rattle.std.proofs.lemmas.List.Sums.{sum_by-cons, sum_by-append}
-use Rattle.vcd_model.specs.Declarations.{Declaration, Variable, is_scope, is_up, is_balanced, open_scopes, enclosing_back, enclosing}
+use Rattle.vcd_model.proofs.Cited.{◌≡◌, ℕ, zero, suc, ◌+◌, ◌<◌, ◌≤◌, true, false, cond, List, [], ◌∷◌, ◌++◌, length, reverse, count_by, take, drop, slice_get, Some, refl, sym, ap, subst, ◌∙◌, arith, eq-eqb, ne_eqb, take-append_seam, append_assoc, reverse-append, reverse-reverse, length-reverse, length-append, AllByRecursion, sum_by-cons, sum_by-append, Declaration, Variable, is_scope, is_up, is_balanced, open_scopes, enclosing_back}
+use Rattle.vcd_model.specs.Declarations.{enclosing}
 
 -- the enclosing scopes, looking back over these declarations if `closed` more scopes are closed
 -- than opened in between

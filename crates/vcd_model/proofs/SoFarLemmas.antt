@@ -1,9 +1,6 @@
 -- One token more: what a reading so far becomes.
-use Rattle.std.proofs.Common.{◌≡◌, ℕ, Bool, true, false, List, [], ◌∷◌, ◌++◌, Option, Some, None, refl, sym, ap, ◌∙◌}
-use Rattle.vcd_model.specs.Tokens.{Token}
-use Rattle.vcd_model.specs.Reading.{Placed, phrases_of, Reading, Grammar, read_from, reading_of}
-use Rattle.vcd_model.specs.Reading.Ending.{AtFault, AtEnd, AtLast}
-use Rattle.vcd_model.specs.SoFar.{IsSoFar, IsWhole}
+use Rattle.vcd_model.proofs.Cited.{◌≡◌, ℕ, Bool, true, false, List, [], ◌∷◌, ◌++◌, Option, Some, None, refl, sym, ap, ◌∙◌, Token, Placed, phrases_of, Reading, Grammar, read_from, AtFault, AtEnd, AtLast, IsSoFar, IsWhole}
+use Rattle.vcd_model.specs.Reading.{reading_of}
 
 module _ {P : Type 0} (g : Grammar P) where
   -- reading on after a phrase, which may be the last of its kind

@@ -1,13 +1,8 @@
 -- The declarations that a head is written for: the marked ones, and an `$upscope` for each marked
 -- scope that is closed, or left open.
-use Rattle.std.proofs.Common.{◌≡◌, ℕ, zero, suc, Bool, true, false, cond, List, [], ◌∷◌, ◌++◌, length, map, flat_map, filter_map, reverse, slice_get, Option, Some, option_map, refl, sym, ap, ◌∙◌}
-use Rattle.std.specs.List.{AllByRecursion, concat, join_with_byte}
-use Rattle.std.proofs.lemmas.List.{append-nil, reverse-append}
-use Rattle.std.proofs.lemmas.List.Concat.{flat_map-append}
-use Rattle.std.proofs.lemmas.List.Elements.{filter_map-append}
-use Rattle.vcd_model.specs.Backward.{each_after}
-use Rattle.vcd_model.specs.Declarations.{Declaration, Variable, open_scopes, enclosing, name_of, names_at, path_of}
-use Rattle.vcd_model.specs.HeadText.{up_line, up_lines_at, first_place, row_line, rows_text}
+use Rattle.vcd_model.proofs.Cited.{◌≡◌, ℕ, zero, suc, Bool, true, false, cond, List, [], ◌∷◌, ◌++◌, length, map, flat_map, filter_map, reverse, slice_get, Option, Some, option_map, refl, sym, ap, ◌∙◌, AllByRecursion, concat, join_with_byte, append-nil, reverse-append, flat_map-append, filter_map-append, each_after, Declaration, Variable, open_scopes, enclosing, name_of, names_at, up_line, up_lines_at, first_place, row_line}
+use Rattle.vcd_model.specs.Declarations.{path_of}
+use Rattle.vcd_model.specs.HeadText.{rows_text}
 use Rattle.vcd_model.proofs.HeadLines.{declaration_line}
 use Rattle.vcd_model.proofs.ScopeLemmas.{LeavesOpen, none_open, scope_open, up_open, var_open, open_scopes_is}
 

@@ -1,20 +1,7 @@
 -- What a run over the host of a process leaves of the process.
-use Rattle.std.proofs.Common.{ℕ, List, Bool, ◌∙◌, refl, subst}
-use Rattle.std.specs.Prelude.{Option, Result}
-use Rattle.std.specs.declared.io.Error.{Error}
+use Rattle.vcd_program.proofs.Cited.{ℕ, List, Bool, ◌∙◌, refl, subst, Option, Result, Error, Text, Device, failed_calls, has_just_failed, Watch, OpenFault, IsHostOf, OpensInput, OpensOn, bytes_left, length_known, RunsOver, Finishes, KeepsNoneBack, RunsOn, Ghosts, ProcessHost, Stream}
 use Rattle.std.specs.declared.io.Read.{Ghosts as Reads}
-use Rattle.clap.specs.Words.{Text}
-use Rattle.vcd_text.specs.Device.{Device}
-use Rattle.vcd_text.specs.Watch.{failed_calls, has_just_failed}
 use Rattle.vcd_text.specs.declared.device.Sink.{Ghosts as Sinks}
-use Rattle.vcd_text.specs.declared.device.Watch.{Watch}
-use Rattle.vcd_host.specs.declared.host.OpenFault.{OpenFault}
-use Rattle.vcd_program.specs.Process.{IsHostOf, OpensInput, OpensOn, bytes_left, length_known}
-use Rattle.vcd_program.specs.ProcessRun.{RunsOver}
-use Rattle.vcd_program.specs.Runs.{Finishes, KeepsNoneBack, RunsOn}
-use Rattle.vcd_program.specs.declared.process.Process.{Ghosts}
-use Rattle.vcd_program.specs.declared.process.ProcessHost.{ProcessHost}
-use Rattle.vcd_program.specs.declared.process.Stream.{Stream}
 use Rattle.vcd_program.proofs.UnderLemmas.{program-under}
 
 -- what a host opens is opened in its process, and it stays the host of this process

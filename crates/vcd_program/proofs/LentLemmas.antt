@@ -1,25 +1,5 @@
 -- What a program leaves in bytes that were lent.
-use Rattle.std.proofs.Common.{◌≡◌, ◌∷◌, [], ℕ, List, Bool, true, false, ap, sym, refl, subst, inl, inr, drop, get_or, zero, suc, map, codes}
-use Rattle.std.specs.Prelude.{Option}
-use Rattle.clap.specs.Words.{Text}
-use Rattle.vcd_model.specs.Input.{Input}
-use Rattle.vcd_model.specs.Job.{Want}
-use Rattle.vcd_model.specs.Outcome.{Outcome}
-use Rattle.vcd_model.specs.Words.{Words}
-use Rattle.vcd_text.specs.Device.{Device, Supply, Writes, WritesSome, failures_then}
-use Rattle.vcd_text.specs.declared.device.Bytes.{Bytes}
-use Rattle.vcdkit.specs.Failure.{writes_failed}
-use Rattle.vcdkit.specs.Message.{Shows}
-use Rattle.vcdkit.specs.Run.{AreInTurn, IsOutcome}
-use Rattle.vcdkit.proofs.TurnLemmas.{turns_over}
-use Rattle.vcdkit.specs.Run.IsOutcome.{Whole, Part}
-use Rattle.vcd_program.specs.Memory.{IsLeftAs, IsLeftIn, OpensIn, noted}
-use Rattle.vcd_host.specs.Fills.{Fills}
-use Rattle.vcd_host.specs.LentOutput.{held, written}
-use Rattle.vcd_program.specs.Runs.{Fails, Finishes, KeepsNoneBack, Leaves, Runs, RunsOn}
-use Rattle.vcd_program.specs.declared.memory.Memory.{Memory}
-use Rattle.vcd_program.specs.declared.memory.MemoryFile.{MemoryFile}
-use Rattle.vcd_host.specs.declared.lent_output.LentOutput.{LentOutput}
+use Rattle.vcd_program.proofs.Cited.{◌≡◌, ◌∷◌, [], ℕ, List, Bool, true, false, ap, sym, refl, subst, inl, inr, drop, get_or, zero, suc, map, codes, Option, Text, Input, Want, Outcome, Words, Device, Supply, Writes, WritesSome, failures_then, Bytes, writes_failed, Shows, AreInTurn, IsOutcome, turns_over, Whole, Part, IsLeftAs, IsLeftIn, OpensIn, noted, Fills, held, written, Fails, Finishes, KeepsNoneBack, Leaves, Runs, RunsOn, Memory, MemoryFile, LentOutput}
 use Rattle.vcd_program.proofs.MemoryLemmas.{bytes_of, holding, known, left-by, no_failures, none_failed, texts-of}
 
 -- what such an output says of itself

@@ -4,3 +4,5 @@ mod HostLemmas
 pub mod UnderLemmas
 mod RunsLemmas
 mod Statuses
+pub mod Cited
+pub mod Facts

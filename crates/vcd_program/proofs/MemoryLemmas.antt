@@ -1,27 +1,5 @@
 -- What a program leaves over a host in memory.
-use Rattle.std.proofs.Common.{◌≡◌, ◌+◌, ◌⊎◌, ℕ, Bool, true, false, cond, List, [], ◌∷◌, ◌++◌, map, refl, sym, subst, ap, ◌∙◌, inl, inr, arith, codes, append_assoc, append-nil}
-use Rattle.std.specs.Prelude.{⊤, All, Option, Some, None, Err}
-use Rattle.clap.specs.Words.{Text}
-use Rattle.vcd_model.specs.Input.{Input}
-use Rattle.vcd_model.specs.Tokens.{Token}
-use Rattle.vcd_model.specs.Header.{Header}
-use Rattle.vcd_model.specs.Outcome.{Outcome, program_line}
-use Rattle.vcd_model.specs.Words.{Words, command_outcome}
-use Rattle.vcd_text.specs.Answer.{whole}
-use Rattle.vcd_text.specs.Device.{Device, supply}
-use Rattle.vcd_model.specs.Settled.{is_settled}
-use Rattle.vcdkit.specs.Message.{Shows, unopened_outcome}
-use Rattle.vcdkit.specs.Run.{AreRead, IsOutcome, header_behind}
-use Rattle.vcdkit.specs.Run.IsOutcome.{Whole, Part}
-use Rattle.vcd_program.specs.Memory.{End, HaveTexts, IsLeft, IsLeftBy, IsLeftOf, IsOutOfMemory, OpensIn, bytes_among, noted}
-use Rattle.vcd_host.specs.Opens.{Opens, called}
-use Rattle.vcd_host.specs.Asked.{inputs_asked}
-use Rattle.vcd_program.specs.Runs.{Fails, Finishes, Leaves, Runs, RunsOn, answer_outcome}
-use Rattle.vcd_words.specs.Words.{words_used}
-use Rattle.vcd_host.specs.declared.host.OpenFault.TheVariants.{Unopened}
-use Rattle.vcd_text.specs.declared.device.Bytes.{Bytes}
-use Rattle.vcd_program.specs.declared.memory.Memory.{Memory}
-use Rattle.vcd_program.specs.declared.memory.MemoryFile.{MemoryFile}
+use Rattle.vcd_program.proofs.Cited.{◌≡◌, ◌+◌, ◌⊎◌, ℕ, Bool, true, false, cond, List, [], ◌∷◌, ◌++◌, map, refl, sym, subst, ap, ◌∙◌, inl, inr, arith, codes, append_assoc, append-nil, ⊤, All, Option, Some, None, Err, Text, Input, Token, Header, Outcome, program_line, Words, command_outcome, whole, Device, supply, is_settled, Shows, unopened_outcome, AreRead, IsOutcome, header_behind, Whole, Part, End, HaveTexts, IsLeft, IsLeftBy, IsLeftOf, IsOutOfMemory, OpensIn, bytes_among, noted, Opens, called, inputs_asked, Fails, Finishes, Leaves, Runs, RunsOn, answer_outcome, words_used, Unopened, Bytes, Memory, MemoryFile}
 
 -- ---- streams that begin empty, of which no write failed
 

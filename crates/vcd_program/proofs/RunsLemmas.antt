@@ -1,35 +1,13 @@
 -- What a program leaves, from what its calls do.
-use Rattle.std.proofs.Common.{◌≡◌, ◌≢◌, ◌≤◌, ◌+◌, ◌⊎◌, ℕ, Bool, true, false, List, [], length, map, refl, sym, subst, ap, ◌∙◌, inl, inr, arith, codes, cond, ◌==◌}
-use Rattle.std.specs.Prelude.{All, IfSome, Option, None, Some, Result, Ok, Err}
-use Rattle.clap.specs.Words.{Text, is_simple_and_free}
-use Rattle.clap.specs.declared.error.kind.ErrorKind.{ErrorKind}
+use Rattle.vcd_program.proofs.Cited.{◌≡◌, ◌≢◌, ◌≤◌, ◌+◌, ◌⊎◌, ℕ, Bool, true, false, List, [], length, map, refl, sym, subst, ap, ◌∙◌, inl, inr, arith, codes, cond, ◌==◌, All, IfSome, Option, None, Some, Result, Ok, Err, Text, is_simple_and_free, ErrorKind, Input, Want, outcome, Outcome, clean_outcome, program_line, Job, Words, job_of, Keeps, Device, Puts, Supply, Writes, WritesSome, supply, appends-none, is_merge, model_want, names_asked, IsFaultOf, parse_status_of, program_app, UseFault, AreWithin, IsLimitFor, Shows, unopened_outcome, use_outcome, HasRun, IsOutcome, Whole, Part, Opens, OpensSome, OpensUpTo, StopsAmong, called, text_of, Answers, EndsSo, Finishes, IsLimitOf, Leaves, Runs, names_wanted, OpenFault, OpenStop, Bor, length-map, wants_merge}
 use Rattle.clap.specs.declared.error.kind.ErrorKind.TheVariants as kind
-use Rattle.vcd_model.specs.Input.{Input}
-use Rattle.vcd_model.specs.Job.{Want, outcome}
-use Rattle.vcd_model.specs.Outcome.{Outcome, clean_outcome, fault_text, program_line}
+use Rattle.vcd_model.specs.Outcome.{fault_text}
 use Rattle.vcd_model.specs.Words as model
-use Rattle.vcd_model.specs.Words.{Job, Words, command_outcome, job_of}
-use Rattle.std.specs.Io.KnownBytes.{Keeps}
-use Rattle.vcd_text.specs.Device.{Device, Puts, Supply, Writes, WritesSome, supply}
-use Rattle.vcd_text.proofs.Writes.{appends-none}
-use Rattle.vcd_words.specs.Job.{is_merge, model_want, names_asked}
-use Rattle.vcd_words.specs.Words.{IsFaultOf, parse_status_of, program_app}
-use Rattle.vcd_words.specs.declared.job.UseFault.{UseFault}
+use Rattle.vcd_model.specs.Words.{command_outcome}
 use Rattle.vcd_words.specs.declared.job.UseFault.TheVariants as use_fault
 use Rattle.vcd_words.specs.declared.job.Want.TheVariants as asked
 use Rattle.vcd_words.specs.declared.job.Want as job
-use Rattle.vcdkit.specs.Calls.{AreWithin, IsLimitFor}
-use Rattle.vcdkit.specs.Message.{Shows, unopened_outcome, use_outcome}
-use Rattle.vcdkit.specs.Run.{HasRun, IsOutcome}
-use Rattle.vcdkit.specs.Run.IsOutcome.{Whole, Part}
-use Rattle.vcd_host.specs.Opens.{Opens, OpensSome, OpensUpTo, StopsAmong, called, text_of}
-use Rattle.vcd_program.specs.Runs.{Answers, EndsSo, Finishes, IsLimitOf, Leaves, Runs, names_wanted}
-use Rattle.vcd_host.specs.declared.host.OpenFault.{OpenFault}
-use Rattle.vcd_host.specs.declared.opened.OpenStop.{OpenStop}
 use Rattle.vcd_host.specs.declared.opened.OpenStop.TheVariants as stop
-use Rattle.std.specs.Borrow.{Bor}
-use Rattle.std.proofs.lemmas.List.{length-map}
-use Rattle.vcd_host.proofs.AskedLemmas.{wants_merge}
 
 -- ---- devices
 

@@ -1,21 +1,6 @@
 -- No program leaves a status above 3.
-use Rattle.std.proofs.Common.{◌≡◌, ◌≤◌, ℕ, Bool, true, false, List, [], cond, ◌==◌, ap, inl, inr, arith}
-use Rattle.std.specs.Prelude.{Option, Result}
-use Rattle.clap.specs.Words.{Text}
-use Rattle.clap.specs.declared.error.kind.ErrorKind.{ErrorKind}
-use Rattle.vcd_model.specs.Outcome.{Outcome, clean_outcome}
-use Rattle.vcd_model.specs.Words.{Words, command_outcome}
-use Rattle.vcd_text.specs.Device.{Device}
-use Rattle.vcd_words.specs.Words.{parse_status_of}
-use Rattle.vcd_words.specs.declared.job.UseFault.{UseFault}
+use Rattle.vcd_program.proofs.Cited.{◌≡◌, ◌≤◌, ℕ, Bool, true, false, List, [], cond, ◌==◌, ap, inl, inr, arith, Option, Result, Text, ErrorKind, Outcome, clean_outcome, Words, command_outcome, Device, parse_status_of, UseFault, unopened_outcome, use_outcome, end-low, IsOutcome, Whole, Part, called, Answers, Finishes, Runs, RunsOn, answer_outcome, OpenFault}
 use Rattle.vcd_words.specs.declared.job.UseFault.TheVariants as use_fault
-use Rattle.vcdkit.specs.Message.{unopened_outcome, use_outcome}
-use Rattle.vcdkit.proofs.Statuses.{end-low}
-use Rattle.vcdkit.specs.Run.{IsOutcome}
-use Rattle.vcdkit.specs.Run.IsOutcome.{Whole, Part}
-use Rattle.vcd_host.specs.Opens.{called}
-use Rattle.vcd_program.specs.Runs.{Answers, Finishes, Runs, RunsOn, answer_outcome}
-use Rattle.vcd_host.specs.declared.host.OpenFault.{OpenFault}
 use Rattle.vcd_program.proofs.RunsLemmas.{command-refused, statuses}
 
 outcome-low : (o : Outcome) (out out' err err' : Device) (status : ℕ) → o.status ≤ 3 → IsOutcome o out out' err err' status → status ≤ 3

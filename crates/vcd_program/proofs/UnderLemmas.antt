@@ -1,12 +1,5 @@
 -- Runs over a host are runs over what the host stands over, if that is so of each opening.
-use Rattle.std.proofs.Common.{◌∷◌, [], ℕ, List, Bool, ap, inl, inr, subst, sym}
-use Rattle.std.specs.Prelude.{Option, Result}
-use Rattle.clap.specs.Words.{Text}
-use Rattle.vcd_model.specs.Words.{Words}
-use Rattle.vcd_text.specs.Device.{Device}
-use Rattle.vcd_host.specs.Opens.{Opens}
-use Rattle.vcd_host.specs.declared.host.OpenFault.{OpenFault}
-use Rattle.vcd_program.specs.Runs.{Finishes, Runs, RunsOn}
+use Rattle.vcd_program.proofs.Cited.{◌∷◌, [], ℕ, List, Bool, ap, inl, inr, subst, sym, Option, Result, Text, Words, Device, Opens, OpenFault, Finishes, Runs, RunsOn}
 
 -- `under host` is what a host stands over, and `Holds` says what stays true of the host
 module _ {H P I : Type 0} (opens : H → Option Text → Result I OpenFault → H → Type 0) (opens_under : P → Option Text → Result I OpenFault → P → Type 0) (under_host : H → P) (Holds : H → Type 0)

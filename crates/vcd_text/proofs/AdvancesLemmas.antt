@@ -1,8 +1,5 @@
 -- What several calls leave of a feed.
-use Rattle.std.proofs.Common.{ℕ, ◌+◌, refl, ap, ◌∙◌, arith}
-use Rattle.vcd_text.specs.Advances.{Advances, CallEnd, GoesOn}
-use Rattle.vcd_text.specs.declared.device.Source.{Ghosts}
-use Rattle.vcd_text.specs.declared.feed.Feed.{Feed}
+use Rattle.vcd_text.proofs.Cited.{ℕ, ◌+◌, refl, ap, ◌∙◌, arith, Advances, CallEnd, GoesOn, Ghosts, Feed}
 
 -- what two parts of a reading leave of a feed
 pub advances_on : {X : Type 0} {g : Ghosts X} (failures : X → ℕ) (old mid new : Feed X g) (end : CallEnd) → Advances failures old mid GoesOn → Advances failures mid new end → Advances failures old new end

@@ -1,14 +1,5 @@
 -- Decimal digits that are read one after the other.
-use Rattle.std.proofs.Common.{◌≡◌, ℕ, Bool, ◌+◌, ◌-◌, ◌*◌, ◌^◌, ◌<◌, ◌≤◌, true, false, cond, ◌==◌, List, [], ◌∷◌, ◌++◌, length, take, drop, get_or, Some, None, refl, sym, ap, ◌∙◌, arith, pow-suc, take-append-drop, length-append, pow-add, mul_assoc, add-mul}
-use Rattle.std.specs.List.{list_all}
-use Rattle.std.specs.Char.{is_ascii_digit}
-use Rattle.std.proofs.Math.Nat.{mul-le-mul_right, pow-le-pow_right}
-use Rattle.std.proofs.lemmas.List.{take_more, take_all}
-use Rattle.std.proofs.lemmas.List.Folds.{list_all-append}
-use Rattle.std.proofs.lemmas.Bool.{and_from, and_parts, and_right, le-ltb, lt-ltb}
-use Rattle.vcd_model.specs.Bytes.{is_empty, is_decimal, decimal_value}
-use Rattle.vcd_model.proofs.Decimals.{decimal_value-push, decimal_value-grows}
-use Rattle.vcd_text.specs.Digits.{spelled, spelled_below}
+use Rattle.vcd_text.proofs.Cited.{◌≡◌, ℕ, Bool, ◌+◌, ◌-◌, ◌*◌, ◌^◌, ◌<◌, ◌≤◌, true, false, cond, ◌==◌, List, [], ◌∷◌, ◌++◌, length, take, drop, get_or, Some, None, refl, sym, ap, ◌∙◌, arith, pow-suc, take-append-drop, length-append, pow-add, mul_assoc, add-mul, list_all, is_ascii_digit, mul-le-mul_right, pow-le-pow_right, take_more, take_all, list_all-append, and_from, and_parts, and_right, le-ltb, lt-ltb, is_empty, is_decimal, decimal_value, decimal_value-push, decimal_value-grows, spelled, spelled_below}
 
 -- the first k digits were read, and their number fits
 pub record HasRead (ds : List ℕ) (k number : ℕ) : Type 0 where

@@ -1,17 +1,7 @@
 -- Eight digits as lanes.
-use Rattle.std.proofs.Common.{◌≡◌, ◌≢◌, ℕ, zero, suc, ◌+◌, ◌-◌, ◌*◌, ◌%◌, ◌^◌, ◌≤◌, nat_lt, Bool, true, false, cond, not, bit_and, List, [], ◌∷◌, ◌++◌, map, length, replicate, take, drop, Fits, w8, refl, sym, ap, ap₂, ◌∙◌, arith, length-append}
-use Rattle.std.specs.Prelude.{slice_range}
-use Rattle.std.specs.List.{list_all}
-use Rattle.std.specs.Char.{is_ascii_digit}
-use Rattle.std.proofs.lemmas.Bool.{and_from, and_parts}
-use Rattle.std.proofs.lemmas.List.{drop-take, drop-drop, length-drop}
-use Rattle.std.proofs.lemmas.Nat.{and_mask}
-use Rattle.std.proofs.lemmas.Simd.{length-replicate, zip2_of_maps, zip2_splat, splat_is_map}
-use lib.Bits.{and_zero_r}
-use lib.Lanes.{chunk, mask_l, top, fold_l, zip2, Each1}
-use Rattle.vcd_model.specs.Bytes.{decimal_value}
-use Rattle.vcd_text.specs.Digits.{spelled}
-use Rattle.vcd_text.specs.declared.number.TheConstants.{KEPT}
+use Rattle.vcd_text.proofs.Cited.{◌≡◌, ◌≢◌, ℕ, zero, suc, ◌+◌, ◌-◌, ◌*◌, ◌%◌, ◌^◌, ◌≤◌, nat_lt, Bool, true, false, cond, not, bit_and, List, [], ◌∷◌, ◌++◌, map, length, take, drop, w8, refl, sym, ap, ap₂, ◌∙◌, arith, length-append, slice_range, list_all, is_ascii_digit, and_from, and_parts, drop-take, drop-drop, and_mask, length-replicate, zip2_of_maps, zip2_splat, splat_is_map, and_zero_r, chunk, mask_l, top, fold_l, zip2, Each1, decimal_value, spelled, KEPT}
+use Rattle.std.proofs.Common.{replicate, Fits}
+use Rattle.std.proofs.lemmas.List.{length-drop}
 use Rattle.vcd_text.proofs.Digits.{digit_bounds}
 use Rattle.vcd_text.proofs.Masks.{masked}
 

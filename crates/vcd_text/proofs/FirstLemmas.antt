@@ -1,16 +1,5 @@
 -- A step of a feed if whole tokens come first in the chunk.
-use Rattle.std.proofs.Common.{◌≡◌, ℕ, ◌+◌, ◌-◌, ◌≤◌, ◌<◌, true, false, List, [], ◌∷◌, ◌++◌, length, take, drop, ap, sym, subst, ◌∙◌, arith, inl, inr, length-drop}
-use Rattle.std.specs.Prelude.{slice_index, slice_range}
-use Rattle.std.proofs.lemmas.List.{drop-drop, get_or-drop}
-use Rattle.std.proofs.lemmas.Bool.{cases_order}
-use Rattle.vcd_model.specs.Bytes.{is_white_space}
-use Rattle.vcd_model.specs.Tokens.{Token}
-use Rattle.vcd_text.specs.Passed.{AreFirst, AreWhite, IsRun, StandsAt, PassedFrom, Passed}
-use Rattle.vcd_text.specs.Registers.{Fits, ahead_in}
-use Rattle.vcd_text.specs.Window.{Collects, Skips, is_white_at, line_feeds_in}
-use Rattle.vcd_text.specs.declared.registers.Parked.{Parked}
-use Rattle.vcd_text.specs.declared.registers.Phase.TheVariants.{Going}
-use Rattle.vcd_text.specs.declared.window.Collected.TheVariants.{Whole, Part, TooLong}
+use Rattle.vcd_text.proofs.Cited.{◌≡◌, ℕ, ◌+◌, ◌-◌, ◌≤◌, ◌<◌, true, false, List, [], ◌∷◌, ◌++◌, length, take, drop, ap, sym, subst, ◌∙◌, arith, inl, inr, length-drop, slice_index, slice_range, drop-drop, get_or-drop, cases_order, is_white_space, Token, AreFirst, AreWhite, IsRun, StandsAt, PassedFrom, Passed, Fits, ahead_in, Collects, Skips, is_white_at, line_feeds_in, Parked, Going, Whole, Part, TooLong}
 use Rattle.vcd_text.proofs.Places.{length-slice_range}
 use Rattle.vcd_text.proofs.Steps.{true-false}
 use Rattle.vcd_text.proofs.AheadLemmas.{line_feeds_in-more, slice-drop, slice-index, slice-slice}

@@ -1,19 +1,7 @@
 -- A mask of lanes says which bytes are white.
-use Rattle.std.proofs.Common.{◌≡◌, ◌≢◌, ℕ, zero, suc, ◌+◌, ◌-◌, ◌*◌, ◌/◌, ◌%◌, ◌^◌, ◌||◌, T, eqb, ltb, ltb→lt, eqb-true, bit_and, ◌<◌, ◌≤◌, nat_le, inl, inr, Bool, true, false, cond, List, [], ◌∷◌, map, length, drop, get_or, count_by, Fits, w8, refl, sym, ap, ap₂, subst, ◌∙◌, arith}
-use Rattle.std.proofs.lemmas.Bool.{agree_below, agree_below_at, cases_lt, cases_order}
-use Rattle.std.proofs.lemmas.Bool.Decides.{nat_tests}
-use Rattle.std.proofs.lemmas.Simd.{mask_l-mod, bit_mask_l, length-chunk, get_or-chunk, length-zip2, sum-zip2, swz_l, SwzOk, SwzOk-from_Each1, length-swz_l, get_or-swz_l}
-use Rattle.std.proofs.lemmas.List.{length-map, get_or-map, get_or_past, ext_get_or}
-use Rattle.std.specs.Int.{bit_at}
-use Rattle.std.proofs.lemmas.Nat.Bits.{bit_at-zero}
-use lib.Lanes.{chunk, mask_l, sel_l, sum_l, top, zip2, Each1}
-use lib.ListN.{replicate}
-use mir.Val.{zeroes}
-use native.Mathlib.Nat.{pow-suc, mul_comm, zero-div, div-one, div-div-eq-div-mul}
-use Rattle.std.proofs.lemmas.List.Sums.{sum_by-cons}
-use Rattle.vcd_model.specs.Bytes.{is_white_space}
-use Rattle.vcd_text.specs.Masks.{TellsWhite, BitsAreWhite}
-use Rattle.vcd_text.specs.declared.ahead.White.{White}
+use Rattle.vcd_text.proofs.Cited.{◌≡◌, ◌≢◌, ℕ, zero, suc, ◌+◌, ◌-◌, ◌*◌, ◌/◌, ◌%◌, ◌^◌, ◌||◌, T, eqb, ltb, ltb→lt, eqb-true, bit_and, ◌<◌, ◌≤◌, nat_le, inl, inr, Bool, true, false, cond, List, [], ◌∷◌, map, length, drop, get_or, count_by, w8, refl, sym, ap, ap₂, subst, ◌∙◌, arith, agree_below, agree_below_at, cases_lt, cases_order, nat_tests, mask_l-mod, bit_mask_l, length-chunk, get_or-chunk, length-zip2, sum-zip2, swz_l, SwzOk, SwzOk-from_Each1, length-swz_l, get_or-swz_l, length-map, get_or-map, get_or_past, ext_get_or, bit_at, bit_at-zero, chunk, mask_l, sel_l, sum_l, top, zip2, Each1, replicate, zeroes, mul_comm, zero-div, div-one, div-div-eq-div-mul, sum_by-cons, is_white_space, TellsWhite, BitsAreWhite, White}
+use Rattle.std.proofs.Common.{Fits}
+use native.Mathlib.Nat.{pow-suc}
 
 each_byte : (f : ℕ → ℕ) (p : ℕ → Bool) → agree_below (λ x. top 7 (f x)) p 256 ≡ true → (v : List ℕ) → Each1 (Fits w8) v → map (top 7) (map f v) ≡ map p v
 each_byte f p all [] fits = refl

@@ -1,19 +1,5 @@
 -- A feed that continues at an offset has given what the other had.
-use Rattle.std.proofs.Common.{◌≡◌, ◌∙◌, ◌+◌, ◌-◌, ◌≤◌, ℕ, List, Option, Some, ap, refl, sym, subst, length, take, drop, slice_range, unwrap_or, length-append, length-drop, arith, add-zero}
-use Rattle.std.specs.Prelude.{IfSome}
-use Rattle.std.proofs.lemmas.Option.{IfSome_then}
-use Rattle.vcd_model.specs.Input.{Input}
-use Rattle.vcd_model.specs.Tokens.{Token, halt_place}
-use Rattle.vcd_text.specs.Feed.{HasGivenParked, HasGivenTo}
-use Rattle.vcd_text.specs.Given.{At, InPhase}
-use Rattle.vcd_text.specs.LookedAt.{HasLookedAt}
-use Rattle.vcd_text.specs.ReadAhead.{Near}
-use Rattle.vcd_text.specs.Registers.{answer_number, looked, offset_of, phase_at, registers_at}
-use Rattle.vcd_text.specs.Window.{line_feeds_in}
-use Rattle.vcd_text.specs.declared.answer.Halt.TheVariants.{TokenTooLong, InputTooLong, ReadFailed}
-use Rattle.vcd_text.specs.declared.registers.Parked.{Parked}
-use Rattle.vcd_text.specs.declared.registers.Phase.{Phase}
-use Rattle.vcd_text.specs.declared.registers.Phase.TheVariants.{Going, Ended, Halted}
+use Rattle.vcd_text.proofs.Cited.{◌≡◌, ◌∙◌, ◌+◌, ◌-◌, ◌≤◌, ℕ, List, Option, Some, ap, refl, sym, subst, length, take, drop, slice_range, unwrap_or, length-append, length-drop, arith, add-zero, IfSome, IfSome_then, Input, Token, halt_place, HasGivenParked, HasGivenTo, At, InPhase, HasLookedAt, Near, answer_number, looked, offset_of, phase_at, registers_at, line_feeds_in, TokenTooLong, InputTooLong, ReadFailed, Parked, Phase, Going, Ended, Halted}
 use Rattle.vcd_text.proofs.Streams.{no-halt}
 
 module _ (rest : Option (List ℕ)) (chunk c : List ℕ) (same : length c ≡ length chunk) (limit : ℕ) (p : Parked) (i : Input) (given : List Token) where

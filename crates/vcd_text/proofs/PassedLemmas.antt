@@ -1,24 +1,6 @@
 -- Tokens that were passed ahead, and what a feed has given after them.
-use Rattle.std.proofs.Common.{◌≡◌, ◌≢◌, ℕ, suc, ◌+◌, ◌-◌, ◌^◌, ◌≤◌, ◌<◌, true, false, List, [], ◌∷◌, ◌++◌, length, take, drop, refl, ap, sym, ◌∙◌, subst, arith, inl, inr, add-zero, append-nil, append_assoc, length-append}
-use Rattle.std.specs.Prelude.{slice_index, slice_range, ◌==◌, Option}
-use Rattle.std.proofs.lemmas.List.{take-take}
-use Rattle.std.proofs.lemmas.List.Sums.{count_by-le-length}
-use Rattle.std.proofs.lemmas.Bool.{cases_lt, cases_order}
-use Rattle.vcd_model.specs.Bytes.{is_white_space}
-use Rattle.vcd_model.specs.Input.{Input}
-use Rattle.vcd_model.specs.Tokens.{Token, end_of_tokens, line_at}
-use Rattle.std.specs.Int.{bit_at}
-use Rattle.vcd_text.specs.Masks.{BitsAreWhite}
-use Rattle.vcd_text.specs.declared.ahead.White.{White}
+use Rattle.vcd_text.proofs.Cited.{◌≡◌, ◌≢◌, ℕ, suc, ◌+◌, ◌-◌, ◌^◌, ◌≤◌, ◌<◌, true, false, List, [], ◌∷◌, ◌++◌, length, take, drop, refl, ap, sym, ◌∙◌, subst, arith, inl, inr, add-zero, append-nil, append_assoc, length-append, slice_index, slice_range, ◌==◌, Option, take-take, count_by-le-length, cases_lt, cases_order, is_white_space, Input, Token, end_of_tokens, line_at, bit_at, BitsAreWhite, White, HasLookedAt, AreWhite, IsRun, StandsAt, PassedFrom, Passed, line_ahead, Fits, ahead_in, looked, line_feeds_in, gone_on, At, InPhase, Parked, Phase, Going, Ended, Halted}
 use Rattle.vcd_text.proofs.Masks.{bits-before, bits-at}
-use Rattle.vcd_text.specs.LookedAt.{HasLookedAt}
-use Rattle.vcd_text.specs.Passed.{AreWhite, IsRun, StandsAt, PassedFrom, Passed, line_ahead}
-use Rattle.vcd_text.specs.Registers.{Fits, ahead_in, looked}
-use Rattle.vcd_text.specs.Window.{line_feeds_in, gone_on}
-use Rattle.vcd_text.specs.Given.{At, InPhase}
-use Rattle.vcd_text.specs.declared.registers.Parked.{Parked}
-use Rattle.vcd_text.specs.declared.registers.Phase.{Phase}
-use Rattle.vcd_text.specs.declared.registers.Phase.TheVariants.{Going, Ended, Halted}
 use Rattle.vcd_text.proofs.Places.{length-slice_range}
 use Rattle.vcd_text.proofs.Steps.{live-others, live-whites, live-end, token_to, true-false}
 use Rattle.vcd_text.proofs.Streams.{end-of-token}

@@ -1,14 +1,5 @@
 -- What a token that is shown says of how much was read.
-use Rattle.std.proofs.Common.{◌≢◌, ℕ, List, [], ◌∷◌, ◌++◌, arith, subst}
-use Rattle.std.specs.List.{AllByRecursion}
-use Rattle.vcd_model.specs.Input.{Input}
-use Rattle.vcd_model.specs.Tokens.{Token}
-use Rattle.vcd_model.specs.Reading.{texts_of}
-use Rattle.vcd_model.proofs.TokenTexts.{IsWord}
-use Rattle.vcd_model.proofs.HeaderFacts.{stream_words}
-use Rattle.vcd_text.specs.Feed.{HasGiven, HasReadTo, token_of, limit_of}
-use Rattle.vcd_text.specs.declared.device.Source.{Ghosts}
-use Rattle.vcd_text.specs.declared.feed.Feed.{Feed}
+use Rattle.vcd_text.proofs.Cited.{◌≢◌, ℕ, List, [], ◌∷◌, ◌++◌, arith, subst, AllByRecursion, Input, Token, texts_of, IsWord, stream_words, HasGiven, HasReadTo, token_of, limit_of, Ghosts, Feed}
 
 word_in : (given : List Token) (t : Token) (rest : List Token) → AllByRecursion IsWord (texts_of ((given ++ t ∷ []) ++ rest)) → IsWord t.bytes
 word_in [] t rest h = h.0

@@ -1,25 +1,7 @@
 -- A step of a feed, in the text.
-use Rattle.std.proofs.Common.{◌≡◌, ℕ, zero, suc, ◌+◌, ◌-◌, ◌^◌, ◌≤◌, ◌<◌, Bool, true, false, List, [], ◌∷◌, ◌++◌, length, take, drop, refl, ap, sym, ◌∙◌, subst, arith, ◌⊎◌, inl, inr, add-zero, zero-add, append-nil, length-drop, length-append}
-use Rattle.std.specs.Prelude.{slice_index, slice_range, ◌==◌, nat_lt, if◌then◌else◌, Option, Some, None, Ok, Err}
-use Rattle.std.proofs.lemmas.List.{drop_more, take-take, length-take, length-take-le}
-use Rattle.std.proofs.lemmas.Bool.Decides.{nat_tests}
-use Rattle.std.specs.Io.KnownBytes.{Consumes, IsAtEnd, Keeps}
-use Rattle.vcd_model.specs.Bytes.{is_white_space}
-use Rattle.vcd_model.specs.Input.{Input, Mark, Clean, Failed}
-use Rattle.vcd_model.specs.Tokens.{Token, end_of_tokens, line_at, stream_of}
-use Rattle.vcd_text.specs.Window.{begun, line_feeds_in, skipped, gathered, ended, refilled, Whites, Gathers, Skips, TakesShort, Collects, Fills, Finishes, Halts}
-use Rattle.vcd_text.specs.Registers.{looked, Fits, halt_number}
-use Rattle.vcd_text.specs.Answer.{whole, failed_after, Ends, NextGives}
-use Rattle.vcd_text.specs.ReadAhead.{Near, HasRest}
-use Rattle.vcd_text.specs.Given.{AtPlace, At, IsMarkAfter, NoHaltBefore, InPhase, HasGivenAt}
-use Rattle.vcd_text.specs.declared.registers.Parked.{Parked}
-use Rattle.vcd_text.specs.declared.registers.Phase.TheVariants.{Going, Halted}
-use Rattle.vcd_text.specs.declared.answer.Halt.{Halt}
-use Rattle.vcd_text.specs.declared.window.Collected.TheVariants.{Whole, Part, TooLong}
-use Rattle.vcd_text.specs.declared.window.Filled.TheVariants.{More, Failed as fill-failed}
-use Rattle.vcd_text.specs.declared.answer.Next.{Next}
-use Rattle.vcd_text.specs.declared.answer.Next.TheVariants.{Token as token-given, Finish}
-use Rattle.vcd_text.specs.declared.answer.Halt.TheVariants.{TokenTooLong, InputTooLong, ReadFailed}
+use Rattle.vcd_text.proofs.Cited.{◌≡◌, ℕ, zero, suc, ◌+◌, ◌-◌, ◌^◌, ◌≤◌, ◌<◌, Bool, true, false, List, [], ◌∷◌, ◌++◌, length, take, drop, refl, ap, sym, ◌∙◌, subst, arith, ◌⊎◌, inl, inr, add-zero, zero-add, append-nil, length-drop, length-append, slice_index, slice_range, ◌==◌, nat_lt, if◌then◌else◌, Option, Some, None, Ok, Err, drop_more, take-take, length-take, length-take-le, nat_tests, Consumes, IsAtEnd, Keeps, is_white_space, Input, Mark, Clean, Failed, Token, end_of_tokens, line_at, stream_of, begun, line_feeds_in, skipped, gathered, ended, refilled, Whites, Gathers, Skips, TakesShort, Collects, Fills, Finishes, Halts, looked, Fits, halt_number, whole, failed_after, Ends, NextGives, Near, HasRest, AtPlace, At, IsMarkAfter, NoHaltBefore, InPhase, HasGivenAt, Parked, Going, Halted, Halt, Whole, Part, TooLong, More, Next, Finish, TokenTooLong, InputTooLong, ReadFailed}
+use Rattle.vcd_text.specs.declared.window.Filled.TheVariants.{Failed as fill-failed}
+use Rattle.vcd_text.specs.declared.answer.Next.TheVariants.{Token as token-given}
 use Rattle.vcd_text.proofs.Steps.{live-others, live-whites, live-end, live-take, token_to}
 use Rattle.vcd_text.proofs.Streams.{much-stream, long-stream, failed-stream, clean-stream, halts-from, end-of-token}
 use Rattle.vcd_text.proofs.AheadLemmas.{ahead-index, ahead-length, ahead-drop, ahead-slice, line_feeds_in-more, line_feeds_in-other, slice_range-append}

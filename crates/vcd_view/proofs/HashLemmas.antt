@@ -1,8 +1,5 @@
 -- How codes are hashed.
-use Rattle.std.proofs.Common.{◌≡◌, ℕ, ◌≤◌, List, [], ◌∷◌, drop, length, refl, arith}
-use Rattle.std.specs.Int.{from_le_bytes, w64}
-use Rattle.vcd_view.specs.CodeHash.{hashed, mixed}
-use Rattle.vcd_view.specs.declared.code_hash.CodeSeed.{CodeSeed}
+use Rattle.vcd_view.proofs.Cited.{◌≡◌, ℕ, ◌≤◌, List, [], ◌∷◌, drop, length, refl, arith, from_le_bytes, w64, hashed, mixed, CodeSeed}
 
 -- eight bytes are one word
 pub word_first : (s : CodeSeed) (state : ℕ) (bytes : List ℕ) → 8 ≤ length bytes → hashed s state bytes ≡ hashed s (mixed s state (from_le_bytes w64 bytes)) (drop 8 bytes)

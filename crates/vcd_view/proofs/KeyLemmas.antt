@@ -1,12 +1,5 @@
 -- Short codes as numbers.
-use Rattle.std.proofs.Common.{◌≡◌, ℕ, zero, suc, ◌+◌, ◌*◌, ◌^◌, ◌<◌, ◌≤◌, nat_le, cond, Bool, true, false, List, [], ◌∷◌, Some, subst, length, get_or, refl, ap, ◌∙◌, arith, add-one, pow-suc}
-use Rattle.std.proofs.Math.Nat.{pow-le-pow_right}
-use Rattle.std.proofs.lemmas.Bool.{leb-true}
-use Rattle.std.proofs.lemmas.Option.{none-some, same_Some}
-use Rattle.std.specs.Prelude.{slice_get}
-use Rattle.std.specs.List.{AllByRecursion}
-use Rattle.vcd_model.specs.Declarations.{IdCode}
-use Rattle.vcd_view.specs.Keys.{AreBytes, packed, key_in}
+use Rattle.vcd_view.proofs.Cited.{◌≡◌, ℕ, zero, suc, ◌+◌, ◌*◌, ◌^◌, ◌<◌, ◌≤◌, nat_le, cond, Bool, true, false, List, [], ◌∷◌, Some, subst, length, get_or, refl, ap, ◌∙◌, arith, add-one, pow-suc, pow-le-pow_right, leb-true, none-some, same_Some, slice_get, AllByRecursion, IdCode, AreBytes, packed, key_in}
 
 -- a byte more
 pub grown : (key n b : ℕ) → key < 33 * 256 ^ n → b < 256 → key * 256 + b < 33 * 256 ^ (n + 1)

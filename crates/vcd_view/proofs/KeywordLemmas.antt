@@ -1,18 +1,5 @@
 -- Tokens that are keywords, and those up to `$end`.
-use Rattle.std.proofs.Common.{◌≡◌, ℕ, true, false, List, [], ◌∷◌, ◌++◌, bytes_eq, Some, None, refl, sym, ap, subst, ◌∙◌}
-use Rattle.std.proofs.lemmas.List.{append_assoc, append-nil}
-use Rattle.std.proofs.lemmas.Slice.Eq.{bytes_eq-Decides}
-use Rattle.vcd_model.specs.Keywords.{Keyword, keyword_of, keyword_text, is_end}
-use Rattle.vcd_model.specs.HeaderPhrases.{until_end}
-use Rattle.vcd_model.specs.Reading.{Grammar, Placed, phrases_of}
-use Rattle.vcd_model.specs.SoFar.{IsSoFar}
-use Rattle.vcd_model.specs.Tokens.{Token}
-use Rattle.vcd_model.proofs.SoFarLemmas.{so_far-token}
-use Rattle.vcd_text.specs.Ahead.{TakesToken, bytes_of, longest_of, passed_of, start_of}
-use Rattle.vcd_text.specs.Passed.{Passed, line_ahead}
-use Rattle.vcd_text.specs.declared.ahead.Ahead.{Ahead}
-use Rattle.vcd_view.specs.Keywords.{AreWords, NoEnds, texts_of}
-use Rattle.vcd_model.proofs.HeaderGrammar.{keyword_of-text, keyword_is}
+use Rattle.vcd_view.proofs.Cited.{◌≡◌, ℕ, true, false, List, [], ◌∷◌, ◌++◌, bytes_eq, Some, None, refl, sym, ap, subst, ◌∙◌, append_assoc, append-nil, bytes_eq-Decides, Keyword, keyword_of, keyword_text, is_end, until_end, Grammar, Placed, phrases_of, IsSoFar, Token, so_far-token, TakesToken, bytes_of, longest_of, passed_of, start_of, Passed, line_ahead, Ahead, AreWords, NoEnds, texts_of, keyword_of-text, keyword_is}
 
 pub keyword_found : (k : Keyword) (token : List ℕ) → bytes_eq (keyword_text k) token ≡ true → Some k ≡ keyword_of token
 keyword_found k token e = sym (ap keyword_of (sym ((bytes_eq-Decides (keyword_text k) token).0 e)) ∙ keyword_of-text k)

@@ -8,3 +8,5 @@ pub mod RoomLemmas
 pub mod KeywordLemmas
 pub mod NewCodeLemmas
 pub mod HashLemmas
+pub mod Cited
+pub mod Facts

@@ -1,7 +1,5 @@
 -- Lists and bytes.
-use Rattle.std.proofs.Common.{◌≡◌, ℕ, zero, suc, ◌<◌, Bool, true, false, List, [], ◌∷◌, ◌++◌, length, slice_get, bytes_eq, Some, refl, sym, arith}
-use Rattle.std.specs.List.{All, AllByRecursion, AllZip}
-use Rattle.std.proofs.lemmas.Slice.Eq.{bytes_eq-Decides}
+use Rattle.vcd_view.proofs.Cited.{◌≡◌, ℕ, zero, suc, ◌<◌, Bool, true, false, List, [], ◌∷◌, ◌++◌, length, slice_get, bytes_eq, Some, refl, sym, arith, All, AllByRecursion, AllZip, bytes_eq-Decides}
 
 -- ---- lists
 

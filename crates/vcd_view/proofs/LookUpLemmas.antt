@@ -1,28 +1,7 @@
 -- A code that is looked up.
-use Rattle.std.proofs.Common.{◌≡◌, ◌⊎◌, inl, inr, ℕ, zero, suc, ◌+◌, ◌/◌, ◌<◌, ◌≤◌, false, List, [], ◌∷◌, ◌++◌, length, map, get_or, bytes_eq, Option, Some, None, option_map, unwrap_or, refl, sym, ap, subst, ◌∙◌, arith, arith, below_more, zero-add}
-use Rattle.std.specs.Prelude.{find, slice_get, IsPermutation}
-use Rattle.std.specs.List.{AllByRecursion, AllZip, All, IsDistinct, position_or_len, range_with_len}
+use Rattle.vcd_view.proofs.Cited.{◌≡◌, ◌⊎◌, inl, inr, ℕ, zero, suc, ◌+◌, ◌/◌, ◌<◌, ◌≤◌, false, List, [], ◌∷◌, ◌++◌, length, map, get_or, bytes_eq, Option, Some, None, option_map, unwrap_or, refl, sym, ap, subst, ◌∙◌, arith, below_more, zero-add, find, slice_get, IsPermutation, AllByRecursion, AllZip, All, position_or_len, range_with_len, nat_cmp, is_eq, ordering_reverse, Ordering, Less, Equal, Greater, slice_cmp, digits_of, cases_lt, nat_list_cmp_total, none-some, same_Some, slice_get-get_or, bytes_eq-Decides, get_or_default_zero, number_lt, all_below_base_digits_of, number_digits_of, length-digits_of-le, length-digits_of_step, append_assoc, get_or-map, length-map, get_or-range_with_len, length-range_with_len, length_permutation, IsPermutation-map, IsPermutation-sym, All-permutation, Contains-permutation, IsDistinct-from_sorted, IsDistinct-IsPermutation, is_eq-slice_cmp, IdCode, has_text, Code, IsCode, IsIndex, code_text, Finds}
+use Rattle.std.specs.List.{IsDistinct}
 use Rattle.std.specs.List.Sorted.{IsStrictlySortedBy}
-use Rattle.std.specs.Ordering.{nat_cmp, is_eq, ordering_reverse}
-use Rattle.std.specs.declared.cmp.Ordering.{Ordering}
-use Rattle.std.specs.declared.cmp.Ordering.TheVariants.{Less, Equal, Greater}
-use Rattle.std.specs.Cmp.Lexicographic.{slice_cmp}
-use Rattle.std.specs.Int.Digits.{digits_of}
-use Rattle.std.proofs.lemmas.Bool.{cases_lt}
-use Rattle.std.proofs.lemmas.Cmp.{nat_list_cmp_total}
-use Rattle.std.proofs.lemmas.Option.{none-some, same_Some, slice_get-get_or}
-use Rattle.std.proofs.lemmas.Slice.Eq.{bytes_eq-Decides}
-use Rattle.std.proofs.lemmas.Grind.{get_or_default_zero}
-use Rattle.std.proofs.lemmas.Int.Digits.{number_lt, all_below_base_digits_of, number_digits_of, length-digits_of-le, length-digits_of_step}
-use Rattle.std.proofs.lemmas.List.{append_assoc, get_or-map, length-map}
-use Rattle.std.proofs.lemmas.List.FromFn.{get_or-range_with_len, length-range_with_len}
-use Rattle.std.proofs.lemmas.List.Sorted.{length_permutation, IsPermutation-map, IsPermutation-sym, All-permutation, Contains-permutation}
-use Rattle.std.proofs.lemmas.Map.Keys.{IsDistinct-from_sorted, IsDistinct-IsPermutation}
-use Rattle.std.proofs.lemmas.Map.Text.{is_eq-slice_cmp}
-use Rattle.vcd_model.specs.Declarations.{IdCode, has_text}
-use Rattle.vcd_view.specs.declared.view.Code.{Code}
-use Rattle.vcd_view.specs.Views.{IsCode, IsIndex, code_text}
-use Rattle.vcd_view.specs.Finds.{Finds}
 use Rattle.vcd_view.proofs.ListLemmas.{slice_get-seam, bytes_flip, to_all}
 
 -- ---- the codes of a view

@@ -1,11 +1,8 @@
 -- The bytes of a new code, digit by digit.
-use Rattle.std.proofs.Common.{◌≡◌, ℕ, suc, ◌+◌, ◌*◌, ◌/◌, ◌%◌, ◌^◌, ◌<◌, ◌≤◌, List, [], ◌∷◌, ◌++◌, length, take, slice_set, refl, sym, ap, ◌∙◌, arith, ◌⊎◌, inl, inr, append_assoc}
-use Rattle.std.proofs.Math.Nat.{mul-le-mul_left, mul_assoc, pow-suc}
-use Rattle.std.proofs.Math.Seq.{take-suc-set}
-use Rattle.std.proofs.Math.ListN.{length-set}
-use Rattle.std.proofs.lemmas.Bool.{le-leb, le-ltb, lt-ltb}
-use Rattle.vcd_model.specs.HeadText.{base94, new_code}
-use Rattle.vcd_model.proofs.CodeLemmas.{same_room}
+use Rattle.vcd_view.proofs.Cited.{◌≡◌, ℕ, suc, ◌+◌, ◌*◌, ◌/◌, ◌%◌, ◌^◌, ◌<◌, ◌≤◌, List, [], ◌∷◌, ◌++◌, length, take, slice_set, refl, sym, ap, ◌∙◌, arith, ◌⊎◌, inl, inr, mul-le-mul_left, mul_assoc, take-suc-set, length-set, le-leb, le-ltb, lt-ltb, base94, same_room}
+use Rattle.std.proofs.Common.{append_assoc}
+use Rattle.std.proofs.Math.Nat.{pow-suc}
+use Rattle.vcd_model.specs.HeadText.{new_code}
 use Rattle.vcd_view.specs.NewCode.{digits_of}
 
 -- what a loop over the digits keeps: the digits so far, and those of the rest

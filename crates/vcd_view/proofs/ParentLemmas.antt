@@ -1,12 +1,5 @@
 -- The scope around a declaration: what a row says of it, and the scopes around it.
-use Rattle.std.proofs.Common.{◌≡◌, ℕ, zero, suc, ◌<◌, ◌≤◌, List, [], ◌∷◌, take, slice_get, Option, Some, None, refl, sym, ap, ◌∙◌, arith}
-use Rattle.std.proofs.lemmas.List.{length-take}
-use Rattle.vcd_model.specs.Declarations.{Declaration, enclosing, parent}
-use Rattle.vcd_model.specs.Header.{Header}
-use Rattle.vcd_model.proofs.ScopeLemmas.{innermost}
-use Rattle.vcd_view.specs.declared.view.Row.{Row}
-use Rattle.vcd_view.specs.Shown.{HeadShown}
-use Rattle.vcd_view.specs.Views.{Views, counted_from_one}
+use Rattle.vcd_view.proofs.Cited.{◌≡◌, ℕ, zero, suc, ◌<◌, ◌≤◌, List, [], ◌∷◌, take, slice_get, Option, Some, None, refl, sym, ap, ◌∙◌, arith, length-take, Declaration, enclosing, parent, Header, innermost, Row, HeadShown, Views, counted_from_one}
 use Rattle.vcd_view.proofs.RowLemmas.{row_at}
 
 pub take-take : {X : Type 0} (p i : ℕ) (xs : List X) → p ≤ i → take p (take i xs) ≡ take p xs

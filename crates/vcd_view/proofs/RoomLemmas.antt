@@ -1,17 +1,6 @@
 -- The room that a view needs is the header's.
-use Rattle.std.proofs.Common.{◌≡◌, ℕ, suc, ◌+◌, ◌*◌, ◌<◌, ◌≤◌, max, List, [], ◌∷◌, ◌++◌, cond, bytes_eq, length, sum_by, Option, Some, None, refl, sym, ap, subst, ◌∙◌, ◌^◌, arith}
-use Rattle.std.specs.Int.{div_ceil}
-use Rattle.std.specs.List.{AllByRecursion, AllZip, filter_map, cons_option, list_any}
-use Rattle.std.proofs.lemmas.List.Sums.{sum_by-cons}
-use Rattle.vcd_model.specs.Backward.{each, each_after}
-use Rattle.vcd_model.specs.Declarations.{Declaration, IdCode, Variable, code_of, codes_of, variables_of, variable_of}
-use Rattle.vcd_model.specs.Header.{Header}
-use Rattle.vcd_model.specs.Bound.{value_room, room_of, IsView, RoomSize, WindowSize, AreWindows, FitsInput}
-use Rattle.vcd_model.proofs.BoundLemmas.{room_fits}
-use Rattle.vcd_view.specs.declared.view.Code.{Code}
-use Rattle.vcd_view.specs.Shown.{HeadShown}
-use Rattle.vcd_view.specs.Views.{Views, IsCode, IsSize}
-use Rattle.vcd_view.specs.Needs.{value_bytes, view_size}
+use Rattle.vcd_view.proofs.Cited.{◌≡◌, ℕ, suc, ◌+◌, ◌*◌, ◌<◌, ◌≤◌, max, List, [], ◌∷◌, ◌++◌, cond, bytes_eq, length, sum_by, Option, Some, None, refl, sym, ap, subst, ◌∙◌, ◌^◌, arith, div_ceil, AllByRecursion, AllZip, filter_map, cons_option, list_any, sum_by-cons, each, each_after, Declaration, IdCode, Variable, code_of, variables_of, variable_of, Header, value_room, room_of, IsView, RoomSize, WindowSize, AreWindows, FitsInput, room_fits, Code, HeadShown, Views, IsCode, IsSize, value_bytes, view_size}
+use Rattle.vcd_model.specs.Declarations.{codes_of}
 use Rattle.vcd_view.proofs.LookUpLemmas.{codes_len, index_len}
 use Rattle.vcd_view.proofs.RowLemmas.{rows_len}
 

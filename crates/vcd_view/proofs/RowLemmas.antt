@@ -1,16 +1,7 @@
 -- The row at an index, and the declaration there.
-use Rattle.std.proofs.Common.{◌≡◌, ℕ, zero, suc, ◌+◌, ◌<◌, ◌≤◌, List, [], ◌∷◌, ◌++◌, length, take, slice_range, slice_get, get_or, Some, None, refl, sym, ap, subst, ◌∙◌, arith}
-use Rattle.std.proofs.lemmas.Bool.{le-leb}
-use Rattle.std.proofs.lemmas.List.{append_assoc, append-nil}
-use Rattle.std.proofs.lemmas.Option.{slice_get-get_or}
-use Rattle.vcd_model.specs.Declarations.{Declaration, Variable, IdCode, code_of, name_of}
-use Rattle.vcd_model.specs.Header.{Header}
-use Rattle.std.specs.List.{AllZip}
+use Rattle.vcd_view.proofs.Cited.{◌≡◌, ℕ, zero, suc, ◌+◌, ◌<◌, ◌≤◌, List, [], ◌∷◌, ◌++◌, length, take, slice_range, slice_get, get_or, Some, None, refl, sym, ap, subst, ◌∙◌, arith, le-leb, append_assoc, append-nil, slice_get-get_or, Declaration, Variable, IdCode, code_of, name_of, Header, AllZip, Row, Code, HeadShown, HasTexts, IsCode, IsRow, AreRows, Views, reference_of, type_of}
 use Rattle.vcd_view.specs.declared.view.Kind.TheVariants as kind
-use Rattle.vcd_view.specs.declared.view.Row.{Row}
-use Rattle.vcd_view.specs.declared.view.Code.{Code}
-use Rattle.vcd_view.specs.Shown.{HeadShown, text_in}
-use Rattle.vcd_view.specs.Views.{HasTexts, IsCode, IsRow, AreRows, Views, reference_of, type_of}
+use Rattle.vcd_view.specs.Shown.{text_in}
 
 -- there are as many rows as declarations
 pub rows_len : (t : List ℕ) (cs : List IdCode) (e : List Declaration) (rs : List Row) (ds : List Declaration) → AreRows t cs e rs ds → length rs ≡ length ds

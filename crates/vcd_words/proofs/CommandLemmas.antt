@@ -1,13 +1,5 @@
 -- How the calls that build an argument or a command change what a parse reads of it.
-use Rattle.std.proofs.Common.{◌≡◌, ◌∙◌, ◌∷◌, [], ℕ, Bool, true, Option, Some, ap, ap₂}
-use Rattle.std.specs.Borrow.{Bor}
-use Rattle.clap.specs.Simple.{app_of_fields}
-use Rattle.clap.specs.Words.{AddsArg, App, Rule, Text, rule_of, with_rule}
-use Rattle.clap.specs.declared.builder.arg.Arg.{Arg}
-use Rattle.clap.specs.declared.builder.texts.Texts.TheVariants.{One}
-use Rattle.clap.specs.declared.builder.command.Command.{Command, out-Command}
-use Rattle.clap.specs.declared.builder.range.ValueRange.{ValueRange}
-use Rattle.vcd_words.specs.Words.{IsLocal, IsWhole}
+use Rattle.vcd_words.proofs.Cited.{◌≡◌, ◌∙◌, ◌∷◌, [], ℕ, Bool, true, Option, Some, ap, ap₂, Bor, app_of_fields, AddsArg, App, Rule, Text, rule_of, with_rule, Arg, One, Command, out-Command, ValueRange, IsLocal, IsWhole}
 
 -- ---- arguments
 

@@ -1,11 +1,7 @@
 -- Which words the command line takes, and what it finds in them: worked by hand.
-use Rattle.std.proofs.Common.{◌≡◌, true, List, [], ◌∷◌, codes, refl}
-use Rattle.std.specs.Prelude.{Option, Some, None, option_and_then}
-use Prim.Native.String.{String}
+use Rattle.vcd_words.proofs.Cited.{◌≡◌, true, List, [], ◌∷◌, codes, refl, Option, Some, None, option_and_then, String, Text, all_of, fault_of, first_of, subcommand_of, takes, program_app}
 use Rattle.clap.proofs.OnLiterals.{clap_on_literals}
-use Rattle.clap.specs.Words.{Text, all_of, fault_of, first_of, subcommand_of, takes}
 use Rattle.clap.specs.declared.error.kind.ErrorKind.TheVariants as kind
-use Rattle.vcd_words.specs.Words.{program_app}
 
 -- words after the program's name
 abbrev words : List String → List Text

@@ -4,3 +4,5 @@ mod CommandRows
 pub mod TimesLemmas
 pub mod PeriodLemmas
 pub mod SampleLemmas
+pub mod Cited
+pub mod Facts

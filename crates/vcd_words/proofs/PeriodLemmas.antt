@@ -1,15 +1,8 @@
 -- The times of a cut in ticks.
-use Rattle.std.proofs.Common.{◌≡◌, ◌≢◌, ◌≤◌, ◌<◌, ◌||◌, ℕ, Bool, true, false, nat_lt, nat_le, is_some, [], ◌∷◌, Option, Some, None, Result, Ok, Err, refl, arith}
-use Rattle.std.specs.Prelude.{ℤ, ◌^◌}
-use Rattle.std.proofs.lemmas.Bool.{leb-true}
+use Rattle.vcd_words.proofs.Cited.{◌≡◌, ◌≢◌, ◌≤◌, ◌<◌, ◌||◌, ℕ, Bool, true, false, nat_lt, nat_le, is_some, [], ◌∷◌, Option, Some, None, Result, Ok, Err, refl, arith, ℤ, ◌^◌, leb-true, Want, cut_request, has_unit, is_without_scale, Request, Moment, in_range, number_ticks, ticks, tick_fault_number, TickFault, NoTimescale, OutOfRange, model_refusal, tick_refusal}
 use Rattle.vcd_model.specs.Job as model
-use Rattle.vcd_model.specs.Job.{Want, cut_request, has_unit, is_without_scale, request_of}
-use Rattle.vcd_model.specs.Outcome.{Request}
-use Rattle.vcd_model.specs.Ticks.{Moment, in_range, moment_ticks, number_ticks, ticks}
-use Rattle.vcd_head.specs.Moments.{tick_fault_number}
-use Rattle.vcd_head.specs.declared.moment.TickFault.{TickFault}
-use Rattle.vcd_head.specs.declared.moment.TickFault.TheVariants.{NoTimescale, OutOfRange}
-use Rattle.vcd_words.specs.Refusal.{model_refusal, tick_refusal}
+use Rattle.vcd_model.specs.Job.{request_of}
+use Rattle.vcd_model.specs.Ticks.{moment_ticks}
 
 -- where there is a scale, no time is without one
 pub scaled : (scale : ℤ) (m : Moment) (up : Bool) → is_without_scale (moment_ticks (Some scale) m up) ≡ false

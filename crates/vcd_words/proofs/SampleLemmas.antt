@@ -1,22 +1,8 @@
 -- The times of a sample in ticks.
-use Rattle.std.proofs.Common.{◌≡◌, ℕ, suc, zero, ◌+◌, ◌<◌, Bool, true, false, not, ◌||◌, ◌&&◌, ◌==◌, nat_lt, is_some, is_ok, List, [], ◌∷◌, ◌++◌, length, replicate, vec_len, map, filter_map, get_or, set, take, drop, Option, Some, None, Result, Ok, Err, refl, sym, ap, ap₂, ◌∙◌, arith}
-use Rattle.std.specs.Prelude.{ℤ, ◌≢◌}
-use Rattle.std.specs.Global.{Vec}
-use Rattle.std.specs.List.{list_any, list_all, IsAllAdjacentAnswer}
-use Rattle.std.proofs.lemmas.Bool.{and_from, and_parts, eq-eqb, eqb-true}
-use Rattle.std.proofs.lemmas.List.{length-map}
-use Rattle.vcd_model.specs.Bytes.{is_empty}
+use Rattle.vcd_words.proofs.Cited.{◌≡◌, ℕ, suc, zero, ◌+◌, ◌<◌, Bool, true, false, not, ◌||◌, ◌&&◌, ◌==◌, nat_lt, is_some, is_ok, List, [], ◌∷◌, ◌++◌, length, replicate, vec_len, map, filter_map, get_or, set, take, drop, Option, Some, None, Result, Ok, Err, refl, sym, ap, ap₂, ◌∙◌, arith, ℤ, ◌≢◌, Vec, list_any, list_all, IsAllAdjacentAnswer, and_from, and_parts, eq-eqb, eqb-true, length-map, is_empty, Want, do_rise, first_refusal, has_unit, is_without_scale, ok_of, sample_at, sample_request, Request, Moment, rises_at, tick_fault_number, TickFault, NoTimescale, OutOfRange, model_refusal, tick_refusal, Refusal, all_ticks, has_units, times_with, AreRefused, AreTicks}
 use Rattle.vcd_model.specs.Job as model
-use Rattle.vcd_model.specs.Job.{Want, do_rise, first_refusal, has_unit, is_without_scale, ok_of, request_of, sample_at, sample_request}
-use Rattle.vcd_model.specs.Outcome.{Request}
-use Rattle.vcd_model.specs.Ticks.{Moment, moment_ticks}
-use Rattle.vcd_model.proofs.JobLemmas.{rises_at}
-use Rattle.vcd_head.specs.Moments.{tick_fault_number}
-use Rattle.vcd_head.specs.declared.moment.TickFault.{TickFault}
-use Rattle.vcd_head.specs.declared.moment.TickFault.TheVariants.{NoTimescale, OutOfRange}
-use Rattle.vcd_words.specs.Refusal.{model_refusal, tick_refusal}
-use Rattle.vcd_words.specs.declared.refusal.Refusal.{Refusal}
-use Rattle.vcd_words.specs.Ticks.{all_ticks, has_units, times_with, AreRefused, AreTicks}
+use Rattle.vcd_model.specs.Job.{request_of}
+use Rattle.vcd_model.specs.Ticks.{moment_ticks}
 use Rattle.vcd_words.proofs.PeriodLemmas.{scaled, unscaled}
 
 -- numbers of ticks, as those of times that have some

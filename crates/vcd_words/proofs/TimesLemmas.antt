@@ -1,25 +1,9 @@
 -- Words that are times, one after the other, and their order.
-use Rattle.std.proofs.Common.{◌≡◌, ℕ, suc, ◌<◌, Bool, true, false, not, cond, ◌&&◌, ◌||◌, ◌==◌, nat_lt, is_some, vec_len, List, [], ◌∷◌, ◌++◌, length, map, filter_map, get_or, take, drop, take-append-drop, Option, Some, None, option_map, Result, Ok, Err, refl, sym, ap, ◌∙◌, arith}
-use Rattle.std.specs.Char.{is_ascii_digit}
-use Rattle.std.specs.List.{cons_option, take_while}
-use Rattle.std.proofs.lemmas.List.{length-map}
-use Rattle.std.proofs.lemmas.List.Folds.{length-prefix_len}
-use Rattle.std.proofs.lemmas.List.Splits.{length-slice_split}
-use Rattle.std.specs.Global.{Vec}
-use Rattle.std.proofs.Math.Seq.{drop-cons}
-use Rattle.vcd_model.specs.Bytes.{decimal_value}
-use Rattle.vcd_model.specs.Job.{Want, has_unit, do_rise, is_number, moment_of, moment_with}
-use Rattle.vcd_model.specs.Ticks.{Moment}
+use Rattle.vcd_words.proofs.Cited.{◌≡◌, ℕ, suc, ◌<◌, Bool, true, false, not, cond, ◌&&◌, ◌||◌, ◌==◌, nat_lt, is_some, vec_len, List, [], ◌∷◌, ◌++◌, length, map, filter_map, get_or, take, drop, take-append-drop, Option, Some, None, option_map, Result, Ok, Err, refl, sym, ap, ◌∙◌, arith, is_ascii_digit, cons_option, take_while, length-map, length-prefix_len, length-slice_split, Vec, drop-cons, decimal_value, Want, has_unit, do_rise, is_number, moment_with, Moment, asked, with_unit, UseFault, TimesOrder, has_units, times_with, last_of, parts, IsOrderOf, IsFaultIn, and-true, or-false}
+use Rattle.vcd_model.specs.Job.{moment_of}
 use Rattle.vcd_model.specs.Words as model
 use Rattle.vcd_head.specs.declared.moment.Moment as head
-use Rattle.vcd_head.specs.Moments.{asked, with_unit}
-use Rattle.vcd_words.specs.declared.job.UseFault.{UseFault}
-use Rattle.vcd_words.specs.declared.moment_word.TimesOrder.{TimesOrder}
-use Rattle.vcd_words.specs.Ticks.{has_units, times_with}
-use Rattle.vcd_words.specs.Times.{last_of, parts, IsOrderOf}
-use Rattle.vcd_words.specs.Words.{IsFaultIn}
 use Rattle.vcd_words.proofs.WordsLemmas.{fault-moves}
-use Rattle.std.proofs.Math.Bool.{and-true, or-false}
 
 -- ---- a word
 

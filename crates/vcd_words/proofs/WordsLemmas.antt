@@ -1,18 +1,7 @@
 -- What a command and a word after `--token-limit` ask for.
-use Rattle.std.proofs.Common.{◌≡◌, ◌==◌, ℕ, Bool, true, false, not, List, [], ◌∷◌, length, map, ap, ap₂, refl, sym, ◌∙◌}
-use Rattle.std.proofs.Math.Dec.{eqb-suc-zero}
-use Rattle.std.specs.Borrow.{Bor}
-use Rattle.std.specs.Bool.{then_some}
-use Rattle.std.specs.Prelude.{Option, Some, None, Result, Ok, Err, option_map, option_and_then, unwrap_or}
-use Rattle.std.specs.Option.{IsSomeAnd}
-use Rattle.clap.specs.declared.builder.range.ValueRange.{ValueRange}
-use Rattle.clap.specs.Words.{Row, Text, all_of, first_of}
+use Rattle.vcd_words.proofs.Cited.{◌≡◌, ◌==◌, ℕ, Bool, true, false, not, List, [], ◌∷◌, length, map, ap, ap₂, refl, sym, ◌∙◌, eqb-suc-zero, Bor, then_some, Option, Some, None, Result, Ok, Err, option_map, option_and_then, unwrap_or, IsSomeAnd, ValueRange, Row, Text, all_of, first_of, Words, UseFault, BadWords, BadLimit, BadTime, FromAboveTo, NotRising, TooManyFiles, InputTwice, OutOfMemory, complete, some_of, words_command, IsFaultIn, IsFaultOf}
 use Rattle.vcd_model.specs.Job as model_job
 use Rattle.vcd_model.specs.Words as model
-use Rattle.vcd_words.specs.declared.words.Words.{Words}
-use Rattle.vcd_words.specs.declared.job.UseFault.{UseFault}
-use Rattle.vcd_words.specs.declared.job.UseFault.TheVariants.{BadWords, BadLimit, BadTime, FromAboveTo, NotRising, TooManyFiles, InputTwice, OutOfMemory}
-use Rattle.vcd_words.specs.Words.{complete, some_of, words_command, IsFaultIn, IsFaultOf}
 
 -- ---- words as clap takes them
 

@@ -1,44 +1,9 @@
 -- How a run over its inputs ends, and what it leaves then.
-use Rattle.std.proofs.Common.{◌≡◌, ◌==◌, ℕ, ◌+◌, ◌*◌, ◌/◌, ◌<◌, ◌≤◌, Bool, true, false, inl, List, [], length, map, Option, Some, Result, Ok, Err, refl, sym, ap, subst, ◌∙◌, arith, add-zero}
-use Rattle.std.specs.Prelude.{get_or, slice_set}
-use Rattle.std.proofs.lemmas.List.{set-get_or}
-use Rattle.std.proofs.Math.Nat.{mul-div_cancel_left}
-use Rattle.std.proofs.lemmas.Nat.{mul-le}
-use Rattle.vcd_head.proofs.IndexLemmas.{map_map}
-use Rattle.vcd_head.specs.declared.head.Head.{Head}
-use Rattle.vcd_merge.specs.MergeParts.{AreParts, part_len}
-use Rattle.vcd_merge.specs.declared.seat.Seat.{Seat}
-use Rattle.vcd_model.specs.Input.{Input}
-use Rattle.vcd_model.specs.Job.{Want, outcome, refusal_outcome, request_of}
-use Rattle.vcd_model.specs.Settled.{is_header_over, is_settled}
-use Rattle.vcd_model.specs.Outcome.{Opened, Outcome, dumps_of, fault_outcome, merge_outcome, name_at, open_from}
-use Rattle.vcd_model.specs.Reading.{Fault}
-use Rattle.vcd_model.specs.Tokens.{Token}
-use Rattle.vcd_text.specs.Device.{Device, Supply, Writes, supply}
-use Rattle.vcd_text.proofs.Writes.{appends-none}
-use Rattle.vcd_body.specs.Answer.{NamesInput}
-use Rattle.vcd_merge.specs.MergeRoom.{MergeIsWithinBound, windows_size}
+use Rattle.vcdkit.proofs.Cited.{◌≡◌, ◌==◌, ℕ, ◌+◌, ◌*◌, ◌/◌, ◌<◌, ◌≤◌, Bool, true, false, inl, List, [], length, map, Option, Some, Result, Ok, Err, refl, sym, ap, subst, ◌∙◌, arith, add-zero, get_or, slice_set, set-get_or, mul-div_cancel_left, mul-le, map_map, Head, AreParts, part_len, Seat, Input, Want, refusal_outcome, is_header_over, is_settled, Opened, Outcome, dumps_of, fault_outcome, merge_outcome, name_at, open_from, Fault, Token, Device, Supply, Writes, supply, appends-none, NamesInput, MergeIsWithinBound, windows_size, failures_with, Lane, Done, Stop, Dump, Read, Write, Unmatched, Windows, merge_within, Failure, Stopped, Refused, OutOfMemory, Refusal, failure_of, merge_end, CountsReads, CountsReadsOf, model_refusal, AreBegun, AreParked, AreShown, HaveBegun, Stops, end_message, end_status, refusal_status, Shows, AreNeeded, EndsAll, HasRun, LeavesAll, InBodies, InHeaders, WithOutcome, NoMemory, Whole, Part}
+use Rattle.vcd_model.specs.Job.{outcome, request_of}
 use Rattle.vcd_merge.specs.MergeRun.{Belongs, Follows}
-use Rattle.vcd_merge.specs.MergeStep.{failures_with}
-use Rattle.vcd_merge.specs.Seat.{Lane}
-use Rattle.vcd_body.specs.declared.answer.Done.{Done}
 use Rattle.vcd_body.specs.declared.answer.Done.TheVariants as done
-use Rattle.vcd_body.specs.declared.answer.Stop.{Stop}
-use Rattle.vcd_body.specs.declared.answer.Stop.TheVariants.{Dump, Read, Write, Unmatched}
-use Rattle.vcd_merge.specs.declared.windows.Windows.{Windows}
-use Rattle.vcd_merge.proofs.MergeRoomLemmas.{merge_within}
-use Rattle.vcdkit.specs.declared.failure.Failure.{Failure}
-use Rattle.vcdkit.specs.declared.failure.Failure.TheVariants.{Stopped, Refused, OutOfMemory}
-use Rattle.vcd_words.specs.declared.refusal.Refusal.{Refusal}
 use Rattle.vcd_words.specs.declared.refusal.Refusal.TheVariants as refusal
-use Rattle.vcdkit.specs.Failure.{failure_of, merge_end, CountsReads, CountsReadsOf}
-use Rattle.vcd_words.specs.Refusal.{model_refusal}
-use Rattle.vcdkit.specs.Inputs.{AreBegun, AreParked, AreShown, HaveBegun, Stops}
-use Rattle.vcdkit.specs.Message.{end_message, end_status, refusal_status, Shows}
-use Rattle.vcdkit.specs.Run.{AreNeeded, EndsAll, HasRun, LeavesAll}
-use Rattle.vcdkit.specs.Run.AreMergedInTurn.{InBodies, InHeaders}
-use Rattle.vcdkit.specs.Run.HasRun.{WithOutcome, NoMemory}
-use Rattle.vcdkit.specs.Run.IsOutcome.{Whole, Part}
 use Rattle.vcdkit.proofs.HeaderLemmas.{unsettled_header}
 use Rattle.vcdkit.proofs.InputsLemmas.{HaveStopped, merged_read, stops_read}
 use Rattle.vcdkit.proofs.NeededLemmas.{merge_needed, needed_all, none_passed}

@@ -1,49 +1,11 @@
 -- How much was read of an input for its header, and why a header ends a run.
-use Rattle.std.proofs.Common.{◌≡◌, ◌≢◌, ◌==◌, ℕ, ◌+◌, Bool, true, false, nat_lt, ◌++◌, inl, inr, List, [], ◌∷◌, length, Some, None, Err, refl, sym, ap, subst, ◌∙◌, arith}
-use Rattle.std.specs.Prelude.{IfSome}
-use Rattle.std.proofs.lemmas.Bool.Decides.{nat_tests}
-use Rattle.std.proofs.lemmas.List.{append-nil}
-use Rattle.vcd_model.specs.Input.{Input}
-use Rattle.vcd_model.specs.Due.{due, due_at, due_of_request}
-use Rattle.vcd_model.specs.Job.{Want, request_of}
-use Rattle.vcd_model.specs.Laws.{IsPrefixOf}
-use Rattle.vcd_model.specs.Settled.{is_header_over, is_over, is_settled, is_settled_at, is_settled_by}
-use Rattle.vcd_model.specs.SoFar.{IsWhole}
-use Rattle.vcd_model.specs.HeaderPhrases.{HeaderPhrase}
-use Rattle.vcd_model.specs.Header.{header_of}
-use Rattle.vcd_model.specs.HeaderReading.{header_fault_of, header_grammar, read_header}
-use Rattle.vcd_model.specs.Reading.{Ending, Reading, Placed, phrases_of, reading_of}
-use Rattle.vcd_model.specs.Reading.Ending.{AtFault, AtEnd, AtLast}
-use Rattle.vcd_model.specs.Tokens.{Token, end_of_tokens, halt_place, stream_of}
-use Rattle.vcd_model.specs.BodyReading.{body_grammar}
-use Rattle.vcd_model.proofs.SoFarLemmas.{so_far-nothing, whole-more}
-use Rattle.vcd_text.specs.Answer.{failed_after}
-use Rattle.vcd_text.specs.Device.{Supply}
-use Rattle.vcd_text.specs.ReadAhead.{Near, ReadsAsNeeded}
-use Rattle.vcd_text.specs.ReadAhead.ReadsAsNeeded.{Nothing, ToToken, ToEnd}
-use Rattle.vcd_text.specs.Feed.{HasGiven, HasGivenParked, chunk_len_of, limit_of, parked_answer, parked_of, supply_of, token_of, seen}
-use Rattle.vcd_text.specs.declared.registers.Parked.{Parked}
-use Rattle.vcd_body.specs.Items.{AreRegsAfter}
-use Rattle.vcd_head.specs.declared.head.Head.{Head}
-use Rattle.vcd_merge.specs.declared.seat.Seat.{Seat}
-use Rattle.vcd_text.specs.declared.device.Source.{Ghosts}
-use Rattle.vcd_text.specs.declared.feed.Feed.{Feed}
-use Rattle.vcd_head.specs.Reads.{Fails, FailsAtEnd, FailsAtToken, GivesHead, HasFault, HasReadToShown, IsGoing}
-use Rattle.vcd_view.specs.Shown.{HeadShown}
-use Rattle.vcd_head.specs.Shown.{shown}
-use Rattle.vcd_head.specs.declared.fault.HeadFault.{HeadFault}
-use Rattle.vcd_head.specs.declared.fault.HeadFault.TheVariants.{TokenTooLong, EndOfInput, UnknownCommand, OutOfPlace, BadTimescale, BadScope, BadVariable, CodeDiffers, NoScope, TooDeep, TooMany, InputTooLong, ReadFailed, OutOfMemory}
-use Rattle.vcd_body.specs.Answer.{IsLeft}
-use Rattle.vcd_engine.specs.TaskRun.{is_more_due}
-use Rattle.vcd_text.specs.Registers.{Fits}
-use Rattle.vcd_text.specs.Advances.{HasNotFailed}
+use Rattle.vcdkit.proofs.Cited.{◌≡◌, ◌≢◌, ◌==◌, ℕ, ◌+◌, Bool, true, false, nat_lt, ◌++◌, inl, inr, List, [], ◌∷◌, length, Some, None, Err, refl, sym, ap, subst, ◌∙◌, arith, IfSome, nat_tests, append-nil, Input, due_at, due_of_request, Want, request_of, IsPrefixOf, is_over, is_settled_at, is_settled_by, IsWhole, HeaderPhrase, header_of, header_fault_of, header_grammar, Ending, Reading, Placed, phrases_of, reading_of, AtFault, AtEnd, AtLast, Token, end_of_tokens, halt_place, stream_of, body_grammar, so_far-nothing, whole-more, failed_after, Supply, Near, ReadsAsNeeded, Nothing, ToToken, ToEnd, HasGiven, HasGivenParked, chunk_len_of, limit_of, parked_answer, parked_of, supply_of, token_of, seen, Parked, AreRegsAfter, Head, Seat, Ghosts, Feed, Fails, FailsAtEnd, FailsAtToken, GivesHead, HasFault, HasReadToShown, IsGoing, HeadShown, shown, HeadFault, TokenTooLong, EndOfInput, UnknownCommand, OutOfPlace, BadTimescale, BadScope, BadVariable, CodeDiffers, NoScope, TooDeep, TooMany, InputTooLong, ReadFailed, IsLeft, is_more_due, Fits, HasNotFailed, IsSeated, Lane, Dump, Failure, head_failure, CountsRead, EndsAtRead, Begins, HasFailed, IsBegun, IsNew}
+use Rattle.vcd_model.specs.Due.{due}
+use Rattle.vcd_model.specs.Settled.{is_header_over, is_settled}
+use Rattle.vcd_model.specs.HeaderReading.{read_header}
+use Rattle.vcd_head.specs.declared.fault.HeadFault.TheVariants.{OutOfMemory}
 use Rattle.vcd_text.specs.declared.answer.Halt.TheVariants as halt
-use Rattle.vcd_merge.specs.Seat.{IsSeated, Lane}
-use Rattle.vcd_body.specs.declared.answer.Stop.TheVariants.{Dump}
-use Rattle.vcdkit.specs.declared.failure.Failure.{Failure}
 use Rattle.vcdkit.specs.declared.failure.Failure.TheVariants as failure
-use Rattle.vcdkit.specs.Failure.{head_failure, CountsRead, EndsAtRead}
-use Rattle.vcdkit.specs.Inputs.{Begins, HasFailed, IsBegun, IsNew}
 
 -- ---- what settles a run
 

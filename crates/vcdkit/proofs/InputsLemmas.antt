@@ -1,25 +1,7 @@
 -- The headers of inputs in order: what was read of each input, and how the definitions open them.
-use Rattle.std.proofs.Common.{◌≡◌, ◌==◌, ℕ, suc, ◌+◌, Bool, false, ◌++◌, inl, inr, List, [], ◌∷◌, length, map, Some, None, Ok, Err, refl, sym, ap, ap₂, subst, ◌∙◌, arith, append_assoc}
-use Rattle.std.proofs.lemmas.List.{append-nil, length-append, length_push}
-use Rattle.vcd_model.specs.Input.{Input}
-use Rattle.vcd_model.specs.Job.{Want, request_of}
-use Rattle.vcd_model.specs.Settled.{is_header_over, is_settled, is_settled_behind, is_settled_by}
-use Rattle.vcd_model.specs.Header.{Header}
-use Rattle.vcd_model.specs.HeaderReading.{header_fault_of, read_header}
-use Rattle.vcd_model.specs.Outcome.{Opened, Request, allowed_after, open_from, with_opened}
-use Rattle.vcd_model.specs.Reading.{Fault}
-use Rattle.vcd_model.specs.Tokens.{Token, stream_of}
-use Rattle.vcd_text.specs.Answer.{whole}
-use Rattle.vcd_text.specs.Device.{Supply}
-use Rattle.vcd_text.specs.ReadAhead.ReadsAsNeeded.{Nothing}
-use Rattle.vcd_merge.specs.MergeRun.{AreLeft, AreOpened}
-use Rattle.vcd_body.specs.Answer.{IsLeft}
-use Rattle.vcd_merge.specs.Seat.{Lane}
-use Rattle.vcd_body.specs.declared.answer.Stop.TheVariants.{Dump, Read, Write, Unmatched}
-use Rattle.vcdkit.specs.declared.failure.Failure.{Failure}
-use Rattle.vcdkit.specs.declared.failure.Failure.TheVariants.{Stopped, Refused, OutOfMemory}
-use Rattle.vcdkit.specs.Inputs.{AreBegun, HasFailed, IsBegun, IsWhy, Stops, headers_in}
-use Rattle.vcdkit.specs.Run.{AreRead, header_behind}
+use Rattle.vcdkit.proofs.Cited.{◌≡◌, ◌==◌, ℕ, suc, ◌+◌, Bool, false, ◌++◌, inl, inr, List, [], ◌∷◌, length, map, Some, None, Ok, Err, refl, sym, ap, ap₂, subst, ◌∙◌, arith, append_assoc, append-nil, length-append, length_push, Input, Want, is_header_over, is_settled, is_settled_behind, is_settled_by, Header, header_fault_of, read_header, Opened, Request, allowed_after, with_opened, Fault, Token, stream_of, whole, Supply, Nothing, AreLeft, AreOpened, IsLeft, Lane, Dump, Read, Write, Unmatched, Failure, Stopped, Refused, OutOfMemory, AreBegun, HasFailed, IsBegun, IsWhy, Stops, headers_in, AreRead, header_behind}
+use Rattle.vcd_model.specs.Job.{request_of}
+use Rattle.vcd_model.specs.Outcome.{open_from}
 use Rattle.vcdkit.proofs.NeededLemmas.{AreNeededFrom, ArePassed, header_needed, needed_before, passed_more, shifted, unread_needed}
 use Rattle.vcdkit.proofs.HeaderLemmas.{all_read, header_only, header_read, left_since, no_fault, reads_for, rest_read, settled_run, unsettled_header}
 

@@ -9,3 +9,5 @@ mod EndLemmas
 mod RunLemmas
 pub mod Statuses
 mod WithinLemmas
+pub mod Cited
+pub mod Facts

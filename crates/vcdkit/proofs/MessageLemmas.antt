@@ -1,8 +1,5 @@
 -- Lines on the error stream, whose faults are passed over.
-use Rattle.std.proofs.Common.{List, ℕ, inl, inr}
-use Rattle.std.specs.Prelude.{Result, Ok, Err}
-use Rattle.vcd_text.specs.Device.{Device, Puts}
-use Rattle.vcdkit.specs.Message.{Shows}
+use Rattle.vcdkit.proofs.Cited.{List, ℕ, inl, inr, Result, Ok, Err, Device, Puts, Shows}
 
 -- a line whose writing may fail is shown, whatever its result
 pub puts-shows : {A E : Type 0} (old new : Device) (line : List ℕ) (r : Result A E) → Puts old new line r → Shows old new line

@@ -1,33 +1,12 @@
 -- How much was read of the inputs of a merge, where all of the others are known: no more than what
 -- settles it.
-use Rattle.std.proofs.Common.{◌≡◌, ℕ, zero, suc, ◌+◌, Bool, false, List, [], ◌∷◌, ◌++◌, length, map, slice_get, slice_set, Some, refl, sym, ap, subst, ◌∙◌, arith, append_assoc}
-use Rattle.std.proofs.lemmas.List.{length_push}
-use Rattle.vcd_model.specs.Input.{Input}
-use Rattle.vcd_model.specs.Header.{Header, header_of}
-use Rattle.vcd_model.specs.HeaderPhrases.{HeaderPhrase}
-use Rattle.vcd_model.specs.HeaderReading.{header_grammar}
-use Rattle.vcd_model.specs.Reading.{Ending, Reading, phrases_of, reading_of}
-use Rattle.vcd_model.specs.Reading.Ending.{AtFault, AtEnd, AtLast}
-use Rattle.vcd_model.specs.Settled.{is_header_over, is_over}
-use Rattle.vcd_model.specs.Outcome.{Opened, allowed_after}
-use Rattle.vcd_model.specs.Tokens.{Token, stream_of}
-use Rattle.vcd_model.proofs.SoFarLemmas.{whole-more}
-use Rattle.vcd_model.specs.SettledMerge.{Seen, headers_seen, is_settled_merge, seen_at, seen_before, settles_merge, tokens_seen, whole_of}
-use Rattle.vcd_model.specs.SettledMerge.SeenHeaders.{NotWhole, Whole}
-use Rattle.vcd_text.specs.Answer.{whole}
-use Rattle.vcd_text.specs.Device.{Supply}
-use Rattle.vcd_text.specs.ReadAhead.{ReadsAsNeeded}
-use Rattle.vcd_text.specs.ReadAhead.ReadsAsNeeded.{Nothing}
-use Rattle.vcd_body.specs.Answer.{IsLeft}
+use Rattle.vcdkit.proofs.Cited.{◌≡◌, ℕ, zero, suc, ◌+◌, Bool, false, List, [], ◌∷◌, ◌++◌, length, map, slice_get, slice_set, Some, refl, sym, ap, subst, ◌∙◌, arith, append_assoc, length_push, Input, Header, header_of, HeaderPhrase, header_grammar, Ending, Reading, phrases_of, reading_of, AtFault, AtEnd, AtLast, is_over, Opened, allowed_after, Token, stream_of, whole-more, Seen, headers_seen, seen_at, seen_before, settles_merge, tokens_seen, whole_of, NotWhole, whole, Supply, ReadsAsNeeded, Nothing, IsLeft, AreLeft, AreOpened, known_first, known_whole, Lane, is_merge, model_want, AreBegun, IsBegun, Want, AreNeeded, known, settles_among}
+use Rattle.vcd_model.specs.Settled.{is_header_over}
+use Rattle.vcd_model.specs.SettledMerge.{is_settled_merge}
+use Rattle.vcd_model.specs.SettledMerge.SeenHeaders.{Whole}
 use Rattle.vcd_merge.specs.MergeRun as merge
-use Rattle.vcd_merge.specs.MergeRun.{AreLeft, AreOpened, known_first, known_whole}
-use Rattle.vcd_merge.specs.Seat.{Lane}
-use Rattle.vcd_words.specs.Job.{is_merge, model_want}
 use Rattle.vcd_words.specs.declared.job.Want as words
 use Rattle.vcd_words.specs.declared.job.Want.TheVariants as want
-use Rattle.vcdkit.specs.Inputs.{AreBegun, IsBegun}
-use Rattle.vcd_model.specs.Job.{Want}
-use Rattle.vcdkit.specs.Run.{AreNeeded, known, settles_among}
 use Rattle.vcdkit.proofs.HeaderLemmas.{all_read, reads_for}
 
 -- ---- lists

@@ -1,36 +1,7 @@
 -- The loop that reads the headers of inputs in order.
-use Rattle.std.proofs.Common.{◌≡◌, ◌≢◌, ℕ, zero, suc, ◌+◌, ◌-◌, ◌/◌, ◌<◌, ◌≤◌, ◌⊎◌, inl, inr, List, [], ◌∷◌, ◌++◌, length, map, slice_get, slice_set, Option, Some, None, Result, Ok, Err, refl, sym, ap, ap₂, subst, ◌∙◌, arith, append_assoc}
-use Rattle.std.specs.Prelude.{All, MatchResult, get_or, slice_index, sum_by}
-use Rattle.std.proofs.lemmas.List.{append-nil, length-append, length-map, map-append}
-use Rattle.std.specs.List.{AllZip}
-use Rattle.std.proofs.lemmas.List.Elements.{All-push}
-use Rattle.std.proofs.lemmas.List.Sums.{sum_by-append}
-use Rattle.std.proofs.Math.ListN.{get_or-map, length-set}
-use Rattle.std.proofs.Math.Seq.{set-append_seam}
-use Rattle.vcd_model.specs.Header.{Header}
-use Rattle.vcd_model.specs.Outcome.{allowed_after, declarations_allowed}
-use Rattle.vcd_text.specs.Answer.{whole}
-use Rattle.vcd_text.specs.Device.{Supply, supply}
-use Rattle.vcd_head.specs.Shown.{shown}
-use Rattle.vcd_view.specs.Views.{Views}
-use Rattle.vcd_head.specs.declared.head.Head.{Head}
-use Rattle.vcd_view.proofs.ListLemmas.{all_zip_push, there}
-use Rattle.vcd_view.proofs.RowLemmas.{rows_len}
-use Rattle.vcd_merge.specs.MergeParts.{part, part_len, SameLengths}
-use Rattle.vcd_merge.specs.Seat.{GaveParked, IsSeated, Lane, Spot}
-use Rattle.vcd_merge.specs.declared.windows.Windows.{Windows}
-use Rattle.vcd_body.specs.declared.answer.Stop.TheVariants.{Dump, Read, Write, Unmatched}
-use Rattle.vcd_merge.specs.declared.seat.Seat.{Seat}
-use Rattle.vcd_merge.proofs.MergeCounts.{map_set}
-use Rattle.vcdkit.specs.declared.failure.Failure.{Failure}
-use Rattle.vcdkit.specs.declared.failure.Failure.TheVariants.{Stopped, Refused, OutOfMemory}
-use Rattle.vcdkit.specs.Failure.{failure_of, CountsRead, CountsReads}
-use Rattle.vcdkit.specs.declared.inputs.BegunInput.{BegunInput}
-use Rattle.vcdkit.specs.Inputs.{AreBegun, AreParked, AreShown, Begins, BeginsAt, HasFailed, HaveBegun, IsBegun, IsNew, SameParts, Stops, headers_in, place_of}
+use Rattle.vcdkit.proofs.Cited.{◌≡◌, ◌≢◌, ℕ, zero, suc, ◌+◌, ◌-◌, ◌/◌, ◌<◌, ◌≤◌, ◌⊎◌, inl, inr, List, [], ◌∷◌, ◌++◌, length, map, slice_get, slice_set, Option, Some, None, Result, Ok, Err, refl, sym, ap, ap₂, subst, ◌∙◌, arith, append_assoc, All, MatchResult, get_or, slice_index, sum_by, append-nil, length-append, length-map, map-append, AllZip, All-push, sum_by-append, get_or-map, length-set, set-append_seam, Header, allowed_after, declarations_allowed, whole, Supply, supply, shown, Views, Head, all_zip_push, there, rows_len, part, part_len, SameLengths, GaveParked, IsSeated, Lane, Spot, Windows, Dump, Read, Write, Unmatched, Seat, map_set, Failure, Stopped, Refused, OutOfMemory, failure_of, CountsRead, CountsReads, BegunInput, AreBegun, AreParked, AreShown, Begins, BeginsAt, HasFailed, HaveBegun, IsBegun, IsNew, SameParts, Stops, headers_in, place_of, get_other, get_set, slice_get_within}
 use Rattle.vcdkit.proofs.HeaderLemmas.{begun_only, none_read}
 use Rattle.vcdkit.proofs.InputsLemmas.{begun_more, stops_at}
-use Rattle.vcd_body.proofs.StoreLemmas.{get_other, get_set}
-use Rattle.std.proofs.lemmas.Option.{slice_get_within}
 
 -- ---- an element that was pushed
 

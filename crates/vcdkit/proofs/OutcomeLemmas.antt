@@ -1,27 +1,11 @@
 -- The outcome of a run over one input, by its header and the tokens after it.
-use Rattle.std.proofs.Common.{◌≡◌, ◌&&◌, ℕ, Bool, true, false, not, cond, nat_lt, List, [], ◌∷◌, ◌++◌, map, filter_map, is_ok, Option, Some, None, Result, Ok, Err, refl, sym, ap, subst, ◌∙◌}
-use Rattle.std.specs.Prelude.{ℤ, string_bytes}
-use Rattle.std.specs.List.{list_all}
-use Rattle.vcd_model.specs.Input.{Input}
-use Rattle.vcd_model.specs.Tokens.{Token, stream_of}
-use Rattle.vcd_model.specs.Header.{header_of}
-use Rattle.vcd_model.specs.HeaderPhrases.{HeaderPhrase}
-use Rattle.vcd_model.specs.HeaderReading.{header_grammar, read_header, header_fault_of}
+use Rattle.vcdkit.proofs.Cited.{◌≡◌, ◌&&◌, ℕ, Bool, true, false, not, cond, nat_lt, List, [], ◌∷◌, ◌++◌, map, filter_map, is_ok, Option, Some, None, Result, Ok, Err, refl, sym, ap, subst, ◌∙◌, ℤ, string_bytes, list_all, Input, Token, stream_of, header_of, HeaderPhrase, header_grammar, header_fault_of, Opened, Request, declarations_allowed, over_dump, over_dumps, fault_outcome, name_at, names_of, moment_ticks, asked, Fault, Placed, Reading, reading_of, phrases_of, AtLast, IsWhole, whole-more, is_merge, model_want, names_asked, request_for, task_request, taskless, Task, times_with}
+use Rattle.vcd_model.specs.HeaderReading.{read_header}
 use Rattle.vcd_model.specs.Job as model
 use Rattle.vcd_model.specs.Job.{outcome, request_of}
-use Rattle.vcd_model.specs.Outcome.{Opened, Request, declarations_allowed, open_from, over_dump, over_dumps, fault_outcome, name_at, names_of}
-use Rattle.vcd_model.specs.Ticks.{moment_ticks}
-use Rattle.vcd_head.specs.Moments.{asked}
-use Rattle.vcd_model.specs.Reading.{Fault, Placed, Reading, reading_of, phrases_of}
-use Rattle.vcd_model.specs.Reading.Ending.{AtLast}
-use Rattle.vcd_model.specs.SoFar.{IsWhole}
-use Rattle.vcd_model.proofs.SoFarLemmas.{whole-more}
+use Rattle.vcd_model.specs.Outcome.{open_from}
 use Rattle.vcd_words.specs.declared.job.Want.{Want}
 use Rattle.vcd_words.specs.declared.job.Want.TheVariants as want
-use Rattle.vcd_words.specs.Job.{is_merge, model_want, names_asked}
-use Rattle.vcdkit.specs.Tasks.{request_for, task_request, taskless}
-use Rattle.vcd_engine.specs.declared.task.Task.{Task}
-use Rattle.vcd_words.specs.Ticks.{times_with}
 
 -- the header is read
 abbrev head_of : ℕ → Input → Reading HeaderPhrase

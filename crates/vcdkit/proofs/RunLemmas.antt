@@ -1,51 +1,16 @@
 -- How a run ends, and what it leaves.
-use Rattle.std.proofs.Common.{◌≡◌, ◌≢◌, ◌==◌, ℕ, Bool, true, false, cond, zero, suc, ◌+◌, ◌<◌, ◌≤◌, ◌++◌, inl, inr, List, [], ◌∷◌, length, nat_lt, take, map, get_or, set, slice_set, Option, None, Some, Result, Ok, Err, refl, sym, ap, subst, ◌∙◌, arith}
-use Rattle.std.specs.Prelude.{MatchResult, IfOk, IfErr}
-use Rattle.std.specs.List.{list_any}
-use Rattle.vcd_model.specs.Input.{Input}
-use Rattle.vcd_model.specs.Due.{due, due_after, due_of_request}
-use Rattle.vcd_model.specs.Job.{Refusal as ModelRefusal, outcome, over_opened, request_of}
-use Rattle.vcd_model.specs.Settled.{is_header_over, is_settled, is_settled_behind, is_settled_by}
-use Rattle.vcd_model.specs.SoFar.{IsWhole}
-use Rattle.vcd_model.specs.HeaderPhrases.{HeaderPhrase}
-use Rattle.vcd_model.specs.Items.{BodyItem}
-use Rattle.vcd_model.specs.BodyReading.{body_items, read_body}
-use Rattle.vcd_model.specs.Header.{Header, header_of}
-use Rattle.vcd_model.specs.HeaderReading.{header_grammar}
-use Rattle.vcd_model.specs.CheckAndList.{list_text}
-use Rattle.vcd_model.specs.Outcome.{Opened, Outcome, Request, ends_early, fault_outcome, declarations_allowed, name_at, names_of, over_dump, unmatched_outcome}
-use Rattle.vcd_model.specs.Reading.{Fault, Placed, phrases_of}
-use Rattle.vcd_model.specs.Tokens.{Token, stream_of}
-use Rattle.vcd_text.specs.Answer.{whole}
-use Rattle.vcd_text.specs.Device.{Counts, Device, failures_then, Supply, Takes, Writes, supply}
-use Rattle.vcd_text.specs.ReadAhead.{ReadsAsNeeded}
-use Rattle.vcd_text.specs.ReadAhead.ReadsAsNeeded.{Nothing}
-use Rattle.vcd_text.specs.Feed.{HasGiven, limit_of}
-use Rattle.vcd_text.specs.declared.device.Source.{Ghosts}
-use Rattle.vcd_text.specs.declared.feed.Feed.{Feed}
-use Rattle.vcd_text.proofs.Writes.{appends-none}
-use Rattle.vcd_engine.specs.TaskRun.{Belongs, Follows, IsRefused, KeepsUp, is_early, is_more_due}
-use Rattle.vcd_body.specs.Answer.{EndsAtRead as EndsAtStop, reads_failed, writes_failed}
+use Rattle.vcdkit.proofs.Cited.{◌≡◌, ◌≢◌, ◌==◌, ℕ, Bool, true, false, cond, zero, suc, ◌+◌, ◌<◌, ◌≤◌, ◌++◌, inl, inr, List, [], ◌∷◌, length, nat_lt, take, map, get_or, set, slice_set, Option, None, Some, Result, Ok, Err, refl, sym, ap, subst, ◌∙◌, arith, MatchResult, IfOk, IfErr, list_any, Input, due, due_after, due_of_request, outcome, over_opened, request_of, is_header_over, is_settled, is_settled_behind, is_settled_by, IsWhole, HeaderPhrase, BodyItem, body_items, read_body, Header, header_of, header_grammar, list_text, Opened, Outcome, Request, ends_early, fault_outcome, declarations_allowed, name_at, names_of, unmatched_outcome, Fault, Placed, phrases_of, Token, stream_of, whole, Counts, Device, failures_then, Supply, Takes, Writes, supply, ReadsAsNeeded, Nothing, HasGiven, limit_of, Ghosts, Feed, appends-none, Belongs, Follows, IsRefused, KeepsUp, is_early, is_more_due, reads_failed, writes_failed, Done, Stop, Dump, Read, Write, Unmatched, Failure, Refusal, end_of, failure_of, merge_end, CountsRead, CountsReads, EndsAtRead, EndsAtReadOf, HasPassedOn, Shows, model_refusal, is_merge, model_want, names_asked, HasFailed, IsBegun, Ends, EndsAll, IsAfter, IsOfJob, Leaves, LeavesAll, settled_for, Lane, set_last}
+use Rattle.vcd_model.specs.Job.{Refusal as ModelRefusal}
+use Rattle.vcd_model.specs.Outcome.{over_dump}
+use Rattle.vcd_body.specs.Answer.{EndsAtRead as EndsAtStop}
 use Rattle.vcd_body.specs.Prompt.{HasPassedOn as HasPassedOnAt}
-use Rattle.vcd_body.specs.declared.answer.Done.{Done}
-use Rattle.vcd_body.specs.declared.answer.Stop.{Stop}
-use Rattle.vcd_body.specs.declared.answer.Stop.TheVariants.{Dump, Read, Write, Unmatched}
 use Rattle.vcd_words.specs.declared.job.Want.{Want}
-use Rattle.vcdkit.specs.declared.failure.Failure.{Failure}
 use Rattle.vcdkit.specs.declared.failure.Failure.TheVariants as failure
-use Rattle.vcd_words.specs.declared.refusal.Refusal.{Refusal}
-use Rattle.vcdkit.specs.Failure.{end_of, failure_of, merge_end, writes_failed as failure_writes, CountsRead, CountsReads, EndsAtRead, EndsAtReadOf, HasPassedOn}
-use Rattle.vcdkit.specs.Message.{Shows}
-use Rattle.vcd_words.specs.Refusal.{model_refusal}
-use Rattle.vcd_words.specs.Job.{is_merge, model_want, names_asked}
-use Rattle.vcdkit.specs.Inputs.{HasFailed, IsBegun}
-use Rattle.vcdkit.specs.Run.{Ends, EndsAll, IsAfter, IsOfJob, Leaves, LeavesAll, settled_for}
+use Rattle.vcdkit.specs.Failure.{writes_failed as failure_writes}
 use Rattle.vcdkit.proofs.NeededLemmas.{none_others}
 use Rattle.vcdkit.proofs.TurnLemmas.{one_in_turn, one_keeps_up}
 use Rattle.vcdkit.proofs.HeaderLemmas.{all_read, due_run, left_since, reads_for, settled_header, settled_run, undue_header, unsettled_header}
 use Rattle.vcd_merge.specs.MergeStep.{EndsAtReadOf as EndsAtStops}
-use Rattle.vcd_merge.specs.Seat.{Lane}
-use Rattle.vcd_merge.proofs.MergeCounts.{set_last}
 use Rattle.vcdkit.proofs.OutcomeLemmas.{after_header, at_header, names_due, over_none, over_one}
 
 writes-none : (out : Device) → Writes out out []

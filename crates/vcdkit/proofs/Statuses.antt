@@ -1,11 +1,6 @@
 -- No end has a status above 3.
-use Rattle.std.proofs.Common.{◌≤◌, arith}
-use Rattle.std.specs.Prelude.{Option, Some, None}
-use Rattle.vcd_body.specs.declared.answer.Stop.TheVariants.{Dump, Read, Write, Unmatched}
+use Rattle.vcdkit.proofs.Cited.{◌≤◌, arith, Option, Some, None, Dump, Read, Write, Unmatched, Failure, Stopped, Refused, OutOfMemory, end_status}
 use Rattle.vcd_words.specs.declared.refusal.Refusal.TheVariants as refusal
-use Rattle.vcdkit.specs.declared.failure.Failure.{Failure}
-use Rattle.vcdkit.specs.declared.failure.Failure.TheVariants.{Stopped, Refused, OutOfMemory}
-use Rattle.vcdkit.specs.Message.{end_status}
 
 pub end-low : (why : Option Failure) → end_status why ≤ 3
 end-low None = omega arith

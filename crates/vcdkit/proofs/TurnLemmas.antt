@@ -1,21 +1,8 @@
 -- That no read ran ahead of the output, for jobs of one input and over sinks that hold what others
 -- do.
-use Rattle.std.proofs.Common.{◌≡◌, ℕ, false, List, [], ◌∷◌, subst}
-use Rattle.vcd_model.specs.Due.{due}
-use Rattle.vcd_model.specs.Header.{Header}
-use Rattle.vcd_model.specs.Input.{Input}
-use Rattle.vcd_model.specs.Job.{Want}
-use Rattle.vcd_model.specs.Outcome.{declarations_allowed}
-use Rattle.vcd_text.specs.Device.{Appends, Device, Supply}
-use Rattle.vcd_engine.specs.TaskRun.{KeepsUp}
-use Rattle.vcd_merge.specs.MergeRun.{AreReadOnTurn}
-use Rattle.vcd_merge.specs.MergeRun.AreReadOnTurn.{OnTurn, Unread}
-use Rattle.vcd_merge.specs.Seat.{Lane}
-use Rattle.vcd_words.specs.Job.{is_merge, model_want}
+use Rattle.vcdkit.proofs.Cited.{◌≡◌, ℕ, false, List, [], ◌∷◌, subst, due, Header, Input, Want, declarations_allowed, Appends, Device, Supply, KeepsUp, AreReadOnTurn, OnTurn, Unread, Lane, is_merge, model_want, AreInTurn, OneKeepsUp, InBodies, InHeaders}
 use Rattle.vcd_words.specs.declared.job.Want as words
 use Rattle.vcd_words.specs.declared.job.Want.TheVariants as want
-use Rattle.vcdkit.specs.Run.{AreInTurn, OneKeepsUp}
-use Rattle.vcdkit.specs.Run.AreMergedInTurn.{InBodies, InHeaders}
 
 -- a job of one input
 pub one_in_turn : (wanted : words.Want) (limit chunk : ℕ) (texts : List (List ℕ)) (old new : List Supply) (inputs : List Input) (out out' : Device) → is_merge wanted ≡ false → OneKeepsUp (model_want wanted) limit chunk old new inputs out out' → AreInTurn (model_want wanted) limit chunk texts old new inputs out out'

@@ -1,45 +1,11 @@
 -- A run is the same under two token limits, where no input is longer than either.
-use Rattle.std.proofs.Common.{◌≡◌, ℕ, ◌≤◌, Bool, false, inl, inr, zero, suc, ◌⊎◌, List, [], ◌∷◌, ◌++◌, filter, length, drop, map, slice_get, take, Option, Some, None, Result, Ok, Err, refl, sym, ap, subst, ◌∙◌, arith}
-use Rattle.std.specs.Prelude.{IfSome, nat_lt, option_map, slice_set}
-use Rattle.std.specs.List.{AllByRecursion, position_or_len, reduce}
-use Rattle.std.proofs.lemmas.Bool.Decides.{nat_tests}
-use Rattle.std.proofs.lemmas.List.{length-drop, length-take}
-use Rattle.vcd_model.specs.Bytes.{is_white_space}
-use Rattle.vcd_model.specs.BodyReading.{body_fault_of, read_body}
-use Rattle.vcd_model.specs.Due.{due}
-use Rattle.vcd_model.specs.Header.{Header, header_of}
-use Rattle.vcd_model.specs.HeaderReading.{header_fault_of, read_header}
-use Rattle.vcd_model.specs.Input.{Input}
-use Rattle.vcd_model.specs.Items.{BodyItem}
-use Rattle.vcd_model.specs.Job.{Want, outcome, over_opened}
-use Rattle.vcd_model.specs.Merge.{Dump, dump_of, factor}
-use Rattle.vcd_model.specs.Outcome.{Opened, Outcome, allowed_after, declarations_allowed, fault_outcome, name_at, open_from, with_opened}
-use Rattle.vcd_model.specs.Reading.{Fault, phrases_of}
-use Rattle.vcd_model.specs.SettledMerge.{Seen, is_settled_merge}
-use Rattle.vcd_model.specs.Tokens.{HaltPlace, Stream, Token, comes_before, earlier_halt, end_at, failed_read, first_halt, given_places, halt_place, run_at, stream_of, stream_until, token_places, too_long_tokens, too_much_input}
-use Rattle.vcd_model.specs.Laws.{IsPrefixOf}
-use Rattle.vcd_model.specs.Settled.{is_header_over, is_settled}
-use Rattle.vcd_text.specs.Answer.{whole}
-use Rattle.vcd_text.specs.Device.{Device, Supply}
-use Rattle.vcd_text.specs.ReadAhead.{Near, ReadsAsNeeded}
-use Rattle.vcd_text.specs.ReadAhead.ReadsAsNeeded.{Nothing, ToToken, ToEnd}
-use Rattle.vcd_view.proofs.ListLemmas.{from_all, all_weaker}
-use Rattle.vcd_head.specs.Reads.{HasFault}
-use Rattle.vcd_body.specs.Answer.{IsLeft}
-use Rattle.vcd_engine.specs.TaskRun.{is_more_due}
-use Rattle.vcd_body.specs.declared.answer.Stop.TheVariants.{Dump as Faulty, Read, Write, Unmatched}
-use Rattle.vcd_merge.specs.MergeRun.{AreReadOnTurn, HasEnded, ReadOnTurn}
-use Rattle.vcd_merge.specs.MergeRun.AreReadOnTurn.{OnTurn, Unread}
-use Rattle.vcd_merge.specs.Seat.{HasDump, Lane}
-use Rattle.vcd_words.specs.declared.job.Job.{Job}
-use Rattle.vcdkit.specs.Calls.{AreWithin, IsLimitFor, Narrows}
-use Rattle.vcdkit.specs.Inputs.{AreBegun, IsBegun, IsWhy, Stops, headers_in}
-use Rattle.vcdkit.specs.Run.{AreInTurn, AreMergedInTurn, AreNeeded, AreRead, HasRun, IsOutcome, OneKeepsUp, header_behind, known, settles_among}
-use Rattle.vcdkit.specs.Run.AreMergedInTurn.{InBodies, InHeaders}
-use Rattle.vcdkit.specs.declared.failure.Failure.{Failure}
-use Rattle.vcdkit.specs.declared.failure.Failure.TheVariants.{Stopped, Refused, OutOfMemory}
+use Rattle.vcdkit.proofs.Cited.{◌≡◌, ℕ, ◌≤◌, Bool, false, inl, inr, zero, suc, ◌⊎◌, List, [], ◌∷◌, ◌++◌, filter, length, drop, map, slice_get, take, Option, Some, None, Result, Ok, Err, refl, sym, ap, subst, ◌∙◌, arith, IfSome, nat_lt, option_map, slice_set, AllByRecursion, position_or_len, reduce, nat_tests, length-drop, length-take, is_white_space, body_fault_of, read_body, due, Header, header_of, header_fault_of, read_header, Input, BodyItem, Want, over_opened, dump_of, factor, Opened, Outcome, allowed_after, declarations_allowed, fault_outcome, name_at, with_opened, Fault, phrases_of, Seen, is_settled_merge, HaltPlace, Stream, Token, comes_before, earlier_halt, end_at, failed_read, halt_place, run_at, stream_until, token_places, too_long_tokens, too_much_input, IsPrefixOf, is_header_over, is_settled, whole, Device, Supply, Near, ReadsAsNeeded, Nothing, ToToken, ToEnd, from_all, all_weaker, HasFault, IsLeft, is_more_due, Read, Write, Unmatched, AreReadOnTurn, HasEnded, ReadOnTurn, OnTurn, Unread, HasDump, Lane, Job, AreWithin, IsLimitFor, Narrows, AreBegun, IsBegun, IsWhy, Stops, headers_in, AreInTurn, AreMergedInTurn, AreNeeded, AreRead, HasRun, IsOutcome, OneKeepsUp, header_behind, known, settles_among, InBodies, InHeaders, Failure, Stopped, Refused, OutOfMemory, WithOutcome, NoMemory}
+use Rattle.vcd_model.specs.Job.{outcome}
+use Rattle.vcd_model.specs.Merge.{Dump}
+use Rattle.vcd_model.specs.Outcome.{open_from}
+use Rattle.vcd_model.specs.Tokens.{first_halt, given_places, stream_of}
+use Rattle.vcd_body.specs.declared.answer.Stop.TheVariants.{Dump as Faulty}
 use Rattle.vcdkit.proofs.HeaderLemmas.{reads_for}
-use Rattle.vcdkit.specs.Run.HasRun.{WithOutcome, NoMemory}
 
 -- ---- an input
 

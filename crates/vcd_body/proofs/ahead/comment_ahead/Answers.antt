@@ -1,5 +1,5 @@
-use Rattle.std.proofs.Common.{◌∙◌, sym}
-use Rattle.vcd_body.proofs.CommentLemmas.{comment_passes, word_passes}
+use Rattle.vcd_body.proofs.Cited.{◌∙◌, sym}
+use Rattle.vcd_body.proofs.Facts.{comment_passes, word_passes}
 use Rattle.vcd_body.proofs.ahead.comment_ahead.Goals as goal
 
 pub returns-then-is_end-clause-passes : goal.returns-then-is_end-clause-passes

@@ -1,6 +1,5 @@
-use Rattle.std.proofs.Common.{◌-◌, length}
-use Rattle.vcd_text.specs.Ahead.{bytes_of, passed_of}
-use Rattle.vcd_body.proofs.CommentLemmas.{OpensComment}
+use Rattle.vcd_body.proofs.Cited.{◌-◌, length, bytes_of, passed_of}
+use Rattle.vcd_body.proofs.Facts.{OpensComment}
 use Rattle.vcd_body.proofs.ahead.comment_ahead.Given as goal
 
 abbrev pub invariant-words : goal.invariant-words

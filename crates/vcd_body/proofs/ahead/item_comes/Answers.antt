@@ -1,14 +1,5 @@
-use Rattle.std.proofs.Common.{◌≡◌, ℕ, List, [], ◌∷◌, ◌⊎◌, inl, inr, refl, sym, subst, ◌∙◌, Bool, not, true, false}
-use Rattle.std.specs.Prelude.{Option, None, Some, is_some, IfSome}
-use Rattle.std.specs.Borrow.{Bor}
-use Rattle.vcd_model.specs.Tokens.{Token}
-use Rattle.vcd_text.specs.Ahead.{TakesToken, bytes_of, longest_of, passed_of, start_of}
-use Rattle.vcd_text.specs.Passed.{Passed, line_ahead}
-use Rattle.vcd_text.specs.declared.ahead.Ahead.{Ahead}
-use Rattle.vcd_body.specs.Whole.{HoldsItem, IsAlone}
-use Rattle.vcd_body.specs.Words.{Begins, is_comment}
-use Rattle.vcd_body.specs.declared.words.PhraseKind.{PhraseKind}
-use Rattle.vcd_body.specs.declared.words.PhraseKind.TheVariants.{Timestamp, Bit, Scalar, Vector, Real, Other}
+use Rattle.vcd_body.proofs.Cited.{◌≡◌, ℕ, List, [], ◌∷◌, ◌⊎◌, inl, inr, refl, sym, subst, ◌∙◌, Bool, not, true, false, Option, None, Some, is_some, IfSome, Bor, Token, TakesToken, bytes_of, longest_of, passed_of, start_of, Passed, line_ahead, Ahead, HoldsItem, IsAlone, Begins, is_comment, PhraseKind, Timestamp, Bit, Scalar, Real, Other}
+use Rattle.vcd_body.specs.declared.words.PhraseKind.TheVariants.{Vector}
 use Rattle.vcd_body.proofs.ahead.item_comes.Goals as goal
 
 -- a token that is whole ahead

@@ -1,11 +1,5 @@
-use Rattle.std.proofs.Common.{◌≡◌, ◌++◌, [], List, ℕ, append-nil, subst, sym}
-use Rattle.vcd_model.specs.Items.{BodyItem}
-use Rattle.vcd_text.specs.Ahead.{ahead_of, lines_of}
-use Rattle.vcd_text.specs.Feed.{limit_of}
-use Rattle.vcd_body.specs.Ahead.{GaveAhead}
-use Rattle.vcd_body.specs.Items.{AreRegsAfter}
-use Rattle.vcd_body.specs.Reads.{GaveItems}
-use Rattle.vcd_body.proofs.CallerLemmas.{gave_none_ahead}
+use Rattle.vcd_body.proofs.Cited.{◌≡◌, ◌++◌, [], List, ℕ, append-nil, subst, sym, BodyItem, ahead_of, lines_of, limit_of, GaveAhead, AreRegsAfter, GaveItems}
+use Rattle.vcd_body.proofs.Facts.{gave_none_ahead}
 use Rattle.vcd_body.proofs.ahead.pass_comments.Goals as goal
 
 pub pass_items-requires : goal.pass_items-requires

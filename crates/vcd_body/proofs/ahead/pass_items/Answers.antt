@@ -1,12 +1,5 @@
-use Rattle.std.proofs.Common.{◌≢◌, ℕ, ◌++◌, List, [], length}
-use Rattle.vcd_model.specs.Tokens.{Token, end_of_tokens}
-use Rattle.vcd_text.specs.Feed.{HasReadTo, limit_of}
-use Rattle.vcd_text.specs.Ahead.{ahead_of, lines_of}
-use Rattle.vcd_text.specs.Passed.{Passed}
-use Rattle.vcd_text.specs.Registers.{looked}
-use Rattle.vcd_text.proofs.Known.{near-more}
-use Rattle.vcd_text.proofs.PassedLemmas.{pass_far}
-use Rattle.vcd_body.proofs.AheadLemmas.{gave_passed, gave_last}
+use Rattle.vcd_body.proofs.Cited.{◌≢◌, ℕ, ◌++◌, List, [], length, Token, end_of_tokens, HasReadTo, limit_of, ahead_of, lines_of, Passed, looked, near-more, pass_far}
+use Rattle.vcd_body.proofs.Facts.{gave_passed, gave_last}
 use Rattle.vcd_body.proofs.ahead.pass_items.Goals as goal
 
 pub returns-clause-gives : goal.returns-clause-gives

@@ -1,4 +1,4 @@
-use Rattle.vcd_body.proofs.Results.{writes-none}
+use Rattle.vcd_body.proofs.Facts.{writes-none}
 use Rattle.vcd_body.proofs.ahead.pass_on_before_read.Goals as goal
 
 pub returns-then-item_comes-clause-puts : goal.returns-then-item_comes-clause-puts

@@ -1,5 +1,5 @@
-use Rattle.std.proofs.Common.{refl}
-use Rattle.vcd_body.proofs.CommentLemmas.{passes_both, same_place}
+use Rattle.vcd_body.proofs.Cited.{refl}
+use Rattle.vcd_body.proofs.Facts.{passes_both, same_place}
 use Rattle.vcd_body.proofs.ahead.past_comments.Goals as goal
 
 pub comments-init : goal.comments-init

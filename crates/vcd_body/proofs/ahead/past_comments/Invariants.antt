@@ -1,6 +1,4 @@
-use Rattle.std.proofs.Common.{◌-◌, length}
-use Rattle.vcd_text.specs.Ahead.{bytes_of, passed_of}
-use Rattle.vcd_body.specs.Ahead.{PassesNoItem}
+use Rattle.vcd_body.proofs.Cited.{◌-◌, length, bytes_of, passed_of, PassesNoItem}
 use Rattle.vcd_body.proofs.ahead.past_comments.Given as goal
 
 abbrev pub invariant-comments : goal.invariant-comments

@@ -1,12 +1,6 @@
-use Rattle.std.proofs.Common.{[], ◌∷◌, ◌++◌, ◌∙◌, ◌<◌, ◌≤◌, append_assoc, length, subst, sym, arith}
-use Rattle.std.proofs.lemmas.Bool.{false≢true}
-use Rattle.vcd_model.specs.Tokens.{Token}
-use Rattle.vcd_text.specs.Ahead.{bytes_of, longest_of, passed_of, start_of}
-use Rattle.vcd_text.specs.Passed.{Passed, line_ahead}
-use Rattle.vcd_body.specs.Words.{Begins}
+use Rattle.vcd_body.proofs.Cited.{[], ◌∷◌, ◌++◌, ◌∙◌, ◌<◌, ◌≤◌, append_assoc, length, subst, sym, arith, false≢true, Token, bytes_of, longest_of, passed_of, start_of, Passed, line_ahead, Begins}
+use Rattle.vcd_body.proofs.Facts.{passes_same, both_taken, begins_after, token_begun, token_there, both_there, both_places}
 use Rattle.vcd_body.specs.declared.item.Form.TheVariants as form
-use Rattle.vcd_body.proofs.AheadLemmas.{passes_same, both_taken}
-use Rattle.vcd_body.proofs.LineLemmas.{begins_after, token_begun, token_there, both_there, both_places}
 use Rattle.vcd_body.proofs.ahead.real_ahead.Goals as goal
 
 pub returns-clause-takes : goal.returns-clause-takes

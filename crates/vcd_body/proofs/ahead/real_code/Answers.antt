@@ -1,13 +1,5 @@
-use Rattle.std.proofs.Common.{IfSome, Option, Some, length, drop, ap, subst, arith}
-use Rattle.std.specs.Prelude.{option_map}
-use Rattle.vcd_model.specs.Header.{Header}
-use Rattle.vcd_view.specs.Finds.{Finds, IsSized}
-use Rattle.vcd_view.specs.Views.{IsViewOf}
-use Rattle.vcd_view.specs.declared.look_up.Found.{Found}
-use Rattle.vcd_body.proofs.PhraseLemmas.{real_passes}
-use Rattle.vcd_body.proofs.RegsLemmas.{real_sound}
-use Rattle.vcd_body.proofs.AheadLemmas.{found_all}
-use Rattle.vcd_body.proofs.LineLemmas.{found_named}
+use Rattle.vcd_body.proofs.Cited.{IfSome, Option, Some, length, drop, ap, subst, arith, option_map, Header, Finds, IsSized, IsViewOf, Found}
+use Rattle.vcd_body.proofs.Facts.{real_passes, real_sound, found_all, found_named}
 use Rattle.vcd_body.proofs.ahead.real_code.Goals as goal
 
 pub returns : goal.returns

@@ -1,7 +1,5 @@
-use Rattle.vcd_body.specs.Taken.{IsFoundScalar}
-use Rattle.vcd_body.proofs.LineLemmas.{of_found}
-use Rattle.vcd_body.proofs.ScalarLemmas.{scalar_takes}
-use Rattle.vcd_body.proofs.WordLemmas.{scalar_begins}
+use Rattle.vcd_body.proofs.Cited.{IsFoundScalar}
+use Rattle.vcd_body.proofs.Facts.{of_found, scalar_takes, scalar_begins}
 use Rattle.vcd_body.proofs.ahead.scalar_ahead.Goals as goal
 
 pub scalar_code-requires : goal.scalar_code-requires

@@ -1,6 +1,5 @@
-use Rattle.std.proofs.Common.{◌∙◌, is_some, subst, sym}
-use Rattle.vcd_body.specs.Taken.{IsSectionAt}
-use Rattle.vcd_body.proofs.SectionLemmas.{section_takes}
+use Rattle.vcd_body.proofs.Cited.{◌∙◌, is_some, subst, sym, IsSectionAt}
+use Rattle.vcd_body.proofs.Facts.{section_takes}
 use Rattle.vcd_body.proofs.ahead.section_ahead.Goals as goal
 
 pub returns-else-is_some-clause-takes : goal.returns-else-is_some-clause-takes

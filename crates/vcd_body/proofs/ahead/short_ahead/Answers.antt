@@ -1,6 +1,5 @@
-use Rattle.std.proofs.Common.{inl}
-use Rattle.vcd_body.proofs.ScalarLemmas.{scalar_takes}
-use Rattle.vcd_body.proofs.WordLemmas.{scalar_begins}
+use Rattle.vcd_body.proofs.Cited.{inl}
+use Rattle.vcd_body.proofs.Facts.{scalar_takes, scalar_begins}
 use Rattle.vcd_body.proofs.ahead.short_ahead.Goals as goal
 
 pub short_code-requires : goal.short_code-requires

@@ -1,9 +1,5 @@
-use Rattle.std.proofs.Common.{◌==◌, Some, drop, length, subst, sym, ap, ◌∙◌}
-use Rattle.vcd_view.specs.Finds.{Finds}
-use Rattle.vcd_body.specs.Spelled.{Names}
-use Rattle.vcd_body.proofs.LineLemmas.{found_named}
-use Rattle.vcd_body.proofs.PhraseLemmas.{scalar_passes, first_byte}
-use Rattle.vcd_body.proofs.WordLemmas.{filled, some_of}
+use Rattle.vcd_body.proofs.Cited.{◌==◌, Some, drop, length, subst, sym, ap, ◌∙◌, Finds, Names}
+use Rattle.vcd_body.proofs.Facts.{found_named, scalar_passes, first_byte, filled, some_of}
 use Rattle.vcd_body.proofs.ahead.short_code.Goals as goal
 
 pub after_first-code-requires : goal.after_first-code-requires

@@ -1,6 +1,5 @@
-use Rattle.std.proofs.Common.{drop, subst}
-use Rattle.vcd_body.specs.Words.{Begins}
-use Rattle.vcd_body.proofs.WordLemmas.{first_rest}
+use Rattle.vcd_body.proofs.Cited.{drop, subst, Begins}
+use Rattle.vcd_body.proofs.Facts.{first_rest}
 use Rattle.vcd_body.proofs.ahead.short_opening.Goals as goal
 
 pub returns-clause-opens : goal.returns-clause-opens

@@ -1,9 +1,5 @@
-use Rattle.std.proofs.Common.{◌+◌, ◌-◌, drop, ap, ap₂, sym, ◌∙◌}
-use Rattle.std.specs.Prelude.{slice_range}
-use Rattle.vcd_text.specs.Ahead.{bytes_of, passed_of}
-use Rattle.vcd_text.specs.Digits.{spelled_below}
-use Rattle.vcd_body.proofs.FindLemmas.{spelled_time, time_if_spelled}
-use Rattle.vcd_body.proofs.LineLemmas.{rest_there, token_there}
+use Rattle.vcd_body.proofs.Cited.{◌+◌, ◌-◌, drop, ap, ap₂, sym, ◌∙◌, slice_range, bytes_of, passed_of, spelled_below}
+use Rattle.vcd_body.proofs.Facts.{spelled_time, time_if_spelled, rest_there, token_there}
 use Rattle.vcd_body.proofs.ahead.time_ahead.Goals as goal
 
 pub returns-clause-time : goal.returns-clause-time

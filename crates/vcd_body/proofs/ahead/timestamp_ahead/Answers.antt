@@ -1,18 +1,5 @@
-use Rattle.std.proofs.Common.{refl, ℕ, [], ◌∷◌, ◌<◌, ◌≤◌, ◌∙◌, drop, length, subst, sym, arith}
-use Rattle.std.proofs.lemmas.Bool.{false≢true}
-use Rattle.vcd_model.specs.Bytes.{decimal_value}
-use Rattle.vcd_model.specs.BodyPhrases.{items_of}
-use Rattle.vcd_model.specs.Items.{BodyItem, time_after}
-use Rattle.vcd_model.specs.Tokens.{Token}
-use Rattle.vcd_text.specs.Ahead.{bytes_of, longest_of, passed_of, start_of}
-use Rattle.vcd_text.specs.Passed.{line_ahead}
-use Rattle.vcd_body.proofs.AheadLemmas.{passes_same, mark_taken}
-use Rattle.vcd_body.proofs.FindLemmas.{time_whole}
-use Rattle.vcd_body.proofs.LineLemmas.{begins_after, token_begun, token_there, mark_there}
-use Rattle.vcd_body.proofs.PhraseLemmas.{mark_misplaced, time_passes}
-use Rattle.vcd_body.specs.Reads.{Passes}
-use Rattle.vcd_body.specs.Words.{Begins}
-use Rattle.vcd_body.specs.declared.words.PhraseKind.{PhraseKind}
+use Rattle.vcd_body.proofs.Cited.{refl, ℕ, [], ◌∷◌, ◌<◌, ◌≤◌, ◌∙◌, drop, length, subst, sym, arith, false≢true, decimal_value, items_of, BodyItem, time_after, Token, bytes_of, longest_of, passed_of, start_of, line_ahead, Passes, Begins, PhraseKind}
+use Rattle.vcd_body.proofs.Facts.{passes_same, mark_taken, time_whole, begins_after, token_begun, token_there, mark_there, mark_misplaced, time_passes}
 use Rattle.vcd_body.proofs.ahead.timestamp_ahead.Goals as goal
 
 pub returns-in-Ok-clause-takes : goal.returns-in-Ok-clause-takes

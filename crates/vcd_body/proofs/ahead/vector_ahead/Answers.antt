@@ -1,13 +1,6 @@
-use Rattle.std.proofs.Common.{[], ◌∷◌, ◌++◌, ◌∙◌, ◌<◌, ◌≤◌, append_assoc, drop, length, subst, sym, arith}
-use Rattle.vcd_model.specs.Tokens.{Token}
-use Rattle.vcd_text.specs.Ahead.{bytes_of, longest_of, passed_of, start_of}
-use Rattle.vcd_text.specs.Passed.{Passed, line_ahead}
-use Rattle.vcd_body.specs.Changes.{AreBinaryIf}
-use Rattle.vcd_body.specs.Lines.{MayBe}
+use Rattle.vcd_body.proofs.Cited.{[], ◌∷◌, ◌++◌, ◌∙◌, ◌<◌, ◌≤◌, append_assoc, drop, length, subst, sym, arith, Token, bytes_of, longest_of, passed_of, start_of, Passed, line_ahead, AreBinaryIf, MayBe}
+use Rattle.vcd_body.proofs.Facts.{passes_same, both_taken, has_bits, begins_after, token_begun, token_there, both_there, both_places, some_of}
 use Rattle.vcd_body.specs.declared.item.Form.TheVariants as form
-use Rattle.vcd_body.proofs.AheadLemmas.{passes_same, both_taken, has_bits}
-use Rattle.vcd_body.proofs.LineLemmas.{begins_after, token_begun, token_there, both_there, both_places}
-use Rattle.vcd_body.proofs.WordLemmas.{some_of}
 use Rattle.vcd_body.proofs.ahead.vector_ahead.Goals as goal
 
 pub after_first-digits-requires : goal.after_first-digits-requires

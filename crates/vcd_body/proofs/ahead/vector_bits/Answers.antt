@@ -1,4 +1,4 @@
-use Rattle.vcd_body.proofs.WordLemmas.{some_of}
+use Rattle.vcd_body.proofs.Facts.{some_of}
 use Rattle.vcd_body.proofs.ahead.vector_bits.Goals as goal
 
 pub after_first-requires : goal.after_first-requires

@@ -1,10 +1,5 @@
-use Rattle.std.proofs.Common.{◌||◌, nat_le, true, drop, length, sym, ap, ◌∙◌, arith}
-use Rattle.std.specs.List.{list_all}
-use Rattle.vcd_model.specs.BodyPhrases.{is_value_digit}
-use Rattle.vcd_view.specs.Shown.{parts}
-use Rattle.vcd_body.proofs.PhraseLemmas.{vector_passes}
-use Rattle.vcd_body.proofs.RegsLemmas.{same_room, vector_sound}
-use Rattle.vcd_body.proofs.LineLemmas.{found_named}
+use Rattle.vcd_body.proofs.Cited.{◌||◌, nat_le, true, drop, length, sym, ap, ◌∙◌, arith, list_all, is_value_digit, parts}
+use Rattle.vcd_body.proofs.Facts.{vector_passes, same_room, vector_sound, found_named}
 use Rattle.vcd_body.proofs.ahead.vector_code.Goals as goal
 
 pub returns-then-has_room : goal.returns-then-has_room

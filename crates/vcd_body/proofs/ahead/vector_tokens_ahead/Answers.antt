@@ -1,5 +1,4 @@
-use Rattle.std.proofs.Common.{subst}
-use Rattle.vcd_body.specs.Words.{Begins}
+use Rattle.vcd_body.proofs.Cited.{subst, Begins}
 use Rattle.vcd_body.proofs.ahead.vector_tokens_ahead.Goals as goal
 
 pub returns : goal.returns

@@ -1,7 +1,5 @@
-use Rattle.std.proofs.Common.{◌-◌, ◌+◌, ◌/◌, ◌%◌, ◌^◌, Some, sym, ap, ◌∙◌, arith}
-use Rattle.vcd_body.specs.Binary.{count_in, number_in}
-use Rattle.vcd_body.specs.Stored.{len_of}
-use Rattle.vcd_body.proofs.BinaryLemmas.{binary_at, binary_past}
+use Rattle.vcd_body.proofs.Cited.{◌-◌, ◌+◌, ◌/◌, ◌%◌, ◌^◌, Some, sym, ap, ◌∙◌, arith, count_in, number_in, len_of}
+use Rattle.vcd_body.proofs.Facts.{binary_at, binary_past}
 use Rattle.vcd_body.proofs.bits.binary_digit.Goals as goal
 
 pub returns-then-index-count : goal.returns-then-index-count

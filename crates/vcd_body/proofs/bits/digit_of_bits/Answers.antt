@@ -1,5 +1,5 @@
-use Rattle.std.proofs.Common.{sym}
-use Rattle.vcd_body.proofs.NumberLemmas.{binary_get}
+use Rattle.vcd_body.proofs.Cited.{sym}
+use Rattle.vcd_body.proofs.Facts.{binary_get}
 use Rattle.vcd_body.proofs.bits.digit_of_bits.Goals as goal
 
 pub returns : goal.returns

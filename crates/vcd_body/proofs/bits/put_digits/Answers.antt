@@ -1,7 +1,5 @@
-use Rattle.std.proofs.Common.{arith}
-use Rattle.std.proofs.lemmas.Grind.{same_number_lists}
-use Rattle.vcd_body.specs.Binary.{binary_digits}
-use Rattle.vcd_body.proofs.BinaryLemmas.{length_binary}
+use Rattle.vcd_body.proofs.Cited.{arith, same_number_lists, binary_digits}
+use Rattle.vcd_body.proofs.Facts.{length_binary}
 use Rattle.vcd_body.proofs.bits.put_digits.Goals as goal
 
 pub returns : goal.returns

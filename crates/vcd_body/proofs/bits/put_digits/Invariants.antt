@@ -1,6 +1,4 @@
-use Rattle.std.proofs.Common.{◌≡◌, ℕ, ◌<◌}
-use Rattle.std.specs.Prelude.{get_or}
-use Rattle.vcd_body.specs.Binary.{binary_digits}
+use Rattle.vcd_body.proofs.Cited.{◌≡◌, ℕ, ◌<◌, get_or, binary_digits}
 use Rattle.vcd_body.proofs.bits.put_digits.Given as goal
 
 abbrev pub invariant-loop-index : goal.invariant-loop-index

@@ -1,5 +1,4 @@
-use Rattle.std.proofs.Common.{◌≡◌, take}
-use Rattle.std.specs.Str.{str_to_ascii_lowercase}
+use Rattle.vcd_body.proofs.Cited.{◌≡◌, take, str_to_ascii_lowercase}
 use Rattle.vcd_body.proofs.change.lower_into.Given as goal
 
 abbrev pub invariant-loop-index : goal.invariant-loop-index

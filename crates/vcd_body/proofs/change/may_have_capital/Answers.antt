@@ -1,4 +1,4 @@
-use Rattle.vcd_body.proofs.LowerCase.{low_more}
+use Rattle.vcd_body.proofs.Facts.{low_more}
 use Rattle.vcd_body.proofs.change.may_have_capital.Goals as goal
 
 pub loop-byte-preserved : goal.loop-byte-preserved

@@ -1,5 +1,5 @@
-use Rattle.std.proofs.Common.{take}
-use Rattle.vcd_body.proofs.LowerCase.{AreLowBy}
+use Rattle.vcd_body.proofs.Cited.{take}
+use Rattle.vcd_body.proofs.Facts.{AreLowBy}
 use Rattle.vcd_body.proofs.change.may_have_capital.Given as goal
 
 abbrev pub invariant-loop-byte : goal.invariant-loop-byte

@@ -1,7 +1,4 @@
-use Rattle.std.proofs.Common.{[], ◌∷◌, ◌++◌}
-use Rattle.std.specs.Str.{str_to_ascii_lowercase}
-use Rattle.std.proofs.lemmas.Result.{err_from_is_err_and}
-use Rattle.vcd_text.proofs.Writes.{some-behind, some-first, puts-twice}
+use Rattle.vcd_body.proofs.Cited.{[], ◌∷◌, ◌++◌, str_to_ascii_lowercase, err_from_is_err_and, some-behind, some-first, puts-twice}
 use Rattle.vcd_body.proofs.change.put_all.Goals as goal
 
 pub returns-in_err-put_lower : goal.returns-in_err-put_lower

@@ -1,9 +1,5 @@
-use Rattle.std.proofs.Common.{◌+◌, drop, ap, subst, ◌∙◌}
-use Rattle.std.proofs.lemmas.List.{drop-drop}
-use Rattle.std.proofs.lemmas.Result.{err_from_is_err_and}
-use Rattle.std.specs.Io.KnownBytes.{Appends}
-use Rattle.vcd_text.proofs.Writes.{AppendsSome}
-use Rattle.vcd_body.proofs.LowerCase.{lower-more, lower-some}
+use Rattle.vcd_body.proofs.Cited.{◌+◌, drop, ap, subst, ◌∙◌, drop-drop, err_from_is_err_and, Appends, AppendsSome}
+use Rattle.vcd_body.proofs.Facts.{lower-more, lower-some}
 use Rattle.vcd_body.proofs.change.put_lowered.Goals as goal
 
 pub returns-in_err-put : goal.returns-in_err-put

@@ -1,6 +1,4 @@
-use Rattle.std.proofs.Common.{◌≡◌, ℕ, length, take, drop}
-use Rattle.std.specs.Io.KnownBytes.{Appends}
-use Rattle.std.specs.Str.{str_to_ascii_lowercase}
+use Rattle.vcd_body.proofs.Cited.{◌≡◌, ℕ, length, take, drop, Appends, str_to_ascii_lowercase}
 use Rattle.vcd_body.proofs.change.put_lowered.Given as goal
 
 abbrev pub invariant-loop-rest : goal.invariant-loop-rest

@@ -1,7 +1,5 @@
-use Rattle.std.proofs.Common.{◌≢◌, sym, subst, rules}
-use Rattle.vcd_text.specs.Device.{Puts}
-use Rattle.vcd_body.specs.declared.item.Form.TheVariants.{RealText}
-use Rattle.vcd_body.proofs.ChangeLine.{all_line}
+use Rattle.vcd_body.proofs.Cited.{◌≢◌, sym, subst, rules, Puts, RealText}
+use Rattle.vcd_body.proofs.Facts.{all_line}
 use Rattle.vcd_body.proofs.change.put_other.Goals as goal
 
 pub returns-in-Scalar : goal.returns-in-Scalar

@@ -1,6 +1,4 @@
-use Rattle.std.proofs.Common.{[], ◌∷◌, ◌++◌}
-use Rattle.std.proofs.lemmas.Result.{err_from_is_err_and}
-use Rattle.vcd_text.proofs.Writes.{some-behind, some-first, puts-twice}
+use Rattle.vcd_body.proofs.Cited.{[], ◌∷◌, ◌++◌, err_from_is_err_and, some-behind, some-first, puts-twice}
 use Rattle.vcd_body.proofs.change.put_real.Goals as goal
 
 pub returns-in_err-put : goal.returns-in_err-put

@@ -1,9 +1,4 @@
-use Rattle.std.proofs.Common.{[], ◌∷◌, subst, rules}
-use Rattle.std.specs.Str.{str_to_ascii_lowercase}
-use Rattle.std.proofs.lemmas.Result.{err_from_is_err_and}
-use Rattle.vcd_model.specs.Values.{extend, short}
-use Rattle.vcd_text.specs.Device.{Takes}
-use Rattle.vcd_text.proofs.Writes.{appends-first, counted, takes-twice}
+use Rattle.vcd_body.proofs.Cited.{[], ◌∷◌, subst, rules, str_to_ascii_lowercase, err_from_is_err_and, extend, short, Takes, appends-first, counted, takes-twice}
 use Rattle.vcd_body.proofs.change.put_shortest.Goals as goal
 
 pub returns-in_err-put : goal.returns-in_err-put

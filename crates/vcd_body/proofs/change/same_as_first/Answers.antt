@@ -1,8 +1,5 @@
-use Rattle.std.proofs.Common.{◌≡◌, ◌<◌, ℕ, inl, inr, rules, arith}
-use Rattle.std.specs.Prelude.{get_or}
-use Rattle.std.proofs.lemmas.Bool.{cases_lt}
-use Rattle.std.proofs.lemmas.Nat.Bits.{bit_at-zero}
-use Rattle.vcd_body.proofs.WordLemmas.{behind, in_block}
+use Rattle.vcd_body.proofs.Cited.{◌≡◌, ◌<◌, ℕ, inl, inr, rules, arith, get_or, cases_lt, bit_at-zero}
+use Rattle.vcd_body.proofs.Facts.{behind, in_block}
 use Rattle.vcd_body.proofs.change.same_as_first.Goals as goal
 
 pub returns-clause-same : goal.returns-clause-same

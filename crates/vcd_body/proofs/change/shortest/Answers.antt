@@ -1,5 +1,5 @@
-use Rattle.std.proofs.Common.{sym, ◌∙◌, arith}
-use Rattle.vcd_body.proofs.Shortest.{one_bare, more_bare, one_out, shortest_of}
+use Rattle.vcd_body.proofs.Cited.{sym, ◌∙◌, arith}
+use Rattle.vcd_body.proofs.Facts.{one_bare, more_bare, one_out, shortest_of}
 use Rattle.vcd_body.proofs.change.shortest.Goals as goal
 
 pub returns-then-to_ascii_lowercase-extended_by : goal.returns-then-to_ascii_lowercase-extended_by

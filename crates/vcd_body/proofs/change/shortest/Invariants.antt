@@ -1,5 +1,5 @@
-use Rattle.std.proofs.Common.{length}
-use Rattle.vcd_body.proofs.Shortest.{Suffices}
+use Rattle.vcd_body.proofs.Cited.{length}
+use Rattle.vcd_body.proofs.Facts.{Suffices}
 use Rattle.vcd_body.proofs.change.shortest.Given as goal
 
 abbrev pub invariant-digits : goal.invariant-digits

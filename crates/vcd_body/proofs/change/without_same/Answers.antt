@@ -1,9 +1,5 @@
-use Rattle.std.proofs.Common.{◌≡◌, ◌<◌, ◌≤◌, ◌⊎◌, ◌-◌, ℕ, drop, inl, inr, refl, arith, ap, subst, sym}
-use Rattle.std.specs.Prelude.{get_or}
-use Rattle.std.proofs.lemmas.Bool.{cases_lt}
-use Rattle.vcd_body.proofs.LeftOut.{end_is}
-use Rattle.vcd_body.proofs.OtherBytes.{same_lead}
-use Rattle.vcd_body.proofs.Shortest.{Suffices}
+use Rattle.vcd_body.proofs.Cited.{◌≡◌, ◌<◌, ◌≤◌, ◌⊎◌, ◌-◌, ℕ, drop, inl, inr, refl, arith, ap, subst, sym, get_or, cases_lt}
+use Rattle.vcd_body.proofs.Facts.{end_is, same_lead, Suffices}
 use Rattle.vcd_body.proofs.change.without_same.Goals as goal
 
 pub returns : goal.returns

@@ -1,4 +1,4 @@
-use Rattle.std.proofs.Common.{◌≡◌, true, false}
+use Rattle.vcd_body.proofs.Cited.{◌≡◌, true, false}
 use Rattle.vcd_body.proofs.compare.are_same.Goals as goal
 
 pub returns-then-places_differ : goal.returns-then-places_differ

@@ -1,7 +1,5 @@
-use Rattle.std.specs.Str.{str_to_ascii_lowercase}
-use Rattle.vcd_model.specs.Values.{extend}
-use Rattle.vcd_body.specs.Stored.{digits_with}
-use Rattle.vcd_body.proofs.CompareLemmas.{SameFrom}
+use Rattle.vcd_body.proofs.Cited.{str_to_ascii_lowercase, extend, digits_with}
+use Rattle.vcd_body.proofs.Facts.{SameFrom}
 use Rattle.vcd_body.proofs.compare.are_same.Given as goal
 
 abbrev pub invariant-loop-index : goal.invariant-loop-index

@@ -1,8 +1,5 @@
-use Rattle.std.proofs.Common.{◌-◌, length, sym, ap, ◌∙◌, arith}
-use Rattle.std.proofs.lemmas.Option.{slice_get_within}
-use Rattle.vcd_body.specs.Held.{digits_of}
-use Rattle.vcd_body.specs.Kept.{Held, last_digit_in, value_at_size}
-use Rattle.vcd_body.proofs.StepLemmas.{ends_two}
+use Rattle.vcd_body.proofs.Cited.{◌-◌, length, sym, ap, ◌∙◌, arith, slice_get_within, digits_of, Held, last_digit_in, value_at_size}
+use Rattle.vcd_body.proofs.Facts.{ends_two}
 use Rattle.vcd_body.proofs.compare.digits_differ.Goals as goal
 
 pub returns-in-Some-Some : goal.returns-in-Some-Some

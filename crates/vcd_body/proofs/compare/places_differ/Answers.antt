@@ -1,7 +1,5 @@
-use Rattle.std.proofs.Common.{◌≡◌, ◌-◌, Some, get_or, length, slice_get, sym, ap, ◌∙◌, arith}
-use Rattle.std.proofs.lemmas.Option.{slice_get-get_or}
-use Rattle.vcd_body.specs.Held.{digits_of}
-use Rattle.vcd_body.proofs.EndLemmas.{end_digit}
+use Rattle.vcd_body.proofs.Cited.{◌≡◌, ◌-◌, Some, get_or, length, slice_get, sym, ap, ◌∙◌, arith, slice_get-get_or, digits_of}
+use Rattle.vcd_body.proofs.Facts.{end_digit}
 use Rattle.vcd_body.proofs.compare.places_differ.Goals as goal
 
 pub returns-then-digit_or-digit : goal.returns-then-digit_or-digit

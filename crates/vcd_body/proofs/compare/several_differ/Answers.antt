@@ -1,9 +1,5 @@
-use Rattle.std.proofs.Common.{arith}
-use Rattle.std.specs.Char.{to_ascii_lowercase}
-use Rattle.std.specs.Str.{str_to_ascii_lowercase}
-use Rattle.std.proofs.lemmas.List.{length-map}
-use Rattle.vcd_body.specs.Stored.{digits_with}
-use Rattle.vcd_body.proofs.CompareLemmas.{differ_at_longest}
+use Rattle.vcd_body.proofs.Cited.{arith, to_ascii_lowercase, str_to_ascii_lowercase, length-map, digits_with}
+use Rattle.vcd_body.proofs.Facts.{differ_at_longest}
 use Rattle.vcd_body.proofs.compare.several_differ.Goals as goal
 
 pub returns : goal.returns

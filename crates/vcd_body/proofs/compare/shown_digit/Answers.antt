@@ -1,9 +1,4 @@
-use Rattle.std.proofs.Common.{ℕ, Option, ap, ◌∙◌}
-use Rattle.std.specs.Prelude.{unwrap_or}
-use Rattle.std.proofs.lemmas.Option.{unwrap_or-slice_get}
-use Rattle.vcd_model.specs.Values.{extend}
-use Rattle.vcd_body.specs.Held.{digits_of}
-use Rattle.vcd_body.specs.Kept.{Held, digit_in, value_at_size}
+use Rattle.vcd_body.proofs.Cited.{ℕ, Option, ap, ◌∙◌, unwrap_or, unwrap_or-slice_get, extend, digits_of, Held, digit_in, value_at_size}
 use Rattle.vcd_body.proofs.compare.shown_digit.Goals as goal
 
 pub returns : goal.returns

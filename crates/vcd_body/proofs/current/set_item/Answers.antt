@@ -1,11 +1,5 @@
-use Rattle.std.proofs.Common.{◌≡◌, [], ◌∷◌, ◌++◌, Some, refl, sym, subst, slice_get}
-use Rattle.vcd_model.specs.Items.{BodyItem}
-use Rattle.vcd_view.specs.declared.view.Code.{Code}
-use Rattle.vcd_body.specs.Ahead.{HasBits}
-use Rattle.vcd_body.specs.Given.{HasGoodText, IsItem, IsText}
-use Rattle.vcd_body.specs.declared.item.Item.{Item}
-use Rattle.vcd_body.specs.Current.{AreHeld}
-use Rattle.vcd_body.proofs.CurrentLemmas.{bits_hold, good_text, held_still, other_gives, set_holds}
+use Rattle.vcd_body.proofs.Cited.{◌≡◌, [], ◌∷◌, ◌++◌, Some, refl, sym, subst, slice_get, BodyItem, Code, HasBits, HasGoodText, IsItem, IsText, Item, AreHeld}
+use Rattle.vcd_body.proofs.Facts.{bits_hold, good_text, held_still, other_gives, set_holds}
 use Rattle.vcd_body.proofs.current.set_item.Goals as goal
 
 pub returns-in_default : goal.returns-in_default

@@ -1,9 +1,5 @@
-use Rattle.std.proofs.Common.{length, sym, ap, ◌∙◌}
-use Rattle.vcd_body.specs.Binary.{count_in, number_in}
-use Rattle.vcd_body.specs.Stored.{digits_held, held_by, len_of}
-use Rattle.vcd_body.specs.declared.slot.State.{State}
-use Rattle.vcd_body.proofs.BinaryLemmas.{length_binary}
-use Rattle.vcd_body.proofs.HeldLemmas.{count_held}
+use Rattle.vcd_body.proofs.Cited.{length, sym, ap, ◌∙◌, count_in, number_in, digits_held, held_by, len_of, State}
+use Rattle.vcd_body.proofs.Facts.{length_binary, count_held}
 use Rattle.vcd_body.proofs.held.digit_count.Goals as goal
 
 pub returns-in-Packed : goal.returns-in-Packed

@@ -1,7 +1,4 @@
-use Rattle.std.proofs.Common.{ℕ, Option, ap, ◌∙◌}
-use Rattle.std.specs.Prelude.{unwrap_or}
-use Rattle.std.proofs.lemmas.Option.{unwrap_or-slice_get}
-use Rattle.vcd_body.specs.Held.{digits_of}
+use Rattle.vcd_body.proofs.Cited.{ℕ, Option, ap, ◌∙◌, unwrap_or, unwrap_or-slice_get, digits_of}
 use Rattle.vcd_body.proofs.held.digit_or.Goals as goal
 
 pub returns : goal.returns

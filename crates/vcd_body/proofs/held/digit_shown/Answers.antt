@@ -1,6 +1,5 @@
-use Rattle.std.proofs.Common.{◌≡◌, ◌-◌, length, slice_get, sym, ap, Some, ◌∙◌, arith}
-use Rattle.vcd_body.specs.Stored.{digits_held, held_by, len_of}
-use Rattle.vcd_body.proofs.HeldLemmas.{no_digits, shown_before, shown_behind}
+use Rattle.vcd_body.proofs.Cited.{◌≡◌, ◌-◌, length, slice_get, sym, ap, Some, ◌∙◌, arith, digits_held, held_by, len_of}
+use Rattle.vcd_body.proofs.Facts.{no_digits, shown_before, shown_behind}
 use Rattle.vcd_body.proofs.held.digit_shown.Goals as goal
 
 pub returns-in_err-first : goal.returns-in_err-first

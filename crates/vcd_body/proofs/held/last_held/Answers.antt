@@ -1,10 +1,5 @@
-use Rattle.std.proofs.Common.{◌≡◌, ◌≤◌, ◌-◌, suc, length, sym, ap, subst, ◌∙◌, arith}
-use Rattle.vcd_body.specs.Binary.{count_in}
-use Rattle.vcd_body.specs.Kept.{last_digit_in, value_at_size}
-use Rattle.vcd_body.specs.Stored.{held_by, some_by, used_by, len_of}
-use Rattle.vcd_body.specs.declared.slot.State.{State}
-use Rattle.vcd_body.proofs.BinaryLemmas.{proper, proper_count}
-use Rattle.vcd_body.proofs.CompareLemmas.{last_number, last_of_state, last_packed}
+use Rattle.vcd_body.proofs.Cited.{◌≡◌, ◌≤◌, ◌-◌, suc, length, sym, ap, subst, ◌∙◌, arith, count_in, last_digit_in, value_at_size, held_by, some_by, used_by, len_of, State}
+use Rattle.vcd_body.proofs.Facts.{proper, proper_count, last_number, last_of_state, last_packed}
 use Rattle.vcd_body.proofs.held.last_held.Goals as goal
 
 pub last_packed-requires : goal.last_packed-requires

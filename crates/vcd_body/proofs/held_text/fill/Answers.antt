@@ -1,7 +1,5 @@
-use Rattle.std.proofs.Common.{◌^◌, ◌-◌, take, drop, ap, ◌∙◌, arith}
-use Rattle.vcd_body.specs.Stored.{digits_with, len_of}
-use Rattle.vcd_body.proofs.NumberLemmas.{held_few}
-use Rattle.vcd_body.proofs.Pieces.{same_part}
+use Rattle.vcd_body.proofs.Cited.{◌^◌, ◌-◌, take, drop, ap, ◌∙◌, arith, digits_with, len_of}
+use Rattle.vcd_body.proofs.Facts.{held_few, same_part}
 use Rattle.vcd_body.proofs.held_text.fill.Goals as goal
 
 pub overflow_add-from : goal.overflow_add-from

@@ -1,6 +1,4 @@
-use Rattle.std.proofs.Common.{◌≡◌, ℕ, ◌+◌, ◌<◌}
-use Rattle.std.specs.Prelude.{get_or}
-use Rattle.vcd_body.specs.Stored.{digits_with}
+use Rattle.vcd_body.proofs.Cited.{◌≡◌, ℕ, ◌+◌, ◌<◌, get_or, digits_with}
 use Rattle.vcd_body.proofs.held_text.fill.Given as goal
 
 abbrev pub invariant-loop-index : goal.invariant-loop-index

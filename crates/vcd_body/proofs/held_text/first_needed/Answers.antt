@@ -1,7 +1,5 @@
-use Rattle.std.proofs.Common.{◌∷◌, [], sym, ap, ◌∙◌, arith}
-use Rattle.vcd_model.specs.Values.{extension}
-use Rattle.vcd_body.specs.Stored.{digits_with}
-use Rattle.vcd_body.proofs.HeldShort.{one_less, short_here, short_last}
+use Rattle.vcd_body.proofs.Cited.{◌∷◌, [], sym, ap, ◌∙◌, arith, extension, digits_with}
+use Rattle.vcd_body.proofs.Facts.{one_less, short_here, short_last}
 use Rattle.vcd_body.proofs.held_text.first_needed.Goals as goal
 
 pub returns-then-digit_or-extension_of : goal.returns-then-digit_or-extension_of

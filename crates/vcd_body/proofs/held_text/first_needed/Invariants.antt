@@ -1,6 +1,5 @@
-use Rattle.std.proofs.Common.{◌-◌}
-use Rattle.vcd_body.specs.Stored.{digits_with}
-use Rattle.vcd_body.proofs.HeldShort.{Serves}
+use Rattle.vcd_body.proofs.Cited.{◌-◌, digits_with}
+use Rattle.vcd_body.proofs.Facts.{Serves}
 use Rattle.vcd_body.proofs.held_text.first_needed.Given as goal
 
 abbrev pub invariant-digits : goal.invariant-digits

@@ -1,7 +1,4 @@
-use Rattle.std.proofs.Common.{[], ◌∷◌, ◌++◌}
-use Rattle.std.proofs.lemmas.Result.{err_from_is_err_and}
-use Rattle.vcd_text.proofs.Writes.{some-behind, some-first, puts-twice}
-use Rattle.vcd_body.specs.Stored.{digits_with}
+use Rattle.vcd_body.proofs.Cited.{[], ◌∷◌, ◌++◌, err_from_is_err_and, some-behind, some-first, puts-twice, digits_with}
 use Rattle.vcd_body.proofs.held_text.put_all_held.Goals as goal
 
 pub returns-in_err-put_from : goal.returns-in_err-put_from

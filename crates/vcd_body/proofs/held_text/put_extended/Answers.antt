@@ -1,10 +1,5 @@
-use Rattle.std.proofs.Common.{◌≡◌, ◌-◌, ◌∷◌, [], length, replicate, subst, sym, ap, ◌∙◌, arith}
-use Rattle.std.proofs.lemmas.Result.{err_from_is_err_and}
-use Rattle.vcd_model.specs.Values.{extension}
-use Rattle.vcd_text.specs.Device.{Writes, WritesSome}
-use Rattle.vcd_text.proofs.Writes.{puts-twice, some-first}
-use Rattle.vcd_body.specs.Stored.{digits_with}
-use Rattle.vcd_body.proofs.HeldShort.{extension_at}
+use Rattle.vcd_body.proofs.Cited.{◌≡◌, ◌-◌, ◌∷◌, [], length, replicate, subst, sym, ap, ◌∙◌, arith, err_from_is_err_and, extension, Writes, WritesSome, puts-twice, some-first, digits_with}
+use Rattle.vcd_body.proofs.Facts.{extension_at}
 use Rattle.vcd_body.proofs.held_text.put_extended.Goals as goal
 
 pub returns-in_err-put_repeated : goal.returns-in_err-put_repeated

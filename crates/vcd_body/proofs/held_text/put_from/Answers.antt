@@ -1,8 +1,5 @@
-use Rattle.std.proofs.Common.{◌≡◌, ◌+◌, length, take, drop, ap, sym, ◌∙◌, arith}
-use Rattle.std.proofs.lemmas.List.{drop-drop, length-take-le}
-use Rattle.std.proofs.lemmas.Result.{err_from_is_err_and}
-use Rattle.vcd_body.specs.Stored.{digits_with}
-use Rattle.vcd_body.proofs.Pieces.{front_part, piece-more, piece-some}
+use Rattle.vcd_body.proofs.Cited.{◌≡◌, ◌+◌, length, take, drop, ap, sym, ◌∙◌, arith, drop-drop, length-take-le, err_from_is_err_and, digits_with}
+use Rattle.vcd_body.proofs.Facts.{front_part, piece-more, piece-some}
 use Rattle.vcd_body.proofs.held_text.put_from.Goals as goal
 
 pub returns-in_err-put : goal.returns-in_err-put

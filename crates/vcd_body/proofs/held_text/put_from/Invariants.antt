@@ -1,6 +1,4 @@
-use Rattle.std.proofs.Common.{◌≡◌, ℕ, ◌+◌, ◌-◌, take, drop}
-use Rattle.std.specs.Io.KnownBytes.{Appends}
-use Rattle.vcd_body.specs.Stored.{digits_with}
+use Rattle.vcd_body.proofs.Cited.{◌≡◌, ℕ, ◌+◌, ◌-◌, take, drop, Appends, digits_with}
 use Rattle.vcd_body.proofs.held_text.put_from.Given as goal
 
 abbrev pub invariant-loop-at : goal.invariant-loop-at

@@ -1,5 +1,4 @@
-use Rattle.std.proofs.Common.{[], ◌∷◌}
-use Rattle.vcd_text.proofs.Writes.{puts-twice}
+use Rattle.vcd_body.proofs.Cited.{[], ◌∷◌, puts-twice}
 use Rattle.vcd_body.proofs.held_text.put_real_text.Goals as goal
 
 pub returns : goal.returns

@@ -1,7 +1,5 @@
-use Rattle.std.proofs.Common.{◌≡◌, ◌+◌, ◌-◌, replicate, take, ap, subst, ◌∙◌, arith}
-use Rattle.std.specs.Io.KnownBytes.{Appends}
-use Rattle.std.proofs.lemmas.Result.{err_from_is_err_and}
-use Rattle.vcd_body.proofs.Pieces.{piece-more, piece-some, repeated_part}
+use Rattle.vcd_body.proofs.Cited.{◌≡◌, ◌+◌, ◌-◌, replicate, take, ap, subst, ◌∙◌, arith, Appends, err_from_is_err_and}
+use Rattle.vcd_body.proofs.Facts.{piece-more, piece-some, repeated_part}
 use Rattle.vcd_body.proofs.held_text.put_repeated.Goals as goal
 
 pub returns-in_err-put : goal.returns-in_err-put

@@ -1,5 +1,4 @@
-use Rattle.std.proofs.Common.{◌≡◌, ◌-◌, ◌≤◌, replicate, take}
-use Rattle.std.specs.Io.KnownBytes.{Appends}
+use Rattle.vcd_body.proofs.Cited.{◌≡◌, ◌-◌, ◌≤◌, replicate, take, Appends}
 use Rattle.vcd_body.proofs.held_text.put_repeated.Given as goal
 
 abbrev pub invariant-loop-rest : goal.invariant-loop-rest

@@ -1,9 +1,4 @@
-use Rattle.std.proofs.Common.{[], ◌∷◌, ◌++◌, subst, rules}
-use Rattle.std.specs.Io.KnownBytes.{Appends}
-use Rattle.std.proofs.lemmas.Result.{err_from_is_err_and}
-use Rattle.vcd_model.specs.Values.{extend, short}
-use Rattle.vcd_text.proofs.Writes.{AppendsSome, appends-first, appends-some, counted, takes-twice}
-use Rattle.vcd_body.specs.Stored.{digits_with}
+use Rattle.vcd_body.proofs.Cited.{[], ◌∷◌, ◌++◌, subst, rules, Appends, err_from_is_err_and, extend, short, AppendsSome, appends-first, appends-some, counted, takes-twice, digits_with}
 use Rattle.vcd_body.proofs.held_text.put_short_held.Goals as goal
 
 pub returns-in_err-put : goal.returns-in_err-put

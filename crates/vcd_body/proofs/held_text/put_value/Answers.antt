@@ -1,7 +1,5 @@
-use Rattle.std.proofs.Common.{subst}
-use Rattle.vcd_text.specs.Device.{Puts}
-use Rattle.vcd_body.specs.Stored.{digits_with, held_with, len_of}
-use Rattle.vcd_body.proofs.HeldLines.{all_digits, full_is, some_digits}
+use Rattle.vcd_body.proofs.Cited.{subst, Puts, digits_with, held_with, len_of}
+use Rattle.vcd_body.proofs.Facts.{all_digits, full_is, some_digits}
 use Rattle.vcd_body.proofs.held_text.put_value.Goals as goal
 
 pub put_extended-requires : goal.put_extended-requires

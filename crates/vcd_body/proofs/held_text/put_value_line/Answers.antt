@@ -1,9 +1,5 @@
-use Rattle.std.proofs.Common.{◌++◌, ◌∷◌, [], Bool, cond, subst, sym, ap, ◌∙◌}
-use Rattle.std.proofs.lemmas.Bool.{eq-eqb, ne_eqb}
-use Rattle.vcd_model.specs.Values.{extend, short}
-use Rattle.vcd_text.specs.Device.{Puts}
-use Rattle.vcd_body.specs.Stored.{digits_with, held_with, len_of}
-use Rattle.vcd_body.proofs.HeldLines.{all_digits, line_is, some_digits}
+use Rattle.vcd_body.proofs.Cited.{◌++◌, ◌∷◌, [], Bool, cond, subst, sym, ap, ◌∙◌, eq-eqb, ne_eqb, extend, short, Puts, digits_with, held_with, len_of}
+use Rattle.vcd_body.proofs.Facts.{all_digits, line_is, some_digits}
 use Rattle.vcd_body.proofs.held_text.put_value_line.Goals as goal
 
 pub put_short_held-requires : goal.put_short_held-requires

@@ -1,4 +1,4 @@
-use Rattle.vcd_body.proofs.LineLemmas.{text_there, both_line_there}
+use Rattle.vcd_body.proofs.Facts.{text_there, both_line_there}
 use Rattle.vcd_body.proofs.lines.has_one_blank.Goals as goal
 
 pub returns-clause-position : goal.returns-clause-position

@@ -1,4 +1,4 @@
-use Rattle.vcd_body.proofs.LineLemmas.{bit_line_there}
+use Rattle.vcd_body.proofs.Facts.{bit_line_there}
 use Rattle.vcd_body.proofs.lines.is_bit_line.Goals as goal
 
 pub returns : goal.returns

@@ -1,9 +1,6 @@
-use Rattle.std.proofs.Common.{◌≡◌, ◌≢◌, ◌==◌, ℕ, [], ◌∷◌, not, true, false, arith, bit_and}
-use Rattle.std.specs.Char.{to_ascii_lowercase}
+use Rattle.vcd_body.proofs.Cited.{◌≡◌, ◌≢◌, ◌==◌, ℕ, [], ◌∷◌, not, true, false, arith, bit_and, to_ascii_lowercase, any_of}
+use Rattle.vcd_body.proofs.Facts.{flip, lower_alone}
 use Rattle.vcd_model.specs.BodyPhrases.{is_value_digit}
-use Rattle.vcd_model.proofs.BodyGrammar.{any_of}
-use Rattle.vcd_body.proofs.LineLemmas.{flip}
-use Rattle.vcd_body.proofs.WordLemmas.{lower_alone}
 use Rattle.vcd_body.proofs.lines.is_lower.Goals as goal
 
 capital : (d : ℕ) → is_value_digit d ≡ true → not (bit_and d 32 == 0) ≡ false → to_ascii_lowercase d ≢ d

@@ -1,4 +1,4 @@
-use Rattle.vcd_body.proofs.MarkLine.{mark_line_there}
+use Rattle.vcd_body.proofs.Facts.{mark_line_there}
 use Rattle.vcd_body.proofs.lines.is_timestamp_line.Goals as goal
 
 pub returns : goal.returns

@@ -1,18 +1,6 @@
-use Rattle.std.proofs.Common.{◌≡◌, ◌≢◌, ◌<◌, ℕ, false, List, [], ◌∷◌, ◌++◌, ◌-◌, append_assoc, refl, sym, ap, subst, ◌∙◌, arith}
-use Rattle.std.specs.Str.{str_to_ascii_lowercase}
-use Rattle.vcd_model.specs.Declarations.{IdCode}
-use Rattle.vcd_model.specs.ItemText.{item_line}
-use Rattle.vcd_model.specs.Items.{BodyItem}
-use Rattle.vcd_body.specs.Changes.{line_under}
-use Rattle.vcd_body.specs.Items.{model_form}
-use Rattle.vcd_body.specs.declared.item.Form.{Form}
+use Rattle.vcd_body.proofs.Cited.{◌≡◌, ◌≢◌, ◌<◌, ℕ, false, List, [], ◌∷◌, ◌++◌, ◌-◌, append_assoc, refl, sym, ap, subst, ◌∙◌, arith, str_to_ascii_lowercase, IdCode, item_line, BodyItem, line_under, model_form, Form, Change, IsSizedItem, IsItem, IsSpelledAs}
+use Rattle.vcd_body.proofs.Facts.{bit_within, if_some_more, without_none, of_sized, bit_item}
 use Rattle.vcd_body.specs.declared.item.Form.TheVariants as form
-use Rattle.vcd_body.specs.declared.item.Item.TheVariants.{Change}
-use Rattle.vcd_body.specs.Ahead.{IsSizedItem}
-use Rattle.vcd_body.specs.Given.{IsItem}
-use Rattle.vcd_body.specs.Spelled.{IsSpelledAs}
-use Rattle.vcd_body.proofs.LeftOut.{bit_within, if_some_more, without_none}
-use Rattle.vcd_body.proofs.LineLemmas.{of_sized, bit_item}
 use Rattle.vcd_body.proofs.lines.left_out.Goals as goal
 
 -- a size was found

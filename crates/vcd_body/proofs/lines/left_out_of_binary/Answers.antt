@@ -1,8 +1,5 @@
-use Rattle.std.proofs.Common.{◌≡◌, ◌<◌, ◌+◌, ◌∙◌, ℕ, length, refl, arith, sym}
-use Rattle.std.specs.Prelude.{slice_index}
-use Rattle.vcd_body.proofs.OtherBytes.{lower_behind}
-use Rattle.vcd_body.proofs.Shortest.{short_behind_zeros}
-use Rattle.vcd_body.proofs.WordLemmas.{byte_there}
+use Rattle.vcd_body.proofs.Cited.{◌≡◌, ◌<◌, ◌+◌, ◌∙◌, ℕ, length, refl, arith, sym, slice_index}
+use Rattle.vcd_body.proofs.Facts.{lower_behind, short_behind_zeros, byte_there}
 use Rattle.vcd_body.proofs.lines.left_out_of_binary.Goals as goal
 
 pub returns-then-n-le32 : goal.returns-then-n-le32

@@ -1,5 +1,5 @@
-use Rattle.std.proofs.Common.{arith}
-use Rattle.vcd_body.proofs.LeftOut.{front_there, if_some_more}
+use Rattle.vcd_body.proofs.Cited.{arith}
+use Rattle.vcd_body.proofs.Facts.{front_there, if_some_more}
 use Rattle.vcd_body.proofs.lines.left_out_of_front.Goals as goal
 
 pub returns : goal.returns

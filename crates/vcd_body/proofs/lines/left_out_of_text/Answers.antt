@@ -1,11 +1,5 @@
-use Rattle.std.proofs.Common.{◌<◌, false, ◌∷◌, ◌-◌, sym, subst, refl, ◌∙◌, arith}
-use Rattle.std.specs.Prelude.{IfSome}
-use Rattle.std.specs.Str.{str_to_ascii_lowercase}
-use Rattle.vcd_model.specs.Values.{extend, short}
-use Rattle.vcd_body.specs.Lines.{LeavesText}
-use Rattle.vcd_body.specs.Spelled.{HasChange}
-use Rattle.vcd_body.proofs.LeftOut.{if_some_more, text_within, without_none}
-use Rattle.vcd_body.proofs.LineLemmas.{real_item, vector_item}
+use Rattle.vcd_body.proofs.Cited.{◌<◌, false, ◌∷◌, ◌-◌, sym, subst, refl, ◌∙◌, arith, IfSome, str_to_ascii_lowercase, extend, short, LeavesText, HasChange}
+use Rattle.vcd_body.proofs.Facts.{if_some_more, text_within, without_none, real_item, vector_item}
 use Rattle.vcd_body.proofs.lines.left_out_of_text.Goals as goal
 
 pub returns-in-Vector : goal.returns-in-Vector

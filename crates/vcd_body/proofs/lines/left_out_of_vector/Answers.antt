@@ -1,7 +1,5 @@
-use Rattle.std.proofs.Common.{◌∷◌, ◌-◌, arith}
-use Rattle.std.specs.Str.{str_to_ascii_lowercase}
-use Rattle.vcd_model.specs.Values.{extend, short}
-use Rattle.vcd_body.proofs.LeftOut.{if_some_more, shortest_line, text_within}
+use Rattle.vcd_body.proofs.Cited.{◌∷◌, ◌-◌, arith, str_to_ascii_lowercase, extend, short}
+use Rattle.vcd_body.proofs.Facts.{if_some_more, shortest_line, text_within}
 use Rattle.vcd_body.proofs.lines.left_out_of_vector.Goals as goal
 
 pub returns : goal.returns

@@ -1,6 +1,5 @@
-use Rattle.std.proofs.Common.{arith}
-use Rattle.std.proofs.lemmas.Bool.{ne_eqb}
-use Rattle.vcd_body.proofs.LeftOut.{shortest_end}
+use Rattle.vcd_body.proofs.Cited.{arith, ne_eqb}
+use Rattle.vcd_body.proofs.Facts.{shortest_end}
 use Rattle.vcd_body.proofs.lines.needless.Goals as goal
 
 pub overflow_sub-result : goal.overflow_sub-result

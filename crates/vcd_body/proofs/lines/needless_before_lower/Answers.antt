@@ -1,6 +1,5 @@
-use Rattle.std.proofs.Common.{◌≡◌, sym, subst, ◌∙◌}
-use Rattle.std.specs.Str.{str_to_ascii_lowercase}
-use Rattle.vcd_body.proofs.LeftOut.{end_is}
+use Rattle.vcd_body.proofs.Cited.{◌≡◌, sym, subst, ◌∙◌, str_to_ascii_lowercase}
+use Rattle.vcd_body.proofs.Facts.{end_is}
 use Rattle.vcd_body.proofs.lines.needless_before_lower.Goals as goal
 
 pub returns : goal.returns

@@ -1,10 +1,5 @@
-use Rattle.std.proofs.Common.{List, ℕ, take, get_or, sym, ap, ◌∙◌, rules}
-use Rattle.std.proofs.lemmas.Bool.{eqb-true}
-use Rattle.std.proofs.lemmas.List.{get_or-take}
-use Rattle.std.proofs.lemmas.Nat.Bits.{bit_at-zero}
-use Rattle.std.proofs.lemmas.Slice.Eq.{bytes_eq-Decides}
-use Rattle.vcd_body.specs.Packed.{HasFour}
-use Rattle.vcd_body.proofs.WordLemmas.{in_block}
+use Rattle.vcd_body.proofs.Cited.{List, ℕ, take, get_or, sym, ap, ◌∙◌, rules, eqb-true, get_or-take, bit_at-zero, bytes_eq-Decides, HasFour}
+use Rattle.vcd_body.proofs.Facts.{in_block}
 use Rattle.vcd_body.proofs.packed.are_packed.Goals as goal
 
 pub returns-then-quarter-lt16 : goal.returns-then-quarter-lt16

@@ -1,7 +1,5 @@
-use Rattle.std.proofs.Common.{◌∙◌, sym, arith}
-use Rattle.std.proofs.lemmas.Simd.{get_or-chunk, length-chunk}
-use lib.Lanes.{chunk}
-use Rattle.vcd_body.proofs.OtherBytes.{clear_is, differ_bit}
+use Rattle.vcd_body.proofs.Cited.{◌∙◌, sym, arith, get_or-chunk, length-chunk, chunk}
+use Rattle.vcd_body.proofs.Facts.{clear_is, differ_bit}
 use Rattle.vcd_body.proofs.packed.differing_16.Goals as goal
 
 pub returns : goal.returns

@@ -1,6 +1,5 @@
-use Rattle.std.proofs.Common.{sym, ap, Some, ◌∙◌}
-use Rattle.vcd_body.specs.Packed.{digit_of}
-use Rattle.vcd_body.proofs.PackedLemmas.{digit_among, none_behind}
+use Rattle.vcd_body.proofs.Cited.{sym, ap, Some, ◌∙◌, digit_of}
+use Rattle.vcd_body.proofs.Facts.{digit_among, none_behind}
 use Rattle.vcd_body.proofs.packed.digit_at.Goals as goal
 
 pub returns-then-index-len : goal.returns-then-index-len

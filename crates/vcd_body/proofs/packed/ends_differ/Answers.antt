@@ -1,5 +1,5 @@
-use Rattle.std.proofs.Common.{length, sym, ◌∙◌, arith}
-use Rattle.vcd_body.proofs.EndLemmas.{ends_same}
+use Rattle.vcd_body.proofs.Cited.{length, sym, ◌∙◌, arith}
+use Rattle.vcd_body.proofs.Facts.{ends_same}
 use Rattle.vcd_body.proofs.packed.ends_differ.Goals as goal
 
 pub returns-then-bytes-back-clause-differ : goal.returns-then-bytes-back-clause-differ

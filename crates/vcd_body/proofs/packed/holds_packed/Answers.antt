@@ -1,5 +1,5 @@
-use Rattle.std.proofs.Common.{sym, ◌∙◌, arith}
-use Rattle.vcd_body.proofs.PackedLemmas.{lower_digits, packs_by}
+use Rattle.vcd_body.proofs.Cited.{sym, ◌∙◌, arith}
+use Rattle.vcd_body.proofs.Facts.{lower_digits, packs_by}
 use Rattle.vcd_body.proofs.packed.holds_packed.Goals as goal
 
 pub are_packed-requires : goal.are_packed-requires

@@ -1,6 +1,5 @@
-use Rattle.std.proofs.Common.{◌-◌, ◌/◌, Some, ℕ, get_or, ap, sym, ◌∙◌, arith}
-use Rattle.vcd_body.specs.Packed.{digit_of}
-use Rattle.vcd_body.proofs.PackedLemmas.{last_code}
+use Rattle.vcd_body.proofs.Cited.{◌-◌, ◌/◌, Some, ℕ, get_or, ap, sym, ◌∙◌, arith, digit_of}
+use Rattle.vcd_body.proofs.Facts.{last_code}
 use Rattle.vcd_body.proofs.packed.last_packed.Goals as goal
 
 pub returns : goal.returns

@@ -1,5 +1,5 @@
-use Rattle.std.proofs.Common.{◌∙◌, arith}
-use Rattle.vcd_body.proofs.PackedLemmas.{packs_by}
+use Rattle.vcd_body.proofs.Cited.{◌∙◌, arith}
+use Rattle.vcd_body.proofs.Facts.{packs_by}
 use Rattle.vcd_body.proofs.packed.pack.Goals as goal
 
 pub returns-then-quarter-lt16 : goal.returns-then-quarter-lt16

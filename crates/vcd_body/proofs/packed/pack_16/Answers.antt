@@ -1,5 +1,4 @@
-use Rattle.std.proofs.Common.{◌∙◌, arith}
-use Rattle.std.proofs.lemmas.Simd.{get_or-put_chunk_at, get_or-put_chunk_below}
+use Rattle.vcd_body.proofs.Cited.{◌∙◌, arith, get_or-put_chunk_at, get_or-put_chunk_below}
 use Rattle.vcd_body.proofs.packed.pack_16.Goals as goal
 
 pub returns-clause-packed : goal.returns-clause-packed

@@ -1,6 +1,4 @@
-use Rattle.std.proofs.Common.{◌≡◌, ◌+◌, ◌-◌, inl, inr, get_or, subst, ◌∙◌, arith}
-use Rattle.std.proofs.lemmas.Bool.{cases_lt}
-use Rattle.vcd_body.specs.Packed.{packed_byte}
+use Rattle.vcd_body.proofs.Cited.{◌≡◌, ◌+◌, ◌-◌, inl, inr, get_or, subst, ◌∙◌, arith, cases_lt, packed_byte}
 use Rattle.vcd_body.proofs.packed.pack_many.Goals as goal
 
 pub loop-at-preserved : goal.loop-at-preserved

@@ -1,6 +1,4 @@
-use Rattle.std.proofs.Common.{◌≡◌, ◌-◌, ℕ, ◌<◌}
-use Rattle.std.specs.Prelude.{get_or}
-use Rattle.vcd_body.specs.Packed.{packed_byte}
+use Rattle.vcd_body.proofs.Cited.{◌≡◌, ◌-◌, ℕ, ◌<◌, get_or, packed_byte}
 use Rattle.vcd_body.proofs.packed.pack_many.Given as goal
 
 abbrev pub invariant-loop-at : goal.invariant-loop-at

@@ -1,5 +1,4 @@
-use Rattle.std.proofs.Common.{◌≡◌, ◌+◌, ◌*◌, ◌-◌, length, ap, ◌∙◌, arith}
-use Rattle.vcd_body.specs.Packed.{two_bits_or}
+use Rattle.vcd_body.proofs.Cited.{◌≡◌, ◌+◌, ◌*◌, ◌-◌, length, ap, ◌∙◌, arith, two_bits_or}
 use Rattle.vcd_body.proofs.packed.packed_16.Goals as goal
 
 pub returns-clause-each : goal.returns-clause-each

@@ -1,4 +1,4 @@
-use Rattle.vcd_body.proofs.CodeLanes.{four_lanes, four_long}
+use Rattle.vcd_body.proofs.Facts.{four_lanes, four_long}
 use Rattle.vcd_body.proofs.packed.packed_from.Goals as goal
 
 pub returns-clause-long : goal.returns-clause-long

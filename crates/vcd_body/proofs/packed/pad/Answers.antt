@@ -1,5 +1,5 @@
-use Rattle.std.proofs.Common.{◌≡◌, rules, length}
-use Rattle.vcd_body.proofs.PackedLemmas.{padded_is}
+use Rattle.vcd_body.proofs.Cited.{◌≡◌, rules, length}
+use Rattle.vcd_body.proofs.Facts.{padded_is}
 use Rattle.vcd_body.proofs.packed.pad.Goals as goal
 
 pub returns : goal.returns

@@ -1,6 +1,4 @@
-use Rattle.std.proofs.Common.{◌≡◌, ◌+◌, rules, length, get_or, subst, arith}
-use Rattle.std.proofs.lemmas.Simd.{get_or-put_chunk_at}
-use lib.Lanes.{put_chunk}
+use Rattle.vcd_body.proofs.Cited.{◌≡◌, ◌+◌, rules, length, get_or, subst, arith, get_or-put_chunk_at, put_chunk}
 use Rattle.vcd_body.proofs.packed.put_few.Goals as goal
 
 pub returns-then-bytes-ge16 : goal.returns-then-bytes-ge16

@@ -1,7 +1,5 @@
-use Rattle.std.proofs.Common.{w8}
-use Rattle.std.proofs.lemmas.Simd.{length-chunk, chunk-fits}
-use lib.Lanes.{chunk}
-use Rattle.vcd_body.proofs.CodeLanes.{codes_of_lanes, places_of_lanes}
+use Rattle.vcd_body.proofs.Cited.{w8, length-chunk, chunk-fits, chunk}
+use Rattle.vcd_body.proofs.Facts.{codes_of_lanes, places_of_lanes}
 use Rattle.vcd_body.proofs.packed.two_bits_16.Goals as goal
 
 pub swizzle : goal.swizzle

@@ -1,9 +1,5 @@
-use Rattle.std.proofs.Common.{◌∷◌, [], None, subst}
-use Rattle.std.proofs.lemmas.Result.{err_from_is_err_and}
-use Rattle.vcd_text.specs.Feed.{token_of}
-use Rattle.vcd_view.specs.Finds.{Finds}
-use Rattle.vcd_body.proofs.TokenLemmas.{refused_at, kept}
-use Rattle.vcd_body.proofs.WholeLemmas.{kept_ahead}
+use Rattle.vcd_body.proofs.Cited.{◌∷◌, [], None, subst, err_from_is_err_and, token_of, Finds}
+use Rattle.vcd_body.proofs.Facts.{refused_at, kept, kept_ahead}
 use Rattle.vcd_body.proofs.phrases.read_code.Goals as goal
 
 pub returns-in_err-next_inner-clause-reads : goal.returns-in_err-next_inner-clause-reads

@@ -1,10 +1,5 @@
-use Rattle.std.proofs.Common.{length, drop, sym, ap, ◌∙◌, arith}
-use Rattle.std.proofs.lemmas.Result.{err_from_is_err_and}
-use Rattle.vcd_model.specs.Reading.{phrases_of}
-use Rattle.vcd_text.specs.Feed.{token_of, value_of}
-use Rattle.vcd_body.proofs.TokenLemmas.{refused_text, opened_text}
-use Rattle.vcd_body.proofs.RegsLemmas.{real_read, real_sound}
-use Rattle.vcd_body.proofs.PhraseLemmas.{number_asks}
+use Rattle.vcd_body.proofs.Cited.{length, drop, sym, ap, ◌∙◌, arith, err_from_is_err_and, phrases_of, token_of, value_of}
+use Rattle.vcd_body.proofs.Facts.{refused_text, opened_text, real_read, real_sound, number_asks}
 use Rattle.vcd_body.proofs.phrases.read_real.Goals as goal
 
 pub real_text-requires : goal.real_text-requires

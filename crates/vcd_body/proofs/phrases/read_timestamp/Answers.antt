@@ -1,11 +1,5 @@
-use Rattle.std.proofs.Common.{◌≤◌, ℕ, drop, subst, sym, ◌∙◌, arith}
-use Rattle.std.proofs.lemmas.Result.{err_from_is_err_and}
-use Rattle.vcd_model.specs.Items.{BodyItem, time_after}
-use Rattle.vcd_model.specs.BodyPhrases.{items_of}
-use Rattle.vcd_body.specs.Items.{RefusesTimestamp}
-use Rattle.vcd_body.specs.Reads.{Passes}
-use Rattle.vcd_body.proofs.FindLemmas.{none_spelled, time_spelled}
-use Rattle.vcd_body.proofs.PhraseLemmas.{bad_time, mark_own, mark_refused, time_passes}
+use Rattle.vcd_body.proofs.Cited.{◌≤◌, ℕ, drop, subst, sym, ◌∙◌, arith, err_from_is_err_and, BodyItem, time_after, items_of, RefusesTimestamp, Passes}
+use Rattle.vcd_body.proofs.Facts.{none_spelled, time_spelled, bad_time, mark_own, mark_refused, time_passes}
 use Rattle.vcd_body.proofs.phrases.read_timestamp.Goals as goal
 
 pub returns-in_default-clause-time : goal.returns-in_default-clause-time

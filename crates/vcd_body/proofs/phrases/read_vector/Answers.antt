@@ -1,14 +1,5 @@
-use Rattle.std.proofs.Common.{◌∷◌, [], true, false, ◌||◌, nat_le, length, drop, sym, ap, subst, ◌∙◌, arith}
-use Rattle.std.specs.List.{list_all}
-use Rattle.std.proofs.lemmas.Result.{err_from_is_err_and}
-use Rattle.vcd_model.specs.BodyPhrases.{is_value_digit}
-use Rattle.vcd_model.specs.Reading.{phrases_of}
-use Rattle.vcd_text.specs.Feed.{token_of, value_of}
-use Rattle.vcd_view.specs.Shown.{parts}
-use Rattle.vcd_body.specs.Changes.{AreBinary}
-use Rattle.vcd_body.proofs.TokenLemmas.{refused_at, refused_text, opened_text}
-use Rattle.vcd_body.proofs.PhraseLemmas.{digits_ask, too_wide}
-use Rattle.vcd_body.proofs.RegsLemmas.{same_room, vector_read, vector_sound}
+use Rattle.vcd_body.proofs.Cited.{◌∷◌, [], true, false, ◌||◌, nat_le, length, drop, sym, ap, subst, ◌∙◌, arith, list_all, err_from_is_err_and, is_value_digit, phrases_of, token_of, value_of, parts, AreBinary}
+use Rattle.vcd_body.proofs.Facts.{refused_at, refused_text, opened_text, digits_ask, too_wide, same_room, vector_read, vector_sound}
 use Rattle.vcd_body.proofs.phrases.read_vector.Goals as goal
 
 pub vector_text-requires : goal.vector_text-requires

@@ -1,6 +1,5 @@
-use Rattle.std.proofs.Common.{◌==◌, length, drop, sym, ap, ◌∙◌, arith}
-use Rattle.vcd_body.proofs.WordLemmas.{filled, empty, some_bytes}
-use Rattle.vcd_body.proofs.PhraseLemmas.{no_number, number_too_long, number_begins}
+use Rattle.vcd_body.proofs.Cited.{◌==◌, length, drop, sym, ap, ◌∙◌, arith}
+use Rattle.vcd_body.proofs.Facts.{filled, empty, some_bytes, no_number, number_too_long, number_begins}
 use Rattle.vcd_body.proofs.phrases.real_text.Goals as goal
 
 pub returns-then-is_empty-clause-opens : goal.returns-then-is_empty-clause-opens

@@ -1,9 +1,5 @@
-use Rattle.std.proofs.Common.{◌==◌, Some, None, drop, length, subst, sym, ap, ◌∙◌}
-use Rattle.vcd_view.specs.Finds.{Finds}
-use Rattle.vcd_body.proofs.WordLemmas.{filled, empty, some_of}
-use Rattle.vcd_body.proofs.PhraseLemmas.{no_code, unknown_code, scalar_passes, first_byte}
-use Rattle.vcd_body.specs.Spelled.{Names}
-use Rattle.vcd_body.proofs.LineLemmas.{found_named}
+use Rattle.vcd_body.proofs.Cited.{◌==◌, Some, None, drop, length, subst, sym, ap, ◌∙◌, Finds, Names}
+use Rattle.vcd_body.proofs.Facts.{filled, empty, some_of, no_code, unknown_code, scalar_passes, first_byte, found_named}
 use Rattle.vcd_body.proofs.phrases.scalar_code.Goals as goal
 
 pub after_first-code-requires : goal.after_first-code-requires

@@ -1,22 +1,6 @@
-use Rattle.vcd_text.proofs.AdvancesLemmas.{advances_on, advances_nowhere}
-use Rattle.std.proofs.Common.{◌≡◌, ℕ, List, ◌∷◌, [], ◌++◌, true, false, refl, sym, ap, subst, ◌∙◌, arith}
+use Rattle.vcd_body.proofs.Cited.{advances_on, advances_nowhere, ◌≡◌, ℕ, List, ◌∷◌, [], ◌++◌, true, false, refl, sym, ap, subst, ◌∙◌, arith, err_from_is_err_and, Keyword, keyword_text, is_end, BodyPhrase, body_grammar, IdCode, Input, Placed, phrases_of, Token, HasGiven, token_of, Ghosts, Feed, NoEnds, PassesWords, texts_of, no_ends_more, words_on, Reads}
+use Rattle.vcd_body.proofs.Facts.{taken, taken_phrase, comment_goes_on, comment_open, comment_whole}
 use Rattle.std.proofs.lemmas.List.{append_assoc}
-use Rattle.std.proofs.lemmas.Result.{err_from_is_err_and}
-use Rattle.vcd_model.specs.Keywords.{Keyword, keyword_text, is_end}
-use Rattle.vcd_model.specs.BodyPhrases.{BodyPhrase}
-use Rattle.vcd_model.specs.BodyReading.{body_grammar}
-use Rattle.vcd_model.specs.Declarations.{IdCode}
-use Rattle.vcd_model.specs.Input.{Input}
-use Rattle.vcd_model.specs.Reading.{Placed, phrases_of}
-use Rattle.vcd_model.specs.Tokens.{Token}
-use Rattle.vcd_text.specs.Feed.{HasGiven, token_of}
-use Rattle.vcd_text.specs.declared.device.Source.{Ghosts}
-use Rattle.vcd_text.specs.declared.feed.Feed.{Feed}
-use Rattle.vcd_view.specs.Keywords.{NoEnds, PassesWords, texts_of}
-use Rattle.vcd_view.proofs.KeywordLemmas.{no_ends_more, words_on}
-use Rattle.vcd_body.specs.Reads.{Reads}
-use Rattle.vcd_body.proofs.TokenLemmas.{taken, taken_phrase}
-use Rattle.vcd_body.proofs.PhraseLemmas.{comment_goes_on, comment_open, comment_whole}
 use Rattle.vcd_body.proofs.phrases.skip_comment.Goals as goal
 
 -- the comment goes on after the words that were passed

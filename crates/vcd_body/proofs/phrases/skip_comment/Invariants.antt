@@ -1,14 +1,4 @@
-use Rattle.std.proofs.Common.{ℕ, ◌-◌, ◌^◌, ◌≤◌, List, [], ◌∷◌}
-use Rattle.vcd_model.specs.Input.{Input}
-use Rattle.vcd_model.specs.Tokens.{Token}
-use Rattle.vcd_model.specs.Keywords.{Keyword, keyword_text}
-use Rattle.vcd_model.specs.Declarations.{IdCode}
-use Rattle.vcd_model.specs.BodyPhrases.{BodyPhrase}
-use Rattle.vcd_model.specs.Reading.{Placed}
-use Rattle.vcd_text.specs.Feed.{seen}
-use Rattle.vcd_view.specs.Keywords.{NoEnds}
-use Rattle.vcd_body.specs.Reads.{Reads}
-use Rattle.vcd_text.specs.Advances.{Advances, CallEnd}
+use Rattle.vcd_body.proofs.Cited.{ℕ, ◌-◌, ◌^◌, ◌≤◌, List, [], ◌∷◌, Input, Token, Keyword, keyword_text, IdCode, BodyPhrase, Placed, seen, NoEnds, Reads, Advances, CallEnd}
 use Rattle.vcd_body.proofs.phrases.skip_comment.Given as goal
 
 abbrev pub invariant-tokens : goal.invariant-tokens

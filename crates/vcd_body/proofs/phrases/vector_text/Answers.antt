@@ -1,10 +1,5 @@
-use Rattle.std.proofs.Common.{◌&&◌, not, sym, ap, ◌∙◌}
-use Rattle.std.specs.List.{list_all}
-use Rattle.std.proofs.lemmas.Bool.{and_parts}
-use Rattle.vcd_model.specs.Bytes.{is_empty}
-use Rattle.vcd_model.specs.BodyPhrases.{is_value_digit}
-use Rattle.vcd_body.proofs.PhraseLemmas.{bad_digits, digits_begin}
-use Rattle.vcd_body.proofs.WordLemmas.{filled_some, some_of}
+use Rattle.vcd_body.proofs.Cited.{◌&&◌, not, sym, ap, ◌∙◌, list_all, and_parts, is_empty, is_value_digit}
+use Rattle.vcd_body.proofs.Facts.{bad_digits, digits_begin, filled_some, some_of}
 use Rattle.vcd_body.proofs.phrases.vector_text.Goals as goal
 
 pub after_first-text-requires : goal.after_first-text-requires

@@ -1,7 +1,5 @@
-use Rattle.std.proofs.Common.{[], ◌∷◌, ◌++◌, sym, ap, ◌∙◌, subst}
-use Rattle.vcd_body.specs.Id.{id_text}
-use Rattle.vcd_text.specs.Device.{Puts}
-use Rattle.vcd_body.proofs.ChangeLine.{bit_line, vector_line}
+use Rattle.vcd_body.proofs.Cited.{[], ◌∷◌, ◌++◌, sym, ap, ◌∙◌, subst, id_text, Puts}
+use Rattle.vcd_body.proofs.Facts.{bit_line, vector_line}
 use Rattle.vcd_body.proofs.put_line.put_line.Goals as goal
 
 pub returns-in-len1 : goal.returns-in-len1

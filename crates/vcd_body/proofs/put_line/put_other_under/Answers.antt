@@ -1,4 +1,4 @@
-use Rattle.std.proofs.Common.{sym}
+use Rattle.vcd_body.proofs.Cited.{sym}
 use Rattle.vcd_body.proofs.put_line.put_other_under.Goals as goal
 
 pub returns-in-Own : goal.returns-in-Own

@@ -1,9 +1,4 @@
-use Rattle.std.proofs.Common.{[], ◌∷◌, ◌++◌, rules}
-use Rattle.std.specs.Str.{str_to_ascii_lowercase}
-use Rattle.std.proofs.lemmas.Result.{err_from_is_err_and}
-use Rattle.vcd_body.specs.Id.{id_text}
-use Rattle.vcd_model.specs.Values.{extend, short}
-use Rattle.vcd_text.proofs.Writes.{appends-first, counted, takes-twice}
+use Rattle.vcd_body.proofs.Cited.{[], ◌∷◌, ◌++◌, rules, str_to_ascii_lowercase, err_from_is_err_and, id_text, extend, short, appends-first, counted, takes-twice}
 use Rattle.vcd_body.proofs.put_line.put_shortened.Goals as goal
 
 pub returns-in_err-put_shortest : goal.returns-in_err-put_shortest

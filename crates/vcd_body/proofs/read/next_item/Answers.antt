@@ -1,7 +1,5 @@
-use Rattle.std.proofs.Common.{refl, ◌∙◌, arith}
-use Rattle.std.proofs.lemmas.Result.{err_from_is_err_and}
-use Rattle.vcd_text.proofs.AdvancesLemmas.{advances_on}
-use Rattle.vcd_body.proofs.WholeLemmas.{still_first}
+use Rattle.vcd_body.proofs.Cited.{refl, ◌∙◌, arith, err_from_is_err_and, advances_on}
+use Rattle.vcd_body.proofs.Facts.{still_first}
 use Rattle.vcd_body.proofs.read.next_item.Goals as goal
 
 pub returns-in-Some-clause-reads : goal.returns-in-Some-clause-reads

@@ -1,15 +1,4 @@
-use Rattle.std.proofs.Common.{◌≡◌, ◌-◌, ◌^◌, ◌≤◌, List}
-use Rattle.vcd_model.specs.Input.{Input}
-use Rattle.vcd_model.specs.Tokens.{Token}
-use Rattle.vcd_model.specs.Header.{Header}
-use Rattle.vcd_model.specs.Items.{BodyItem}
-use Rattle.vcd_text.specs.Ahead.{ahead_of}
-use Rattle.vcd_text.specs.Feed.{limit_of, seen}
-use Rattle.vcd_view.specs.Shown.{parts}
-use Rattle.vcd_view.specs.Views.{Views}
-use Rattle.vcd_body.specs.Reads.{GaveItems}
-use Rattle.vcd_body.specs.Whole.{HoldsItem}
-use Rattle.vcd_text.specs.Advances.{Advances, CallEnd}
+use Rattle.vcd_body.proofs.Cited.{◌≡◌, ◌-◌, ◌^◌, ◌≤◌, List, Input, Token, Header, BodyItem, ahead_of, limit_of, seen, parts, Views, GaveItems, HoldsItem, Advances, CallEnd}
 use Rattle.vcd_body.proofs.read.next_item.Given as goal
 
 abbrev pub invariant-phrases : goal.invariant-phrases

@@ -1,14 +1,6 @@
-use Rattle.std.proofs.Common.{sym, ap, ◌∙◌}
-use Rattle.std.proofs.lemmas.Result.{err_from_is_err_and}
-use Rattle.vcd_model.specs.Keywords.{keyword_of}
-use Rattle.vcd_model.specs.Items.{BodyItem}
-use Rattle.vcd_model.specs.Reading.{phrases_of}
-use Rattle.vcd_text.specs.Feed.{token_of}
-use Rattle.vcd_body.specs.Items.{regs_after, model_section}
+use Rattle.vcd_body.proofs.Cited.{sym, ap, ◌∙◌, err_from_is_err_and, keyword_of, BodyItem, phrases_of, token_of, regs_after, model_section}
+use Rattle.vcd_body.proofs.Facts.{begin_passes, begin_inside, end_passes, end_outside, of_header, no_phrase, own_given, none_given, fault_given, known_so_far, comment_begun, refused_first, known_begin, known_end, not_comment}
 use Rattle.vcd_body.specs.declared.item.Item.TheVariants as item
-use Rattle.vcd_body.proofs.PhraseLemmas.{begin_passes, begin_inside, end_passes, end_outside, of_header, no_phrase}
-use Rattle.vcd_body.proofs.ReadLemmas.{own_given, none_given, fault_given, known_so_far, comment_begun, refused_first, known_begin, known_end}
-use Rattle.vcd_body.proofs.WholeLemmas.{not_comment}
 use Rattle.vcd_body.proofs.read.read_command.Goals as goal
 
 pub returns-in_err-skip_comment-in-Some-Comment-clause-reads : goal.returns-in_err-skip_comment-in-Some-Comment-clause-reads

@@ -1,9 +1,6 @@
-use Rattle.std.proofs.Common.{[], inl, inr, sym, ◌∙◌, rules}
-use Rattle.std.proofs.lemmas.Result.{err_from_is_err_and}
-use Rattle.vcd_model.specs.Reading.{phrases_of}
+use Rattle.vcd_body.proofs.Cited.{[], inl, inr, sym, ◌∙◌, rules, err_from_is_err_and, phrases_of}
+use Rattle.vcd_body.proofs.Facts.{begins_as, first_of_item, scalar_begins}
 use Rattle.vcd_body.proofs.ReadLemmas as given
-use Rattle.vcd_body.proofs.WholeLemmas.{begins_as, first_of_item}
-use Rattle.vcd_body.proofs.WordLemmas.{scalar_begins}
 use Rattle.vcd_body.proofs.read.read_phrase.Goals as goal
 
 pub scalar_code-requires : goal.scalar_code-requires

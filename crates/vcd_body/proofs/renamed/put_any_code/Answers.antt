@@ -1,4 +1,4 @@
-use Rattle.std.proofs.Common.{sym}
+use Rattle.vcd_body.proofs.Cited.{sym}
 use Rattle.vcd_body.proofs.renamed.put_any_code.Goals as goal
 
 pub returns : goal.returns

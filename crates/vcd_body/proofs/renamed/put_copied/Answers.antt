@@ -1,9 +1,5 @@
-use Rattle.std.proofs.Common.{List, ℕ, [], ◌∷◌, ◌+◌, ◌-◌, ◌++◌, ◌∙◌, ap, ap₂, sym, subst, take, arith}
-use Rattle.std.specs.Prelude.{slice_index, slice_range}
-use Rattle.vcd_model.specs.HeadText.{new_code}
-use Rattle.vcd_text.specs.Device.{Puts}
-use Rattle.vcd_body.proofs.LeftOut.{end_is}
-use Rattle.vcd_body.proofs.LineLemmas.{one_byte}
+use Rattle.vcd_body.proofs.Cited.{List, ℕ, [], ◌∷◌, ◌+◌, ◌-◌, ◌++◌, ◌∙◌, ap, ap₂, sym, subst, take, arith, slice_index, slice_range, new_code, Puts}
+use Rattle.vcd_body.proofs.Facts.{end_is, one_byte}
 use Rattle.vcd_body.proofs.renamed.put_copied.Goals as goal
 
 pub returns : goal.returns

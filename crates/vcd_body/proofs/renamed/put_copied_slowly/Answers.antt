@@ -1,8 +1,4 @@
-use Rattle.std.proofs.Common.{[], ◌∷◌, ◌+◌, ◌++◌}
-use Rattle.std.specs.Prelude.{slice_range}
-use Rattle.std.proofs.lemmas.Result.{err_from_is_err_and}
-use Rattle.vcd_model.specs.HeadText.{new_code}
-use Rattle.vcd_text.proofs.Writes.{both-written, puts-twice, some-behind, some-first}
+use Rattle.vcd_body.proofs.Cited.{[], ◌∷◌, ◌+◌, ◌++◌, slice_range, err_from_is_err_and, new_code, both-written, puts-twice, some-behind, some-first}
 use Rattle.vcd_body.proofs.renamed.put_copied_slowly.Goals as goal
 
 pub returns-in_err-put : goal.returns-in_err-put

@@ -1,6 +1,4 @@
-use Rattle.std.proofs.Common.{◌∷◌, ◌++◌, [], sym, ap, subst, ◌∙◌}
-use Rattle.vcd_model.specs.HeadText.{new_code}
-use Rattle.vcd_text.specs.Device.{Puts}
+use Rattle.vcd_body.proofs.Cited.{◌∷◌, ◌++◌, [], sym, ap, subst, ◌∙◌, new_code, Puts}
 use Rattle.vcd_body.proofs.renamed.put_renamed_ahead.Goals as goal
 
 pub returns-in-Some : goal.returns-in-Some

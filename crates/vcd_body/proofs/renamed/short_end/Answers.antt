@@ -1,5 +1,6 @@
-use Rattle.std.proofs.Common.{◌≡◌, ◌+◌, ◌/◌, ◌%◌, refl, sym, arith}
-use Rattle.vcd_body.proofs.RenamedLemmas.{one_digit, two_digits, three_digits}
+use Rattle.vcd_body.proofs.Cited.{◌≡◌, ◌+◌, ◌/◌, ◌%◌, refl, sym, arith}
+use Rattle.vcd_body.proofs.Facts.{two_digits, three_digits}
+use Rattle.vcd_body.proofs.RenamedLemmas.{one_digit}
 use Rattle.vcd_body.proofs.renamed.short_end.Goals as goal
 
 pub returns-then-number-lt94-clause-text : goal.returns-then-number-lt94-clause-text

@@ -1,8 +1,4 @@
-use Rattle.std.proofs.Common.{◌≡◌, ℕ, ◌%◌, ◌==◌, Bool, true, false, cond, get_or, Some, refl, ap, ◌∙◌, arith}
-use Rattle.std.proofs.lemmas.Bool.{agree_below_at, eqb-true}
-use Rattle.vcd_body.specs.Packed.{digit_of}
-use Rattle.vcd_body.specs.Stored.{one_digit, state_in}
-use Rattle.vcd_body.specs.declared.slot.TheConstants.{NUMBERS}
+use Rattle.vcd_body.proofs.Cited.{◌≡◌, ℕ, ◌%◌, ◌==◌, Bool, true, false, cond, get_or, Some, refl, ap, ◌∙◌, arith, agree_below_at, eqb-true, digit_of, one_digit, state_in, NUMBERS}
 use Rattle.vcd_body.proofs.slot.number_of_digit.Goals as goal
 
 -- the number of the state for the lowest four bits of a digit, by tests

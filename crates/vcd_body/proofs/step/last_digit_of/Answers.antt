@@ -1,5 +1,5 @@
-use Rattle.std.proofs.Common.{Some, ap, ◌∙◌}
-use Rattle.vcd_body.proofs.StepLemmas.{last_is}
+use Rattle.vcd_body.proofs.Cited.{Some, ap, ◌∙◌}
+use Rattle.vcd_body.proofs.Facts.{last_is}
 use Rattle.vcd_body.proofs.step.last_digit_of.Goals as goal
 
 pub returns-in_ok-last-in-Scalar : goal.returns-in_ok-last-in-Scalar

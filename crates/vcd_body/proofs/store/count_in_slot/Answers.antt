@@ -1,12 +1,5 @@
-use Rattle.std.proofs.Common.{◌≡◌, ◌==◌, None, Some, ap, get_or, length, sym, ◌∙◌}
-use Rattle.std.specs.Prelude.{option_map}
-use Rattle.std.proofs.lemmas.Option.{slice_get-get_or, slice_get_past}
-use Rattle.vcd_body.specs.Counters.{counts_of}
-use Rattle.vcd_body.specs.Kept.{with_step}
-use Rattle.vcd_body.specs.Steps.{counts_after, with_steps}
-use Rattle.vcd_body.specs.Stored.{end_at, kept_with, whole}
-use Rattle.vcd_body.proofs.FollowLemmas.{change_as}
-use Rattle.vcd_body.proofs.StoreLemmas.{blank, fits_in, no_slot, slot_changes, slot_laid, slot_leaves, some_in, steps_kept}
+use Rattle.vcd_body.proofs.Cited.{◌≡◌, ◌==◌, None, Some, ap, get_or, length, sym, ◌∙◌, option_map, slice_get-get_or, slice_get_past, counts_of, with_step, counts_after, with_steps, end_at, kept_with, whole}
+use Rattle.vcd_body.proofs.Facts.{change_as, blank, fits_in, no_slot, slot_changes, slot_laid, slot_leaves, some_in, steps_kept}
 use Rattle.vcd_body.proofs.store.count_in_slot.Goals as goal
 
 pub returns-clause-counts : goal.returns-clause-counts

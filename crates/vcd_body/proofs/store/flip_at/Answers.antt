@@ -1,10 +1,6 @@
-use Rattle.std.proofs.Common.{◌≡◌, ◌∷◌, [], ◌==◌, ℕ, Some, Bool, cond, get_or, not, refl, subst, sym, ap, ◌∙◌}
-use Rattle.std.proofs.lemmas.Option.{slice_get-get_or}
-use Rattle.vcd_body.specs.Kept.{Held, Kept, with_change, with_held, with_step}
-use Rattle.vcd_body.specs.Steps.{with_steps}
-use Rattle.vcd_body.specs.Stored.{ChangesAt, one_digit}
-use Rattle.vcd_body.proofs.FollowLemmas.{bit_digit, bit_is, change_as, change_twice, digit_there, kept_stays, kept_flips, nothing_changes, other_bit, way_flips}
-use Rattle.vcd_body.proofs.StoreLemmas.{blank}
+use Rattle.vcd_body.proofs.Cited.{◌≡◌, ◌∷◌, [], ◌==◌, ℕ, Some, Bool, cond, get_or, not, refl, subst, sym, ap, ◌∙◌, slice_get-get_or, Held, Kept, with_change, with_held, with_step, with_steps, ChangesAt, one_digit}
+use Rattle.vcd_body.proofs.Facts.{bit_is, change_as, change_twice, digit_there, kept_stays, kept_flips, nothing_changes, other_bit, way_flips, blank}
+use Rattle.vcd_body.proofs.FollowLemmas.{bit_digit}
 use Rattle.vcd_body.proofs.store.flip_at.Goals as goal
 
 -- the same digit

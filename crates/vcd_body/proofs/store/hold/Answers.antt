@@ -1,5 +1,5 @@
-use Rattle.std.proofs.Common.{arith}
-use Rattle.vcd_body.proofs.StoreLemmas.{packed_as}
+use Rattle.vcd_body.proofs.Cited.{arith}
+use Rattle.vcd_body.proofs.Facts.{packed_as}
 use Rattle.vcd_body.proofs.store.hold.Goals as goal
 
 pub returns-in_default : goal.returns-in_default

@@ -1,7 +1,5 @@
-use Rattle.std.proofs.Common.{ap, ◌∙◌, ℕ, ◌%◌, ◌/◌}
-use Rattle.vcd_body.specs.Stored.{len_in, set_whole, state_in, whole}
-use Rattle.vcd_body.specs.declared.slot.State.{State}
-use Rattle.vcd_body.proofs.StoreLemmas.{len_told, told_state}
+use Rattle.vcd_body.proofs.Cited.{ap, ◌∙◌, ℕ, ◌%◌, ◌/◌, len_in, set_whole, state_in, whole, State}
+use Rattle.vcd_body.proofs.Facts.{len_told, told_state}
 use Rattle.vcd_body.proofs.store.hold_text.Goals as goal
 
 pub returns : goal.returns

@@ -1,8 +1,5 @@
-use Rattle.std.proofs.Common.{get_or, false, ◌∙◌, arith}
-use Rattle.std.proofs.Math.ListN.{length-set}
-use Rattle.std.proofs.lemmas.Option.{slice_get-get_or, slice_get_within}
-use Rattle.vcd_view.specs.declared.view.Code.{Code}
-use Rattle.vcd_body.proofs.LayoutLemmas.{laid_more, start_next, unset_more}
+use Rattle.vcd_body.proofs.Cited.{get_or, false, ◌∙◌, arith, length-set, slice_get-get_or, slice_get_within, Code}
+use Rattle.vcd_body.proofs.Facts.{laid_more, start_next, unset_more}
 use Rattle.vcd_body.proofs.store.lay_out.Goals as goal
 
 pub loop-index-preserved : goal.loop-index-preserved

@@ -1,10 +1,5 @@
-use Rattle.std.proofs.Common.{ap, subst, sym, get_or, arith, ◌≤◌, ◌∙◌}
-use Rattle.std.proofs.lemmas.Option.{slice_get-get_or}
-use Rattle.vcd_body.specs.Kept.{with_number}
-use Rattle.vcd_body.specs.Stored.{kept_with, len_in, set_whole, some_by, used_by, whole}
-use Rattle.vcd_body.specs.declared.slot.State.{State}
-use Rattle.vcd_body.proofs.NumberLemmas.{bits_kept, bits_some}
-use Rattle.vcd_body.proofs.StoreLemmas.{blank, fits_in, no_slot_there, slot_changes, slot_laid}
+use Rattle.vcd_body.proofs.Cited.{ap, subst, sym, get_or, arith, ◌≤◌, ◌∙◌, slice_get-get_or, with_number, kept_with, len_in, set_whole, some_by, used_by, whole, State}
+use Rattle.vcd_body.proofs.Facts.{bits_kept, bits_some, blank, fits_in, no_slot_there, slot_changes, slot_laid}
 use Rattle.vcd_body.proofs.store.set_bits.Goals as goal
 
 pub returns-then-code-slots-clause-changes : goal.returns-then-code-slots-clause-changes

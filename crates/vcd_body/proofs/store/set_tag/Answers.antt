@@ -1,8 +1,5 @@
-use Rattle.std.proofs.Common.{◌∷◌, [], get_or, arith}
-use Rattle.std.proofs.lemmas.Option.{slice_get-get_or}
-use Rattle.vcd_body.specs.Kept.{Held, with_held}
-use Rattle.vcd_body.specs.Stored.{len_in, state_in, whole}
-use Rattle.vcd_body.proofs.StoreLemmas.{blank, digit_kept, fits_in, no_slot_there, slot_changes, slot_laid, used_none}
+use Rattle.vcd_body.proofs.Cited.{◌∷◌, [], get_or, arith, slice_get-get_or, Held, with_held, len_in, state_in, whole}
+use Rattle.vcd_body.proofs.Facts.{blank, digit_kept, fits_in, no_slot_there, slot_changes, slot_laid, used_none}
 use Rattle.vcd_body.proofs.store.set_tag.Goals as goal
 
 pub returns-then-code-slots-clause-changes : goal.returns-then-code-slots-clause-changes

@@ -1,14 +1,5 @@
-use Rattle.std.proofs.Common.{◌≡◌, ◌==◌, Bool, List, Some, ap, arith, cond, get_or, not, refl, subst, sym, ◌∙◌}
-use Rattle.std.proofs.lemmas.Bool.{eq-eqb, ne_eqb}
-use Rattle.vcd_body.specs.Binary.{number_in}
-use Rattle.std.proofs.lemmas.Option.{slice_get-get_or}
-use Rattle.vcd_body.specs.Kept.{Kept, with_number, with_number_change, with_step}
-use Rattle.vcd_body.specs.Steps.{with_steps}
-use Rattle.vcd_body.specs.Stored.{ChangesAt, kept_in}
-use Rattle.vcd_body.specs.declared.slot.Slot.{Slot}
-use Rattle.vcd_body.specs.declared.step.Step.{Step}
-use Rattle.vcd_body.proofs.FollowLemmas.{change_as, change_twice, kept_steps}
-use Rattle.vcd_body.proofs.StoreLemmas.{blank}
+use Rattle.vcd_body.proofs.Cited.{◌≡◌, ◌==◌, Bool, List, Some, ap, arith, cond, get_or, not, refl, subst, sym, ◌∙◌, eq-eqb, ne_eqb, number_in, slice_get-get_or, Kept, with_number, with_number_change, with_step, with_steps, ChangesAt, kept_in, Slot, Step}
+use Rattle.vcd_body.proofs.Facts.{change_as, change_twice, kept_steps, blank}
 use Rattle.vcd_body.proofs.store.step_at.Goals as goal
 use Rattle.vcd_body.proofs.store.step_at.Goals.{then-before-bits-via-then-before-bits, then-before-bits-via-else-before-bits+then-count_in_slot}
 

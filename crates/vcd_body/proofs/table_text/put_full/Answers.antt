@@ -1,9 +1,5 @@
-use Rattle.std.proofs.Common.{Option, sym, ap, ◌∙◌, subst}
-use Rattle.vcd_model.specs.Sample.{shown}
-use Rattle.vcd_model.specs.Values.{Value}
-use Rattle.vcd_text.specs.Device.{Takes}
-use Rattle.vcd_body.specs.Kept.{Held, value_at_size}
-use Rattle.vcd_body.proofs.TableLemmas.{value_there}
+use Rattle.vcd_body.proofs.Cited.{Option, sym, ap, ◌∙◌, subst, shown, Value, Takes, Held, value_at_size}
+use Rattle.vcd_body.proofs.Facts.{value_there}
 use Rattle.vcd_body.proofs.table_text.put_full.Goals as goal
 
 pub returns-in_default-held-clause-takes : goal.returns-in_default-held-clause-takes

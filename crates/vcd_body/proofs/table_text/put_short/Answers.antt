@@ -1,10 +1,5 @@
-use Rattle.std.proofs.Common.{List, ℕ, sym, ap, ◌∙◌, subst}
-use Rattle.vcd_model.specs.Cut.{line_if_set}
-use Rattle.vcd_text.specs.Device.{Takes}
-use Rattle.vcd_body.specs.Contents.{shown_code}
-use Rattle.vcd_body.specs.Held.{held_in}
-use Rattle.vcd_body.specs.Kept.{Held, value_at_size}
-use Rattle.vcd_body.proofs.TableLemmas.{line_there}
+use Rattle.vcd_body.proofs.Cited.{List, ℕ, sym, ap, ◌∙◌, subst, line_if_set, Takes, shown_code, held_in, Held, value_at_size}
+use Rattle.vcd_body.proofs.Facts.{line_there}
 use Rattle.vcd_body.proofs.table_text.put_short.Goals as goal
 
 pub returns-clause-takes : goal.returns-clause-takes

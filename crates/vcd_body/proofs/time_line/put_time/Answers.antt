@@ -1,8 +1,4 @@
-use Rattle.std.proofs.Common.{◌≡◌, ◌-◌, ◌++◌, ◌∷◌, ◌∙◌, [], ap, subst, take, drop, decimal, arith, rules}
-use Rattle.std.specs.Prelude.{slice_range}
-use Rattle.std.proofs.lemmas.Fmt.{length-decimal-le}
-use Rattle.std.proofs.lemmas.List.{take-take, take_at}
-use Rattle.vcd_text.specs.Device.{Puts}
+use Rattle.vcd_body.proofs.Cited.{◌≡◌, ◌-◌, ◌++◌, ◌∷◌, ◌∙◌, [], ap, subst, take, drop, decimal, arith, rules, slice_range, length-decimal-le, take-take, take_at, Puts}
 use Rattle.vcd_body.proofs.time_line.put_time.Goals as goal
 
 pub write_digits-start-requires : goal.write_digits-start-requires

@@ -1,7 +1,5 @@
-use Rattle.std.proofs.Common.{◌∷◌, None, refl}
-use Rattle.std.proofs.lemmas.Result.{err_from_is_err_and}
-use Rattle.vcd_text.specs.Feed.{limit_of, token_of}
-use Rattle.vcd_body.proofs.TokenLemmas.{cut_short, stopped_at_end}
+use Rattle.vcd_body.proofs.Cited.{◌∷◌, None, refl, err_from_is_err_and, limit_of, token_of}
+use Rattle.vcd_body.proofs.Facts.{cut_short, stopped_at_end}
 use Rattle.vcd_body.proofs.tokens.next_inner.Goals as goal
 
 pub returns-in_err-next_token-clause-reads : goal.returns-in_err-next_token-clause-reads

@@ -1,7 +1,5 @@
-use Rattle.std.proofs.Common.{◌++◌, refl}
-use Rattle.vcd_text.specs.Answer.{failed_after}
-use Rattle.vcd_text.specs.Feed.{seen, limit_of}
-use Rattle.vcd_body.proofs.TokenLemmas.{halted_at}
+use Rattle.vcd_body.proofs.Cited.{◌++◌, refl, failed_after, seen, limit_of}
+use Rattle.vcd_body.proofs.Facts.{halted_at}
 use Rattle.vcd_body.proofs.tokens.next_token.Goals as goal
 
 pub returns-in-Err-TokenTooLong-clause-reads : goal.returns-in-Err-TokenTooLong-clause-reads

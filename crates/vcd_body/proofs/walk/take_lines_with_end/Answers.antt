@@ -1,6 +1,5 @@
-use Rattle.std.proofs.Common.{◌≡◌, ◌∙◌, Ok, ap, false, length, rules, sym, arith}
-use Rattle.vcd_body.proofs.CommentLemmas.{same_place}
-use Rattle.vcd_body.proofs.WalkLemmas.{come_begins, come_on, come_past, walks_further}
+use Rattle.vcd_body.proofs.Cited.{◌≡◌, ◌∙◌, Ok, ap, false, length, rules, sym, arith}
+use Rattle.vcd_body.proofs.Facts.{same_place, come_begins, come_on, come_past, walks_further}
 use Rattle.vcd_body.proofs.walk.take_lines_with_end.Goals as goal
 
 pub returns-then-is_empty : goal.returns-then-is_empty

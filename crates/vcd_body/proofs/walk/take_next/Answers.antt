@@ -1,6 +1,5 @@
-use Rattle.std.proofs.Common.{◌≡◌, None, false, rules}
-use Rattle.vcd_body.specs.Walk.{TakesOne, as_done, stage_at}
-use Rattle.vcd_body.proofs.WalkLemmas.{and_done, one_taken, stands_there}
+use Rattle.vcd_body.proofs.Cited.{◌≡◌, None, false, rules, TakesOne, as_done, stage_at}
+use Rattle.vcd_body.proofs.Facts.{and_done, one_taken, stands_there}
 use Rattle.vcd_body.proofs.walk.take_next.Goals as goal
 use Rattle.vcd_body.proofs.walk.take_next.Goals.{in-Bit+in_ok-change-in-Bit, in-Vector+in_ok-tokens-in-Vector+in_ok-taken-in-Vector, in-Real+in_ok-change-in-Real}
 

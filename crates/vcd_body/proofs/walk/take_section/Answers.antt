@@ -1,5 +1,5 @@
-use Rattle.std.proofs.Common.{Err, Ok}
-use Rattle.vcd_body.proofs.WalkLemmas.{one_taken, stands_there}
+use Rattle.vcd_body.proofs.Cited.{Err, Ok}
+use Rattle.vcd_body.proofs.Facts.{one_taken, stands_there}
 use Rattle.vcd_body.proofs.walk.take_section.Goals as goal
 
 pub take_section-requires-clause-item : goal.take_section-requires-clause-item

@@ -1,4 +1,4 @@
-use Rattle.vcd_body.proofs.WalkLemmas.{one_taken, stands_there}
+use Rattle.vcd_body.proofs.Facts.{one_taken, stands_there}
 use Rattle.vcd_body.proofs.walk.take_short.Goals as goal
 
 pub take_change-requires-clause-item : goal.take_change-requires-clause-item

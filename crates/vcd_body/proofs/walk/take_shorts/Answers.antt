@@ -1,5 +1,5 @@
-use Rattle.std.proofs.Common.{◌∙◌}
-use Rattle.vcd_body.proofs.WalkLemmas.{come_begins, come_on}
+use Rattle.vcd_body.proofs.Cited.{◌∙◌}
+use Rattle.vcd_body.proofs.Facts.{come_begins, come_on}
 use Rattle.vcd_body.proofs.walk.take_shorts.Goals as goal
 
 pub items-init : goal.items-init

@@ -1,5 +1,5 @@
-use Rattle.std.proofs.Common.{Ok, refl}
-use Rattle.vcd_body.proofs.WalkLemmas.{one_taken, stands_there}
+use Rattle.vcd_body.proofs.Cited.{Ok, refl}
+use Rattle.vcd_body.proofs.Facts.{one_taken, stands_there}
 use Rattle.vcd_body.proofs.walk.take_timestamp.Goals as goal
 
 pub take_timestamp-requires-clause-item : goal.take_timestamp-requires-clause-item

@@ -1,4 +1,4 @@
-use Rattle.vcd_body.proofs.WalkLemmas.{one_taken, stands_there}
+use Rattle.vcd_body.proofs.Facts.{one_taken, stands_there}
 use Rattle.vcd_body.proofs.walk.take_vector.Goals as goal
 
 pub vector_ahead-requires-clause-opens : goal.vector_ahead-requires-clause-opens

@@ -1,6 +1,5 @@
-use Rattle.std.proofs.Common.{◌≡◌, Ok, false, rules}
-use Rattle.vcd_body.specs.Walk.{HasCome, Stage, stage_at}
-use Rattle.vcd_body.proofs.WalkLemmas.{come_begins, come_past, walks_further}
+use Rattle.vcd_body.proofs.Cited.{◌≡◌, Ok, false, rules, HasCome, Stage, stage_at}
+use Rattle.vcd_body.proofs.Facts.{come_begins, come_past, walks_further}
 use Rattle.vcd_body.proofs.walk.walk_ahead.Given.{Over}
 use Rattle.vcd_body.proofs.walk.walk_ahead.Goals as goal
 use Rattle.vcd_body.proofs.walk.walk_ahead.Goals.{After-passed, After-walk_items-items, then-at_lines+else-not-can_go_on, else-at_lines, then-lines_next, else-lines_next}

@@ -1,6 +1,4 @@
-use Rattle.std.proofs.Common.{◌≡◌, ◌-◌, true, false, length}
-use Rattle.vcd_text.specs.Ahead.{bytes_of, passed_of}
-use Rattle.vcd_body.specs.Walk.{HasCome, stage_at}
+use Rattle.vcd_body.proofs.Cited.{◌≡◌, ◌-◌, true, false, length, bytes_of, passed_of, HasCome, stage_at}
 use Rattle.vcd_body.proofs.walk.walk_ahead.Given as goal
 
 abbrev pub invariant-parts : goal.invariant-parts

@@ -1,7 +1,5 @@
-use Rattle.std.proofs.Common.{◌∙◌, sym}
-use Rattle.vcd_body.specs.Walk.{HasCome, stage_at}
-use Rattle.vcd_body.proofs.CommentLemmas.{same_place}
-use Rattle.vcd_body.proofs.WalkLemmas.{come_begins, come_on, come_past}
+use Rattle.vcd_body.proofs.Cited.{◌∙◌, sym, HasCome, stage_at}
+use Rattle.vcd_body.proofs.Facts.{same_place, come_begins, come_on, come_past}
 use Rattle.vcd_body.proofs.walk.walk_items.Goals as goal
 
 pub items-init : goal.items-init

@@ -1,6 +1,4 @@
-use Rattle.std.proofs.Common.{◌-◌, length}
-use Rattle.vcd_text.specs.Ahead.{bytes_of, passed_of}
-use Rattle.vcd_body.specs.Walk.{HasCome, stage_at}
+use Rattle.vcd_body.proofs.Cited.{◌-◌, length, bytes_of, passed_of, HasCome, stage_at}
 use Rattle.vcd_body.proofs.walk.walk_items.Given as goal
 
 abbrev pub invariant-items : goal.invariant-items

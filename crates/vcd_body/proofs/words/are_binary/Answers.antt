@@ -1,8 +1,5 @@
-use Rattle.std.proofs.Common.{rules}
-use Rattle.std.proofs.lemmas.Bool.{eqb-true}
-use Rattle.std.proofs.lemmas.Nat.Bits.{bit_at-zero}
-use Rattle.vcd_body.specs.Changes.{IsBinaryAt}
-use Rattle.vcd_body.proofs.WordLemmas.{in_block}
+use Rattle.vcd_body.proofs.Cited.{rules, eqb-true, bit_at-zero, IsBinaryAt}
+use Rattle.vcd_body.proofs.Facts.{in_block}
 use Rattle.vcd_body.proofs.words.are_binary.Goals as goal
 
 pub returns : goal.returns

@@ -1,6 +1,5 @@
-use Rattle.std.proofs.Common.{arith}
-use Rattle.std.proofs.lemmas.Bool.{eqb-true}
-use Rattle.vcd_body.proofs.WordLemmas.{low_clear}
+use Rattle.vcd_body.proofs.Cited.{arith, eqb-true}
+use Rattle.vcd_body.proofs.Facts.{low_clear}
 use Rattle.vcd_body.proofs.words.are_binary_at.Goals as goal
 
 pub returns-clause-digits : goal.returns-clause-digits

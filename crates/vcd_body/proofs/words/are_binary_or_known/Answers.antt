@@ -1,5 +1,5 @@
-use Rattle.std.proofs.Common.{sym, ◌∙◌}
-use Rattle.vcd_body.proofs.WordLemmas.{known_binary}
+use Rattle.vcd_body.proofs.Cited.{sym, ◌∙◌}
+use Rattle.vcd_body.proofs.Facts.{known_binary}
 use Rattle.vcd_body.proofs.words.are_binary_or_known.Goals as goal
 
 pub returns-then-is_some : goal.returns-then-is_some

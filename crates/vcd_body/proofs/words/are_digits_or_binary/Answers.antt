@@ -1,7 +1,5 @@
-use Rattle.std.proofs.Common.{◌&&◌, not, sym, ap, ◌∙◌}
-use Rattle.std.specs.List.{list_all}
-use Rattle.vcd_model.specs.BodyPhrases.{is_value_digit}
-use Rattle.vcd_body.proofs.WordLemmas.{all_binary, filled}
+use Rattle.vcd_body.proofs.Cited.{◌&&◌, not, sym, ap, ◌∙◌, list_all, is_value_digit}
+use Rattle.vcd_body.proofs.Facts.{all_binary, filled}
 use Rattle.vcd_body.proofs.words.are_digits_or_binary.Goals as goal
 
 pub returns-then-binary : goal.returns-then-binary

@@ -1,7 +1,5 @@
-use Rattle.std.proofs.Common.{◌≡◌, ◌≤◌, ◌<◌, inl, inr, length, get_or, subst, arith}
-use Rattle.std.proofs.lemmas.Bool.{cases_lt}
-use Rattle.vcd_body.specs.Changes.{IsBinaryAt}
-use Rattle.vcd_body.proofs.WordLemmas.{two_of}
+use Rattle.vcd_body.proofs.Cited.{◌≡◌, ◌≤◌, ◌<◌, inl, inr, length, get_or, subst, arith, cases_lt, IsBinaryAt}
+use Rattle.vcd_body.proofs.Facts.{two_of}
 use Rattle.vcd_body.proofs.words.are_few_binary.Goals.{then-largest-above, else-largest-above}
 use Rattle.vcd_body.proofs.words.are_few_binary.Goals as goal
 

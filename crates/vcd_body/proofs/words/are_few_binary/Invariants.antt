@@ -1,5 +1,4 @@
-use Rattle.std.proofs.Common.{ℕ, ◌≤◌, ◌<◌}
-use Rattle.vcd_body.specs.Changes.{IsBinaryAt}
+use Rattle.vcd_body.proofs.Cited.{ℕ, ◌≤◌, ◌<◌, IsBinaryAt}
 use Rattle.vcd_body.proofs.words.are_few_binary.Given as goal
 
 abbrev pub invariant-loop-digit : goal.invariant-loop-digit

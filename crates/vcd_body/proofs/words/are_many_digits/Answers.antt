@@ -1,9 +1,5 @@
-use Rattle.std.proofs.Common.{rules}
-use Rattle.std.proofs.lemmas.Bool.{eqb-true}
-use Rattle.std.proofs.lemmas.Nat.Bits.{bit_at-zero}
-use Rattle.vcd_model.specs.BodyPhrases.{is_value_digit}
-use Rattle.vcd_body.specs.Changes.{IsDigitAt}
-use Rattle.vcd_body.proofs.WordLemmas.{all_by_place, in_block}
+use Rattle.vcd_body.proofs.Cited.{rules, eqb-true, bit_at-zero, is_value_digit, IsDigitAt}
+use Rattle.vcd_body.proofs.Facts.{all_by_place, in_block}
 use Rattle.vcd_body.proofs.words.are_many_digits.Goals as goal
 
 pub returns-then-digits-ge32 : goal.returns-then-digits-ge32

@@ -1,4 +1,4 @@
-use Rattle.vcd_body.proofs.OnesLemmas.{written}
+use Rattle.vcd_body.proofs.Facts.{written}
 use Rattle.vcd_body.proofs.words.bits_at.Goals as goal
 
 pub returns-then-are_binary_at : goal.returns-then-are_binary_at

@@ -1,7 +1,5 @@
-use Rattle.std.proofs.Common.{◌≡◌, arith, w64, subst}
-use Rattle.std.specs.Int.{bit_at}
-use Rattle.std.proofs.lemmas.Nat.Bits.{bit_at-trailing_zeros}
-use Rattle.vcd_body.proofs.WordLemmas.{no_bits}
+use Rattle.vcd_body.proofs.Cited.{◌≡◌, arith, w64, subst, bit_at, bit_at-trailing_zeros}
+use Rattle.vcd_body.proofs.Facts.{no_bits}
 use Rattle.vcd_body.proofs.words.clear_bits.Goals as goal
 
 pub returns-then-mask-eq0-clause-clear : goal.returns-then-mask-eq0-clause-clear

@@ -1,5 +1,4 @@
-use Rattle.std.proofs.Common.{◌-◌, inl, inr, subst, arith}
-use Rattle.std.proofs.lemmas.Bool.{cases_lt}
+use Rattle.vcd_body.proofs.Cited.{◌-◌, inl, inr, subst, arith, cases_lt}
 use Rattle.vcd_body.proofs.words.first_marked.Goals as goal
 
 pub loop-at-preserved : goal.loop-at-preserved

@@ -1,5 +1,4 @@
-use Rattle.std.proofs.Common.{◌-◌, ◌<◌, ℕ}
-use Rattle.vcd_body.specs.Words.{InClear}
+use Rattle.vcd_body.proofs.Cited.{◌-◌, ◌<◌, ℕ, InClear}
 use Rattle.vcd_body.proofs.words.first_marked.Given as goal
 
 abbrev pub invariant-loop-at : goal.invariant-loop-at

@@ -1,7 +1,5 @@
-use Rattle.std.proofs.Common.{◌≡◌, Some, rules}
-use Rattle.vcd_model.specs.Keywords.{keyword_of}
-use Rattle.vcd_view.specs.Keywords.{model_keyword}
-use Rattle.vcd_body.proofs.WordLemmas.{stands_for}
+use Rattle.vcd_body.proofs.Cited.{◌≡◌, Some, rules, keyword_of, model_keyword}
+use Rattle.vcd_body.proofs.Facts.{stands_for}
 use Rattle.vcd_body.proofs.words.keyword_use_of.Goals as goal
 
 pub returns : goal.returns

@@ -1,6 +1,4 @@
-use Rattle.std.proofs.Common.{List, ℕ, sym, subst}
-use Rattle.std.specs.List.{IsFirstAndRest}
-use Rattle.vcd_body.specs.Words.{Begins}
+use Rattle.vcd_body.proofs.Cited.{List, ℕ, sym, subst, IsFirstAndRest, Begins}
 use Rattle.vcd_body.proofs.words.kind_of.Goals as goal
 
 pub returns-in-Some : goal.returns-in-Some

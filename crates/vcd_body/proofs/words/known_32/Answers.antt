@@ -1,7 +1,5 @@
-use Rattle.std.proofs.Common.{arith, refl, w8}
-use Rattle.std.proofs.lemmas.Simd.{length-chunk, chunk-fits, zip2_of_maps, zip2_splat, splat_is_map}
-use lib.Lanes.{chunk}
-use Rattle.vcd_body.proofs.WordLemmas.{known_tell}
+use Rattle.vcd_body.proofs.Cited.{arith, refl, w8, length-chunk, chunk-fits, zip2_of_maps, zip2_splat, splat_is_map, chunk}
+use Rattle.vcd_body.proofs.Facts.{known_tell}
 use Rattle.vcd_body.proofs.words.known_32.Goals as goal
 
 pub returns : goal.returns

@@ -1,7 +1,5 @@
-use Rattle.std.proofs.Common.{arith, refl, w8}
-use Rattle.std.proofs.lemmas.Simd.{length-chunk, chunk-fits, zip2_of_maps, zip2_splat, splat_is_map}
-use lib.Lanes.{chunk}
-use Rattle.vcd_body.proofs.WordLemmas.{others_tell, others_bits}
+use Rattle.vcd_body.proofs.Cited.{arith, refl, w8, length-chunk, chunk-fits, zip2_of_maps, zip2_splat, splat_is_map, chunk}
+use Rattle.vcd_body.proofs.Facts.{others_tell, others_bits}
 use Rattle.vcd_body.proofs.words.nonbinary_32.Goals as goal
 
 pub returns-clause-digits : goal.returns-clause-digits

@@ -1,5 +1,5 @@
-use Rattle.std.proofs.Common.{inl, inr}
-use Rattle.vcd_body.proofs.WordLemmas.{none_of_two}
+use Rattle.vcd_body.proofs.Cited.{inl, inr}
+use Rattle.vcd_body.proofs.Facts.{none_of_two}
 use Rattle.vcd_body.proofs.words.nondigits_32.Goals as goal
 
 pub returns : goal.returns

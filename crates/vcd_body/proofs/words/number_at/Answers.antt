@@ -1,5 +1,5 @@
-use Rattle.std.proofs.Common.{◌∙◌, arith}
-use Rattle.vcd_body.proofs.OnesLemmas.{front_bit, front_fits}
+use Rattle.vcd_body.proofs.Cited.{◌∙◌, arith}
+use Rattle.vcd_body.proofs.Facts.{front_bit, front_fits}
 use Rattle.vcd_body.proofs.words.number_at.Goals as goal
 
 pub returns-clause-fits : goal.returns-clause-fits

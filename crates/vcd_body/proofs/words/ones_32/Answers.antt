@@ -1,8 +1,5 @@
-use Rattle.std.proofs.Common.{◌∙◌, ap}
-use Rattle.std.proofs.lemmas.Simd.{get_or-chunk, length-chunk}
-use lib.Lanes.{chunk}
-use Rattle.vcd_body.specs.Binary.{bit_of}
-use Rattle.vcd_body.proofs.OnesLemmas.{ones_bits, ones_few}
+use Rattle.vcd_body.proofs.Cited.{◌∙◌, ap, get_or-chunk, length-chunk, chunk, bit_of}
+use Rattle.vcd_body.proofs.Facts.{ones_bits, ones_few}
 use Rattle.vcd_body.proofs.words.ones_32.Goals as goal
 
 pub returns-clause-few : goal.returns-clause-few

@@ -1,5 +1,5 @@
-use Rattle.std.proofs.Common.{arith}
-use Rattle.vcd_body.proofs.OtherBytes.{clear_is, others_bit, set_is}
+use Rattle.vcd_body.proofs.Cited.{arith}
+use Rattle.vcd_body.proofs.Facts.{clear_is, others_bit, set_is}
 use Rattle.vcd_body.proofs.words.others_64.Goals as goal
 
 pub returns-clause-same : goal.returns-clause-same

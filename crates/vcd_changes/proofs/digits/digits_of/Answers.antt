@@ -1,9 +1,5 @@
-use Rattle.std.proofs.Common.{◌≡◌, ◌∙◌, ◌+◌, ◌*◌, ◌<◌, ℕ, List, cond, length, take, get_or, ap, refl, sym, arith}
-use Rattle.std.proofs.lemmas.List.{take_all}
-use Rattle.vcd_model.specs.Values.{extend}
-use Rattle.vcd_changes.specs.Digits.{digits_in, is_known, is_one, number_where}
-use Rattle.vcd_changes.specs.declared.digits.Digits.{Digits}
-use Rattle.vcd_changes.proofs.DigitLemmas.{number_one_more, ones_extended, room_for_one}
+use Rattle.vcd_changes.proofs.Cited.{◌≡◌, ◌∙◌, ◌+◌, ◌*◌, ◌<◌, ℕ, List, cond, length, take, get_or, ap, refl, sym, arith, take_all, extend, digits_in, is_known, is_one, number_where, Digits}
+use Rattle.vcd_changes.proofs.Facts.{number_one_more, ones_extended, room_for_one}
 use Rattle.vcd_changes.proofs.digits.digits_of.Goals as goal
 
 both : (v k v' k' : ℕ) → v ≡ v' → k ≡ k' → ◌≡◌ {A = Digits} (record { value = v; known = k }) (record { value = v'; known = k' })

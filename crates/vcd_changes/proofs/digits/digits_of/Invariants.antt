@@ -1,5 +1,4 @@
-use Rattle.std.proofs.Common.{◌≡◌, take}
-use Rattle.vcd_changes.specs.Digits.{is_known, is_one, number_where}
+use Rattle.vcd_changes.proofs.Cited.{◌≡◌, take, is_known, is_one, number_where}
 use Rattle.vcd_changes.proofs.digits.digits_of.Given as goal
 
 -- the numbers of the digits before this index

@@ -1,6 +1,5 @@
-use Rattle.std.proofs.Common.{◌+◌, ◌^◌, ◌<◌, sym, arith}
-use Rattle.vcd_changes.specs.Digits.{is_known}
-use Rattle.vcd_changes.proofs.DigitLemmas.{fits_extended, number_extended}
+use Rattle.vcd_changes.proofs.Cited.{◌+◌, ◌^◌, ◌<◌, sym, arith, is_known}
+use Rattle.vcd_changes.proofs.Facts.{fits_extended, number_extended}
 use Rattle.vcd_changes.proofs.digits.known_in_all.Goals as goal
 
 pub overflow_add-result : goal.overflow_add-result

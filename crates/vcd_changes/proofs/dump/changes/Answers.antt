@@ -1,5 +1,5 @@
-use Rattle.std.proofs.Common.{◌≡◌, ◌⊎◌, inl, inr, arith}
-use Rattle.vcd_changes.proofs.LowerLemmas.{finds_more, goes_on_lower}
+use Rattle.vcd_changes.proofs.Cited.{◌≡◌, ◌⊎◌, inl, inr, arith}
+use Rattle.vcd_changes.proofs.Facts.{finds_more, goes_on_lower}
 use Rattle.vcd_changes.proofs.dump.changes.Goals as goal
 use Rattle.vcd_changes.proofs.dump.changes.Goals.{else-before-ne0-via-then-before-ne0+else-before, else-before-ne0-via-else-before-ne0}
 

@@ -1,23 +1,8 @@
-use Rattle.std.proofs.Common.{◌≡◌, ◌∙◌, ◌++◌, ℕ, List, [], Result, Err, Some, ap, arith, false, inl, inr, length, refl, subst, sym, true}
-use Rattle.vcd_text.specs.Answer.{whole}
-use Rattle.vcd_text.specs.Feed.{HasGivenTo, limit_of, token_of}
+use Rattle.vcd_changes.proofs.Cited.{◌≡◌, ◌∙◌, ◌++◌, ℕ, List, [], Result, Err, Some, ap, arith, false, inl, inr, length, refl, subst, sym, true, whole, HasGivenTo, limit_of, token_of, HeadFault, Head, HasFault, Views, header_of, phrases_of, gave_nothing, GaveItems, Regs, FindsUnder}
+use Rattle.vcd_changes.proofs.Facts.{codes_in, finds_for, goes_behind, has_codes, none_before, head_fault_is, some_fault, found_text, goes_on, has_not_failed}
 use Rattle.vcd_head.specs.Fault.{fault_number}
-use Rattle.vcd_head.specs.declared.fault.HeadFault.{HeadFault}
 use Rattle.vcd_head.specs.declared.fault.HeadFault.TheVariants.{ReadFailed}
-use Rattle.vcd_head.specs.declared.head.Head.{Head}
-use Rattle.vcd_head.specs.Reads.{HasFault}
 use Rattle.vcd_head.specs.ViewShown.{HeadShown}
-use Rattle.vcd_head.specs.Views.{Views}
-use Rattle.vcd_model.specs.Header.{header_of}
-use Rattle.vcd_model.specs.Reading.{phrases_of}
-use Rattle.vcd_body.proofs.CallerLemmas.{gave_nothing}
-use Rattle.vcd_body.specs.Reads.{GaveItems}
-use Rattle.vcd_body.specs.declared.item.Regs.{Regs}
-use Rattle.vcd_changes.specs.Reading.{FindsUnder}
-use Rattle.vcd_changes.proofs.DumpLemmas.{codes_in, finds_for, goes_behind, has_codes, none_before}
-use Rattle.vcd_changes.proofs.FaultLemmas.{head_fault_is, some_fault}
-use Rattle.vcd_changes.proofs.HeaderLemmas.{found_text}
-use Rattle.vcd_changes.proofs.PlaceLemmas.{goes_on, has_not_failed}
 use Rattle.vcd_changes.proofs.dump.read_changes.Goals as goal
 
 apart : false ≡ true → ⊥

@@ -1,12 +1,5 @@
-use Rattle.std.proofs.Common.{◌≡◌, ◌∙◌, ◌++◌, ℕ, Some, Err, ap, arith, inl, inr, refl, subst}
-use Rattle.vcd_text.specs.Answer.{whole}
-use Rattle.vcd_text.specs.Feed.{chunk_len_of, limit_of, token_of}
-use Rattle.vcd_body.specs.Fault.{call_end, fault_number}
-use Rattle.vcd_body.specs.Reads.{BodyHas}
-use Rattle.vcd_body.specs.declared.fault.BodyFault.{BodyFault}
-use Rattle.vcd_changes.specs.Rows.{EndsSo}
-use Rattle.vcd_changes.proofs.FaultLemmas.{body_fault_is, some_fault}
-use Rattle.vcd_changes.proofs.PlaceLemmas.{ends_well, has_not_failed, is_after}
+use Rattle.vcd_changes.proofs.Cited.{◌≡◌, ◌∙◌, ◌++◌, ℕ, Some, Err, ap, arith, inl, inr, refl, subst, whole, chunk_len_of, limit_of, token_of, call_end, fault_number, BodyHas, BodyFault, EndsSo}
+use Rattle.vcd_changes.proofs.Facts.{body_fault_is, some_fault, ends_well, has_not_failed, is_after}
 use Rattle.vcd_changes.proofs.dump.read_on.Goals as goal
 
 pub returns-in-Ok-clause-finds : goal.returns-in-Ok-clause-finds

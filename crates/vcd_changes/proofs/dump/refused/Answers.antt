@@ -1,7 +1,6 @@
-use Rattle.std.proofs.Common.{◌≡◌, true, arith, inl, inr, refl, rules}
+use Rattle.vcd_changes.proofs.Cited.{◌≡◌, true, arith, inl, inr, refl, rules, OutOfMemory}
+use Rattle.vcd_changes.proofs.Facts.{not_both}
 use Rattle.vcd_head.specs.Fault.{fault_number}
-use Rattle.vcd_head.specs.declared.fault.HeadFault.TheVariants.{OutOfMemory}
-use Rattle.vcd_changes.proofs.RowLemmas.{not_both}
 use Rattle.vcd_changes.proofs.dump.refused.Goals as goal
 
 pub returns-then-eq-clause-refused : goal.returns-then-eq-clause-refused

@@ -1,13 +1,5 @@
-use Rattle.std.proofs.Common.{◌≡◌, ◌∙◌, ◌++◌, ◌∷◌, List, [], true, ap, append_assoc, append-nil, arith, length, rules, subst, sym, take}
-use Rattle.std.proofs.lemmas.Result.{err_from_is_err_and}
-use Rattle.vcd_model.specs.Items.{BodyItem}
-use Rattle.vcd_text.specs.Advances.{CallEnd}
-use Rattle.vcd_text.proofs.AdvancesLemmas.{advances_nowhere, advances_on}
-use Rattle.vcd_body.specs.Given.{GivesItem, item_text}
-use Rattle.vcd_body.specs.Reads.{GaveItems}
-use Rattle.vcd_body.specs.declared.item.Item.TheVariants.{Finish}
-use Rattle.vcd_changes.specs.Rows.{row_added, rows_of}
-use Rattle.vcd_changes.proofs.RowLemmas.{filled_ahead, filled_more, filled_none, not_both, taken}
+use Rattle.vcd_changes.proofs.Cited.{◌≡◌, ◌∙◌, ◌++◌, ◌∷◌, List, [], true, ap, append_assoc, append-nil, arith, length, rules, subst, sym, take, err_from_is_err_and, BodyItem, CallEnd, advances_nowhere, advances_on, GivesItem, item_text, GaveItems, Finish, row_added, rows_of}
+use Rattle.vcd_changes.proofs.Facts.{filled_ahead, filled_more, filled_none, not_both, taken}
 use Rattle.vcd_changes.proofs.rows.collect.Goals as goal
 
 pub items-init : goal.items-init

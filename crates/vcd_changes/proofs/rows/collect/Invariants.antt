@@ -1,14 +1,8 @@
-use Rattle.std.proofs.Common.{◌≡◌, ◌-◌, ◌^◌, ◌≤◌, ◌++◌, List, Some, length, slice_get, take}
+use Rattle.vcd_changes.proofs.Cited.{◌≡◌, ◌-◌, ◌^◌, ◌≤◌, ◌++◌, List, Some, length, slice_get, take, IdCode, BodyItem, Advances, CallEnd, seen, GaveItems, rows_of}
 use Rattle.vcd_head.specs.Model.Header.{Header}
 use Rattle.vcd_head.specs.Model.Input.{Input}
 use Rattle.vcd_head.specs.Model.Tokens.{Token}
 use Rattle.vcd_head.specs.Views.{IsViewOf}
-use Rattle.vcd_model.specs.Declarations.{IdCode}
-use Rattle.vcd_model.specs.Items.{BodyItem}
-use Rattle.vcd_text.specs.Advances.{Advances, CallEnd}
-use Rattle.vcd_text.specs.Feed.{seen}
-use Rattle.vcd_body.specs.Reads.{GaveItems}
-use Rattle.vcd_changes.specs.Rows.{rows_of}
 use Rattle.vcd_changes.proofs.rows.collect.Given as goal
 
 -- others were read after the items, and the rows so far have their changes of the code

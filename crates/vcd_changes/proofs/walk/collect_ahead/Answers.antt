@@ -1,10 +1,5 @@
-use Rattle.std.proofs.Common.{◌≡◌, ◌<◌, ◌++◌, ◌∙◌, List, ap, length, sym, take, arith, rules}
-use Rattle.std.proofs.lemmas.Bool.{lt-leb}
-use Rattle.vcd_text.specs.Ahead.{ahead_of, lines_of}
-use Rattle.vcd_text.specs.Feed.{limit_of}
-use Rattle.vcd_body.specs.Ahead.{GaveAhead}
-use Rattle.vcd_changes.specs.declared.row.ChangeRow.{ChangeRow}
-use Rattle.vcd_changes.proofs.RowLemmas.{none_ahead}
+use Rattle.vcd_changes.proofs.Cited.{◌≡◌, ◌<◌, ◌++◌, ◌∙◌, List, ap, length, sym, take, arith, rules, lt-leb, ahead_of, lines_of, limit_of, GaveAhead, ChangeRow}
+use Rattle.vcd_changes.proofs.Facts.{none_ahead}
 use Rattle.vcd_changes.proofs.walk.collect_ahead.Goals as goal
 
 pub walk_rows-walked-requires-clause-some : goal.walk_rows-walked-requires-clause-some

@@ -1,4 +1,4 @@
-use Rattle.vcd_changes.proofs.WalkLemmas.{came_by, walk_came}
+use Rattle.vcd_changes.proofs.Facts.{came_by, walk_came}
 use Rattle.vcd_changes.proofs.walk.walk_rows.Goals as goal
 
 pub returns-clause-loan : goal.returns-clause-loan

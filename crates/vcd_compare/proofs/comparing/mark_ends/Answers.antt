@@ -1,9 +1,6 @@
-use Rattle.std.proofs.Common.{◌≡◌, ◌≤◌, zero, min, ◌++◌, ◌∷◌, [], ℕ, suc, List, Some, slice_get, refl, sym, ap, subst, ◌∙◌, arith}
-use Rattle.std.specs.Prelude.{unwrap_or}
-use Rattle.vcd_compare.specs.Asked.{model_asked}
-use Rattle.vcd_compare.specs.Comparing.{AreMarked, partner}
-use Rattle.vcd_compare.specs.declared.pairs.End.{End}
-use Rattle.vcd_compare.proofs.EndLemmas.{its_code, marked_first, marked_last, marked_on, not_before, partner_there}
+use Rattle.vcd_compare.proofs.Cited.{◌≡◌, ◌≤◌, min, ◌++◌, ◌∷◌, [], ℕ, suc, List, Some, slice_get, refl, sym, ap, subst, ◌∙◌, arith, unwrap_or, model_asked, AreMarked, partner, End}
+use Rattle.vcd_compare.proofs.Facts.{its_code, marked_first, marked_last, marked_on, not_before, partner_there}
+use Rattle.std.proofs.Common.{zero}
 use Rattle.vcd_compare.proofs.comparing.mark_ends.Goals as goal
 
 none_left : (n : ℕ) → (1 ≤ n → ⊥) → n ≡ 0

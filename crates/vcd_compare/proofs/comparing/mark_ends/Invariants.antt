@@ -1,11 +1,4 @@
-use Rattle.std.proofs.Common.{◌≡◌, ℕ, List, [], ◌∷◌, ◌++◌}
-use Rattle.vcd_model.specs.Declarations.{IdCode}
-use Rattle.vcd_model.specs.Header.{Header}
-use Rattle.vcd_model.specs.Items.{BodyItem}
-use Rattle.vcd_model.specs.Within.{Names}
-use Rattle.vcd_compare.specs.Asked.{model_asked}
-use Rattle.vcd_compare.specs.Comparing.{AreMarked, GivesNew}
-use Rattle.vcd_compare.specs.Flags.{differing}
+use Rattle.vcd_compare.proofs.Cited.{◌≡◌, ℕ, List, [], ◌∷◌, ◌++◌, IdCode, Header, BodyItem, Names, model_asked, AreMarked, GivesNew, differing}
 use Rattle.vcd_compare.proofs.comparing.mark_ends.Given as goal
 
 -- the ends of the code from an index on were compared

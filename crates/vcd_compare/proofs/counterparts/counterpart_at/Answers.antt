@@ -1,9 +1,5 @@
-use Rattle.std.proofs.Common.{◌≡◌, suc, sym, ap, ◌∙◌, arith}
-use Rattle.std.proofs.lemmas.Option.{slice_get_within}
-use Rattle.vcd_compare.specs.declared.counterparts.Counterpart.TheVariants.{Unselected, Missing, At}
-use Rattle.vcd_compare.specs.Counterparts.{numbered}
-use Rattle.vcd_compare.specs.Paths.{texts_in}
-use Rattle.vcd_compare.proofs.PlaceLemmas.{found_within, other_text, place_code, place_one}
+use Rattle.vcd_compare.proofs.Cited.{◌≡◌, suc, sym, ap, ◌∙◌, arith, slice_get_within, Unselected, Missing, At, numbered, texts_in}
+use Rattle.vcd_compare.proofs.Facts.{found_within, other_text, place_code, place_one}
 use Rattle.vcd_compare.proofs.counterparts.counterpart_at.Goals as goal
 
 pub returns-then-index-len : goal.returns-then-index-len

@@ -1,5 +1,5 @@
-use Rattle.std.proofs.Common.{refl, sym, ◌∙◌, arith}
-use Rattle.vcd_compare.proofs.PlaceLemmas.{key_at, left_place, other_place}
+use Rattle.vcd_compare.proofs.Cited.{refl, sym, ◌∙◌, arith}
+use Rattle.vcd_compare.proofs.Facts.{key_at, left_place, other_place}
 use Rattle.vcd_compare.proofs.counterparts.counterpart_of.Goals as goal
 
 pub returns-then-index-len : goal.returns-then-index-len

@@ -1,8 +1,5 @@
-use Rattle.std.proofs.Common.{◌≡◌, suc, length, sym, subst, add-one, arith}
-use Rattle.vcd_view.proofs.ListLemmas.{there}
-use Rattle.vcd_compare.specs.Counterparts.{AreCounterparts}
-use Rattle.vcd_compare.specs.Paths.{texts_in}
-use Rattle.vcd_compare.proofs.PlaceLemmas.{no_places, places_more}
+use Rattle.vcd_compare.proofs.Cited.{◌≡◌, suc, length, sym, subst, add-one, arith, there, AreCounterparts, texts_in}
+use Rattle.vcd_compare.proofs.Facts.{no_places, places_more}
 use Rattle.vcd_compare.proofs.counterparts.counterparts_of.Goals as goal
 
 pub loop-index-init : goal.loop-index-init

@@ -1,7 +1,4 @@
-use Rattle.std.proofs.Common.{ℕ, List}
-use Rattle.vcd_model.specs.Within.{Names}
-use Rattle.vcd_compare.specs.Counterparts.{AreCounterparts}
-use Rattle.vcd_compare.specs.Paths.{HasTexts, IsNumberOf}
+use Rattle.vcd_compare.proofs.Cited.{ℕ, List, Names, AreCounterparts, HasTexts, IsNumberOf}
 use Rattle.vcd_compare.proofs.counterparts.counterparts_of.Given as goal
 
 abbrev pub invariant-loop-index : goal.invariant-loop-index

@@ -1,5 +1,4 @@
-use Rattle.std.proofs.Common.{◌≡◌, ◌==◌, false, take}
-use Rattle.std.specs.List.{list_any}
+use Rattle.vcd_compare.proofs.Cited.{◌≡◌, ◌==◌, false, take, list_any}
 use Rattle.vcd_compare.proofs.counterparts.is_among.Given as goal
 
 abbrev pub invariant-loop-other : goal.invariant-loop-other

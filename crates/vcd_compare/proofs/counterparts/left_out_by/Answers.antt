@@ -1,9 +1,5 @@
-use Rattle.std.proofs.Common.{◌≡◌, ℕ, suc, ◌+◌, ◌||◌, ◌==◌, Bool, false, List, length, get_or, sym, ap, subst, ◌∙◌, add-one, arith}
-use Rattle.std.specs.List.{list_any}
-use Rattle.std.proofs.lemmas.Option.{slice_get-get_or}
-use Rattle.vcd_compare.specs.Counterparts.{AreLeftOut}
-use Rattle.vcd_compare.specs.Paths.{texts_in}
-use Rattle.vcd_compare.proofs.PlaceLemmas.{flags_more, marked_is, no_flags}
+use Rattle.vcd_compare.proofs.Cited.{◌≡◌, ℕ, suc, ◌+◌, ◌||◌, ◌==◌, Bool, false, List, length, get_or, sym, ap, subst, ◌∙◌, add-one, arith, list_any, slice_get-get_or, AreLeftOut, texts_in}
+use Rattle.vcd_compare.proofs.Facts.{flags_more, marked_is, no_flags}
 use Rattle.vcd_compare.proofs.counterparts.left_out_by.Goals as goal
 
 pub loop-index-init : goal.loop-index-init

@@ -1,7 +1,4 @@
-use Rattle.std.proofs.Common.{ℕ, List}
-use Rattle.std.specs.List.{AllZip}
-use Rattle.vcd_compare.specs.Counterparts.{AreLeftOut}
-use Rattle.vcd_compare.specs.Paths.{HasTexts, IsNumberOf}
+use Rattle.vcd_compare.proofs.Cited.{ℕ, List, AllZip, AreLeftOut, HasTexts, IsNumberOf}
 use Rattle.vcd_compare.proofs.counterparts.left_out_by.Given as goal
 
 abbrev pub invariant-loop-index : goal.invariant-loop-index

@@ -1,5 +1,4 @@
-use Rattle.std.proofs.Common.{◌≡◌, ℕ, ◌<◌, ◌≤◌, get_or}
-use Rattle.vcd_compare.specs.Flags.{settled_as}
+use Rattle.vcd_compare.proofs.Cited.{◌≡◌, ℕ, ◌<◌, ◌≤◌, get_or, settled_as}
 use Rattle.vcd_compare.proofs.flags.settle.Given as goal
 
 -- the flags before an index are settled, and the others stay

@@ -1,8 +1,5 @@
-use Rattle.std.proofs.Common.{sym, ◌∙◌}
-use Rattle.std.proofs.lemmas.Option.{slice_get_within}
-use Rattle.vcd_model.specs.Declarations.{Declaration}
-use Rattle.vcd_view.specs.Shown.{parts}
-use Rattle.vcd_view.proofs.RowLemmas.{row_of, there}
+use Rattle.vcd_compare.proofs.Cited.{sym, ◌∙◌, slice_get_within, Declaration, parts, row_of}
+use Rattle.vcd_view.proofs.RowLemmas.{there}
 use Rattle.vcd_compare.proofs.kinds.code_of.Goals as goal
 
 pub returns-in-Some : goal.returns-in-Some

@@ -1,9 +1,5 @@
-use Rattle.std.proofs.Common.{◌≡◌, bytes_eq, sym, ap, ◌∙◌}
-use Rattle.std.proofs.lemmas.Option.{same_Some}
-use Rattle.vcd_model.specs.Compare.{Kind}
-use Rattle.vcd_model.specs.Declarations.{Declaration, code_of}
-use Rattle.vcd_view.proofs.RowLemmas.{code_at}
-use Rattle.vcd_compare.proofs.KindLemmas.{is_digits, is_event, is_real, is_realtime}
+use Rattle.vcd_compare.proofs.Cited.{◌≡◌, bytes_eq, sym, ap, ◌∙◌, same_Some, Kind, Declaration, code_of, code_at}
+use Rattle.vcd_compare.proofs.Facts.{is_digits, is_event, is_real, is_realtime}
 use Rattle.vcd_compare.proofs.kinds.kind_of.Goals as goal
 
 pub returns-then-eq : goal.returns-then-eq

@@ -1,5 +1,5 @@
-use Rattle.std.proofs.Common.{◌≡◌, Bool, true, false, ◌&&◌, not, refl, sym, ap, ◌∙◌}
-use Rattle.vcd_compare.proofs.LineLemmas.{head_empty}
+use Rattle.vcd_compare.proofs.Cited.{◌≡◌, Bool, true, false, ◌&&◌, not, refl, sym, ap, ◌∙◌}
+use Rattle.vcd_compare.proofs.Facts.{head_empty}
 use Rattle.vcd_compare.proofs.lines.has_header_lines.Goals as goal
 use Rattle.vcd_compare.proofs.lines.has_header_lines.Goals.{then-is_empty, else-is_empty, then-is_empty-2, else-is_empty-2}
 

@@ -1,9 +1,4 @@
-use Rattle.std.proofs.Common.{◌≡◌, List, take}
-use Rattle.std.specs.Io.KnownBytes.{Appends}
-use Rattle.std.specs.List.{AllZip}
-use Rattle.vcd_model.specs.Header.{Header}
-use Rattle.vcd_model.specs.Compare.{Named, alone_lines}
-use Rattle.vcd_view.specs.Views.{IsViewOf}
+use Rattle.vcd_compare.proofs.Cited.{◌≡◌, List, take, Appends, AllZip, Header, Named, alone_lines, IsViewOf}
 use Rattle.vcd_compare.specs.Pairs.{IsNamedAt}
 use Rattle.vcd_compare.proofs.lines.put_alone.Given as goal
 

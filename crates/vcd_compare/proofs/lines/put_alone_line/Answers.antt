@@ -1,7 +1,5 @@
-use Rattle.std.proofs.Common.{take, refl, rules}
-use Rattle.vcd_model.specs.Declarations.{Declaration, path_of}
-use Rattle.vcd_text.proofs.Writes.{counted}
-use Rattle.vcd_compare.proofs.LineLemmas.{alone_line, alone_texts, texts_cut, texts_last, texts_more, texts_none}
+use Rattle.vcd_compare.proofs.Cited.{take, refl, rules, Declaration, path_of, counted}
+use Rattle.vcd_compare.proofs.Facts.{alone_line, alone_texts, texts_cut, texts_last, texts_more, texts_none}
 use Rattle.vcd_compare.proofs.lines.put_alone_line.Goals as goal
 
 pub returns-in_err-put : goal.returns-in_err-put

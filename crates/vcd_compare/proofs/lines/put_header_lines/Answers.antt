@@ -1,11 +1,6 @@
-use Rattle.std.proofs.Common.{◌≡◌, ℕ, List, Err, codes, flat_map, sym, subst, rules}
-use Rattle.std.specs.List.{AllZip}
-use Rattle.vcd_model.specs.Compare.{alone_lines, unlike_lines}
-use Rattle.vcd_model.specs.Within.{alone_in, turned, unlike_in}
-use Rattle.vcd_text.specs.Device.{Takes}
-use Rattle.vcd_text.proofs.Writes.{AppendsSome, appends-first, appends-some, appends-twice, counted, takes-twice}
-use Rattle.vcd_compare.specs.Pairs.{IsNamedAt, IsUnlikeAt}
-use Rattle.vcd_compare.proofs.LineLemmas.{head_is}
+use Rattle.vcd_compare.proofs.Cited.{◌≡◌, ℕ, List, Err, codes, flat_map, sym, subst, rules, AllZip, alone_lines, unlike_lines, alone_in, turned, unlike_in, Takes, AppendsSome, appends-first, appends-some, appends-twice, counted, takes-twice, IsUnlikeAt}
+use Rattle.vcd_compare.proofs.Facts.{head_is}
+use Rattle.vcd_compare.specs.Pairs.{IsNamedAt}
 use Rattle.vcd_compare.proofs.lines.put_header_lines.Goals as goal
 
 pub returns-in_err-put_alone : goal.returns-in_err-put_alone

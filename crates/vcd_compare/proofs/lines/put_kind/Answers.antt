@@ -1,8 +1,4 @@
-use Rattle.std.proofs.Common.{ℕ, List, sym, ap, subst, ◌∙◌, rules}
-use Rattle.vcd_model.specs.Compare.{kind_shown}
-use Rattle.vcd_text.specs.Device.{Takes}
-use Rattle.vcd_text.proofs.Writes.{counted}
-use Rattle.vcd_compare.specs.Kinds.{model_kind}
+use Rattle.vcd_compare.proofs.Cited.{ℕ, List, sym, ap, subst, ◌∙◌, rules, kind_shown, Takes, counted, model_kind}
 use Rattle.vcd_compare.proofs.lines.put_kind.Goals as goal
 
 pub returns-in-Event : goal.returns-in-Event

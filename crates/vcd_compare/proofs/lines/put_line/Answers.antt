@@ -1,8 +1,5 @@
-use Rattle.std.proofs.Common.{take, decimal, refl, rules}
-use Rattle.vcd_model.specs.Declarations.{Declaration, path_of}
-use Rattle.vcd_text.proofs.Writes.{counted}
-use Rattle.vcd_compare.specs.LineTexts.{states_of}
-use Rattle.vcd_compare.proofs.LineLemmas.{pair_line, pair_texts, texts_cut, texts_last, texts_more, texts_none}
+use Rattle.vcd_compare.proofs.Cited.{take, decimal, refl, rules, Declaration, path_of, counted, states_of}
+use Rattle.vcd_compare.proofs.Facts.{pair_line, pair_texts, texts_cut, texts_last, texts_more, texts_none}
 use Rattle.vcd_compare.proofs.lines.put_line.Goals as goal
 
 pub returns-in_err-put : goal.returns-in_err-put

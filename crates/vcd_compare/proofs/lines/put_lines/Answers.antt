@@ -1,13 +1,5 @@
-use Rattle.std.proofs.Common.{◌≡◌, ℕ, List, Err, flat_map, length, take, sym, ap, subst, ◌∙◌, arith, rules}
-use Rattle.std.specs.Io.KnownBytes.{Appends}
-use Rattle.std.specs.List.{AllZip}
-use Rattle.std.proofs.lemmas.Bool.{ne_eqb}
-use Rattle.std.proofs.lemmas.List.{take_all}
-use Rattle.std.proofs.lemmas.Slice.Zip.{AllZip-long}
-use Rattle.vcd_model.specs.Compare.{Pair, value_line}
-use Rattle.vcd_model.specs.Within.{side}
-use Rattle.vcd_text.proofs.Writes.{AppendsSome, appends-none, counted}
-use Rattle.vcd_compare.proofs.LineLemmas.{HasFlag, due_of, line_due, line_none, lines_cut, lines_more, zip_get}
+use Rattle.vcd_compare.proofs.Cited.{◌≡◌, ℕ, List, Err, flat_map, length, take, sym, ap, subst, ◌∙◌, arith, rules, Appends, AllZip, ne_eqb, take_all, AllZip-long, Pair, value_line, side, AppendsSome, appends-none, counted}
+use Rattle.vcd_compare.proofs.Facts.{HasFlag, due_of, line_due, line_none, lines_cut, lines_more, zip_get}
 use Rattle.vcd_compare.proofs.lines.put_lines.Goals as goal
 use Rattle.vcd_compare.proofs.lines.put_lines.Goals.{then-flag_at-eq1+in_ok-put_line, else-flag_at-eq1}
 

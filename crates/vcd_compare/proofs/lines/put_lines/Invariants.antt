@@ -1,13 +1,4 @@
-use Rattle.std.proofs.Common.{◌≡◌, ◌≤◌, ◌==◌, ℕ, List, [], cond, flat_map, get_or, take}
-use Rattle.std.specs.Io.KnownBytes.{Appends}
-use Rattle.std.specs.List.{AllZip}
-use Rattle.vcd_model.specs.Header.{Header}
-use Rattle.vcd_model.specs.Items.{BodyItem, time_after}
-use Rattle.vcd_model.specs.Compare.{Pair, value_line}
-use Rattle.vcd_model.specs.Within.{side}
-use Rattle.vcd_view.specs.Views.{IsViewOf}
-use Rattle.vcd_compare.specs.Comparing.{AreCurrent}
-use Rattle.vcd_compare.specs.Pairs.{IsPairAt}
+use Rattle.vcd_compare.proofs.Cited.{◌≡◌, ◌≤◌, ◌==◌, ℕ, List, [], cond, flat_map, get_or, take, Appends, AllZip, Header, BodyItem, time_after, Pair, value_line, side, IsViewOf, AreCurrent, IsPairAt}
 use Rattle.vcd_compare.proofs.lines.put_lines.Given as goal
 
 abbrev pub invariant-loop-pair : goal.invariant-loop-pair

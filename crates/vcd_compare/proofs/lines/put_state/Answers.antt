@@ -1,10 +1,5 @@
-use Rattle.std.proofs.Common.{ℕ, List, Option, true, false, sym, ap, subst, ◌∙◌, rules}
-use Rattle.vcd_model.specs.Sample.{shown}
-use Rattle.vcd_model.specs.Values.{Value}
-use Rattle.vcd_text.specs.Device.{Takes}
-use Rattle.vcd_text.proofs.Writes.{counted}
-use Rattle.vcd_compare.proofs.LineLemmas.{event_is, event_shown}
-use Rattle.vcd_compare.proofs.StatesNow.{held_state, triggered_now}
+use Rattle.vcd_compare.proofs.Cited.{ℕ, List, Option, true, false, sym, ap, subst, ◌∙◌, rules, shown, Value, Takes, counted}
+use Rattle.vcd_compare.proofs.Facts.{event_is, event_shown, held_state, triggered_now}
 use Rattle.vcd_compare.proofs.lines.put_state.Goals as goal
 
 pub returns-then-not-is_event : goal.returns-then-not-is_event

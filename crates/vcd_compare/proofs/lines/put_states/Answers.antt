@@ -1,9 +1,5 @@
-use Rattle.std.proofs.Common.{refl, rules}
-use Rattle.vcd_model.specs.Declarations.{code_of}
-use Rattle.vcd_model.specs.Compare.{state_at}
-use Rattle.vcd_model.specs.Sample.{shown}
-use Rattle.vcd_text.proofs.Writes.{counted}
-use Rattle.vcd_compare.proofs.LineLemmas.{state_texts, state_words, texts_cut, texts_last, texts_more, texts_none}
+use Rattle.vcd_compare.proofs.Cited.{refl, rules, code_of, state_at, shown, counted}
+use Rattle.vcd_compare.proofs.Facts.{state_texts, state_words, texts_cut, texts_last, texts_more, texts_none}
 use Rattle.vcd_compare.proofs.lines.put_states.Goals as goal
 
 pub returns-in_err-put_state : goal.returns-in_err-put_state

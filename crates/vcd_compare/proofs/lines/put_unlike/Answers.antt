@@ -1,11 +1,6 @@
-use Rattle.std.proofs.Common.{◌≡◌, List, Err, subst, ◌∙◌, arith, rules}
-use Rattle.std.specs.Io.KnownBytes.{Appends}
-use Rattle.std.proofs.lemmas.List.{take_all}
-use Rattle.std.proofs.lemmas.Slice.Zip.{AllZip-long}
-use Rattle.vcd_model.specs.Compare.{Pair, unlike_lines}
-use Rattle.vcd_text.proofs.Writes.{counted}
-use Rattle.vcd_compare.specs.Pairs.{IsUnlikeAt}
-use Rattle.vcd_compare.proofs.LineLemmas.{unlike_of, lines_cut, lines_more, zip_get}
+use Rattle.vcd_compare.proofs.Cited.{◌≡◌, List, Err, subst, ◌∙◌, arith, rules, Appends, take_all, AllZip-long, Pair, unlike_lines, counted, IsUnlikeAt}
+use Rattle.vcd_compare.proofs.Facts.{lines_cut, lines_more, zip_get}
+use Rattle.vcd_compare.proofs.LineLemmas.{unlike_of}
 use Rattle.vcd_compare.proofs.lines.put_unlike.Goals as goal
 
 pub returns-in_err-put_unlike_line : goal.returns-in_err-put_unlike_line

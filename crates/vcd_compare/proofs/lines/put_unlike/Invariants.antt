@@ -1,10 +1,4 @@
-use Rattle.std.proofs.Common.{◌≡◌, List, take}
-use Rattle.std.specs.Io.KnownBytes.{Appends}
-use Rattle.std.specs.List.{AllZip}
-use Rattle.vcd_model.specs.Header.{Header}
-use Rattle.vcd_model.specs.Compare.{Pair, unlike_lines}
-use Rattle.vcd_view.specs.Views.{IsViewOf}
-use Rattle.vcd_compare.specs.Pairs.{IsUnlikeAt}
+use Rattle.vcd_compare.proofs.Cited.{◌≡◌, List, take, Appends, AllZip, Header, Pair, unlike_lines, IsViewOf, IsUnlikeAt}
 use Rattle.vcd_compare.proofs.lines.put_unlike.Given as goal
 
 abbrev pub invariant-loop-unlike : goal.invariant-loop-unlike

@@ -1,8 +1,5 @@
-use Rattle.std.proofs.Common.{take, refl, rules}
-use Rattle.vcd_model.specs.Compare.{kind_of, kind_shown}
-use Rattle.vcd_model.specs.Declarations.{Declaration, path_of}
-use Rattle.vcd_text.proofs.Writes.{counted}
-use Rattle.vcd_compare.proofs.LineLemmas.{texts_cut, texts_last, texts_more, texts_none, unlike_line, unlike_texts}
+use Rattle.vcd_compare.proofs.Cited.{take, refl, rules, kind_of, kind_shown, Declaration, path_of, counted}
+use Rattle.vcd_compare.proofs.Facts.{texts_cut, texts_last, texts_more, texts_none, unlike_line, unlike_texts}
 use Rattle.vcd_compare.proofs.lines.put_unlike_line.Goals as goal
 
 pub returns-in_err-put : goal.returns-in_err-put

@@ -1,11 +1,5 @@
-use Rattle.std.proofs.Common.{◌≤◌, ℕ, suc, List, length, get_or, sym, ap, subst, ◌∙◌, add-one, arith}
-use Rattle.std.specs.Global.{Vec}
-use Rattle.vcd_model.specs.Compare.{all_named}
-use Rattle.vcd_view.proofs.ListLemmas.{there}
-use Rattle.vcd_compare.specs.Variables.{IsNamedAt}
-use Rattle.vcd_compare.proofs.PairLoops.{AloneBefore, alone_all, alone_one, alone_same}
-use Rattle.vcd_compare.proofs.PairSteps.{named_row}
-use Rattle.vcd_compare.proofs.PlaceLemmas.{same_len}
+use Rattle.vcd_compare.proofs.Cited.{◌≤◌, ℕ, suc, List, length, get_or, sym, ap, subst, ◌∙◌, add-one, arith, Vec, all_named, there, IsNamedAt}
+use Rattle.vcd_compare.proofs.Facts.{AloneBefore, alone_all, alone_one, alone_same, named_row, same_len}
 use Rattle.vcd_compare.proofs.pairs.add_alone.Goals as goal
 use Rattle.vcd_compare.proofs.pairs.add_alone.Goals.{in-Missing+in_ok-push, in_default}
 

@@ -1,12 +1,5 @@
-use Rattle.std.proofs.Common.{ℕ, List, length}
-use Rattle.std.specs.List.{AllZip}
-use Rattle.vcd_model.specs.Compare.{Asked, Named}
-use Rattle.vcd_model.specs.Header.{Header}
-use Rattle.vcd_model.specs.Within.{Names}
-use Rattle.vcd_compare.specs.Counterparts.{AreCounterparts, AreLeftOut}
-use Rattle.vcd_compare.specs.Paths.{AreApart}
-use Rattle.vcd_compare.specs.Variables.{AreVariables, IsNamedAt}
-use Rattle.vcd_compare.proofs.PairLoops.{AloneBefore}
+use Rattle.vcd_compare.proofs.Cited.{ℕ, List, length, AllZip, Asked, Named, Header, Names, AreCounterparts, AreLeftOut, AreApart, AreVariables, IsNamedAt}
+use Rattle.vcd_compare.proofs.Facts.{AloneBefore}
 use Rattle.vcd_compare.proofs.pairs.add_alone.Given as goal
 
 abbrev pub invariant-loop-index : goal.invariant-loop-index

@@ -1,10 +1,5 @@
-use Rattle.std.proofs.Common.{◌≡◌, false, refl, sym, ◌∙◌, true, arith}
-use Rattle.std.proofs.lemmas.Option.{slice_get_within}
-use Rattle.vcd_model.specs.Compare.{is_fit}
-use Rattle.vcd_model.specs.Declarations.{code_of}
-use Rattle.vcd_compare.specs.declared.pairs.Pairs.{Pairs}
-use Rattle.vcd_compare.specs.declared.pairs.UnlikeRows.{UnlikeRows}
-use Rattle.vcd_compare.proofs.PairSteps.{fits_as, held_unlike, kind_apart, kind_same, pair_more}
+use Rattle.vcd_compare.proofs.Cited.{◌≡◌, false, refl, sym, ◌∙◌, true, arith, slice_get_within, is_fit, code_of, Pairs, UnlikeRows}
+use Rattle.vcd_compare.proofs.Facts.{fits_as, held_unlike, kind_apart, kind_same, pair_more}
 use Rattle.vcd_compare.proofs.pairs.add_pair.Goals as goal
 
 pub returns-then-not-is_same_kind : goal.returns-then-not-is_same_kind

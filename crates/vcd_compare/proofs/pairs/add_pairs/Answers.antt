@@ -1,9 +1,5 @@
-use Rattle.std.proofs.Common.{◌≤◌, ◌++◌, length, sym, subst, add-one, arith}
-use Rattle.vcd_model.specs.Compare.{all_named}
-use Rattle.vcd_view.proofs.ListLemmas.{there}
-use Rattle.vcd_compare.specs.Variables.{IsNamedAt}
-use Rattle.vcd_compare.proofs.PairLoops.{HeldBefore, alone_at, compared_at, held_all, held_next, places_before, unlike_at}
-use Rattle.vcd_compare.proofs.PlaceLemmas.{same_len}
+use Rattle.vcd_compare.proofs.Cited.{◌≤◌, ◌++◌, length, sym, subst, add-one, arith, all_named, there, IsNamedAt}
+use Rattle.vcd_compare.proofs.Facts.{HeldBefore, alone_at, compared_at, held_all, held_next, places_before, unlike_at, same_len}
 use Rattle.vcd_compare.proofs.pairs.add_pairs.Goals as goal
 
 pub loop-index-preserved : goal.loop-index-preserved

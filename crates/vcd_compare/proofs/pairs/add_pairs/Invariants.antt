@@ -1,13 +1,5 @@
-use Rattle.std.proofs.Common.{ℕ, List, length}
-use Rattle.vcd_model.specs.Compare.{Asked, Named, Pair}
-use Rattle.vcd_model.specs.Header.{Header}
-use Rattle.vcd_model.specs.Within.{Names}
-use Rattle.vcd_view.specs.Views.{IsViewOf}
-use Rattle.vcd_compare.specs.Counterparts.{AreCounterparts, AreLeftOut}
-use Rattle.vcd_compare.specs.HasPairs.{HasPairs}
-use Rattle.vcd_compare.specs.Paths.{AreApart}
-use Rattle.vcd_compare.specs.Variables.{AreVariables}
-use Rattle.vcd_compare.proofs.PairLoops.{HeldBefore}
+use Rattle.vcd_compare.proofs.Cited.{ℕ, List, length, Asked, Named, Pair, Header, Names, IsViewOf, AreCounterparts, AreLeftOut, HasPairs, AreApart, AreVariables}
+use Rattle.vcd_compare.proofs.Facts.{HeldBefore}
 use Rattle.vcd_compare.proofs.pairs.add_pairs.Given as goal
 
 abbrev pub invariant-loop-index : goal.invariant-loop-index

@@ -1,6 +1,5 @@
-use Rattle.std.proofs.Common.{suc, length, sym, ap, ◌∙◌, arith}
-use Rattle.std.proofs.lemmas.List.{length-set}
-use Rattle.vcd_compare.proofs.ClassLemmas.{class_new}
+use Rattle.vcd_compare.proofs.Cited.{suc, length, sym, ap, ◌∙◌, arith, length-set}
+use Rattle.vcd_compare.proofs.Facts.{class_new}
 use Rattle.vcd_compare.proofs.pairs.enter_class.Goals as goal
 
 pub returns-in_ok-add_end-2 : goal.returns-in_ok-add_end-2

@@ -1,11 +1,5 @@
-use Rattle.std.proofs.Common.{◌≡◌, ℕ, List, ◌+◌, ◌++◌, ◌∷◌, [], take, sym, ap, subst, ◌∙◌, arith}
-use Rattle.std.proofs.lemmas.List.{map-append, take_more}
-use Rattle.vcd_model.specs.Within.{Names}
-use Rattle.vcd_compare.specs.HasPairs.{EntersNames}
-use Rattle.vcd_compare.specs.Pairs.{names_in}
-use Rattle.vcd_compare.specs.Paths.{EntersPath}
-use Rattle.vcd_compare.specs.declared.pairs.NamePair.{NamePair}
-use Rattle.vcd_compare.proofs.RowPaths.{names_more}
+use Rattle.vcd_compare.proofs.Cited.{◌≡◌, ℕ, List, ◌+◌, ◌++◌, ◌∷◌, [], take, sym, ap, subst, ◌∙◌, arith, map-append, take_more, Names, EntersNames, names_in, EntersPath, NamePair}
+use Rattle.vcd_compare.proofs.Facts.{names_more}
 use Rattle.vcd_compare.proofs.pairs.number_names.Goals as goal
 
 pub loop-name-preserved : goal.loop-name-preserved

@@ -1,7 +1,4 @@
-use Rattle.std.proofs.Common.{ℕ, List, take}
-use Rattle.vcd_compare.specs.HasPairs.{EntersNames}
-use Rattle.vcd_compare.specs.Pairs.{names_in}
-use Rattle.vcd_compare.specs.Paths.{HasTexts}
+use Rattle.vcd_compare.proofs.Cited.{ℕ, List, take, EntersNames, names_in, HasTexts}
 use Rattle.vcd_compare.proofs.pairs.number_names.Given as goal
 
 abbrev pub invariant-loop-name : goal.invariant-loop-name

@@ -1,8 +1,4 @@
-use Rattle.std.proofs.Common.{◌≡◌, ◌+◌, ◌++◌, ◌∷◌, [], ℕ, List, map, take, sym, ap, subst, ◌∙◌, arith}
-use Rattle.std.specs.Global.{Vec}
-use Rattle.std.proofs.lemmas.List.{map-append, take_more}
-use Rattle.vcd_compare.specs.HasPairs.{EntersTexts}
-use Rattle.vcd_compare.specs.Paths.{EntersPath}
+use Rattle.vcd_compare.proofs.Cited.{◌≡◌, ◌+◌, ◌++◌, ◌∷◌, [], ℕ, List, map, take, sym, ap, subst, ◌∙◌, arith, Vec, map-append, take_more, EntersTexts, EntersPath}
 use Rattle.vcd_compare.proofs.RowPaths.{texts_more}
 use Rattle.vcd_compare.proofs.pairs.number_texts.Goals as goal
 

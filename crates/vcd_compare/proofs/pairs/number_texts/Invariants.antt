@@ -1,6 +1,4 @@
-use Rattle.std.proofs.Common.{ℕ, List, map, take}
-use Rattle.vcd_compare.specs.HasPairs.{EntersTexts}
-use Rattle.vcd_compare.specs.Paths.{HasTexts}
+use Rattle.vcd_compare.proofs.Cited.{ℕ, List, map, take, EntersTexts, HasTexts}
 use Rattle.vcd_compare.proofs.pairs.number_texts.Given as goal
 
 abbrev pub invariant-loop-text : goal.invariant-loop-text

@@ -1,19 +1,5 @@
-use Rattle.std.proofs.Common.{◌≤◌, ◌++◌, [], ℕ, length, map, flat_map, get_or, take, sym, subst, ◌∙◌, add-one, arith}
-use Rattle.std.specs.Global.{Vec}
-use Rattle.std.specs.List.{AllZip}
-use Rattle.std.proofs.lemmas.List.{take_all}
-use Rattle.std.proofs.lemmas.Option.{slice_get-get_or}
-use Rattle.vcd_model.specs.Within.{alone_in, compared_in, turned, unlike_in}
-use Rattle.vcd_view.specs.Views.{IsCode}
-use Rattle.vcd_compare.specs.Counterparts.{AreCounterparts, AreLeftOut}
-use Rattle.vcd_compare.specs.HasPairs.{AreNumbersOf, HasPairs}
-use Rattle.vcd_compare.specs.Pairs.{names_in}
-use Rattle.vcd_compare.specs.Paths.{IsNumberOf}
-use Rattle.vcd_compare.specs.Variables.{AreNumbered}
-use Rattle.vcd_compare.specs.declared.pairs.Pairs.{Pairs}
-use Rattle.vcd_compare.proofs.PairLoops.{HeldNames, names_next, zip_from}
-use Rattle.vcd_compare.proofs.PlaceLemmas.{same_len}
-use Rattle.vcd_compare.proofs.RowPaths.{numbered_stay, zip_stays}
+use Rattle.vcd_compare.proofs.Cited.{◌≤◌, ◌++◌, [], ℕ, length, map, flat_map, get_or, take, sym, subst, ◌∙◌, add-one, arith, Vec, AllZip, take_all, slice_get-get_or, alone_in, compared_in, turned, unlike_in, IsCode, AreCounterparts, AreLeftOut, AreNumbersOf, HasPairs, names_in, IsNumberOf, AreNumbered, Pairs}
+use Rattle.vcd_compare.proofs.Facts.{HeldNames, names_next, zip_from, same_len, numbered_stay, zip_stays}
 use Rattle.vcd_compare.proofs.pairs.pairs_of.Goals as goal
 
 pub loop-one-init : goal.loop-one-init

@@ -1,14 +1,5 @@
-use Rattle.std.proofs.Common.{ℕ, List, length}
-use Rattle.std.specs.List.{AllZip}
-use Rattle.vcd_model.specs.Compare.{Asked}
-use Rattle.vcd_model.specs.Header.{Header}
-use Rattle.vcd_model.specs.Within.{Names}
-use Rattle.vcd_view.specs.Views.{IsViewOf}
-use Rattle.vcd_compare.specs.Counterparts.{AreLeftOut}
-use Rattle.vcd_compare.specs.HasPairs.{AreNumbersOf}
-use Rattle.vcd_compare.specs.Paths.{HasTexts}
-use Rattle.vcd_compare.specs.Variables.{AreVariables}
-use Rattle.vcd_compare.proofs.PairLoops.{HeldNames}
+use Rattle.vcd_compare.proofs.Cited.{ℕ, List, length, AllZip, Asked, Header, Names, IsViewOf, AreLeftOut, AreNumbersOf, HasTexts, AreVariables}
+use Rattle.vcd_compare.proofs.Facts.{HeldNames}
 use Rattle.vcd_compare.proofs.pairs.pairs_of.Given as goal
 
 abbrev pub invariant-loop-one : goal.invariant-loop-one

@@ -1,9 +1,5 @@
-use Rattle.std.proofs.Common.{ℕ, List, get_or, ap, ◌∙◌}
-use Rattle.vcd_model.specs.Compare.{Pair}
-use Rattle.vcd_compare.specs.Counterparts.{place_of}
-use Rattle.vcd_compare.specs.declared.pairs.Pairs.{Pairs}
-use Rattle.vcd_compare.proofs.PairSteps.{held_alone, named_row, place_both, place_missing}
-use Rattle.vcd_compare.proofs.RowPaths.{ok_then}
+use Rattle.vcd_compare.proofs.Cited.{ℕ, List, get_or, ap, ◌∙◌, Pair, place_of, Pairs}
+use Rattle.vcd_compare.proofs.Facts.{held_alone, named_row, place_both, place_missing, ok_then}
 use Rattle.vcd_compare.proofs.pairs.take_variable.Goals as goal
 
 pub returns-in_ok-push-in-Missing : goal.returns-in_ok-push-in-Missing

@@ -1,6 +1,5 @@
-use Rattle.std.proofs.Common.{◌≡◌, suc, refl, arith}
-use Rattle.vcd_compare.proofs.PathTexts.{path_entered}
-use Rattle.vcd_compare.specs.declared.paths.Paths.{Paths}
+use Rattle.vcd_compare.proofs.Cited.{◌≡◌, suc, refl, arith, Paths}
+use Rattle.vcd_compare.proofs.Facts.{path_entered}
 use Rattle.vcd_compare.proofs.paths.enter_part.Goals as goal
 
 pub returns : goal.returns

@@ -1,5 +1,5 @@
-use Rattle.std.proofs.Common.{◌++◌}
-use Rattle.vcd_compare.proofs.PathTexts.{entering_more}
+use Rattle.vcd_compare.proofs.Cited.{◌++◌}
+use Rattle.vcd_compare.proofs.Facts.{entering_more}
 use Rattle.vcd_compare.proofs.paths.enter_path.Goals as goal
 
 pub loop-part-preserved : goal.loop-part-preserved

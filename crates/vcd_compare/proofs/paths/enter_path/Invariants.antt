@@ -1,6 +1,5 @@
-use Rattle.std.proofs.Common.{◌≤◌, ℕ, List, length}
-use Rattle.vcd_compare.specs.Paths.{HasTexts}
-use Rattle.vcd_compare.proofs.PathTexts.{IsEntering}
+use Rattle.vcd_compare.proofs.Cited.{◌≤◌, ℕ, List, length, HasTexts}
+use Rattle.vcd_compare.proofs.Facts.{IsEntering}
 use Rattle.vcd_compare.proofs.paths.enter_path.Given as goal
 
 abbrev pub invariant-loop-part : goal.invariant-loop-part

@@ -1,5 +1,5 @@
-use Rattle.std.proofs.Common.{sym, ◌∙◌}
-use Rattle.vcd_compare.proofs.PathTexts.{text_entered, text_found}
+use Rattle.vcd_compare.proofs.Cited.{sym, ◌∙◌}
+use Rattle.vcd_compare.proofs.Facts.{text_entered, text_found}
 use Rattle.vcd_compare.proofs.paths.enter_text.Goals as goal
 
 pub returns-in-Some : goal.returns-in-Some

@@ -1,5 +1,4 @@
-use Rattle.std.proofs.Common.{◌≡◌, false, take}
-use Rattle.vcd_compare.specs.Paths.{has_dot}
+use Rattle.vcd_compare.proofs.Cited.{◌≡◌, false, take, has_dot}
 use Rattle.vcd_compare.proofs.paths.split_at_dot.Given as goal
 
 abbrev pub invariant-loop-index : goal.invariant-loop-index

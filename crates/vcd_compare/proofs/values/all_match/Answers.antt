@@ -1,10 +1,5 @@
-use Rattle.std.proofs.Common.{◌≡◌, ℕ, ◌+◌, ◌-◌, min, true, List, Some, drop, length, slice_get, refl, sym, ap, ap₂, subst, ◌∙◌, arith}
-use Rattle.vcd_model.specs.Compare.{all_match, digits_match}
-use Rattle.vcd_body.specs.Contents.{held_at}
-use Rattle.vcd_body.specs.Kept.{digit_in}
-use Rattle.vcd_body.specs.Stored.{digits_held}
-use Rattle.vcd_compare.specs.Asked.{rule_of}
-use Rattle.vcd_compare.proofs.StatesNow.{all_from_last, apart_at, lengths_match, next_digit, shown_digits}
+use Rattle.vcd_compare.proofs.Cited.{◌≡◌, ℕ, ◌+◌, ◌-◌, min, true, List, Some, drop, length, slice_get, refl, sym, ap, ap₂, subst, ◌∙◌, arith, all_match, digits_match, held_at, digit_in, digits_held, rule_of}
+use Rattle.vcd_compare.proofs.Facts.{all_from_last, apart_at, lengths_match, next_digit, shown_digits}
 use Rattle.vcd_compare.proofs.values.all_match.Goals as goal
 
 pub returns-then-count-count_of : goal.returns-then-count-count_of

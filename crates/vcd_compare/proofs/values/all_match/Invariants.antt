@@ -1,8 +1,4 @@
-use Rattle.std.proofs.Common.{◌≡◌, ℕ, ◌-◌, true, List, Some, drop}
-use Rattle.vcd_model.specs.Compare.{all_match}
-use Rattle.vcd_model.specs.Values.{Value}
-use Rattle.vcd_body.specs.Contents.{IsLaidOut, codes_shown, value_in}
-use Rattle.vcd_compare.specs.Asked.{rule_of}
+use Rattle.vcd_compare.proofs.Cited.{◌≡◌, ℕ, ◌-◌, true, List, Some, drop, all_match, Value, IsLaidOut, codes_shown, value_in, rule_of}
 use Rattle.vcd_compare.proofs.values.all_match.Given as goal
 
 -- so many digits match, counted from the last one

@@ -1,13 +1,4 @@
-use Rattle.std.proofs.Common.{◌≡◌, ℕ, max, List, length, Some, sym, ap, ◌∙◌}
-use Rattle.std.specs.Prelude.{option_and_then, option_map}
-use Rattle.std.proofs.lemmas.Option.{slice_get-map}
-use Rattle.vcd_model.specs.Declarations.{IdCode}
-use Rattle.vcd_model.specs.Values.{Value, extend}
-use Rattle.vcd_body.specs.Contents.{held_at, shown_code}
-use Rattle.vcd_body.specs.Kept.{Held, value_at_size}
-use Rattle.vcd_body.specs.Stored.{digits_held}
-use Rattle.vcd_body.proofs.CompareLemmas.{length_extended}
-use Rattle.vcd_body.proofs.TableLemmas.{value_there}
+use Rattle.vcd_compare.proofs.Cited.{◌≡◌, ℕ, max, List, length, Some, sym, ap, ◌∙◌, option_and_then, option_map, slice_get-map, IdCode, Value, extend, held_at, shown_code, Held, value_at_size, digits_held, length_extended, value_there}
 use Rattle.vcd_compare.proofs.values.count_of.Goals as goal
 
 counted : (h : Held) (size : ℕ) (ds : List ℕ) → value_at_size size h ≡ Some (Value.Bits ds) → length ds ≡ max size (length (digits_held h))

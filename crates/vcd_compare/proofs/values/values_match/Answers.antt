@@ -1,13 +1,5 @@
-use Rattle.std.proofs.Common.{Option, Some, sym, ap, ◌∙◌}
-use Rattle.std.specs.Prelude.{bytes_eq}
-use Rattle.vcd_model.specs.Compare.{match}
-use Rattle.vcd_model.specs.Values.{Value}
-use Rattle.vcd_body.specs.Contents.{codes_shown, held_at, value_in}
-use Rattle.vcd_body.specs.Kept.{real_text, value_at_size}
-use Rattle.vcd_body.proofs.TableLemmas.{value_there}
-use Rattle.vcd_compare.specs.Asked.{rule_of}
-use Rattle.vcd_compare.proofs.MatchLemmas.{match_self}
-use Rattle.vcd_compare.proofs.StatesNow.{bits_real, bits_there, both_real, some_unset, unset_some}
+use Rattle.vcd_compare.proofs.Cited.{Option, Some, sym, ap, ◌∙◌, bytes_eq, match, Value, codes_shown, held_at, value_in, real_text, value_at_size, value_there, rule_of}
+use Rattle.vcd_compare.proofs.Facts.{match_self, bits_real, bits_there, both_real, some_unset, unset_some}
 use Rattle.vcd_compare.proofs.values.values_match.Goals as goal
 
 pub returns-in-Bits-get : goal.returns-in-Bits-get

@@ -1,7 +1,5 @@
-use Rattle.std.proofs.Common.{ap, subst, ◌∙◌}
-use Rattle.std.proofs.lemmas.Option.{slice_get_within}
-use Rattle.vcd_compare.specs.Paths.{EntersPath, joined}
-use Rattle.vcd_compare.proofs.RowPaths.{around_joined, ok_then}
+use Rattle.vcd_compare.proofs.Cited.{ap, subst, ◌∙◌, slice_get_within, EntersPath, joined}
+use Rattle.vcd_compare.proofs.Facts.{around_joined, ok_then}
 use Rattle.vcd_compare.proofs.variables.enter_row.Goals as goal
 
 pub returns : goal.returns

@@ -1,5 +1,5 @@
-use Rattle.std.proofs.Common.{sym}
-use Rattle.vcd_compare.proofs.RowPaths.{around_at}
+use Rattle.vcd_compare.proofs.Cited.{sym}
+use Rattle.vcd_compare.proofs.Facts.{around_at}
 use Rattle.vcd_compare.proofs.variables.number_around.Goals as goal
 
 pub returns : goal.returns

@@ -1,8 +1,5 @@
-use Rattle.std.proofs.Common.{◌≡◌, suc, ◌++◌, [], length, sym, subst, add-one, arith}
-use Rattle.vcd_view.proofs.ListLemmas.{there}
-use Rattle.vcd_view.proofs.RowLemmas.{rows_len}
-use Rattle.vcd_compare.specs.Variables.{AreNumbered}
-use Rattle.vcd_compare.proofs.RowPaths.{NumbersSome, some_row}
+use Rattle.vcd_compare.proofs.Cited.{◌≡◌, suc, ◌++◌, [], length, sym, subst, add-one, arith, there, rows_len, AreNumbered}
+use Rattle.vcd_compare.proofs.Facts.{NumbersSome, some_row}
 use Rattle.vcd_compare.proofs.variables.number_rows.Goals as goal
 
 pub loop-row-preserved : goal.loop-row-preserved

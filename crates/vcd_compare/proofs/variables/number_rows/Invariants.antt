@@ -1,8 +1,5 @@
-use Rattle.std.proofs.Common.{ℕ, List}
-use Rattle.vcd_model.specs.Header.{Header}
-use Rattle.vcd_view.specs.Views.{IsViewOf}
-use Rattle.vcd_compare.specs.Paths.{HasTexts}
-use Rattle.vcd_compare.proofs.RowPaths.{NumbersSome}
+use Rattle.vcd_compare.proofs.Cited.{ℕ, List, Header, IsViewOf, HasTexts}
+use Rattle.vcd_compare.proofs.Facts.{NumbersSome}
 use Rattle.vcd_compare.proofs.variables.number_rows.Given as goal
 
 abbrev pub invariant-loop-row : goal.invariant-loop-row

@@ -1,11 +1,6 @@
-use Rattle.std.proofs.Common.{Some, take, sym, ap, subst, ◌∙◌}
-use Rattle.std.proofs.lemmas.Option.{slice_get_within}
-use Rattle.vcd_view.specs.Shown.{parts}
-use Rattle.vcd_view.proofs.RowLemmas.{row_of, there}
-use Rattle.vcd_model.specs.Declarations.{path_of}
-use Rattle.vcd_compare.specs.Paths.{IsNumberOf}
-use Rattle.vcd_compare.proofs.RowPaths.{ok_then}
-use Rattle.vcd_compare.proofs.VariableLemmas.{is_variable, not_variable, some_more, some_same}
+use Rattle.vcd_compare.proofs.Cited.{Some, take, sym, ap, subst, ◌∙◌, slice_get_within, parts, row_of, path_of, IsNumberOf}
+use Rattle.vcd_compare.proofs.Facts.{ok_then, is_variable, not_variable, some_more, some_same}
+use Rattle.vcd_view.proofs.RowLemmas.{there}
 use Rattle.vcd_compare.proofs.variables.take_row.Goals as goal
 
 pub returns-in_default : goal.returns-in_default

@@ -1,13 +1,5 @@
-use Rattle.std.proofs.Common.{◌≡◌, ◌+◌, [], length, get_or, replicate, take, sym, ap, subst, ◌∙◌, add-one, arith}
-use Rattle.std.specs.List.{AllZip}
-use Rattle.std.proofs.lemmas.List.{get_or-replicate, length-replicate, take_all}
-use Rattle.std.proofs.lemmas.Option.{get_or_from_slice_get}
-use Rattle.vcd_model.specs.Declarations.{path_of}
-use Rattle.vcd_view.proofs.ListLemmas.{there}
-use Rattle.vcd_view.proofs.RowLemmas.{rows_len}
-use Rattle.vcd_compare.specs.Paths.{IsNumberOf}
-use Rattle.vcd_compare.specs.Variables.{HasSome, IsKeyOf, IsNamedAt, named_in}
-use Rattle.vcd_compare.proofs.VariableLemmas.{some_none}
+use Rattle.vcd_compare.proofs.Cited.{◌≡◌, ◌+◌, [], length, get_or, replicate, take, sym, ap, subst, ◌∙◌, add-one, arith, AllZip, get_or-replicate, length-replicate, take_all, get_or_from_slice_get, path_of, there, rows_len, IsNumberOf, HasSome, IsKeyOf, IsNamedAt, named_in}
+use Rattle.vcd_compare.proofs.Facts.{some_none}
 use Rattle.vcd_compare.proofs.variables.variables_of.Goals as goal
 
 pub loop-row-init : goal.loop-row-init

@@ -1,8 +1,4 @@
-use Rattle.std.proofs.Common.{◌≡◌, ℕ, List, length}
-use Rattle.vcd_model.specs.Header.{Header}
-use Rattle.vcd_view.specs.Views.{IsViewOf}
-use Rattle.vcd_compare.specs.Paths.{AreApart}
-use Rattle.vcd_compare.specs.Variables.{AreNumbered, HasSome}
+use Rattle.vcd_compare.proofs.Cited.{◌≡◌, ℕ, List, length, Header, IsViewOf, AreApart, AreNumbered, HasSome}
 use Rattle.vcd_compare.proofs.variables.variables_of.Given as goal
 
 abbrev pub invariant-loop-row : goal.invariant-loop-row

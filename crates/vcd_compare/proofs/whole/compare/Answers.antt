@@ -1,11 +1,5 @@
-use Rattle.std.proofs.Common.{◌≡◌, [], ℕ, Err, IfOk, inl, sym, ap, subst, rules}
-use Rattle.vcd_text.specs.Device.{Device, Writes, WritesSome}
-use Rattle.vcd_model.specs.Within.{within_open}
-use Rattle.vcd_body.specs.declared.answer.Stop.TheVariants.{Write}
-use Rattle.vcd_body.proofs.CallerLemmas.{gave_nothing}
-use Rattle.vcd_compare.specs.Asked.{model_asked}
-use Rattle.vcd_compare.proofs.RunSteps.{begins_none}
-use Rattle.vcd_compare.proofs.StartLemmas.{open_first}
+use Rattle.vcd_compare.proofs.Cited.{◌≡◌, [], ℕ, Err, IfOk, inl, sym, ap, subst, rules, Device, Writes, WritesSome, within_open, Write, gave_nothing, model_asked}
+use Rattle.vcd_compare.proofs.Facts.{begins_none, open_first}
 use Rattle.vcd_compare.proofs.whole.compare.Goals as goal
 
 pub returns-in_err-put_header_lines-clause-gives : goal.returns-in_err-put_header_lines-clause-gives

@@ -1,9 +1,5 @@
-use Rattle.std.proofs.Common.{◌≡◌, Err, refl, rules, subst}
-use Rattle.vcd_text.specs.Device.{Device}
-use Rattle.vcd_body.specs.declared.answer.Stop.TheVariants.{Read}
-use Rattle.vcd_engine.specs.Engine.{StopsUnread, request_of}
-use Rattle.vcd_engine.proofs.RoomLemmas.{within_each}
-use Rattle.vcd_engine.proofs.StartStops.{never_begun}
+use Rattle.vcd_engine.proofs.Cited.{◌≡◌, Err, refl, rules, subst, Device, Read, StopsUnread, request_of}
+use Rattle.vcd_engine.proofs.Facts.{within_each, never_begun}
 use Rattle.vcd_engine.proofs.engine.run_task.Goals as goal
 
 pub returns-in_err-begun-clause-runs : goal.returns-in_err-begun-clause-runs

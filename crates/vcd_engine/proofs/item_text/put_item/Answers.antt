@@ -1,13 +1,5 @@
-use Rattle.std.specs.Prelude.{get_or}
-use Rattle.std.proofs.Common.{false, subst, rules}
-use Rattle.std.proofs.lemmas.Option.{slice_get-get_or, slice_get_within}
-use Rattle.vcd_text.specs.Device.{Takes}
-use Rattle.vcd_view.specs.Shown.{parts}
-use Rattle.vcd_view.specs.declared.view.Code.{Code}
-use Rattle.vcd_body.specs.Given.{HasGoodText, IsItem}
-use Rattle.vcd_body.specs.declared.item.Item.{Item}
-use Rattle.vcd_engine.proofs.ItemTextLemmas.{some_text, change_is}
-use Rattle.vcd_text.proofs.Writes.{counted}
+use Rattle.vcd_engine.proofs.Cited.{get_or, false, subst, rules, slice_get-get_or, slice_get_within, Takes, parts, Code, HasGoodText, IsItem, Item, counted}
+use Rattle.vcd_engine.proofs.Facts.{some_text, change_is}
 use Rattle.vcd_engine.proofs.item_text.put_item.Goals as goal
 
 -- what is read if there is no code

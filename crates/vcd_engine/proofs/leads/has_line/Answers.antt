@@ -1,8 +1,5 @@
-use Rattle.std.proofs.Common.{true, false, refl}
-use Rattle.std.proofs.lemmas.Bool.{eq-eqb, ne_eqb}
-use Rattle.vcd_view.specs.Shown.{parts}
-use Rattle.vcd_view.proofs.RowLemmas.{read_row}
-use Rattle.vcd_engine.proofs.LeadLemmas.{other_has_none, variable_has}
+use Rattle.vcd_engine.proofs.Cited.{true, false, refl, eq-eqb, ne_eqb, parts, read_row}
+use Rattle.vcd_engine.proofs.Facts.{other_has_none, variable_has}
 use Rattle.vcd_engine.proofs.leads.has_line.Goals as goal
 
 pub returns-then-flag-eq1 : goal.returns-then-flag-eq1

@@ -1,9 +1,5 @@
-use Rattle.std.proofs.Common.{◌≡◌, ◌+◌, ◌-◌, ◌<◌, [], length, get_or, refl, sym, ap, subst, ◌∙◌, arith}
-use Rattle.std.specs.Prelude.{MatchBool}
-use Rattle.std.proofs.lemmas.List.{get_or-set_other, length-set}
-use Rattle.vcd_view.proofs.RowLemmas.{rows_len}
-use Rattle.vcd_engine.specs.Leads.{HaveNoLine, IsSelectedAt}
-use Rattle.vcd_engine.proofs.LeadLemmas.{LeadFrom, leads_past, leads_shown, mark_of_shown, no_rows}
+use Rattle.vcd_engine.proofs.Cited.{◌≡◌, ◌+◌, ◌-◌, ◌<◌, [], length, get_or, refl, sym, ap, subst, ◌∙◌, arith, MatchBool, get_or-set_other, length-set, rows_len, HaveNoLine, IsSelectedAt}
+use Rattle.vcd_engine.proofs.Facts.{LeadFrom, leads_past, leads_shown, mark_of_shown, no_rows}
 use Rattle.vcd_engine.proofs.leads.lead_on.Goals as goal
 
 pub loop-row-init : goal.loop-row-init

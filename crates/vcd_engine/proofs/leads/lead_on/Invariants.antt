@@ -1,9 +1,5 @@
-use Rattle.std.proofs.Common.{◌≡◌, ◌+◌, ◌<◌, ◌≤◌, List, ℕ, length, get_or}
-use Rattle.vcd_model.specs.Header.{Header}
-use Rattle.vcd_head.specs.Marks.{marks_of}
-use Rattle.vcd_view.specs.Shown.{parts}
-use Rattle.vcd_view.specs.Views.{Views}
-use Rattle.vcd_engine.proofs.LeadLemmas.{LeadFrom}
+use Rattle.vcd_engine.proofs.Cited.{◌≡◌, ◌+◌, ◌<◌, ◌≤◌, List, ℕ, length, get_or, Header, marks_of, parts, Views}
+use Rattle.vcd_engine.proofs.Facts.{LeadFrom}
 use Rattle.vcd_engine.proofs.leads.lead_on.Given as goal
 
 abbrev pub invariant-loop-row : goal.invariant-loop-row

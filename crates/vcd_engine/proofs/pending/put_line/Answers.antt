@@ -1,8 +1,4 @@
-use Rattle.std.proofs.Common.{List, ℕ, [], ◌∷◌, ◌+◌, ◌-◌, ◌++◌, ◌∙◌, ap, sym, subst, take, arith}
-use Rattle.std.specs.Prelude.{slice_index, slice_range}
-use Rattle.vcd_text.specs.Device.{Puts}
-use Rattle.vcd_body.proofs.LeftOut.{end_is}
-use Rattle.vcd_body.proofs.LineLemmas.{one_byte}
+use Rattle.vcd_engine.proofs.Cited.{List, ℕ, [], ◌∷◌, ◌+◌, ◌-◌, ◌++◌, ◌∙◌, ap, sym, subst, take, arith, slice_index, slice_range, Puts, end_is, one_byte}
 use Rattle.vcd_engine.proofs.pending.put_line.Goals as goal
 
 pub returns : goal.returns

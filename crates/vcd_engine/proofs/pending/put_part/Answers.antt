@@ -1,6 +1,5 @@
-use Rattle.std.proofs.Common.{subst}
-use Rattle.vcd_text.specs.Device.{Puts}
-use Rattle.vcd_engine.proofs.PieceLemmas.{front_is}
+use Rattle.vcd_engine.proofs.Cited.{subst, Puts}
+use Rattle.vcd_engine.proofs.Facts.{front_is}
 use Rattle.vcd_engine.proofs.pending.put_part.Goals as goal
 
 pub returns : goal.returns

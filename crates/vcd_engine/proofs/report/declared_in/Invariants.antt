@@ -1,5 +1,4 @@
-use Rattle.std.proofs.Common.{◌≡◌, take, count_by}
-use Rattle.vcd_engine.specs.Report.{declares_variable, opens_scope}
+use Rattle.vcd_engine.proofs.Cited.{◌≡◌, take, count_by, declares_variable, opens_scope}
 use Rattle.vcd_engine.proofs.report.declared_in.Given as goal
 
 abbrev pub invariant-loop-row : goal.invariant-loop-row

@@ -1,7 +1,4 @@
-use Rattle.std.proofs.Common.{◌≡◌, ℕ, List, [], ◌∷◌, ◌++◌, Err, append_assoc, ap, subst, decimal, rules}
-use Rattle.vcd_model.specs.CheckAndList.{count_line}
-use Rattle.vcd_text.specs.Device.{Writes, WritesSome}
-use Rattle.vcd_text.proofs.Writes.{both-written, puts-twice, some-behind, some-first}
+use Rattle.vcd_engine.proofs.Cited.{◌≡◌, ℕ, List, [], ◌∷◌, ◌++◌, Err, append_assoc, ap, subst, decimal, rules, count_line, Writes, WritesSome, both-written, puts-twice, some-behind, some-first}
 use Rattle.vcd_engine.proofs.report.put_count.Goals as goal
 
 -- the line in the parts that are written

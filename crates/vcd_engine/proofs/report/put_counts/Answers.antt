@@ -1,7 +1,5 @@
-use Rattle.std.proofs.Common.{◌≡◌, ◌+◌, ◌∙◌, Err, ap, arith, rules}
-use Rattle.vcd_engine.specs.Report.{named_line}
+use Rattle.vcd_engine.proofs.Cited.{◌≡◌, ◌+◌, ◌∙◌, Err, ap, arith, rules, named_line, texts-some}
 use Rattle.vcd_engine.proofs.report.put_counts.Goals as goal
-use Rattle.vcd_head.proofs.WriteLemmas.{texts-some}
 
 pub returns-in_err-put_count : goal.returns-in_err-put_count
 returns-in_err-put_count g c =

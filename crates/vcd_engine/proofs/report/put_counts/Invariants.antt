@@ -1,7 +1,4 @@
-use Rattle.std.proofs.Common.{◌≡◌, take}
-use Rattle.std.specs.Prelude.{flat_map}
-use Rattle.std.specs.Io.KnownBytes.{Appends}
-use Rattle.vcd_engine.specs.Report.{named_line}
+use Rattle.vcd_engine.proofs.Cited.{◌≡◌, take, flat_map, Appends, named_line}
 use Rattle.vcd_engine.proofs.report.put_counts.Given as goal
 
 abbrev pub invariant-loop-name : goal.invariant-loop-name

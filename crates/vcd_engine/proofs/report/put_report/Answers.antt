@@ -1,6 +1,4 @@
-use Rattle.std.proofs.Common.{◌≡◌, codes, Err, Some, None, rules}
-use Rattle.vcd_model.specs.CheckAndList.{count_line, number_or_dash}
-use Rattle.vcd_text.proofs.Writes.{puts-twice, some-first}
+use Rattle.vcd_engine.proofs.Cited.{◌≡◌, codes, Err, Some, None, rules, count_line, number_or_dash, puts-twice, some-first}
 use Rattle.vcd_engine.proofs.report.put_report.Goals as goal
 
 pub returns-in_err-put_counts : goal.returns-in_err-put_counts

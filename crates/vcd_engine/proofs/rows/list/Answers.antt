@@ -1,10 +1,5 @@
-use Rattle.std.proofs.Common.{◌≡◌, List, ℕ, Err, take, sym, subst, ◌∙◌, arith, rules}
-use Rattle.std.specs.Io.KnownBytes.{Appends}
-use Rattle.vcd_text.proofs.Writes.{appends-twice}
-use Rattle.vcd_view.specs.Shown.{parts}
-use Rattle.vcd_engine.proofs.Variables.{read_variable, read_other, is_declared}
-use Rattle.vcd_engine.proofs.ListLemmas.{line_after, lines-variable, lines-pass, listed-some, listed-all}
-use Rattle.vcd_body.specs.declared.answer.Stop.TheVariants.{Write}
+use Rattle.vcd_engine.proofs.Cited.{◌≡◌, List, ℕ, Err, take, sym, subst, ◌∙◌, arith, rules, Appends, appends-twice, parts, Write}
+use Rattle.vcd_engine.proofs.Facts.{read_variable, read_other, is_declared, line_after, lines-variable, lines-pass, listed-some, listed-all}
 use Rattle.vcd_engine.proofs.rows.list.Goals as goal
 use Rattle.vcd_engine.proofs.rows.list.Goals.{then-eq+in_ok-put_variable, else-eq}
 

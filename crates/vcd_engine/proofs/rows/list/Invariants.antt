@@ -1,9 +1,5 @@
-use Rattle.std.proofs.Common.{◌≡◌, [], take}
-use Rattle.std.specs.Io.KnownBytes.{Appends}
-use Rattle.vcd_model.specs.Header.{Header}
-use Rattle.vcd_view.specs.Shown.{parts}
-use Rattle.vcd_view.specs.Views.{Views}
-use Rattle.vcd_engine.proofs.ListLemmas.{lines_after}
+use Rattle.vcd_engine.proofs.Cited.{◌≡◌, [], take, Appends, Header, parts, Views}
+use Rattle.vcd_engine.proofs.Facts.{lines_after}
 use Rattle.vcd_engine.proofs.rows.list.Given as goal
 
 abbrev pub invariant-loop-row : goal.invariant-loop-row

@@ -1,5 +1,4 @@
-use Rattle.std.proofs.Common.{[], ◌∷◌}
-use Rattle.vcd_text.proofs.Writes.{puts-twice}
+use Rattle.vcd_engine.proofs.Cited.{[], ◌∷◌, puts-twice}
 use Rattle.vcd_engine.proofs.rows.put_word.Goals as goal
 
 pub returns : goal.returns

@@ -1,13 +1,6 @@
-use Rattle.std.proofs.Common.{◌≡◌, sym, ◌∙◌, [], ◌∷◌, Err, true, false, subst, take, rules}
-use Rattle.std.specs.Io.KnownBytes.{Appends}
-use Rattle.vcd_model.specs.Declarations.{Declaration, path_of}
-use Rattle.vcd_model.specs.Sample.{shown}
-use Rattle.vcd_text.specs.Device.{Takes}
-use Rattle.vcd_text.proofs.Writes.{AppendsSome, appends-first, appends-none, appends-some, appends-twice, counted, takes-twice}
-use Rattle.vcd_view.specs.Shown.{parts}
-use Rattle.vcd_body.specs.Contents.{codes_shown, value_in}
-use Rattle.vcd_engine.proofs.ListLemmas.{row_there}
-use Rattle.vcd_engine.proofs.SampleLines.{event_is, line_of, no_line}
+use Rattle.vcd_engine.proofs.Cited.{◌≡◌, sym, ◌∙◌, [], ◌∷◌, Err, true, false, subst, take, rules, Appends, Declaration, path_of, shown, Takes, AppendsSome, appends-first, appends-none, appends-some, appends-twice, counted, takes-twice, parts, codes_shown, value_in}
+use Rattle.vcd_engine.proofs.Facts.{row_there, event_is, no_line}
+use Rattle.vcd_engine.proofs.SampleLines.{line_of}
 use Rattle.vcd_engine.proofs.sample_lines.put_line.Goals as goal
 
 pub returns-in_default : goal.returns-in_default

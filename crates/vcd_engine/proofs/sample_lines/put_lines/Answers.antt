@@ -1,13 +1,5 @@
-use Rattle.std.proofs.Common.{◌≡◌, ◌+◌, ◌≤◌, List, ℕ, Err, get_or, refl, sym, ap, subst, ◌∙◌, arith, rules}
-use Rattle.std.specs.Io.KnownBytes.{Appends}
-use Rattle.vcd_model.specs.Selection.{selected}
-use Rattle.vcd_head.specs.Marks.{marks_of}
-use Rattle.vcd_text.proofs.Writes.{appends-none, appends-twice, counted}
-use Rattle.vcd_view.specs.Shown.{parts}
-use Rattle.vcd_engine.specs.Leads.{rows_on}
-use Rattle.vcd_engine.proofs.LeadLemmas.{leads_same, leads_shown_at, lines_all}
-use Rattle.vcd_engine.proofs.SampleLines.{line_at, lines_are}
-use Rattle.vcd_engine.proofs.SelectedLines.{declared_at, rows_before, rows_marked, rows_none, rows_some}
+use Rattle.vcd_engine.proofs.Cited.{◌≡◌, ◌+◌, ◌≤◌, List, ℕ, Err, get_or, refl, sym, ap, subst, ◌∙◌, arith, rules, Appends, selected, marks_of, appends-none, appends-twice, counted, parts, rows_on}
+use Rattle.vcd_engine.proofs.Facts.{leads_same, leads_shown_at, lines_all, line_at, lines_are, declared_at, rows_before, rows_marked, rows_none, rows_some}
 use Rattle.vcd_engine.proofs.sample_lines.put_lines.Goals as goal
 use Rattle.vcd_engine.proofs.sample_lines.put_lines.Goals.{then-mark-eq1+in_ok-put_line, else-mark-eq1}
 

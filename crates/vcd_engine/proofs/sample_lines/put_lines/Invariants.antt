@@ -1,14 +1,5 @@
-use Rattle.std.proofs.Common.{◌≡◌, ◌-◌, ℕ, List, length, false}
-use Rattle.std.specs.Io.KnownBytes.{Appends}
-use Rattle.vcd_model.specs.Header.{Header}
-use Rattle.vcd_model.specs.Items.{BodyItem}
-use Rattle.vcd_model.specs.Sample.{is_settled}
-use Rattle.vcd_view.specs.Shown.{parts}
-use Rattle.vcd_view.specs.Views.{Views}
-use Rattle.vcd_engine.specs.Leads.{LeadOn}
-use Rattle.vcd_body.specs.Current.{AreHeld}
-use Rattle.vcd_engine.proofs.SampleLines.{line_at}
-use Rattle.vcd_engine.proofs.SelectedLines.{rows_before}
+use Rattle.vcd_engine.proofs.Cited.{◌≡◌, ◌-◌, ℕ, List, length, false, Appends, Header, BodyItem, is_settled, parts, Views, LeadOn, AreHeld}
+use Rattle.vcd_engine.proofs.Facts.{line_at, rows_before}
 use Rattle.vcd_engine.proofs.sample_lines.put_lines.Given as goal
 
 abbrev pub invariant-loop-row : goal.invariant-loop-row

@@ -1,11 +1,6 @@
-use Rattle.std.proofs.Common.{◌≡◌, ℕ, false, List, Err, flat_map, subst, ap, arith, rules}
-use Rattle.std.specs.Io.KnownBytes.{Appends}
-use Rattle.std.proofs.lemmas.List.{take_all}
-use Rattle.vcd_model.specs.Sample.{is_settled, sample_lines}
-use Rattle.vcd_model.specs.Selection.{selected}
-use Rattle.vcd_engine.proofs.Lines.{all-at}
+use Rattle.vcd_engine.proofs.Cited.{◌≡◌, ℕ, false, List, Err, flat_map, subst, ap, arith, rules, Appends, take_all, is_settled, sample_lines, selected, texts-some}
+use Rattle.vcd_engine.proofs.Facts.{all-at}
 use Rattle.vcd_engine.proofs.sample_lines.put_samples.Goals as goal
-use Rattle.vcd_head.proofs.WriteLemmas.{texts-some}
 
 pub returns-in_err-put_lines-clause-takes : goal.returns-in_err-put_lines-clause-takes
 returns-in_err-put_lines-clause-takes g c = λ h items names views marked held late.

@@ -1,13 +1,4 @@
-use Rattle.std.proofs.Common.{◌≡◌, ℕ, List, false, take, flat_map}
-use Rattle.std.specs.Io.KnownBytes.{Appends}
-use Rattle.std.specs.List.{AllByRecursion}
-use Rattle.vcd_model.specs.Header.{Header}
-use Rattle.vcd_model.specs.Items.{BodyItem}
-use Rattle.vcd_model.specs.Sample.{is_settled, sample_lines}
-use Rattle.vcd_model.specs.Selection.{selected}
-use Rattle.vcd_view.specs.Views.{IsViewOf}
-use Rattle.vcd_engine.specs.Leads.{LeadOn}
-use Rattle.vcd_body.specs.Current.{AreHeld}
+use Rattle.vcd_engine.proofs.Cited.{◌≡◌, ℕ, List, false, take, flat_map, Appends, AllByRecursion, Header, BodyItem, is_settled, sample_lines, selected, IsViewOf, LeadOn, AreHeld}
 use Rattle.vcd_engine.proofs.sample_lines.put_samples.Given as goal
 
 abbrev pub invariant-loop-time : goal.invariant-loop-time

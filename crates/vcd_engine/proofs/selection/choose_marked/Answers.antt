@@ -1,11 +1,5 @@
-use Rattle.std.proofs.Common.{◌≡◌, ◌+◌, ◌∙◌, refl, sym, subst, length, rules}
-use Rattle.std.specs.Iterator.Adapters.{zip_first, zip_second}
-use Rattle.std.specs.Slice.Iter.{iter_rest}
-use Rattle.std.proofs.lemmas.List.{length_push}
-use Rattle.std.proofs.lemmas.Slice.Zip.{zip_turn, zip_end}
-use Rattle.vcd_view.specs.Shown.{parts}
-use Rattle.vcd_engine.specs.Choice.{is_chosen}
-use Rattle.vcd_engine.proofs.SelectionLemmas.{HaveChosen, are_at, none_chosen, next_chosen, next_other, next_unmarked, next_outside, all_chosen}
+use Rattle.vcd_engine.proofs.Cited.{◌≡◌, ◌+◌, ◌∙◌, refl, sym, subst, length, rules, zip_first, zip_second, iter_rest, length_push, zip_turn, zip_end, parts, is_chosen}
+use Rattle.vcd_engine.proofs.Facts.{HaveChosen, are_at, none_chosen, next_chosen, next_other, next_unmarked, next_outside, all_chosen}
 use Rattle.vcd_engine.proofs.selection.choose_marked.Goals as goal
 use Rattle.vcd_engine.proofs.selection.choose_marked.Goals.{else-eq-via-then-eq+then-mark-eq1+else-code-view, else-eq-via-then-eq+else-mark-eq1, else-eq-via-else-eq}
 

@@ -1,7 +1,5 @@
-use Rattle.std.proofs.Common.{◌≡◌, length}
-use Rattle.vcd_view.specs.Shown.{parts}
-use Rattle.vcd_engine.specs.Choice.{is_chosen}
-use Rattle.vcd_engine.proofs.SelectionLemmas.{HaveChosen}
+use Rattle.vcd_engine.proofs.Cited.{◌≡◌, length, parts, is_chosen}
+use Rattle.vcd_engine.proofs.Facts.{HaveChosen}
 use Rattle.vcd_engine.proofs.selection.choose_marked.Given as goal
 
 abbrev pub invariant-loop-row : goal.invariant-loop-row

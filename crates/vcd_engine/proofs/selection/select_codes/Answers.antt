@@ -1,5 +1,4 @@
-use Rattle.std.proofs.Common.{◌||◌, map, string_bytes, ap, ◌∙◌}
-use Rattle.vcd_model.specs.Selection.{selected, selects_code}
+use Rattle.vcd_engine.proofs.Cited.{◌||◌, map, string_bytes, ap, ◌∙◌, selected, selects_code}
 use Rattle.vcd_engine.proofs.selection.select_codes.Goals as goal
 
 pub returns-clause-selects : goal.returns-clause-selects

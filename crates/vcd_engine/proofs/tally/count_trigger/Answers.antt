@@ -1,5 +1,5 @@
-use Rattle.std.proofs.Common.{sym, ◌∙◌}
-use Rattle.vcd_engine.proofs.TallyLemmas.{mark_passed, mark_tallied}
+use Rattle.vcd_engine.proofs.Cited.{sym, ◌∙◌}
+use Rattle.vcd_engine.proofs.Facts.{mark_passed, mark_tallied}
 use Rattle.vcd_engine.proofs.tally.count_trigger.Goals as goal
 
 pub returns-then-not-inside-clause-takes : goal.returns-then-not-inside-clause-takes

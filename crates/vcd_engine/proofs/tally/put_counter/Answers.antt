@@ -1,5 +1,4 @@
-use Rattle.std.proofs.Common.{[], ◌∷◌, decimal}
-use Rattle.vcd_text.proofs.Writes.{puts-twice}
+use Rattle.vcd_engine.proofs.Cited.{[], ◌∷◌, decimal, puts-twice}
 use Rattle.vcd_engine.proofs.tally.put_counter.Goals as goal
 
 pub returns : goal.returns

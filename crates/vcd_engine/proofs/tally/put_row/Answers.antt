@@ -1,10 +1,5 @@
-use Rattle.std.proofs.Common.{◌≡◌, ℕ, List, [], ◌∷◌, Err, get_or, decimal, sym, subst, ◌∙◌, rules}
-use Rattle.vcd_model.specs.Declarations.{Declaration}
-use Rattle.vcd_text.specs.Device.{Takes}
-use Rattle.vcd_text.proofs.Writes.{AppendsSome, appends-first, appends-some, appends-twice, counted, takes-twice}
-use Rattle.vcd_view.specs.Shown.{parts}
-use Rattle.vcd_engine.proofs.ListLemmas.{row_there}
-use Rattle.vcd_engine.proofs.TallyLines.{row_is}
+use Rattle.vcd_engine.proofs.Cited.{◌≡◌, ℕ, List, [], ◌∷◌, Err, get_or, decimal, sym, subst, ◌∙◌, rules, Declaration, Takes, AppendsSome, appends-first, appends-some, appends-twice, counted, takes-twice, parts}
+use Rattle.vcd_engine.proofs.Facts.{row_there, row_is}
 use Rattle.vcd_engine.proofs.tally.put_row.Goals as goal
 
 pub returns-in_default : goal.returns-in_default

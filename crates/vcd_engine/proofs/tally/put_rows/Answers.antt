@@ -1,10 +1,5 @@
-use Rattle.std.proofs.Common.{◌≡◌, ◌+◌, List, ℕ, Err, refl, sym, subst, ◌∙◌, arith, rules}
-use Rattle.std.specs.Io.KnownBytes.{Appends}
-use Rattle.vcd_model.specs.Edges.{edges_line}
-use Rattle.vcd_text.proofs.Writes.{appends-none, appends-twice}
-use Rattle.vcd_view.specs.Shown.{parts}
-use Rattle.vcd_engine.proofs.SelectedLines.{declared_at, rows_all, rows_before, rows_marked, rows_none, rows_other, rows_some, rows_unmarked}
-use Rattle.vcd_engine.proofs.Variables.{read_variable, read_other, is_declared}
+use Rattle.vcd_engine.proofs.Cited.{◌≡◌, ◌+◌, List, ℕ, Err, refl, sym, subst, ◌∙◌, arith, rules, Appends, edges_line, appends-none, appends-twice, parts}
+use Rattle.vcd_engine.proofs.Facts.{declared_at, rows_all, rows_before, rows_marked, rows_none, rows_other, rows_some, rows_unmarked, read_variable, read_other, is_declared}
 use Rattle.vcd_engine.proofs.tally.put_rows.Goals as goal
 use Rattle.vcd_engine.proofs.tally.put_rows.Goals.{then-eq+then-is_marked+in_ok-put_row, else-eq, else-eq-via-then-eq+else-is_marked, else-eq-via-else-eq}
 

@@ -1,13 +1,5 @@
-use Rattle.std.proofs.Common.{◌≡◌, ℕ, List}
-use Rattle.std.specs.Io.KnownBytes.{Appends}
-use Rattle.vcd_model.specs.Edges.{edges_line}
-use Rattle.vcd_model.specs.Header.{Header}
-use Rattle.vcd_model.specs.Items.{BodyItem}
-use Rattle.vcd_head.specs.Marks.{marks_of}
-use Rattle.vcd_view.specs.Shown.{parts}
-use Rattle.vcd_view.specs.Views.{Views}
-use Rattle.vcd_engine.specs.Edges.{AreTallied}
-use Rattle.vcd_engine.proofs.SelectedLines.{rows_before}
+use Rattle.vcd_engine.proofs.Cited.{◌≡◌, ℕ, List, Appends, edges_line, Header, BodyItem, marks_of, parts, Views, AreTallied}
+use Rattle.vcd_engine.proofs.Facts.{rows_before}
 use Rattle.vcd_engine.proofs.tally.put_rows.Given as goal
 
 abbrev pub invariant-loop-row : goal.invariant-loop-row

@@ -1,13 +1,5 @@
-use Rattle.std.proofs.Common.{◌≡◌, Some, slice_get, subst, arith}
-use Rattle.vcd_view.specs.declared.view.Code.{Code}
-use Rattle.vcd_body.specs.Ahead.{HasBits}
-use Rattle.vcd_body.specs.Binary.{binary_digits}
-use Rattle.vcd_body.specs.Given.{IsText}
-use Rattle.vcd_body.specs.declared.item.Form.{Form}
-use Rattle.vcd_body.specs.declared.item.Form.TheVariants.{Vector}
-use Rattle.vcd_body.specs.declared.item.Item.TheVariants.{Change}
-use Rattle.vcd_body.proofs.FollowLemmas.{text_followed, text_gives}
-use Rattle.vcd_engine.proofs.TallyLemmas.{follow_tallied}
+use Rattle.vcd_engine.proofs.Cited.{◌≡◌, Some, slice_get, subst, arith, Code, HasBits, binary_digits, IsText, Form, Vector, Change, text_followed, text_gives}
+use Rattle.vcd_engine.proofs.Facts.{follow_tallied}
 use Rattle.vcd_engine.proofs.tally.take_value.Goals as goal
 
 pub returns-in-Some-clause-takes : goal.returns-in-Some-clause-takes

@@ -1,8 +1,5 @@
-use Rattle.std.proofs.Common.{◌≡◌, true, false, None, Some, slice_get, sym, ap, subst, ◌∙◌, [], ◌∷◌, ◌++◌}
-use Rattle.vcd_head.specs.Entered.{EntersKey, code_with}
-use Rattle.std.proofs.Common.{length}
-use Rattle.vcd_head.proofs.CodeKeys.{all_bytes}
-use Rattle.vcd_head.proofs.EnteredLemmas.{entered_known, entered_listed, entered_new, entered_other}
+use Rattle.vcd_head.proofs.Cited.{◌≡◌, true, false, None, Some, slice_get, sym, ap, subst, ◌∙◌, [], ◌∷◌, ◌++◌, EntersKey, code_with, length}
+use Rattle.vcd_head.proofs.Facts.{all_bytes, entered_known, entered_listed, entered_new, entered_other}
 use Rattle.vcd_head.proofs.code_place.enter_code.Goals as goal
 
 pub returns-then-new-clause-codes : goal.returns-then-new-clause-codes

@@ -1,8 +1,5 @@
-use Rattle.std.proofs.Common.{◌≡◌, Bool, None, Some, bytes_eq, position, refl, sym, ap, ◌∙◌, arith}
-use Rattle.std.specs.List.{list_any}
-use Rattle.vcd_head.specs.Keys.{is_key, same_shape, shape_of}
-use Rattle.vcd_head.specs.declared.code_key.CodeKey.{CodeKey}
-use Rattle.vcd_head.proofs.RisingLemmas.{enters_found, enters_set, none_keyed, none_there}
+use Rattle.vcd_head.proofs.Cited.{◌≡◌, Bool, None, Some, bytes_eq, position, refl, sym, ap, ◌∙◌, arith, list_any, is_key, same_shape, shape_of, CodeKey}
+use Rattle.vcd_head.proofs.Facts.{enters_found, enters_set, none_keyed, none_there}
 use Rattle.vcd_head.proofs.code_place.enter_in_set.Goals as goal
 
 pub returns-in_default-index_among-clause-refused : goal.returns-in_default-index_among-clause-refused

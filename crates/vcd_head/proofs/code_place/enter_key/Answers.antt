@@ -1,10 +1,5 @@
-use Rattle.std.proofs.Common.{◌≡◌, List, [], ◌∷◌, None, ap, nat_eq, position, length, refl, sym, subst, ◌∙◌, arith}
-use Rattle.std.proofs.lemmas.Result.{err_from_is_err_and}
-use Rattle.std.specs.List.{list_any}
-use Rattle.vcd_view.specs.Keys.{key_in}
-use Rattle.vcd_head.specs.Codes.{Rises}
-use Rattle.vcd_head.specs.Keys.{is_key}
-use Rattle.vcd_head.proofs.RisingLemmas.{enters_known, enters_number, last_in, last_is, none_above, none_keyed, none_there}
+use Rattle.vcd_head.proofs.Cited.{◌≡◌, List, [], ◌∷◌, None, ap, nat_eq, position, length, refl, sym, subst, ◌∙◌, arith, err_from_is_err_and, list_any, key_in, Rises, is_key}
+use Rattle.vcd_head.proofs.Facts.{enters_known, enters_number, last_in, last_is, none_above, none_keyed, none_there}
 use Rattle.vcd_head.proofs.code_place.enter_key.Goals as goal
 
 no_items : {X : Type 0} (xs : List X) → length xs ≡ 0 → xs ≡ []

@@ -1,11 +1,6 @@
-use Rattle.std.proofs.Common.{◌≡◌, false, true, get_or, sym, ap, ◌∙◌, arith}
-use Rattle.std.proofs.lemmas.List.{get_or_default}
-use Rattle.std.proofs.lemmas.List.Sums.{position_or_len_is}
-use borrow.Author.Count.{below_more}
-use Rattle.vcd_head.specs.Keys.{is_key}
-use Rattle.vcd_head.specs.declared.code_key.CodeKey.{CodeKey}
+use Rattle.vcd_head.proofs.Cited.{◌≡◌, false, true, get_or, sym, ap, ◌∙◌, arith, get_or_default, position_or_len_is, below_more, is_key, CodeKey}
+use Rattle.vcd_head.proofs.Facts.{none_at, place_first, place_none}
 use Rattle.vcd_head.specs.declared.code_key.CodeKey.TheVariants as key
-use Rattle.vcd_head.proofs.RisingLemmas.{none_at, place_first, place_none}
 use Rattle.vcd_head.proofs.codes.index_among.Goals as goal
 
 pub loop-position-preserved : goal.loop-position-preserved

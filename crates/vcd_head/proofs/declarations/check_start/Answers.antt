@@ -1,9 +1,6 @@
-use Rattle.std.proofs.Common.{◌≡◌, sym, subst, ◌∙◌, arith, rules}
-use Rattle.std.proofs.lemmas.Bool.{eqb-true, eqb-false}
-use Rattle.vcd_head.specs.Declares.{IsBarred, MayStart}
-use Rattle.vcd_head.specs.declared.fault.HeadFault.TheVariants.{TooDeep, NoScope}
+use Rattle.vcd_head.proofs.Cited.{◌≡◌, sym, subst, ◌∙◌, arith, rules, eqb-true, eqb-false, IsBarred, MayStart, TooDeep, NoScope}
+use Rattle.vcd_head.proofs.Facts.{too_many, too_deep, scope_may, no_scope, up_may, var_may}
 use Rattle.vcd_view.specs.declared.view.Kind.TheVariants as kind
-use Rattle.vcd_head.proofs.DraftSteps.{too_many, too_deep, scope_may, no_scope, up_may, var_may}
 use Rattle.vcd_head.proofs.declarations.check_start.Goals as goal
 
 pub returns-then-len-most-clause-checks : goal.returns-then-len-most-clause-checks

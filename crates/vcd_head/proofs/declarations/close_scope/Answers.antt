@@ -1,9 +1,6 @@
-use Rattle.std.proofs.Common.{◌≡◌, [], ◌∷◌, ◌++◌, refl, arith}
-use Rattle.vcd_model.specs.Declarations.{Declaration}
-use Rattle.vcd_model.specs.HeaderPhrases.{declarations_of}
+use Rattle.vcd_head.proofs.Cited.{◌≡◌, [], ◌∷◌, ◌++◌, refl, arith, Declaration, declarations_of}
+use Rattle.vcd_head.proofs.Facts.{closed_narrow, up_declared, holds_declared, popped, room, some_open}
 use Rattle.vcd_view.specs.declared.view.Kind.TheVariants as kind
-use Rattle.vcd_head.proofs.DraftLemmas.{closed_narrow, up_declared, holds_declared}
-use Rattle.vcd_head.proofs.DraftSteps.{popped, room, some_open}
 use Rattle.vcd_head.proofs.declarations.close_scope.Goals as goal
 
 pub returns-clause-closes : goal.returns-clause-closes

@@ -1,9 +1,6 @@
-use Rattle.std.proofs.Common.{◌≡◌, ◌^◌, ◌<◌, [], ◌∷◌, ◌++◌, length, suc, refl, sym, ap, subst, ◌∙◌, arith}
-use Rattle.vcd_model.specs.Declarations.{Declaration}
-use Rattle.vcd_model.specs.HeaderPhrases.{declarations_of}
+use Rattle.vcd_head.proofs.Cited.{◌≡◌, ◌^◌, ◌<◌, [], ◌∷◌, ◌++◌, length, suc, refl, sym, ap, subst, ◌∙◌, arith, Declaration, declarations_of}
+use Rattle.vcd_head.proofs.Facts.{scope_declared, scope_narrow, holds_declared, room}
 use Rattle.vcd_view.specs.declared.view.Kind.TheVariants as kind
-use Rattle.vcd_head.proofs.DraftLemmas.{scope_declared, scope_narrow, holds_declared}
-use Rattle.vcd_head.proofs.DraftSteps.{room}
 use Rattle.vcd_head.proofs.declarations.open_scope.Goals as goal
 
 pub returns-clause-opens : goal.returns-clause-opens

@@ -1,5 +1,5 @@
-use Rattle.std.proofs.Common.{arith}
-use Rattle.vcd_head.proofs.EnclosingLemmas.{walk_first, walk_next, walk_ends, walk_stops}
+use Rattle.vcd_head.proofs.Cited.{arith}
+use Rattle.vcd_head.proofs.Facts.{walk_first, walk_next, walk_ends, walk_stops}
 use Rattle.vcd_head.proofs.enclosing.walk.Goals as goal
 
 pub loop-passed-init : goal.loop-passed-init

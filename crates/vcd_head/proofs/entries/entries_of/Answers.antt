@@ -1,7 +1,4 @@
-use Rattle.std.proofs.Common.{length, drop, ap, ◌∙◌, refl}
-use Rattle.std.proofs.lemmas.List.{take_at}
-use Rattle.vcd_view.specs.Entries.{are_right, is_right}
-use Rattle.vcd_view.proofs.EntryLemmas.{all_replicated}
+use Rattle.vcd_head.proofs.Cited.{length, drop, ap, ◌∙◌, refl, take_at, are_right, is_right, all_replicated}
 use Rattle.vcd_head.proofs.entries.entries_of.Goals as goal
 
 pub returns-clause-right : goal.returns-clause-right

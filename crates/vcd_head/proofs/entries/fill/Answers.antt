@@ -1,5 +1,4 @@
-use Rattle.std.proofs.Common.{◌∙◌, arith}
-use Rattle.std.proofs.lemmas.Option.{slice_get-get_or}
+use Rattle.vcd_head.proofs.Cited.{◌∙◌, arith, slice_get-get_or}
 use Rattle.vcd_head.proofs.entries.fill.Goals as goal
 
 pub loop-position-preserved : goal.loop-position-preserved

@@ -1,5 +1,4 @@
-use Rattle.std.proofs.Common.{◌≡◌, true, length}
-use Rattle.vcd_view.specs.Entries.{are_right}
+use Rattle.vcd_head.proofs.Cited.{◌≡◌, true, length, are_right}
 use Rattle.vcd_head.proofs.entries.fill.Given as goal
 
 abbrev pub invariant-loop-position : goal.invariant-loop-position

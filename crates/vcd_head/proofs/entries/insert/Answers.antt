@@ -1,7 +1,4 @@
-use Rattle.std.proofs.Common.{ap, ◌∙◌}
-use Rattle.vcd_view.specs.Entries.{are_right, is_right}
-use Rattle.vcd_view.specs.Keys.{key_in}
-use Rattle.vcd_view.proofs.EntryLemmas.{all_written}
+use Rattle.vcd_head.proofs.Cited.{ap, ◌∙◌, are_right, is_right, key_in, all_written}
 use Rattle.vcd_head.proofs.entries.insert.Goals as goal
 
 pub returns-in-Some-clause-right : goal.returns-in-Some-clause-right

@@ -1,6 +1,4 @@
-use Rattle.std.proofs.Common.{◌≡◌, true, sym, ap, subst, ◌∙◌}
-use Rattle.vcd_view.specs.Entries.{are_right, is_right}
-use Rattle.vcd_view.proofs.EntryLemmas.{all_written}
+use Rattle.vcd_head.proofs.Cited.{◌≡◌, true, sym, ap, subst, ◌∙◌, are_right, is_right, all_written}
 use Rattle.vcd_head.proofs.entries.put_hashed.Goals as goal
 
 pub returns-then-is_free-clause-right : goal.returns-then-is_free-clause-right

@@ -1,4 +1,4 @@
-use Rattle.std.proofs.Common.{◌≡◌}
+use Rattle.vcd_head.proofs.Cited.{◌≡◌}
 use Rattle.vcd_head.proofs.entries.put_hashed.Given as goal
 
 abbrev pub invariant-loop-looks : goal.invariant-loop-looks

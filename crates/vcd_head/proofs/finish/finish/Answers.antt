@@ -1,10 +1,5 @@
-use Rattle.std.proofs.Common.{length, ap, subst, arith}
-use Rattle.vcd_model.specs.Declarations.{codes_of}
-use Rattle.vcd_model.specs.HeaderPhrases.{declarations_of}
+use Rattle.vcd_head.proofs.Cited.{length, ap, subst, arith, codes_of, declarations_of, IsIndex, codes_len, codes_few}
 use Rattle.vcd_model.specs.Header.{header_of}
-use Rattle.vcd_view.specs.Views.{IsIndex}
-use Rattle.vcd_view.proofs.LookUpLemmas.{codes_len}
-use Rattle.vcd_view.proofs.RoomLemmas.{codes_few}
 use Rattle.vcd_head.proofs.finish.finish.Goals as goal
 
 pub returns-clause-head : goal.returns-clause-head

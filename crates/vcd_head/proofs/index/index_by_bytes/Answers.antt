@@ -1,7 +1,6 @@
-use Rattle.std.proofs.Common.{subst, rules}
-use Rattle.std.specs.Prelude.{IsPermutation}
-use Rattle.std.proofs.lemmas.Fn.{always_returns_same}
-use Rattle.vcd_head.proofs.IndexLemmas.{before, before_weak, index_made}
+use Rattle.vcd_head.proofs.Cited.{subst, rules, IsPermutation, always_returns_same}
+use Rattle.vcd_head.proofs.Facts.{before, index_made}
+use Rattle.vcd_head.proofs.IndexLemmas.{before_weak}
 use Rattle.vcd_head.proofs.index.index_by_bytes.Goals as goal
 
 pub returns : goal.returns

@@ -1,9 +1,5 @@
-use Rattle.std.proofs.Common.{◌≡◌, ◌∙◌, ℕ, length, map, drop, IfSome, ap, sym, subst}
-use Rattle.std.specs.Global.{Vec}
-use Rattle.std.proofs.lemmas.List.{length-map, take_at}
-use Rattle.vcd_head.specs.Fronts.{AreRanks, place_in_rank}
-use Rattle.vcd_view.specs.Views.{IsIndex}
-use Rattle.vcd_head.proofs.RankLemmas.{ranks_made}
+use Rattle.vcd_head.proofs.Cited.{◌≡◌, ◌∙◌, ℕ, length, map, drop, IfSome, ap, sym, subst, Vec, length-map, take_at, AreRanks, place_in_rank, IsIndex}
+use Rattle.vcd_head.proofs.Facts.{ranks_made}
 use Rattle.vcd_head.proofs.index.index_by_ranks.Goals as goal
 
 pub returns : goal.returns

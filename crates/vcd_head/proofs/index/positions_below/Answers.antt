@@ -1,6 +1,5 @@
-use Rattle.std.proofs.Common.{◌++◌, ◌∷◌, [], ap, sym, ◌∙◌, zero-add, add-one}
-use Rattle.std.specs.List.{range_with_len}
-use Rattle.vcd_head.proofs.IndexLemmas.{range_push}
+use Rattle.vcd_head.proofs.Cited.{◌++◌, ◌∷◌, [], ap, sym, ◌∙◌, zero-add, add-one, range_with_len}
+use Rattle.vcd_head.proofs.Facts.{range_push}
 use Rattle.vcd_head.proofs.index.positions_below.Goals as goal
 
 pub loop-position-preserved : goal.loop-position-preserved

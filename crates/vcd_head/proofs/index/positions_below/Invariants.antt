@@ -1,5 +1,4 @@
-use Rattle.std.proofs.Common.{◌≡◌}
-use Rattle.std.specs.List.{range_with_len}
+use Rattle.vcd_head.proofs.Cited.{◌≡◌, range_with_len}
 use Rattle.vcd_head.proofs.index.positions_below.Given as goal
 
 abbrev pub invariant-loop-position : goal.invariant-loop-position

@@ -1,5 +1,5 @@
-use Rattle.std.proofs.Common.{arith}
-use Rattle.vcd_head.proofs.IndexLemmas.{front_fits}
+use Rattle.vcd_head.proofs.Cited.{arith}
+use Rattle.vcd_head.proofs.Facts.{front_fits}
 use Rattle.vcd_head.proofs.index.prefix_of.Goals as goal
 
 pub overflow_mul-number : goal.overflow_mul-number

@@ -1,5 +1,4 @@
-use Rattle.std.proofs.Common.{◌≡◌, ◌<◌, ◌^◌}
-use Rattle.vcd_head.specs.Fronts.{prefix_in}
+use Rattle.vcd_head.proofs.Cited.{◌≡◌, ◌<◌, ◌^◌, prefix_in}
 use Rattle.vcd_head.proofs.index.prefix_of.Given as goal
 
 abbrev pub invariant-loop-position : goal.invariant-loop-position

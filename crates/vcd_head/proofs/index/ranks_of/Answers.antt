@@ -1,7 +1,5 @@
-use borrow.Author.Count.{below_more}
-use Rattle.std.proofs.Common.{◌≤◌, ◌∷◌, [], ◌++◌, ◌∙◌, length, subst, ap, arith}
-use Rattle.vcd_head.specs.Fronts.{bytes_at, rank_in, rank_of}
-use Rattle.vcd_head.proofs.RankLemmas.{ranks_more}
+use Rattle.vcd_head.proofs.Cited.{below_more, ◌≤◌, ◌∷◌, [], ◌++◌, ◌∙◌, length, subst, ap, arith, bytes_at, rank_in, rank_of}
+use Rattle.vcd_head.proofs.Facts.{ranks_more}
 use Rattle.vcd_head.proofs.index.ranks_of.Goals as goal
 
 pub loop-position-preserved : goal.loop-position-preserved

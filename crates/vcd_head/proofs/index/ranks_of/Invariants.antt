@@ -1,6 +1,4 @@
-use Rattle.std.proofs.Common.{◌≡◌, ℕ, ◌<◌, ◌≤◌, length, map}
-use Rattle.std.specs.List.{range_with_len}
-use Rattle.vcd_head.specs.Fronts.{bytes_at, rank_in}
+use Rattle.vcd_head.proofs.Cited.{◌≡◌, ℕ, ◌<◌, ◌≤◌, length, map, range_with_len, bytes_at, rank_in}
 use Rattle.vcd_head.proofs.index.ranks_of.Given as goal
 
 abbrev pub invariant-loop-position : goal.invariant-loop-position

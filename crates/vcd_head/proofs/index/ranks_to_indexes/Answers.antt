@@ -1,6 +1,5 @@
-use Rattle.std.proofs.Common.{◌<◌, ◌++◌, ◌∙◌, length, map, set, take, drop, get_or, ap, sym, arith, add-one}
-use Rattle.vcd_head.specs.Fronts.{place_in_rank}
-use Rattle.vcd_head.proofs.RankLemmas.{place_left}
+use Rattle.vcd_head.proofs.Cited.{◌<◌, ◌++◌, ◌∙◌, length, map, set, take, drop, get_or, ap, sym, arith, add-one, place_in_rank}
+use Rattle.vcd_head.proofs.Facts.{place_left}
 use Rattle.vcd_head.proofs.index.ranks_to_indexes.Goals as goal
 
 pub loop-rank-preserved : goal.loop-rank-preserved

@@ -1,5 +1,4 @@
-use Rattle.std.proofs.Common.{◌≡◌, ◌++◌, map, take, drop}
-use Rattle.vcd_head.specs.Fronts.{place_in_rank}
+use Rattle.vcd_head.proofs.Cited.{◌≡◌, ◌++◌, map, take, drop, place_in_rank}
 use Rattle.vcd_head.proofs.index.ranks_to_indexes.Given as goal
 
 abbrev pub invariant-loop-rank : goal.invariant-loop-rank

@@ -1,10 +1,5 @@
-use Rattle.std.proofs.Common.{◌≡◌, ◌+◌, Some, true, length, map, slice_get, string_bytes, take, refl, sym, ap, subst, ◌∙◌, arith}
-use Rattle.std.proofs.lemmas.List.{length-map}
-use Rattle.std.proofs.lemmas.Option.{slice_get_read}
-use Rattle.vcd_model.specs.Declarations.{Declaration, path_of}
-use Rattle.vcd_model.specs.Selection.{selects_path}
-use Rattle.vcd_head.proofs.InsideLemmas.{get_mapped}
-use Rattle.vcd_head.proofs.MatchLemmas.{Matching, match_all, match_first, match_next, match_same}
+use Rattle.vcd_head.proofs.Cited.{◌≡◌, ◌+◌, Some, true, length, map, slice_get, string_bytes, take, refl, sym, ap, subst, ◌∙◌, arith, length-map, slice_get_read, Declaration, path_of, selects_path}
+use Rattle.vcd_head.proofs.Facts.{get_mapped, Matching, match_all, match_first, match_next, match_same}
 use Rattle.vcd_head.proofs.inside.compare_each.Goals as goal
 use Rattle.vcd_head.proofs.inside.compare_each.Goals.{then-selects, else-selects}
 

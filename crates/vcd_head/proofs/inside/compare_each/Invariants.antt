@@ -1,10 +1,5 @@
-use Rattle.std.proofs.Common.{◌≡◌, Some, length, map, take, slice_get, string_bytes}
-use Rattle.vcd_model.specs.Declarations.{Declaration, Variable, path_of}
-use Rattle.vcd_model.specs.Header.{Header}
-use Rattle.vcd_model.specs.Selection.{selects_path}
-use Rattle.vcd_view.specs.Shown.{parts}
-use Rattle.vcd_view.specs.Views.{Views}
-use Rattle.vcd_head.proofs.MatchLemmas.{Matching}
+use Rattle.vcd_head.proofs.Cited.{◌≡◌, Some, length, map, take, slice_get, string_bytes, Declaration, Variable, path_of, Header, selects_path, parts, Views}
+use Rattle.vcd_head.proofs.Facts.{Matching}
 use Rattle.vcd_head.proofs.inside.compare_each.Given as goal
 
 abbrev pub invariant-loop-position : goal.invariant-loop-position

@@ -1,11 +1,7 @@
-use Rattle.std.proofs.Common.{◌≡◌, ◌+◌, pos, Some, map, take, sym, ap, subst, ◌∙◌, to_z, of_z, arith, rules}
-use Rattle.std.specs.Prelude.{unwrap_or}
-use Rattle.std.specs.Int.{int_min}
-use Rattle.std.specs.List.{reduce}
-use mir.Syntax.{w8}
-use Rattle.vcd_model.specs.HeadText.{exponent, least_exponent as least_of, smaller}
-use Rattle.vcd_view.specs.Views.{Views}
-use Rattle.vcd_head.proofs.MergedLemmas.{HeaderAt, all_passed, header_at, least_more, with_one}
+use Rattle.vcd_head.proofs.Cited.{◌≡◌, ◌+◌, pos, Some, map, take, sym, ap, subst, ◌∙◌, arith, rules, unwrap_or, int_min, reduce, w8, exponent, smaller, Views}
+use Rattle.vcd_head.proofs.Facts.{HeaderAt, all_passed, header_at, least_more, with_one}
+use Rattle.std.proofs.Common.{to_z, of_z}
+use Rattle.vcd_model.specs.HeadText.{least_exponent as least_of}
 use Rattle.vcd_head.proofs.merged.least_exponent.Goals.{in-Some, in-None}
 use Rattle.vcd_head.proofs.merged.least_exponent.Goals as goal
 

@@ -1,8 +1,4 @@
-use Rattle.std.proofs.Common.{◌≡◌, List, map, take}
-use Rattle.std.specs.List.{reduce}
-use Rattle.vcd_model.specs.Header.{Header}
-use Rattle.vcd_model.specs.HeadText.{exponent, smaller}
-use Rattle.vcd_head.specs.Merged.{ShowHeaders}
+use Rattle.vcd_head.proofs.Cited.{◌≡◌, List, map, take, reduce, Header, exponent, smaller, ShowHeaders}
 use Rattle.vcd_head.proofs.merged.least_exponent.Given as goal
 
 abbrev pub invariant-loop-head : goal.invariant-loop-head

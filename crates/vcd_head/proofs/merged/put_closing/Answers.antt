@@ -1,6 +1,5 @@
-use Rattle.std.proofs.Common.{◌≡◌, ◌<◌, List, ℕ, subst, arith}
-use Rattle.vcd_text.specs.Device.{Puts}
-use Rattle.vcd_head.proofs.PendingScopes.{closing_is}
+use Rattle.vcd_head.proofs.Cited.{◌≡◌, ◌<◌, List, ℕ, subst, arith, Puts}
+use Rattle.vcd_head.proofs.Facts.{closing_is}
 use Rattle.vcd_head.proofs.merged.put_closing.Goals as goal
 
 pub returns : goal.returns

@@ -1,10 +1,5 @@
-use Rattle.std.proofs.Common.{◌≡◌, ◌++◌, ◌∷◌, [], List, ℕ, Err, take, get_or, flat_map, sym, ap, subst, ◌∙◌, arith, rules}
-use Rattle.std.specs.Io.KnownBytes.{Appends}
-use Rattle.std.proofs.lemmas.Grind.{flat_map-append}
-use Rattle.std.proofs.lemmas.List.{append-nil, take_more}
-use Rattle.vcd_model.specs.HeadText.{up_line}
-use Rattle.vcd_text.proofs.Writes.{appends-twice, counted}
-use Rattle.vcd_head.proofs.WriteLemmas.{texts-some}
+use Rattle.vcd_head.proofs.Cited.{◌≡◌, ◌++◌, ◌∷◌, [], List, ℕ, Err, take, get_or, flat_map, sym, ap, subst, ◌∙◌, arith, rules, Appends, flat_map-append, append-nil, take_more, up_line, appends-twice, counted}
+use Rattle.vcd_head.proofs.Facts.{texts-some}
 use Rattle.vcd_head.proofs.merged.put_closings.Goals as goal
 
 pub returns-in_err-put : goal.returns-in_err-put

@@ -1,6 +1,4 @@
-use Rattle.std.proofs.Common.{◌≡◌, ℕ, List, length, take, flat_map}
-use Rattle.std.specs.Io.KnownBytes.{Appends}
-use Rattle.vcd_model.specs.HeadText.{up_line}
+use Rattle.vcd_head.proofs.Cited.{◌≡◌, ℕ, List, length, take, flat_map, Appends, up_line}
 use Rattle.vcd_head.proofs.merged.put_closings.Given as goal
 
 abbrev pub invariant-scopes : goal.invariant-scopes

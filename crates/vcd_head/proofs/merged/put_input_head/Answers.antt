@@ -1,10 +1,5 @@
-use Rattle.std.proofs.Common.{◌≡◌, [], List, ℕ, Err, codes, decimal, subst, rules}
-use Rattle.vcd_model.specs.HeadText.{rows_text, up_line}
-use Rattle.vcd_model.specs.Selection.{is_among, marked_places}
-use Rattle.vcd_text.specs.Device.{Takes}
-use Rattle.vcd_text.proofs.Writes.{AppendsSome, appends-first, appends-some, appends-twice, counted, takes-twice}
-use Rattle.vcd_head.specs.Merged.{numbered}
-use Rattle.vcd_head.proofs.MergedLemmas.{input_text}
+use Rattle.vcd_head.proofs.Cited.{◌≡◌, [], List, ℕ, Err, codes, decimal, subst, rules, rows_text, up_line, is_among, marked_places, Takes, AppendsSome, appends-first, appends-some, appends-twice, counted, takes-twice, numbered}
+use Rattle.vcd_head.proofs.Facts.{input_text}
 use Rattle.vcd_head.proofs.merged.put_input_head.Goals as goal
 
 pub returns-in_err-put : goal.returns-in_err-put

@@ -1,15 +1,5 @@
-use Rattle.std.proofs.Common.{◌≡◌, List, ℕ, Err, take, subst, sym, ap, ◌∙◌, arith, rules}
-use Rattle.std.specs.List.{concat}
-use Rattle.std.specs.Io.KnownBytes.{Appends}
-use Rattle.std.proofs.lemmas.List.{length-take-le}
-use Rattle.std.proofs.lemmas.Slice.Zip.{AllZip-long}
-use Rattle.vcd_model.specs.Backward.{each}
-use Rattle.vcd_model.specs.HeadText.{input_head}
-use Rattle.vcd_text.proofs.Writes.{appends-twice, counted}
-use Rattle.vcd_view.specs.Views.{Views}
-use Rattle.vcd_view.proofs.LookUpLemmas.{codes_len}
-use Rattle.vcd_head.proofs.MergedLemmas.{HeaderAt, all_passed, header_at, number_more, numbers_fit}
-use Rattle.vcd_head.proofs.WriteLemmas.{lines-next, lines-some}
+use Rattle.vcd_head.proofs.Cited.{◌≡◌, List, ℕ, Err, take, subst, sym, ap, ◌∙◌, arith, rules, concat, Appends, length-take-le, AllZip-long, each, input_head, appends-twice, counted, Views, codes_len}
+use Rattle.vcd_head.proofs.Facts.{HeaderAt, all_passed, header_at, number_more, numbers_fit, lines-next, lines-some}
 use Rattle.vcd_head.proofs.merged.put_input_heads.Goals as goal
 
 pub loop-position-preserved : goal.loop-position-preserved

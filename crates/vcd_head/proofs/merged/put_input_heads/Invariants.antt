@@ -1,10 +1,4 @@
-use Rattle.std.proofs.Common.{◌≡◌, List, take}
-use Rattle.std.specs.List.{concat}
-use Rattle.std.specs.Io.KnownBytes.{Appends}
-use Rattle.vcd_model.specs.Backward.{each}
-use Rattle.vcd_model.specs.Header.{Header}
-use Rattle.vcd_model.specs.HeadText.{first_number, input_head}
-use Rattle.vcd_head.specs.Merged.{ShowHeaders}
+use Rattle.vcd_head.proofs.Cited.{◌≡◌, List, take, concat, Appends, each, Header, first_number, input_head, ShowHeaders}
 use Rattle.vcd_head.proofs.merged.put_input_heads.Given as goal
 
 abbrev pub invariant-loop-position : goal.invariant-loop-position

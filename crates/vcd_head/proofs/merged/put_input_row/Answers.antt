@@ -1,15 +1,5 @@
-use Rattle.std.proofs.Common.{◌≡◌, ◌+◌, List, ℕ, Err, Some, take, ap, subst, sym, ◌∙◌, arith, rules}
-use Rattle.std.specs.Io.KnownBytes.{Appends}
-use Rattle.std.proofs.lemmas.Option.{slice_get_within}
-use Rattle.vcd_model.specs.Declarations.{Declaration}
-use Rattle.vcd_model.specs.HeadText.{code_place, new_code, var_line}
-use Rattle.vcd_text.specs.Device.{Takes}
-use Rattle.vcd_text.proofs.Writes.{AppendsSome, appends-first, appends-none, counted, takes-twice}
-use Rattle.vcd_head.specs.Merged.{due, numbered}
-use Rattle.vcd_view.specs.Shown.{parts}
-use Rattle.vcd_head.proofs.PendingScopes.{scope_row_is, up_row_is, var_row_is}
-use Rattle.vcd_head.proofs.RenamedLemmas.{place_read}
-use Rattle.vcd_head.proofs.WriteLemmas.{row_there}
+use Rattle.vcd_head.proofs.Cited.{◌≡◌, ◌+◌, List, ℕ, Err, Some, take, ap, subst, sym, ◌∙◌, arith, rules, Appends, slice_get_within, Declaration, code_place, new_code, var_line, Takes, AppendsSome, appends-first, appends-none, counted, takes-twice, due, numbered, parts}
+use Rattle.vcd_head.proofs.Facts.{scope_row_is, up_row_is, var_row_is, place_read, row_there}
 use Rattle.vcd_head.proofs.merged.put_input_row.Goals as goal
 
 pub returns-in_default : goal.returns-in_default

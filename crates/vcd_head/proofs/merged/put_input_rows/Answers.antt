@@ -1,11 +1,5 @@
-use Rattle.std.proofs.Common.{◌≡◌, ◌+◌, ◌++◌, [], List, ℕ, Err, take, refl, sym, subst, ◌∙◌, arith, rules}
-use Rattle.vcd_text.specs.Device.{Takes}
-use Rattle.vcd_text.proofs.Writes.{appends-none, appends-twice, counted, takes-twice}
-use Rattle.vcd_head.specs.Merged.{due, written_behind}
-use Rattle.vcd_view.specs.Shown.{parts}
-use Rattle.vcd_view.proofs.RowLemmas.{read_row, rows_len}
-use Rattle.vcd_head.proofs.PendingScopes.{IsWritten, behind_is, few_written, kind_is, last_lines, nothing_written, row_next, row_some}
-use Rattle.vcd_head.proofs.WriteLemmas.{declared_there}
+use Rattle.vcd_head.proofs.Cited.{◌≡◌, ◌+◌, ◌++◌, [], List, ℕ, Err, take, refl, sym, subst, ◌∙◌, arith, rules, Takes, appends-none, appends-twice, counted, takes-twice, due, written_behind, parts, read_row, rows_len}
+use Rattle.vcd_head.proofs.Facts.{IsWritten, behind_is, few_written, kind_is, last_lines, nothing_written, row_next, row_some, declared_there}
 use Rattle.vcd_head.proofs.merged.put_input_rows.Goals as goal
 
 pub loop-row-init : goal.loop-row-init

@@ -1,10 +1,5 @@
-use Rattle.std.proofs.Common.{◌≡◌, ℕ, List}
-use Rattle.std.specs.Io.KnownBytes.{Appends}
-use Rattle.vcd_model.specs.Header.{Header}
-use Rattle.vcd_head.specs.Merged.{FitNumbers}
-use Rattle.vcd_view.specs.Shown.{parts}
-use Rattle.vcd_view.specs.Views.{Views}
-use Rattle.vcd_head.proofs.PendingScopes.{IsWritten}
+use Rattle.vcd_head.proofs.Cited.{◌≡◌, ℕ, List, Appends, Header, FitNumbers, parts, Views}
+use Rattle.vcd_head.proofs.Facts.{IsWritten}
 use Rattle.vcd_head.proofs.merged.put_input_rows.Given as goal
 
 abbrev pub invariant-loop-row : goal.invariant-loop-row

@@ -1,12 +1,5 @@
-use Rattle.std.proofs.Common.{◌≡◌, ◌++◌, List, ℕ, Err, refl, subst, ap, ◌∙◌, rules}
-use Rattle.std.specs.List.{concat}
-use Rattle.vcd_model.specs.Backward.{each}
-use Rattle.vcd_model.specs.Header.{Header}
-use Rattle.vcd_model.specs.HeadText.{end_line, input_head, least_exponent as least_of, merged_head, three_lines}
-use Rattle.vcd_model.specs.Keywords.{Keyword}
-use Rattle.vcd_model.specs.Scales.{scale_text}
-use Rattle.vcd_text.specs.Device.{Takes}
-use Rattle.vcd_text.proofs.Writes.{AppendsSome, appends-first, appends-some, appends-twice, takes-twice}
+use Rattle.vcd_head.proofs.Cited.{◌≡◌, ◌++◌, List, ℕ, Err, refl, subst, ap, ◌∙◌, rules, concat, each, Header, end_line, input_head, three_lines, Keyword, scale_text, Takes, AppendsSome, appends-first, appends-some, appends-twice, takes-twice}
+use Rattle.vcd_model.specs.HeadText.{least_exponent as least_of, merged_head}
 use Rattle.vcd_head.proofs.merged.put_merged_head.Goals as goal
 
 -- the parts that are written

@@ -1,6 +1,5 @@
-use Rattle.std.proofs.Common.{◌≡◌, Err, refl, ◌∙◌, rules}
-use Rattle.vcd_head.proofs.PendingScopes.{opens_first, opens_next, opens_more, opens_some}
-use Rattle.vcd_text.proofs.Writes.{counted}
+use Rattle.vcd_head.proofs.Cited.{◌≡◌, Err, refl, ◌∙◌, rules, counted}
+use Rattle.vcd_head.proofs.Facts.{opens_first, opens_next, opens_more, opens_some}
 use Rattle.vcd_head.proofs.merged.put_openings.Goals as goal
 
 pub loop-scope-init : goal.loop-scope-init

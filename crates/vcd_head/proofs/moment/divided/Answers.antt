@@ -1,5 +1,5 @@
-use Rattle.std.proofs.Common.{◌<◌, sym, subst}
-use Rattle.vcd_head.proofs.MomentLemmas.{some_power}
+use Rattle.vcd_head.proofs.Cited.{◌<◌, sym, subst}
+use Rattle.vcd_head.proofs.Facts.{some_power}
 use Rattle.vcd_head.proofs.moment.divided.Goals as goal
 
 pub nonzero_div-result : goal.nonzero_div-result

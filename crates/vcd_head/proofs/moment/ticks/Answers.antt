@@ -1,11 +1,6 @@
-use Rattle.std.proofs.Common.{◌<◌, ◌^◌, refl, ap, ap₂, ◌∙◌, subst, rules}
-use Rattle.std.specs.Option.{SomeIff}
-use Rattle.std.proofs.lemmas.Int.{to_z-of_z}
-use mir.Syntax.{w8}
-use mir.Val.{SFits}
-use Rattle.vcd_model.specs.Ticks.{moment_ticks, ticks}
-use Rattle.vcd_head.specs.Moments.{asked}
-use Rattle.vcd_head.proofs.MomentLemmas.{in_range_told}
+use Rattle.vcd_head.proofs.Cited.{◌<◌, ◌^◌, refl, ap, ap₂, ◌∙◌, subst, rules, SomeIff, to_z-of_z, w8, SFits, ticks, asked}
+use Rattle.vcd_head.proofs.Facts.{in_range_told}
+use Rattle.vcd_model.specs.Ticks.{moment_ticks}
 use Rattle.vcd_head.proofs.moment.ticks.Goals as goal
 
 pub returns-in_default-clause-ticks : goal.returns-in_default-clause-ticks

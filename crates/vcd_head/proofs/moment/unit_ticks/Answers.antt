@@ -1,10 +1,5 @@
-use Rattle.std.proofs.Common.{◌≡◌, ◌-◌, ◌^◌, ◌<◌, ◌*◌, ◌/◌, ◌+ℤ◌, pos, nat_abs, ap, ap₂, sym, ◌∙◌, subst, arith}
-use Rattle.std.proofs.lemmas.Int.{to_z-of_z}
-use Rattle.std.specs.Int.{div_ceil}
-use Rattle.std.specs.Option.{SomeIff}
-use mir.Syntax.{w8}
-use Rattle.vcd_model.specs.Ticks.{ticks}
-use Rattle.vcd_head.proofs.MomentLemmas.{ticks_whole, ticks_part_up, ticks_part_down}
+use Rattle.vcd_head.proofs.Cited.{◌≡◌, ◌-◌, ◌^◌, ◌<◌, ◌*◌, ◌/◌, ◌+ℤ◌, pos, nat_abs, ap, ap₂, sym, ◌∙◌, subst, arith, to_z-of_z, div_ceil, SomeIff, w8, ticks}
+use Rattle.vcd_head.proofs.Facts.{ticks_whole, ticks_part_up, ticks_part_down}
 use Rattle.vcd_head.proofs.moment.unit_ticks.Goals as goal
 
 pub returns-then-tick-unit : goal.returns-then-tick-unit

@@ -1,4 +1,4 @@
-use Rattle.std.proofs.Common.{◌≡◌, ◌<◌, ℕ, length, get_or}
+use Rattle.vcd_head.proofs.Cited.{◌≡◌, ◌<◌, ℕ, length, get_or}
 use Rattle.vcd_head.proofs.names.number.Given as goal
 
 abbrev pub invariant-loop-position : goal.invariant-loop-position

@@ -1,6 +1,5 @@
-use Rattle.std.proofs.Common.{sym, length, map, string_bytes, ◌∙◌, ◌+◌}
-use Rattle.std.proofs.lemmas.List.{get_or-drop, length-map}
-use Rattle.vcd_head.proofs.OrderLemmas.{order_made}
+use Rattle.vcd_head.proofs.Cited.{sym, length, map, string_bytes, ◌∙◌, ◌+◌, get_or-drop, length-map}
+use Rattle.vcd_head.proofs.Facts.{order_made}
 use Rattle.vcd_head.proofs.names.put_names.Goals as goal
 
 pub returns : goal.returns

@@ -1,6 +1,5 @@
-use Rattle.std.proofs.Common.{◌<◌, ◌∙◌, length, arith}
-use Rattle.std.proofs.lemmas.List.Sorted.{All-permutation, Contains-permutation}
-use Rattle.vcd_head.proofs.OrderLemmas.{numbered_has, numbered_within}
+use Rattle.vcd_head.proofs.Cited.{◌<◌, ◌∙◌, length, arith, All-permutation, Contains-permutation}
+use Rattle.vcd_head.proofs.Facts.{numbered_has, numbered_within}
 use Rattle.vcd_head.proofs.names.put_order.Goals as goal
 
 pub returns-clause-each : goal.returns-clause-each

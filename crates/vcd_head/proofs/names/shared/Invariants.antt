@@ -1,4 +1,4 @@
-use Rattle.std.proofs.Common.{◌≡◌, ◌<◌, ℕ, get_or}
+use Rattle.vcd_head.proofs.Cited.{◌≡◌, ◌<◌, ℕ, get_or}
 use Rattle.vcd_head.proofs.names.shared.Given as goal
 
 abbrev pub invariant-loop-position : goal.invariant-loop-position

@@ -1,7 +1,5 @@
-use Rattle.std.proofs.Common.{map, string_bytes, rules}
-use Rattle.std.proofs.lemmas.Fn.{always_returns_same}
-use Rattle.vcd_head.specs.NameOrder.{comes_before}
-use Rattle.vcd_head.proofs.OrderLemmas.{before_weak}
+use Rattle.vcd_head.proofs.Cited.{map, string_bytes, rules, always_returns_same, comes_before}
+use Rattle.vcd_head.proofs.Facts.{before_weak}
 use Rattle.vcd_head.proofs.names.sort.Goals as goal
 
 pub returns-clause-sorted : goal.returns-clause-sorted

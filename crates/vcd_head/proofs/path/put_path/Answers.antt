@@ -1,9 +1,5 @@
-use Rattle.std.proofs.Common.{◌≡◌, List, ℕ, Err, take, subst, rules}
-use Rattle.std.proofs.lemmas.Option.{slice_get_within}
-use Rattle.vcd_model.specs.Declarations.{name_of}
-use Rattle.vcd_text.specs.Device.{Takes}
-use Rattle.vcd_text.proofs.Writes.{appends-first, takes-twice}
-use Rattle.vcd_head.proofs.PathLemmas.{path_is}
+use Rattle.vcd_head.proofs.Cited.{◌≡◌, List, ℕ, Err, take, subst, rules, slice_get_within, name_of, Takes, appends-first, takes-twice}
+use Rattle.vcd_head.proofs.Facts.{path_is}
 use Rattle.vcd_head.proofs.path.put_path.Goals as goal
 
 pub returns-in_err-put_scopes-clause-takes : goal.returns-in_err-put_scopes-clause-takes

@@ -1,7 +1,5 @@
-use Rattle.std.proofs.Common.{◌≡◌, Err, List, ℕ, refl, subst, ◌∙◌, rules}
-use Rattle.std.specs.Io.KnownBytes.{Appends}
-use Rattle.vcd_text.proofs.Writes.{AppendsSome, counted}
-use Rattle.vcd_head.proofs.PathLemmas.{names_first, name_next, names_more, names_some, point_some}
+use Rattle.vcd_head.proofs.Cited.{◌≡◌, Err, List, ℕ, refl, subst, ◌∙◌, rules, Appends, AppendsSome, counted}
+use Rattle.vcd_head.proofs.Facts.{names_first, name_next, names_more, names_some, point_some}
 use Rattle.vcd_head.proofs.path.put_scopes.Goals as goal
 
 pub loop-scope-init : goal.loop-scope-init

@@ -1,8 +1,5 @@
-use Rattle.std.proofs.Common.{◌≡◌, ◌<◌, length}
-use Rattle.vcd_model.specs.Header.{Header}
-use Rattle.vcd_view.specs.Shown.{parts}
-use Rattle.vcd_view.specs.Views.{Views}
-use Rattle.vcd_head.proofs.PathLemmas.{HasNames}
+use Rattle.vcd_head.proofs.Cited.{◌≡◌, ◌<◌, length, Header, parts, Views}
+use Rattle.vcd_head.proofs.Facts.{HasNames}
 use Rattle.vcd_head.proofs.path.put_scopes.Given as goal
 
 abbrev pub invariant-loop-scope : goal.invariant-loop-scope

@@ -1,11 +1,5 @@
-use Rattle.std.proofs.Common.{◌≡◌, ◌∷◌, [], true, false, sym, ap, ◌∙◌}
-use Rattle.vcd_model.specs.Keywords.{is_command}
-use Rattle.vcd_model.specs.HeaderChecks.{begins_change}
-use Rattle.vcd_model.specs.Reading.{phrases_of}
-use Rattle.vcd_text.specs.Feed.{token_of}
-use Rattle.vcd_head.proofs.TokenSteps.{refused}
-use Rattle.vcd_head.proofs.WordLemmas.{fault_of_change, fault_of_other}
-use Rattle.vcd_head.proofs.PhraseSteps.{unknown_begun, unknown_read}
+use Rattle.vcd_head.proofs.Cited.{◌≡◌, ◌∷◌, [], true, false, sym, ap, ◌∙◌, is_command, begins_change, phrases_of, token_of}
+use Rattle.vcd_head.proofs.Facts.{refused, fault_of_change, fault_of_other, unknown_begun, unknown_read}
 use Rattle.vcd_head.proofs.phrases.read_other.Goals as goal
 
 pub returns-then-begins_change-clause-reads : goal.returns-then-begins_change-clause-reads

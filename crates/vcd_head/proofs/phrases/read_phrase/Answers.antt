@@ -1,8 +1,5 @@
-use Rattle.std.proofs.Common.{[], MatchBool, sym, ap, subst, ◌∙◌}
-use Rattle.std.proofs.lemmas.Result.{err_from_is_err_and}
-use Rattle.vcd_model.specs.Keywords.{keyword_of}
-use Rattle.vcd_head.specs.Draft.{DraftsUpTo, DraftsAll}
-use Rattle.vcd_head.proofs.PhraseSteps.{begun_by}
+use Rattle.vcd_head.proofs.Cited.{[], MatchBool, sym, ap, subst, ◌∙◌, err_from_is_err_and, keyword_of, DraftsUpTo, DraftsAll}
+use Rattle.vcd_head.proofs.Facts.{begun_by}
 use Rattle.vcd_head.proofs.phrases.read_phrase.Goals as goal
 
 pub returns-in_err-next_token-clause-reads : goal.returns-in_err-next_token-clause-reads

@@ -1,9 +1,6 @@
-use Rattle.std.proofs.Common.{◌≡◌, [], ◌∷◌, Some, refl, subst, rules}
-use Rattle.std.proofs.lemmas.Result.{err_from_is_err_and}
-use Rattle.vcd_model.specs.Keywords.{Keyword, keyword_text}
+use Rattle.vcd_head.proofs.Cited.{◌≡◌, [], ◌∷◌, Some, refl, subst, rules, err_from_is_err_and, Keyword, keyword_text, AtFirstToken}
+use Rattle.vcd_head.proofs.Facts.{not_begun}
 use Rattle.vcd_view.specs.declared.keyword.Keyword.TheVariants as word
-use Rattle.vcd_head.specs.Draft.{AtFirstToken}
-use Rattle.vcd_head.proofs.PhraseLemmas.{not_begun}
 use Rattle.vcd_head.proofs.PhraseSteps as steps
 use Rattle.vcd_head.proofs.phrases.read_rest.Goals as goal
 

@@ -1,6 +1,5 @@
-use Rattle.std.proofs.Common.{rules}
-use Rattle.std.proofs.lemmas.Result.{err_from_is_err_and}
-use Rattle.vcd_head.proofs.PhraseSteps.{carries_nothing, finished}
+use Rattle.vcd_head.proofs.Cited.{rules, err_from_is_err_and}
+use Rattle.vcd_head.proofs.Facts.{carries_nothing, finished}
 use Rattle.vcd_head.proofs.read.read_head_with_hasher.Goals as goal
 
 pub returns-in_err-read_phrases : goal.returns-in_err-read_phrases

@@ -1,7 +1,4 @@
-use Rattle.vcd_text.specs.Advances.{CallEnd}
-use Rattle.vcd_text.proofs.AdvancesLemmas.{advances_on, advances_nowhere}
-use Rattle.std.proofs.lemmas.Bool.{MatchBool-at_false, MatchBool-at_true}
-use Rattle.std.proofs.lemmas.Result.{err_from_is_err_and}
+use Rattle.vcd_head.proofs.Cited.{CallEnd, advances_on, advances_nowhere, MatchBool-at_false, MatchBool-at_true, err_from_is_err_and}
 use Rattle.vcd_head.proofs.read.read_phrases.Goals as goal
 
 pub phrases-init : goal.phrases-init

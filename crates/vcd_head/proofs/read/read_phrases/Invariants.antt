@@ -1,8 +1,4 @@
-use Rattle.std.proofs.Common.{◌-◌, ◌^◌}
-use Rattle.vcd_model.specs.Input.{Input}
-use Rattle.vcd_text.specs.Feed.{seen}
-use Rattle.vcd_head.specs.Draft.{DraftsUpTo}
-use Rattle.vcd_text.specs.Advances.{Advances, CallEnd}
+use Rattle.vcd_head.proofs.Cited.{◌-◌, ◌^◌, Input, seen, DraftsUpTo, Advances, CallEnd}
 use Rattle.vcd_head.proofs.read.read_phrases.Given as goal
 
 abbrev pub invariant-phrases : goal.invariant-phrases

@@ -1,5 +1,5 @@
-use Rattle.std.proofs.Common.{Ok, Err, sym, arith}
-use Rattle.vcd_head.proofs.RisingLemmas.{last_is, place_above, place_searched}
+use Rattle.vcd_head.proofs.Cited.{Ok, Err, sym, arith}
+use Rattle.vcd_head.proofs.Facts.{last_is, place_above, place_searched}
 use Rattle.vcd_head.proofs.rising.index_in_rising.Goals as goal
 
 pub returns-then-number-last_rising : goal.returns-then-number-last_rising

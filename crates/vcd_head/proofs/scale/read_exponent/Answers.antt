@@ -1,13 +1,6 @@
-use Rattle.std.proofs.Common.{◌≡◌, ◌∷◌, [], Some, None, sym, ap, subst, ◌∙◌}
-use Rattle.vcd_head.specs.Scaled.{ScaleRead}
-use Rattle.std.proofs.lemmas.Result.{err_from_is_err_and}
-use Rattle.vcd_model.specs.Keywords.{Keyword, keyword_text}
-use Rattle.vcd_model.specs.Scales.{exponent_of}
-use Rattle.vcd_text.specs.Feed.{token_of}
-use Rattle.vcd_head.specs.Words.{power_in, unit_in}
-use Rattle.vcd_head.proofs.ScaleChecks.{number_read, one_read, one_refused, two_added, two_refused}
+use Rattle.vcd_head.proofs.Cited.{◌≡◌, ◌∷◌, [], Some, None, sym, ap, subst, ◌∙◌, ScaleRead, err_from_is_err_and, Keyword, keyword_text, exponent_of, token_of, power_in, unit_in}
+use Rattle.vcd_head.proofs.Facts.{number_read, one_read, one_refused, two_added, two_refused, not_some}
 use Rattle.vcd_head.proofs.scale.read_exponent.Goals as goal
-use Rattle.vcd_head.proofs.CodeChecks.{not_some}
 
 pub returns-in_err-next_token-clause-reads : goal.returns-in_err-next_token-clause-reads
 returns-in_err-next_token-clause-reads g c =

@@ -1,18 +1,5 @@
-use Rattle.std.proofs.Common.{◌∷◌, option_map, option_and_then, Some, refl, sym, ap, ◌∙◌}
-use Rattle.std.proofs.lemmas.Result.{err_from_is_err_and}
-use mir.Val.{to_z, of_z}
-use mir.Syntax.{w8}
-use Rattle.vcd_model.specs.Checks.{first_failed}
-use Rattle.vcd_model.specs.Keywords.{Keyword, keyword_text}
-use Rattle.vcd_model.specs.HeaderPhrases.{HeaderPhrase, scale_of}
-use Rattle.vcd_model.specs.Reading.{phrases_of}
-use Rattle.vcd_text.specs.Feed.{token_of}
-use Rattle.vcd_head.proofs.TokenSteps.{then_ok}
-use Rattle.vcd_head.proofs.PhraseLemmas.{begun, ended, scale_asks_end}
-use Rattle.vcd_view.proofs.KeywordLemmas.{until}
-use Rattle.vcd_head.proofs.DraftSteps.{carried, passed_test}
-use Rattle.vcd_head.proofs.DraftLemmas.{holds_scale}
-use Rattle.vcd_head.proofs.ScaleTexts.{scale_in_range}
+use Rattle.vcd_head.proofs.Cited.{◌∷◌, option_map, option_and_then, Some, refl, sym, ap, ◌∙◌, err_from_is_err_and, to_z, of_z, w8, first_failed, Keyword, keyword_text, HeaderPhrase, scale_of, phrases_of, token_of, until}
+use Rattle.vcd_head.proofs.Facts.{then_ok, begun, ended, scale_asks_end, carried, passed_test, holds_scale, scale_in_range}
 use Rattle.vcd_head.proofs.scale.read_timescale.Goals as goal
 
 pub returns-in_err-exponent-clause-reads : goal.returns-in_err-exponent-clause-reads

@@ -1,15 +1,6 @@
-use Rattle.std.proofs.Common.{[], ◌∷◌, ◌++◌, refl, ap, subst, ◌∙◌, option_map}
-use Rattle.std.proofs.lemmas.Result.{err_from_is_err_and}
-use Rattle.vcd_model.specs.Keywords.{Keyword, keyword_text}
-use Rattle.vcd_model.specs.HeaderPhrases.{HeaderPhrase}
-use Rattle.vcd_model.specs.Declarations.{Declaration}
-use Rattle.vcd_model.specs.Reading.{phrases_of}
-use Rattle.vcd_text.specs.Feed.{token_of}
+use Rattle.vcd_head.proofs.Cited.{[], ◌∷◌, ◌++◌, refl, ap, subst, ◌∙◌, option_map, err_from_is_err_and, Keyword, keyword_text, HeaderPhrase, Declaration, phrases_of, token_of, IsDraftOf}
+use Rattle.vcd_head.proofs.Facts.{faultless, kept, stays, then_ok, barred, begun, ended, scope_asks_end, scope_welcomes_type, scope_welcomes_name, carried, passed_test, whole_test}
 use Rattle.vcd_view.specs.declared.view.Kind.TheVariants as kind
-use Rattle.vcd_head.specs.Draft.{IsDraftOf}
-use Rattle.vcd_head.proofs.TokenSteps.{faultless, kept, stays, then_ok}
-use Rattle.vcd_head.proofs.PhraseLemmas.{barred, begun, ended, scope_asks_end, scope_welcomes_type, scope_welcomes_name}
-use Rattle.vcd_head.proofs.DraftSteps.{carried, passed_test, whole_test}
 use Rattle.vcd_head.proofs.scopes.read_scope.Goals as goal
 
 pub returns-in_err-check_start-clause-advances : goal.returns-in_err-check_start-clause-advances

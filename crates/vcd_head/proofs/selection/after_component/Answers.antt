@@ -1,9 +1,5 @@
-use Rattle.std.proofs.Common.{[], ◌∷◌, ◌++◌, sym, ap, ◌∙◌}
-use Rattle.std.proofs.lemmas.Slice.Eq.{strip_prefix_is}
-use Rattle.std.proofs.lemmas.List.Prefix.{front_rest}
-use Rattle.std.proofs.lemmas.Bool.Decides.{Decides-eqb}
-use Rattle.vcd_head.proofs.NamePaths.{behind_component, selects-longer, name_goes_on, component_differs}
-use Rattle.vcd_head.proofs.ScaleLemmas.{stripped, not_stripped}
+use Rattle.vcd_head.proofs.Cited.{[], ◌∷◌, ◌++◌, sym, ap, ◌∙◌, strip_prefix_is, front_rest, Decides-eqb}
+use Rattle.vcd_head.proofs.Facts.{behind_component, selects-longer, name_goes_on, component_differs, stripped, not_stripped}
 use Rattle.vcd_head.proofs.selection.after_component.Goals as goal
 
 pub returns-then-is_or_goes_on-clause-selects : goal.returns-then-is_or_goes_on-clause-selects

@@ -1,4 +1,4 @@
-use Rattle.std.proofs.Common.{◌≡◌, ◌<◌, ℕ, true, false, get_or}
+use Rattle.vcd_head.proofs.Cited.{◌≡◌, ◌<◌, ℕ, true, false, get_or}
 use Rattle.vcd_head.proofs.selection.first_false.Given as goal
 
 abbrev pub invariant-loop-position : goal.invariant-loop-position

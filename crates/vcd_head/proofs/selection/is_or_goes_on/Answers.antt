@@ -1,8 +1,5 @@
-use Rattle.std.proofs.Common.{sym, ◌∙◌}
-use Rattle.std.proofs.lemmas.Slice.Eq.{strip_prefix_is}
-use Rattle.std.proofs.lemmas.Bool.Decides.{Decides-eqb}
-use Rattle.vcd_head.proofs.NamePaths.{point_behind, rest_decides, other_front}
-use Rattle.vcd_head.proofs.ScaleLemmas.{stripped, not_stripped}
+use Rattle.vcd_head.proofs.Cited.{sym, ◌∙◌, strip_prefix_is, Decides-eqb}
+use Rattle.vcd_head.proofs.Facts.{point_behind, rest_decides, other_front, stripped, not_stripped}
 use Rattle.vcd_head.proofs.selection.is_or_goes_on.Goals as goal
 
 pub returns-else-is_empty : goal.returns-else-is_empty

@@ -1,8 +1,6 @@
-use Rattle.std.proofs.Common.{◌≡◌, Some, None, slice_get, sym, rules}
-use Rattle.std.proofs.lemmas.Option.{slice_get_within}
-use Rattle.vcd_view.specs.Shown.{parts}
+use Rattle.vcd_head.proofs.Cited.{◌≡◌, Some, None, slice_get, sym, rules, slice_get_within, parts}
+use Rattle.vcd_head.proofs.Facts.{declares_none, declares_one}
 use Rattle.vcd_view.proofs.RowLemmas.{there}
-use Rattle.vcd_head.proofs.InsideLemmas.{declares_none, declares_one}
 use Rattle.vcd_head.proofs.selection.is_variable.Goals as goal
 
 pub returns-in_default : goal.returns-in_default

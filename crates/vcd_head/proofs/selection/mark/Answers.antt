@@ -1,10 +1,5 @@
-use Rattle.std.proofs.Common.{◌≤◌, ◌<◌, suc, get_or, inl, inr, set, sym, ap, subst, ◌∙◌, arith}
-use Rattle.std.proofs.lemmas.Bool.{cases_eq}
-use Rattle.std.proofs.lemmas.List.{get_or-set_other, get_or-set_same}
-use Rattle.vcd_head.specs.Marks.{Marked}
-use Rattle.vcd_view.specs.Views.{counted_from_one}
-use Rattle.vcd_view.proofs.ParentLemmas.{with_scopes}
-use Rattle.vcd_head.proofs.MarkLemmas.{counted_within, marked_before, walk_on}
+use Rattle.vcd_head.proofs.Cited.{◌≤◌, ◌<◌, suc, get_or, inl, inr, set, sym, ap, subst, ◌∙◌, arith, cases_eq, get_or-set_other, get_or-set_same, Marked, counted_from_one, with_scopes}
+use Rattle.vcd_head.proofs.Facts.{counted_within, marked_before, walk_on}
 use Rattle.vcd_head.proofs.selection.mark.Goals as goal
 
 pub loop-next-preserved : goal.loop-next-preserved

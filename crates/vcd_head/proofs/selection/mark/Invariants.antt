@@ -1,10 +1,4 @@
-use Rattle.std.proofs.Common.{◌≡◌, ◌≤◌, ◌<◌, List, ℕ, suc, ◌∷◌, get_or, length, take}
-use Rattle.vcd_model.specs.Declarations.{enclosing}
-use Rattle.vcd_model.specs.Header.{Header}
-use Rattle.vcd_head.specs.Marks.{Marked}
-use Rattle.vcd_view.specs.Shown.{parts}
-use Rattle.vcd_view.specs.Views.{Views, counted_from_one}
-use Rattle.vcd_view.proofs.ParentLemmas.{with_scopes}
+use Rattle.vcd_head.proofs.Cited.{◌≡◌, ◌≤◌, ◌<◌, List, ℕ, suc, ◌∷◌, get_or, length, take, enclosing, Header, Marked, parts, Views, counted_from_one, with_scopes}
 use Rattle.vcd_head.proofs.selection.mark.Given as goal
 
 abbrev pub invariant-loop-next : goal.invariant-loop-next

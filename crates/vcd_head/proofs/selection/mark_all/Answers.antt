@@ -1,14 +1,7 @@
-use Rattle.std.proofs.Common.{◌≡◌, true, false, [], ◌∷◌, ◌&&◌, Bool, take, refl, sym, subst, ◌∙◌, arith}
-use Rattle.std.proofs.lemmas.List.{take_all}
-use Rattle.vcd_model.specs.Declarations.{enclosing}
-use Rattle.vcd_model.specs.Selection.{is_selected, is_variable, marked_places}
-use Rattle.vcd_head.specs.Marks.{AreClosed, Marked}
-use Rattle.vcd_view.proofs.RowLemmas.{rows_len}
-use Rattle.vcd_head.proofs.MarkLemmas.{closed_after, marked_both, marked_first}
-use Rattle.vcd_head.proofs.SelectionLemmas.{marks_more, marks_same}
+use Rattle.vcd_head.proofs.Cited.{◌≡◌, true, false, [], ◌∷◌, ◌&&◌, Bool, take, refl, sym, subst, ◌∙◌, arith, take_all, enclosing, is_selected, is_variable, marked_places, AreClosed, Marked, rows_len, there}
+use Rattle.vcd_head.proofs.Facts.{closed_after, marked_both, marked_first, marks_more, marks_same}
 use Rattle.vcd_head.proofs.selection.mark_all.Goals as goal
 use Rattle.vcd_head.proofs.selection.mark_all.Goals.{then-is_variable, else-is_variable}
-use Rattle.vcd_view.proofs.ListLemmas.{there}
 
 and_true : (b : Bool) → (b && true) ≡ b
 and_true true = refl

@@ -1,9 +1,4 @@
-use Rattle.std.proofs.Common.{[], take}
-use Rattle.vcd_model.specs.Header.{Header}
-use Rattle.vcd_model.specs.Selection.{marked_places}
-use Rattle.vcd_head.specs.Marks.{AreClosed, Marked}
-use Rattle.vcd_view.specs.Shown.{parts}
-use Rattle.vcd_view.specs.Views.{Views}
+use Rattle.vcd_head.proofs.Cited.{[], take, Header, marked_places, AreClosed, Marked, parts, Views}
 use Rattle.vcd_head.proofs.selection.mark_all.Given as goal
 
 abbrev pub invariant-loop-row : goal.invariant-loop-row

@@ -1,18 +1,7 @@
-use Rattle.std.proofs.Common.{[], ◌∷◌, map, take, length, string_bytes, false, sym, ap, subst, ◌∙◌, arith}
-use Rattle.std.proofs.lemmas.List.{length-map, take_all}
-use Rattle.vcd_model.specs.Declarations.{enclosing}
-use Rattle.vcd_model.specs.Selection.{is_selected, marked_places}
-use Rattle.vcd_head.specs.Marks.{AreClosed, Marked}
-use Rattle.vcd_head.specs.Matched.{HaveMatched, Matched}
-use Rattle.vcd_head.specs.NameOrder.{IsOrder}
-use Rattle.vcd_view.proofs.RowLemmas.{rows_len}
-use Rattle.vcd_head.proofs.MarkLemmas.{closed_after, marked_both, marked_first}
-use Rattle.vcd_head.proofs.MatchLemmas.{first_is, first_within, matched_next, none_matched}
-use Rattle.vcd_head.proofs.OrderLemmas.{read_same}
-use Rattle.vcd_head.proofs.SelectionLemmas.{marks_more, marks_same}
+use Rattle.vcd_head.proofs.Cited.{[], ◌∷◌, map, take, length, string_bytes, false, sym, ap, subst, ◌∙◌, arith, length-map, take_all, enclosing, is_selected, marked_places, AreClosed, Marked, HaveMatched, Matched, IsOrder, rows_len, there}
+use Rattle.vcd_head.proofs.Facts.{closed_after, marked_both, marked_first, first_is, first_within, matched_next, none_matched, read_same, marks_more, marks_same}
 use Rattle.vcd_head.proofs.selection.mark_selected.Goals as goal
 use Rattle.vcd_head.proofs.selection.mark_selected.Goals.{then-take, else-take}
-use Rattle.vcd_view.proofs.ListLemmas.{there}
 
 pub loop-row-init : goal.loop-row-init
 loop-row-init c = record { marks = λ h v closed. marked_first (map string_bytes c.args.names.now) h.declarations c.args.marks.now; closed = λ h v closed. closed; matched = λ h v. none_matched (map string_bytes c.args.names.now) h.declarations 16384 (omega (arith, length-map c.args.names.now string_bytes)); held = λ h v. c.new-open.ensures h _ (subst (λ ns. IsOrder (map string_bytes ns) c.new-group.result.order.now) (sym c.new-group.ensures.names) (subst (IsOrder (map string_bytes c.args.names.now)) (sym c.new-group.ensures.order) c.put_names.ensures)) (λ p q name a b. read_same false 16384 p ∙ sym (read_same false 16384 q)) }

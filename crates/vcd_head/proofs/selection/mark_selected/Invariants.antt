@@ -1,11 +1,4 @@
-use Rattle.std.proofs.Common.{map, take, string_bytes}
-use Rattle.vcd_model.specs.Header.{Header}
-use Rattle.vcd_model.specs.Selection.{marked_places}
-use Rattle.vcd_head.specs.Inside.{AreOpen}
-use Rattle.vcd_head.specs.Marks.{AreClosed, Marked}
-use Rattle.vcd_head.specs.Matched.{HaveMatched}
-use Rattle.vcd_view.specs.Shown.{parts}
-use Rattle.vcd_view.specs.Views.{Views}
+use Rattle.vcd_head.proofs.Cited.{map, take, string_bytes, Header, marked_places, AreOpen, AreClosed, Marked, HaveMatched, parts, Views}
 use Rattle.vcd_head.proofs.selection.mark_selected.Given as goal
 
 abbrev pub invariant-loop-row : goal.invariant-loop-row

@@ -1,12 +1,6 @@
-use Rattle.std.proofs.Common.{◌≡◌, None, Some, true, ◌==◌, [], ◌∷◌, ◌++◌, map, take, drop, length, slice_range, string_bytes, refl, sym, ap, subst, ◌∙◌, ◌+◌, List, ℕ, arith}
-use Rattle.std.proofs.lemmas.Bool.{eqb-true}
-use Rattle.std.proofs.lemmas.List.{length-map, length-take-le, map-append, take-append-drop, take_all}
-use Rattle.vcd_model.specs.Selection.{first_unmatched, marked_places}
-use Rattle.vcd_head.specs.Marks.{Marked, marks_of}
-use Rattle.vcd_view.proofs.RowLemmas.{rows_len}
-use Rattle.vcd_head.proofs.InsideLemmas.{take_group, some_taken, some_grouped}
-use Rattle.vcd_head.proofs.MarkLemmas.{closed_zeros, marked_all, marked_group}
-use Rattle.vcd_head.proofs.MatchLemmas.{unmatched_first, unmatched_later}
+use Rattle.vcd_head.proofs.Cited.{◌≡◌, None, Some, true, ◌==◌, [], ◌∷◌, ◌++◌, map, take, drop, length, slice_range, string_bytes, refl, sym, ap, subst, ◌∙◌, ◌+◌, List, ℕ, arith, eqb-true, length-map, length-take-le, map-append, take-append-drop, take_all, first_unmatched, marked_places, Marked, rows_len}
+use Rattle.vcd_head.proofs.Facts.{take_group, some_taken, some_grouped, closed_zeros, marked_all, marked_group, unmatched_first, unmatched_later}
+use Rattle.vcd_head.specs.Marks.{marks_of}
 use Rattle.vcd_head.proofs.selection.select.Goals as goal
 
 pub loop-done-preserved : goal.loop-done-preserved

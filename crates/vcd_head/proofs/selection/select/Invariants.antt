@@ -1,9 +1,4 @@
-use Rattle.std.proofs.Common.{◌≡◌, None, ◌-◌, ◌<◌, ◌≤◌, List, ℕ, length, map, take, string_bytes}
-use Rattle.vcd_model.specs.Header.{Header}
-use Rattle.vcd_model.specs.Selection.{first_unmatched, marked_places}
-use Rattle.vcd_head.specs.Marks.{AreClosed, Marked}
-use Rattle.vcd_view.specs.Shown.{parts}
-use Rattle.vcd_view.specs.Views.{Views}
+use Rattle.vcd_head.proofs.Cited.{◌≡◌, None, ◌-◌, ◌<◌, ◌≤◌, List, ℕ, length, map, take, string_bytes, Header, first_unmatched, marked_places, AreClosed, Marked, parts, Views}
 use Rattle.vcd_head.proofs.selection.select.Given as goal
 
 abbrev pub invariant-loop-done : goal.invariant-loop-done

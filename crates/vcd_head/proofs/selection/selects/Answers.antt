@@ -1,10 +1,6 @@
-use Rattle.std.proofs.Common.{◌++◌, List, ℕ, take, sym, ap, ◌∙◌}
-use Rattle.std.proofs.lemmas.Option.{slice_get_within}
-use Rattle.vcd_model.specs.Declarations.{Declaration, name_of}
-use Rattle.vcd_model.specs.Selection.{selects_path}
-use Rattle.vcd_head.specs.Paths.{names_text}
-use Rattle.vcd_head.specs.Selects.{selects_after}
-use Rattle.vcd_head.proofs.NamePaths.{match_first, match_next, match_component, match_all}
+use Rattle.vcd_head.proofs.Cited.{◌++◌, List, ℕ, take, sym, ap, ◌∙◌, slice_get_within, Declaration, name_of, selects_path, names_text, selects_after}
+use Rattle.vcd_head.proofs.Facts.{match_component}
+use Rattle.vcd_head.proofs.NamePaths.{match_first, match_next, match_all}
 use Rattle.vcd_head.proofs.selection.selects.Goals as goal
 
 pub loop-scope-init : goal.loop-scope-init

@@ -1,9 +1,5 @@
-use Rattle.std.proofs.Common.{◌≡◌, Some, slice_get}
-use Rattle.vcd_model.specs.Declarations.{Declaration, Variable}
-use Rattle.vcd_model.specs.Header.{Header}
-use Rattle.vcd_view.specs.Shown.{parts}
-use Rattle.vcd_view.specs.Views.{Views}
-use Rattle.vcd_head.proofs.NamePaths.{HasMatched}
+use Rattle.vcd_head.proofs.Cited.{◌≡◌, Some, slice_get, Declaration, Variable, Header, parts, Views}
+use Rattle.vcd_head.proofs.Facts.{HasMatched}
 use Rattle.vcd_head.proofs.selection.selects.Given as goal
 
 abbrev pub invariant-loop-scope : goal.invariant-loop-scope

@@ -1,11 +1,5 @@
-use Rattle.vcd_text.proofs.AdvancesLemmas.{advances_nowhere, advances_on}
-use Rattle.std.proofs.Common.{[], ◌∷◌, ◌++◌, length, sym, ap, subst, ◌∙◌, arith}
-use Rattle.std.proofs.lemmas.List.{append_assoc, append-nil, length-append}
-use Rattle.std.proofs.lemmas.Result.{err_from_is_err_and}
-use Rattle.vcd_text.specs.Feed.{token_of}
-use Rattle.vcd_head.specs.Reads.{Reads}
-use Rattle.vcd_head.specs.Texts.{spaced}
-use Rattle.vcd_head.proofs.TextSteps.{faultless_more, reads_more, spaced_more}
+use Rattle.vcd_head.proofs.Cited.{advances_nowhere, advances_on, [], ◌∷◌, ◌++◌, length, sym, ap, subst, ◌∙◌, arith, append_assoc, append-nil, length-append, err_from_is_err_and, token_of, Reads, spaced}
+use Rattle.vcd_head.proofs.Facts.{faultless_more, reads_more, spaced_more}
 use Rattle.vcd_head.proofs.texts.append_to_end.Goals as goal
 
 pub tokens-init : goal.tokens-init

@@ -1,11 +1,4 @@
-use Rattle.std.proofs.Common.{◌≡◌, ℕ, ◌-◌, ◌^◌, ◌≤◌, List, ◌++◌, length}
-use Rattle.vcd_model.specs.Input.{Input}
-use Rattle.vcd_model.specs.HeaderPhrases.{HeaderPhrase}
-use Rattle.vcd_model.specs.Reading.{Placed}
-use Rattle.vcd_text.specs.Feed.{seen}
-use Rattle.vcd_head.specs.Reads.{Reads}
-use Rattle.vcd_head.specs.Texts.{RunsOn, ReadsOn, spaced}
-use Rattle.vcd_text.specs.Advances.{Advances, CallEnd}
+use Rattle.vcd_head.proofs.Cited.{◌≡◌, ℕ, ◌-◌, ◌^◌, ◌≤◌, List, ◌++◌, length, Input, HeaderPhrase, Placed, seen, Reads, RunsOn, ReadsOn, spaced, Advances, CallEnd}
 use Rattle.vcd_head.proofs.texts.append_to_end.Given as goal
 
 abbrev pub invariant-tokens : goal.invariant-tokens

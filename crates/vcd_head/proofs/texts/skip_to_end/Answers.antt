@@ -1,7 +1,5 @@
-use Rattle.vcd_text.proofs.AdvancesLemmas.{advances_on}
-use Rattle.std.proofs.Common.{sym, ◌∙◌, ◌++◌}
-use Rattle.std.proofs.lemmas.Result.{err_from_is_err_and}
-use Rattle.vcd_head.proofs.TextSteps.{reads_more}
+use Rattle.vcd_head.proofs.Cited.{advances_on, sym, ◌∙◌, ◌++◌, err_from_is_err_and}
+use Rattle.vcd_head.proofs.Facts.{reads_more}
 use Rattle.vcd_head.proofs.texts.skip_to_end.Goals as goal
 
 pub returns-in_err-next_ends-clause-reads : goal.returns-in_err-next_ends-clause-reads

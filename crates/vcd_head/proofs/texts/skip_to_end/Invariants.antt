@@ -1,11 +1,4 @@
-use Rattle.std.proofs.Common.{ℕ, ◌-◌, ◌^◌, List}
-use Rattle.vcd_model.specs.Input.{Input}
-use Rattle.vcd_model.specs.HeaderPhrases.{HeaderPhrase}
-use Rattle.vcd_model.specs.Reading.{Placed}
-use Rattle.vcd_text.specs.Feed.{seen}
-use Rattle.vcd_head.specs.Reads.{Reads}
-use Rattle.vcd_head.specs.Texts.{RunsOn, ReadsOn}
-use Rattle.vcd_text.specs.Advances.{Advances, CallEnd}
+use Rattle.vcd_head.proofs.Cited.{ℕ, ◌-◌, ◌^◌, List, Input, HeaderPhrase, Placed, seen, Reads, RunsOn, ReadsOn, Advances, CallEnd}
 use Rattle.vcd_head.proofs.texts.skip_to_end.Given as goal
 
 abbrev pub invariant-tokens : goal.invariant-tokens

@@ -1,10 +1,5 @@
-use Rattle.std.proofs.Common.{◌≡◌, ◌∷◌, [], sym, ap, ◌∙◌, ◌++◌}
-use Rattle.std.proofs.lemmas.Result.{err_from_is_err_and}
-use Rattle.vcd_text.specs.Feed.{token_of}
-use Rattle.std.specs.List.{join_with_byte}
-use Rattle.vcd_head.specs.Texts.{spaced}
-use Rattle.vcd_head.proofs.TokenSteps.{faultless}
-use Rattle.vcd_head.proofs.TextSteps.{ends_at_once, one_first, runs_behind, ends_behind}
+use Rattle.vcd_head.proofs.Cited.{◌≡◌, ◌∷◌, [], sym, ap, ◌∙◌, ◌++◌, err_from_is_err_and, token_of, join_with_byte, spaced}
+use Rattle.vcd_head.proofs.Facts.{faultless, ends_at_once, one_first, runs_behind, ends_behind}
 use Rattle.vcd_head.proofs.texts.text_to_end.Goals as goal
 
 pub returns-in_err-next_ends-clause-reads : goal.returns-in_err-next_ends-clause-reads

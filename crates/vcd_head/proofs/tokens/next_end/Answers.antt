@@ -1,8 +1,5 @@
-use Rattle.std.proofs.Common.{sym, ◌∙◌}
-use Rattle.std.proofs.lemmas.Result.{err_from_is_err_and}
-use Rattle.vcd_text.specs.Feed.{token_of}
-use Rattle.vcd_head.specs.Fault.{fault_number}
-use Rattle.vcd_head.proofs.TokenSteps.{ends_on, refused}
+use Rattle.vcd_head.proofs.Cited.{sym, ◌∙◌, err_from_is_err_and, token_of, fault_number}
+use Rattle.vcd_head.proofs.Facts.{ends_on, refused}
 use Rattle.vcd_head.proofs.tokens.next_end.Goals as goal
 
 pub returns-in_err-next_ends-clause-reads : goal.returns-in_err-next_ends-clause-reads

@@ -1,4 +1,4 @@
-use Rattle.std.proofs.lemmas.Result.{err_from_is_err_and}
+use Rattle.vcd_head.proofs.Cited.{err_from_is_err_and}
 use Rattle.vcd_head.proofs.tokens.next_ends.Goals as goal
 
 pub returns-in_err-next_token-clause-reads : goal.returns-in_err-next_token-clause-reads

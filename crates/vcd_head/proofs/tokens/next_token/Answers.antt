@@ -1,7 +1,5 @@
-use Rattle.std.proofs.Common.{Some, None, refl}
-use Rattle.vcd_text.specs.Answer.{failed_after}
-use Rattle.vcd_text.specs.Feed.{seen, limit_of}
-use Rattle.vcd_head.proofs.TokenSteps.{fails_at_end}
+use Rattle.vcd_head.proofs.Cited.{Some, None, refl, failed_after, seen, limit_of}
+use Rattle.vcd_head.proofs.Facts.{fails_at_end}
 use Rattle.vcd_head.proofs.tokens.next_token.Goals as goal
 
 pub returns-in-Ok-Finish-clause-reads : goal.returns-in-Ok-Finish-clause-reads

@@ -1,26 +1,5 @@
-use Rattle.std.proofs.Common.{◌≡◌, ℕ, List, ◌∷◌, [], true, false, None, Some, bytes_eq, codes, find, refl, sym, ap, subst, ◌∙◌, arith}
-use Rattle.std.proofs.lemmas.Result.{err_from_is_err_and}
-use Rattle.std.specs.List.{list_all}
-use Rattle.vcd_model.specs.Bytes.{is_code_byte}
-use Rattle.vcd_model.specs.Declarations.{code_of, codes_of, has_text}
-use Rattle.vcd_model.specs.HeaderChecks.{agrees}
-use Rattle.vcd_model.specs.HeaderPhrases.{declarations_of}
-use Rattle.vcd_model.specs.Keywords.{Keyword, keyword_text}
-use Rattle.vcd_model.specs.Reading.{phrases_of}
-use Rattle.vcd_text.specs.Feed.{token_of, value_of}
-use Rattle.vcd_view.specs.Keys.{AreBytes}
-use Rattle.vcd_view.specs.Views.{IsSize}
-use Rattle.vcd_view.proofs.RoomLemmas.{codes_few}
-use Rattle.vcd_head.specs.Codes.{keys_of}
-use Rattle.vcd_head.specs.Draft.{IsEntered}
-use Rattle.vcd_head.specs.Reads.{Reads}
-use Rattle.vcd_head.specs.Variables.{variable}
-use Rattle.vcd_head.proofs.TokenSteps.{faultless, kept}
-use Rattle.vcd_head.proofs.PhraseLemmas.{inside, refused_inside, var_welcomes_type}
-use Rattle.vcd_head.proofs.CodeChecks.{code_bad, code_bytes, code_checked}
-use Rattle.vcd_head.proofs.CodeKeys.{len_of, none_entered}
-use Rattle.vcd_head.proofs.DraftCodes.{agrees_new}
-use Rattle.vcd_head.proofs.WordLemmas.{size_found, size_parts}
+use Rattle.vcd_head.proofs.Cited.{◌≡◌, ℕ, List, ◌∷◌, [], true, false, None, Some, bytes_eq, codes, find, refl, sym, ap, subst, ◌∙◌, arith, err_from_is_err_and, list_all, is_code_byte, code_of, codes_of, has_text, agrees, declarations_of, Keyword, keyword_text, phrases_of, token_of, value_of, AreBytes, IsSize, codes_few, keys_of, IsEntered, Reads, variable}
+use Rattle.vcd_head.proofs.Facts.{faultless, kept, inside, refused_inside, var_welcomes_type, code_bad, code_bytes, code_checked, len_of, none_entered, agrees_new, size_found, size_parts}
 use Rattle.vcd_head.proofs.variable.read_code.Goals as goal
 
 pub returns-in_err-next_word-clause-reads : goal.returns-in_err-next_word-clause-reads

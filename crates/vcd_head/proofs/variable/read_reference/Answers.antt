@@ -1,12 +1,5 @@
-use Rattle.std.proofs.Common.{[], ◌∷◌, ◌++◌, length, sym, ap, ◌∙◌}
-use Rattle.std.proofs.lemmas.List.{append_assoc}
-use Rattle.std.proofs.lemmas.Result.{err_from_is_err_and}
-use Rattle.vcd_model.specs.Keywords.{Keyword, keyword_text}
-use Rattle.vcd_text.specs.Feed.{token_of}
-use Rattle.vcd_head.specs.Texts.{spaced}
-use Rattle.vcd_head.proofs.TokenSteps.{faultless}
-use Rattle.vcd_head.proofs.TextSteps.{joined}
-use Rattle.vcd_head.proofs.PhraseLemmas.{var_runs, var_welcomes_reference}
+use Rattle.vcd_head.proofs.Cited.{[], ◌∷◌, ◌++◌, length, sym, ap, ◌∙◌, append_assoc, err_from_is_err_and, Keyword, keyword_text, token_of, spaced}
+use Rattle.vcd_head.proofs.Facts.{faultless, joined, var_runs, var_welcomes_reference}
 use Rattle.vcd_head.proofs.variable.read_reference.Goals as goal
 
 pub returns-in_err-next_word-clause-reads : goal.returns-in_err-next_word-clause-reads

@@ -1,11 +1,5 @@
-use Rattle.std.proofs.Common.{◌≡◌, ◌∷◌, [], refl, sym, ap, ◌∙◌, Some, None}
-use Rattle.std.proofs.lemmas.Result.{err_from_is_err_and}
-use Rattle.vcd_model.specs.Keywords.{Keyword, keyword_text}
-use Rattle.vcd_text.specs.Feed.{token_of}
-use Rattle.vcd_head.specs.Words.{size_in}
-use Rattle.vcd_head.proofs.WordLemmas.{size_found, size_missing}
-use Rattle.vcd_head.proofs.PhraseLemmas.{inside, refused_inside}
-use Rattle.vcd_head.proofs.DraftSteps.{passed_test, failed_test}
+use Rattle.vcd_head.proofs.Cited.{◌≡◌, ◌∷◌, [], refl, sym, ap, ◌∙◌, Some, None, err_from_is_err_and, Keyword, keyword_text, token_of, size_in}
+use Rattle.vcd_head.proofs.Facts.{size_found, size_missing, inside, refused_inside, passed_test, failed_test}
 use Rattle.vcd_head.proofs.variable.read_size.Goals as goal
 
 pub returns-in_err-next_token-clause-reads : goal.returns-in_err-next_token-clause-reads

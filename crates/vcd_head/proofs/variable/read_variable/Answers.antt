@@ -1,20 +1,6 @@
-use Rattle.std.proofs.Common.{◌≡◌, ◌<◌, ◌^◌, ◌-◌, [], ◌∷◌, ◌++◌, length, refl, sym, ap, subst, ◌∙◌, arith}
-use Rattle.std.specs.List.{join_with_byte}
-use Rattle.std.proofs.lemmas.List.{append_assoc, append-nil, length-append}
-use Rattle.std.proofs.lemmas.Result.{err_from_is_err_and}
-use Rattle.vcd_model.specs.Keywords.{Keyword, keyword_text}
-use Rattle.vcd_model.specs.HeaderPhrases.{HeaderPhrase, declarations_of}
-use Rattle.vcd_model.specs.Declarations.{Declaration}
-use Rattle.vcd_model.specs.Reading.{phrases_of}
-use Rattle.vcd_text.specs.Feed.{token_of, value_of}
+use Rattle.vcd_head.proofs.Cited.{◌≡◌, ◌<◌, ◌^◌, ◌-◌, [], ◌∷◌, ◌++◌, length, refl, sym, ap, subst, ◌∙◌, arith, join_with_byte, append_assoc, append-nil, length-append, err_from_is_err_and, Keyword, keyword_text, HeaderPhrase, declarations_of, Declaration, phrases_of, token_of, value_of, Row, HasCodes, variable}
+use Rattle.vcd_head.proofs.Facts.{faultless, faultless_phrase, stays, barred, begun, ended, var_whole, carried, room, code_narrow, has_codes_grow, holds_declared, scope_narrow, some_token, var_entered}
 use Rattle.vcd_view.specs.declared.view.Kind.TheVariants as kind
-use Rattle.vcd_view.specs.declared.view.Row.{Row}
-use Rattle.vcd_head.specs.Draft.{HasCodes}
-use Rattle.vcd_head.specs.Variables.{variable}
-use Rattle.vcd_head.proofs.TokenSteps.{faultless, faultless_phrase, stays}
-use Rattle.vcd_head.proofs.PhraseLemmas.{barred, begun, ended, var_whole}
-use Rattle.vcd_head.proofs.DraftSteps.{carried, room}
-use Rattle.vcd_head.proofs.DraftLemmas.{code_narrow, has_codes_grow, holds_declared, scope_narrow, some_token, var_entered}
 use Rattle.vcd_head.proofs.variable.read_variable.Goals as goal
 
 pub returns-in_err-check_start-clause-advances : goal.returns-in_err-check_start-clause-advances

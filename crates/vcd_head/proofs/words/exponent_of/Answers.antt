@@ -1,8 +1,6 @@
-use Rattle.std.proofs.Common.{◌++◌, codes, sym, ap, ◌∙◌}
-use Rattle.std.proofs.lemmas.Slice.Eq.{strip_prefix_is}
-use Rattle.std.proofs.lemmas.Bool.Decides.{Decides-eqb}
+use Rattle.vcd_head.proofs.Cited.{◌++◌, codes, sym, ap, ◌∙◌, strip_prefix_is, Decides-eqb}
+use Rattle.vcd_head.proofs.Facts.{front_100, front_10, front_1, front_other, stripped, not_stripped}
 use Rattle.vcd_model.specs.Scales.{exponent_of as exponent_is}
-use Rattle.vcd_head.proofs.ScaleLemmas.{front_100, front_10, front_1, front_other, stripped, not_stripped}
 use Rattle.vcd_head.proofs.words.exponent_of.Goals as goal
 
 pub returns-in-Some : goal.returns-in-Some

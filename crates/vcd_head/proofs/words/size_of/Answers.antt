@@ -1,8 +1,5 @@
-use Rattle.std.proofs.Common.{sym, ◌∙◌, arith}
-use Rattle.std.specs.Char.{is_ascii_digit}
-use Rattle.std.proofs.lemmas.Bool.{and_from}
-use Rattle.std.proofs.lemmas.List.Folds.{list_all_more}
-use Rattle.vcd_head.proofs.WordLemmas.{value_more}
+use Rattle.vcd_head.proofs.Cited.{sym, ◌∙◌, arith, is_ascii_digit, and_from, list_all_more}
+use Rattle.vcd_head.proofs.Facts.{value_more}
 use Rattle.vcd_head.proofs.words.size_of.Goals as goal
 
 pub loop-digit-preserved : goal.loop-digit-preserved

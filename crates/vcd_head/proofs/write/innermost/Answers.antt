@@ -1,8 +1,5 @@
-use Rattle.std.proofs.Common.{◌≡◌, suc, length, Some, None, sym, ◌∙◌, arith, rules}
-use Rattle.vcd_view.specs.Shown.{parts}
-use Rattle.vcd_head.proofs.OpenScopes.{last_row, open_after_scope, open_after_var, open_after_up, open_after_last_up, none_open}
-use Rattle.vcd_view.proofs.ParentLemmas.{parent_before}
-use Rattle.vcd_view.proofs.RowLemmas.{read_row}
+use Rattle.vcd_head.proofs.Cited.{◌≡◌, suc, length, Some, None, sym, ◌∙◌, arith, rules, parts, parent_before, read_row}
+use Rattle.vcd_head.proofs.Facts.{last_row, open_after_scope, open_after_var, open_after_up, open_after_last_up, none_open}
 use Rattle.vcd_head.proofs.write.innermost.Goals as goal
 
 pub returns-in_err-last : goal.returns-in_err-last

@@ -1,7 +1,5 @@
-use Rattle.std.proofs.Common.{◌≡◌, Option, Err, ℕ, refl, subst, ◌∙◌, rules}
-use Rattle.vcd_head.specs.Marks.{is_marked}
-use Rattle.vcd_head.proofs.OpenScopes.{Closes, closes_none, closes_next, closes_some}
-use Rattle.vcd_text.proofs.Writes.{counted}
+use Rattle.vcd_head.proofs.Cited.{◌≡◌, Option, Err, ℕ, refl, subst, ◌∙◌, rules, is_marked, counted}
+use Rattle.vcd_head.proofs.Facts.{Closes, closes_none, closes_next, closes_some}
 use Rattle.vcd_head.proofs.write.put_closing.Goals as goal
 
 pub loop-next-init : goal.loop-next-init

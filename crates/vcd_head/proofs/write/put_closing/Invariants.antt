@@ -1,9 +1,5 @@
-use Rattle.std.proofs.Common.{◌≡◌}
-use Rattle.vcd_model.specs.Header.{Header}
-use Rattle.vcd_head.specs.Marks.{is_marked}
-use Rattle.vcd_view.specs.Shown.{parts}
-use Rattle.vcd_view.specs.Views.{Views, counted_from_one}
-use Rattle.vcd_head.proofs.OpenScopes.{Closes}
+use Rattle.vcd_head.proofs.Cited.{◌≡◌, Header, is_marked, parts, Views, counted_from_one}
+use Rattle.vcd_head.proofs.Facts.{Closes}
 use Rattle.vcd_head.proofs.write.put_closing.Given as goal
 
 abbrev pub invariant-loop-next : goal.invariant-loop-next

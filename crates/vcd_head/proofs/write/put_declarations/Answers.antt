@@ -1,10 +1,5 @@
-use Rattle.std.proofs.Common.{◌≡◌, Err, rules}
-use Rattle.std.specs.List.{concat}
-use Rattle.vcd_model.specs.Backward.{each}
-use Rattle.vcd_model.specs.Declarations.{enclosing}
-use Rattle.vcd_model.specs.HeadText.{rows_text, row_line, up_lines_at}
-use Rattle.vcd_text.proofs.Writes.{appends-first, counted, takes-twice}
-use Rattle.vcd_head.specs.Marks.{is_marked}
+use Rattle.vcd_head.proofs.Cited.{◌≡◌, Err, rules, concat, each, enclosing, row_line, up_lines_at, appends-first, counted, takes-twice, is_marked}
+use Rattle.vcd_model.specs.HeadText.{rows_text}
 use Rattle.vcd_head.proofs.write.put_declarations.Goals as goal
 
 pub returns-in_err-put_rows : goal.returns-in_err-put_rows

@@ -1,13 +1,5 @@
-use Rattle.std.proofs.Common.{◌≡◌, [], List, ℕ, Err, refl, subst, rules}
-use Rattle.vcd_model.specs.HeadText.{rows_text, three_lines_of, end_line}
-use Rattle.std.specs.Prelude.{option_map, unwrap_or}
-use Rattle.vcd_model.specs.Keywords.{Keyword}
-use Rattle.vcd_model.specs.Scales.{scale_text}
-use Rattle.vcd_text.specs.Device.{Takes}
-use Rattle.vcd_text.proofs.Writes.{AppendsSome, appends-first, appends-some, appends-twice, takes-twice}
-use Rattle.vcd_head.specs.Marks.{is_marked}
-use Rattle.vcd_view.specs.Shown.{parts}
-use Rattle.vcd_head.proofs.MarkedHead.{head_is, head_of_parts}
+use Rattle.vcd_head.proofs.Cited.{◌≡◌, [], List, ℕ, Err, refl, subst, rules, rows_text, three_lines_of, end_line, option_map, unwrap_or, Keyword, scale_text, Takes, AppendsSome, appends-first, appends-some, appends-twice, takes-twice, is_marked, parts}
+use Rattle.vcd_head.proofs.Facts.{head_is, head_of_parts}
 use Rattle.vcd_head.proofs.write.put_head.Goals as goal
 
 pub returns-in_err-put_section-clause-takes : goal.returns-in_err-put_section-clause-takes

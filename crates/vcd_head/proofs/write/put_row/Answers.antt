@@ -1,13 +1,5 @@
-use Rattle.std.proofs.Common.{List, ℕ, subst, sym, ◌∙◌, rules}
-use Rattle.std.specs.Io.KnownBytes.{Appends}
-use Rattle.std.proofs.lemmas.Option.{slice_get_within}
-use Rattle.vcd_text.specs.Device.{Takes}
-use Rattle.vcd_text.proofs.Writes.{appends-none, counted}
-use Rattle.vcd_head.specs.Marks.{is_marked}
-use Rattle.vcd_model.specs.Declarations.{Declaration}
-use Rattle.vcd_model.specs.HeadText.{var_line}
-use Rattle.vcd_view.specs.Shown.{parts}
-use Rattle.vcd_head.proofs.WriteLemmas.{own_text, up_some, up_none, scope_row, variable_row, unmarked_row, row_there}
+use Rattle.vcd_head.proofs.Cited.{List, ℕ, subst, sym, ◌∙◌, rules, Appends, slice_get_within, Takes, appends-none, counted, is_marked, Declaration, var_line, parts}
+use Rattle.vcd_head.proofs.Facts.{own_text, up_some, up_none, scope_row, variable_row, unmarked_row, row_there}
 use Rattle.vcd_head.proofs.write.put_row.Goals as goal
 
 pub returns-in_default : goal.returns-in_default

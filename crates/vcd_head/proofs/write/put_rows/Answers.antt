@@ -1,10 +1,5 @@
-use Rattle.std.proofs.Common.{◌≡◌, List, ℕ, Err, take, sym, subst, ◌∙◌, arith, rules}
-use Rattle.std.specs.Io.KnownBytes.{Appends}
-use Rattle.vcd_model.specs.HeadText.{row_line}
-use Rattle.vcd_text.proofs.Writes.{appends-twice, counted}
-use Rattle.vcd_head.specs.Marks.{is_marked}
-use Rattle.vcd_view.specs.Shown.{parts}
-use Rattle.vcd_head.proofs.WriteLemmas.{declared_there, lines-next, lines-some, lines-all}
+use Rattle.vcd_head.proofs.Cited.{◌≡◌, List, ℕ, Err, take, sym, subst, ◌∙◌, arith, rules, Appends, row_line, appends-twice, counted, is_marked, parts}
+use Rattle.vcd_head.proofs.Facts.{declared_there, lines-next, lines-some, lines-all}
 use Rattle.vcd_head.proofs.write.put_rows.Goals as goal
 
 pub loop-row-preserved : goal.loop-row-preserved

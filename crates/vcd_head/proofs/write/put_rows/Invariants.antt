@@ -1,12 +1,4 @@
-use Rattle.std.proofs.Common.{◌≡◌, take}
-use Rattle.std.specs.List.{concat}
-use Rattle.std.specs.Io.KnownBytes.{Appends}
-use Rattle.vcd_model.specs.Backward.{each}
-use Rattle.vcd_model.specs.Header.{Header}
-use Rattle.vcd_model.specs.HeadText.{row_line}
-use Rattle.vcd_head.specs.Marks.{is_marked}
-use Rattle.vcd_view.specs.Shown.{parts}
-use Rattle.vcd_view.specs.Views.{Views}
+use Rattle.vcd_head.proofs.Cited.{◌≡◌, take, concat, Appends, each, Header, row_line, is_marked, parts, Views}
 use Rattle.vcd_head.proofs.write.put_rows.Given as goal
 
 abbrev pub invariant-loop-row : goal.invariant-loop-row

@@ -1,8 +1,5 @@
-use Rattle.std.proofs.Common.{List, ℕ, subst, rules}
-use Rattle.vcd_text.specs.Device.{Takes}
-use Rattle.vcd_view.specs.Views.{reference_of, type_of}
-use Rattle.vcd_head.proofs.WriteLemmas.{scope_text}
-use Rattle.vcd_text.proofs.Writes.{counted}
+use Rattle.vcd_head.proofs.Cited.{List, ℕ, subst, rules, Takes, reference_of, type_of, counted}
+use Rattle.vcd_head.proofs.Facts.{scope_text}
 use Rattle.vcd_head.proofs.write.put_scope.Goals as goal
 
 pub returns : goal.returns

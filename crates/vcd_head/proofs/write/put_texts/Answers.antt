@@ -1,5 +1,5 @@
-use Rattle.std.proofs.Common.{◌≡◌, ◌+◌, ◌∙◌, Err, ap, arith, rules}
-use Rattle.vcd_head.proofs.WriteLemmas.{texts-some}
+use Rattle.vcd_head.proofs.Cited.{◌≡◌, ◌+◌, ◌∙◌, Err, ap, arith, rules}
+use Rattle.vcd_head.proofs.Facts.{texts-some}
 use Rattle.vcd_head.proofs.write.put_texts.Goals as goal
 
 pub returns-in_err-put : goal.returns-in_err-put

@@ -1,6 +1,4 @@
-use Rattle.std.proofs.Common.{◌≡◌, take}
-use Rattle.std.specs.Prelude.{flat_map}
-use Rattle.std.specs.Io.KnownBytes.{Appends}
+use Rattle.vcd_head.proofs.Cited.{◌≡◌, take, flat_map, Appends}
 use Rattle.vcd_head.proofs.write.put_texts.Given as goal
 
 abbrev pub invariant-loop-text : goal.invariant-loop-text

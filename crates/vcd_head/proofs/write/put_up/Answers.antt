@@ -1,5 +1,4 @@
-use Rattle.std.proofs.Common.{◌≡◌, true, sym, ◌∙◌}
-use Rattle.vcd_head.specs.Marks.{is_marked}
+use Rattle.vcd_head.proofs.Cited.{◌≡◌, true, sym, ◌∙◌, is_marked}
 use Rattle.vcd_head.proofs.write.put_up.Goals as goal
 
 pub returns-then-has_mark : goal.returns-then-has_mark

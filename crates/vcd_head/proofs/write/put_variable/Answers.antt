@@ -1,9 +1,5 @@
-use Rattle.std.proofs.Common.{◌≡◌, List, ℕ, Err, decimal, subst, sym, ◌∙◌, rules}
-use Rattle.vcd_model.specs.Declarations.{Declaration}
-use Rattle.vcd_text.specs.Device.{Takes}
-use Rattle.vcd_view.specs.Shown.{parts}
-use Rattle.vcd_text.proofs.Writes.{AppendsSome, appends-first, appends-some, appends-twice, counted, takes-twice}
-use Rattle.vcd_head.proofs.WriteLemmas.{code_size, code_there, row_there, some_reference, variable_rest, variable_text}
+use Rattle.vcd_head.proofs.Cited.{◌≡◌, List, ℕ, Err, decimal, subst, sym, ◌∙◌, rules, Declaration, Takes, parts, AppendsSome, appends-first, appends-some, appends-twice, counted, takes-twice}
+use Rattle.vcd_head.proofs.Facts.{code_size, code_there, row_there, some_reference, variable_rest, variable_text}
 use Rattle.vcd_head.proofs.write.put_variable.Goals as goal
 
 pub returns-in_default : goal.returns-in_default

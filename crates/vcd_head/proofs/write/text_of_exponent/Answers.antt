@@ -1,6 +1,6 @@
-use Rattle.std.proofs.Common.{◌≡◌, pos, negsuc, rules, sym, ap}
+use Rattle.vcd_head.proofs.Cited.{◌≡◌, pos, negsuc, rules, sym, ap}
+use Rattle.vcd_head.proofs.Facts.{no_scale}
 use Rattle.vcd_model.specs.Scales.{scale_text}
-use Rattle.vcd_head.proofs.ScaleTexts.{no_scale}
 use Rattle.vcd_head.proofs.write.text_of_exponent.Goals as goal
 
 pub returns-in-2 : goal.returns-in-2

@@ -1,8 +1,5 @@
-use Rattle.std.proofs.Common.{rules, ◌≡◌, map, true, Some, option_map, ap, sym, ◌∙◌}
-use Rattle.std.specs.Prelude.{List, ℕ}
-use Rattle.std.specs.Borrow.{Bor}
-use Rattle.vcd_words.specs.Words.{files_asked, some_of}
-use Rattle.vcd_host.proofs.AskedLemmas.{given-files}
+use Rattle.vcd_host.proofs.Cited.{rules, ◌≡◌, map, true, Some, option_map, ap, sym, ◌∙◌, List, ℕ, Bor, files_asked, some_of}
+use Rattle.vcd_host.proofs.Facts.{given-files}
 use Rattle.vcd_host.proofs.asked.inputs_of.Goals as goal
 
 pub returns : goal.returns

@@ -1,6 +1,4 @@
-use Rattle.std.proofs.Common.{◌≡◌, map, take}
-use Rattle.vcd_host.specs.Asked.{input_named}
-use Rattle.vcd_host.specs.Opens.{text_of}
+use Rattle.vcd_host.proofs.Cited.{◌≡◌, map, take, input_named, text_of}
 use Rattle.vcd_host.proofs.asked.inputs_of.Given as goal
 
 -- the files before this index

@@ -1,5 +1,4 @@
-use Rattle.std.proofs.Common.{◌∙◌, rules}
-use Rattle.std.proofs.lemmas.Nat.{le_bytes_8}
+use Rattle.vcd_host.proofs.Cited.{◌∙◌, rules, le_bytes_8}
 use Rattle.vcd_host.proofs.buffer.as_word.Goals as goal
 
 pub returns : goal.returns

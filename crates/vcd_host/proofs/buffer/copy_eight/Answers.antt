@@ -1,5 +1,4 @@
-use Rattle.std.proofs.Common.{◌≡◌, ◌+◌, ◌∙◌, ◌++◌, List, ℕ, ap, length, rules, take, arith}
-use Rattle.std.proofs.lemmas.Slice.{take-put_mid}
+use Rattle.vcd_host.proofs.Cited.{◌≡◌, ◌+◌, ◌∙◌, ◌++◌, List, ℕ, ap, length, rules, take, arith, take-put_mid}
 use Rattle.vcd_host.proofs.buffer.copy_eight.Goals as goal
 
 pub returns-clause-copied : goal.returns-clause-copied

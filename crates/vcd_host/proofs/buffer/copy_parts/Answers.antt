@@ -1,7 +1,5 @@
-use Rattle.std.proofs.Common.{◌≡◌, suc, ◌+◌, ◌∙◌, ◌∷◌, [], ◌++◌, ℕ, List, ap, sym, append_assoc, length, take, arith}
-use Rattle.std.specs.Prelude.{slice_set}
-use Rattle.std.proofs.lemmas.List.{length-set, length-take-le, take-take}
-use Rattle.std.proofs.Math.Seq.{take-append-add, take-suc-set}
+use Rattle.vcd_host.proofs.Cited.{◌≡◌, suc, ◌+◌, ◌∙◌, ◌∷◌, [], ◌++◌, ℕ, List, ap, sym, length, take, arith, slice_set, length-set, length-take-le, take-take, take-append-add, take-suc-set}
+use Rattle.std.proofs.Common.{append_assoc}
 use Rattle.vcd_host.proofs.buffer.copy_parts.Goals as goal
 
 pub returns-clause-copied : goal.returns-clause-copied

@@ -1,6 +1,4 @@
-use Rattle.std.proofs.Common.{◌≡◌, ◌+◌, length, take, arith}
-use Rattle.std.proofs.lemmas.List.{length-take-le}
-use Rattle.std.proofs.lemmas.Simd.{take_more_put_chunk}
+use Rattle.vcd_host.proofs.Cited.{◌≡◌, ◌+◌, length, take, arith, length-take-le, take_more_put_chunk}
 use Rattle.vcd_host.proofs.buffer.copy_short.Goals as goal
 
 pub returns-clause-copied : goal.returns-clause-copied

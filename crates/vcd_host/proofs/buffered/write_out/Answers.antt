@@ -1,6 +1,4 @@
-use Rattle.std.proofs.Common.{arith, length-drop}
-use Rattle.std.proofs.lemmas.List.{take_rest}
-use Rattle.vcd_text.proofs.Writes.{appends-more}
+use Rattle.vcd_host.proofs.Cited.{arith, length-drop, take_rest, appends-more}
 use Rattle.vcd_host.proofs.buffered.write_out.Goals as goal
 
 pub loop-written-preserved : goal.loop-written-preserved

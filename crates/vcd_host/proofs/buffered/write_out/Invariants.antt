@@ -1,6 +1,5 @@
 -- It ends, since each turn writes some bytes, and what was written is in the device.
-use Rattle.std.proofs.Common.{◌-◌, ◌≤◌, length, take}
-use Rattle.std.specs.Io.KnownBytes.{Appends}
+use Rattle.vcd_host.proofs.Cited.{◌-◌, ◌≤◌, length, take, Appends}
 use Rattle.vcd_host.proofs.buffered.write_out.Given as goal
 
 abbrev pub invariant-loop-written : goal.invariant-loop-written

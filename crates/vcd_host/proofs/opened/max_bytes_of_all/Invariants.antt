@@ -1,5 +1,4 @@
-use Rattle.std.proofs.Common.{◌≤◌, length, take}
-use Rattle.std.specs.Prelude.{All, IfSome}
+use Rattle.vcd_host.proofs.Cited.{◌≤◌, length, take, All, IfSome}
 use Rattle.vcd_host.proofs.opened.max_bytes_of_all.Given as goal
 
 -- those before this index give at most this many bytes, if the host is right about them

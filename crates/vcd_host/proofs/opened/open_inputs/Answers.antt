@@ -1,5 +1,5 @@
-use Rattle.std.proofs.Common.{rules, ◌≡◌, Err}
-use Rattle.vcd_host.proofs.OpensLemmas.{fresh-more, names-more, opened-more, stops-among}
+use Rattle.vcd_host.proofs.Cited.{rules, ◌≡◌, Err}
+use Rattle.vcd_host.proofs.Facts.{fresh-more, names-more, opened-more, stops-among}
 use Rattle.vcd_host.proofs.opened.open_inputs.Goals as goal
 
 pub returns-in_err-open_next-clause-stop : goal.returns-in_err-open_next-clause-stop

@@ -1,6 +1,4 @@
-use Rattle.std.proofs.Common.{◌≡◌, map, take, string_bytes}
-use Rattle.std.specs.Prelude.{All}
-use Rattle.vcd_host.specs.Opens.{called, text_of, Opens}
+use Rattle.vcd_host.proofs.Cited.{◌≡◌, map, take, string_bytes, All, called, text_of, Opens}
 use Rattle.vcd_host.proofs.opened.open_inputs.Given as goal
 
 -- those before this index were opened

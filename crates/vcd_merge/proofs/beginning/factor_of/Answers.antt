@@ -1,11 +1,7 @@
-use Rattle.std.proofs.Common.{◌≡◌, ◌^◌, ◌<◌, sym, ap, subst, ◌∙◌, rules}
-use Rattle.std.specs.Prelude.{nat_abs, ◌-ℤ◌}
-use Rattle.vcd_model.specs.HeadText.{exponent, least_exponent as least_of}
+use Rattle.vcd_merge.proofs.Cited.{◌≡◌, ◌^◌, ◌<◌, sym, ap, subst, ◌∙◌, rules, nat_abs, ◌-ℤ◌, exponent, parts, IsExponent, exponent_in_range}
+use Rattle.vcd_merge.proofs.Facts.{power_fits, power_of}
+use Rattle.vcd_model.specs.HeadText.{least_exponent as least_of}
 use Rattle.vcd_model.specs.Merge.{factor}
-use Rattle.vcd_view.specs.Shown.{parts}
-use Rattle.vcd_view.specs.Views.{IsExponent}
-use Rattle.vcd_head.proofs.MergedLemmas.{exponent_in_range}
-use Rattle.vcd_merge.proofs.MergeStart.{power_fits, power_of}
 use Rattle.vcd_merge.proofs.beginning.factor_of.Goals as goal
 
 pub returns : goal.returns

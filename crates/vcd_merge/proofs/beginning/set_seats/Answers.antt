@@ -1,12 +1,5 @@
-use Rattle.std.proofs.Common.{◌≡◌, take, Some, refl, sym, ap, subst, ◌∙◌, arith, rules}
-use mir.Val.{to_z, of_z}
-use mir.Syntax.{w8}
-use Rattle.vcd_model.specs.HeadText.{first_number}
-use Rattle.vcd_model.specs.Merge.{factor}
-use Rattle.vcd_view.specs.Views.{IsExponent, Views}
-use Rattle.vcd_view.proofs.LookUpLemmas.{codes_len}
-use Rattle.vcd_head.proofs.MergedLemmas.{HeaderAt, header_at, least_in_range, number_more, numbers_fit}
-use Rattle.vcd_merge.proofs.MergeStart.{all_set, as_begun, one_more}
+use Rattle.vcd_merge.proofs.Cited.{◌≡◌, take, Some, refl, sym, ap, subst, ◌∙◌, arith, rules, to_z, of_z, w8, first_number, factor, IsExponent, Views, codes_len, HeaderAt, header_at, least_in_range, number_more, numbers_fit}
+use Rattle.vcd_merge.proofs.Facts.{all_set, as_begun, one_more}
 use Rattle.vcd_merge.proofs.beginning.set_seats.Goals as goal
 
 pub loop-input-preserved : goal.loop-input-preserved

@@ -1,10 +1,5 @@
-use Rattle.std.proofs.Common.{◌≡◌, List, take, slice_get, Some}
-use Rattle.vcd_model.specs.Header.{Header}
-use Rattle.vcd_model.specs.HeadText.{first_number}
-use Rattle.vcd_model.specs.Merge.{factor}
-use Rattle.vcd_head.specs.Merged.{ShowHeaders}
-use Rattle.vcd_merge.specs.MergeStart.{begun}
-use Rattle.vcd_merge.proofs.MergeStart.{SetSoFar}
+use Rattle.vcd_merge.proofs.Cited.{◌≡◌, List, take, slice_get, Some, Header, first_number, factor, ShowHeaders, begun}
+use Rattle.vcd_merge.proofs.Facts.{SetSoFar}
 use Rattle.vcd_merge.proofs.beginning.set_seats.Given as goal
 
 abbrev pub invariant-loop-input : goal.invariant-loop-input

@@ -1,6 +1,5 @@
-use Rattle.std.proofs.Common.{sym, ◌∙◌}
-use Rattle.vcd_text.proofs.Writes.{appends-none}
-use Rattle.vcd_merge.proofs.MergeCloses.{closes_none, closes_some}
+use Rattle.vcd_merge.proofs.Cited.{sym, ◌∙◌, appends-none}
+use Rattle.vcd_merge.proofs.Facts.{closes_none, closes_some}
 use Rattle.vcd_merge.proofs.merge_steps.close.Goals as goal
 
 pub returns-in-Some-clause-takes : goal.returns-in-Some-clause-takes

@@ -1,5 +1,4 @@
-use Rattle.std.proofs.Common.{◌≡◌, drop, None}
-use Rattle.vcd_merge.specs.MergeOrder.{greatest_from}
+use Rattle.vcd_merge.proofs.Cited.{◌≡◌, drop, None, greatest_from}
 use Rattle.vcd_merge.proofs.merge_steps.greatest_time.Given as goal
 
 abbrev pub invariant-loop-seat : goal.invariant-loop-seat

@@ -1,5 +1,5 @@
-use Rattle.std.proofs.Common.{true, sym}
-use Rattle.vcd_merge.proofs.MergeTrails.{one_step}
+use Rattle.vcd_merge.proofs.Cited.{true, sym}
+use Rattle.vcd_merge.proofs.Facts.{one_step}
 use Rattle.vcd_merge.proofs.merge_steps.merge_step.Goals as goal
 
 pub returns-clause-gives : goal.returns-clause-gives

@@ -1,17 +1,5 @@
-use Rattle.std.proofs.Common.{◌≡◌, ◌+◌, ◌∙◌, sym, ap, refl, length, Err, rules, subst, take, arith, inr, add-zero}
-use Rattle.std.proofs.lemmas.Option.{slice_get_within}
-use Rattle.vcd_model.specs.HeadText.{first_number}
-use Rattle.vcd_model.specs.Merge.{factor}
-use Rattle.vcd_text.specs.Device.{Device, failures_then}
-use Rattle.vcd_merge.specs.MergeStep.{Standing, standing}
-use Rattle.vcd_body.specs.declared.answer.More.{More}
-use Rattle.vcd_body.specs.declared.answer.Stop.{Stop}
-use Rattle.vcd_body.specs.declared.answer.Stop.TheVariants.{Read, Write}
-use Rattle.vcd_merge.proofs.PartLemmas.{parts_same}
-use Rattle.vcd_merge.proofs.SpotLemmas.{found}
-use Rattle.vcd_merge.proofs.MergeCounts.{still_counted, still_named, still_written}
-use Rattle.vcd_merge.proofs.MergeTrails.{has_ended, was_cut, was_stopped, went_on}
-use Rattle.vcd_merge.proofs.OrderLemmas.{none_waiting, others_stay, some_waits}
+use Rattle.vcd_merge.proofs.Cited.{◌≡◌, ◌+◌, ◌∙◌, sym, ap, refl, length, Err, rules, subst, take, arith, inr, add-zero, slice_get_within, first_number, factor, Device, failures_then, Standing, standing, More, Stop, Read, Write}
+use Rattle.vcd_merge.proofs.Facts.{parts_same, found, still_counted, still_named, still_written, has_ended, was_cut, was_stopped, went_on, none_waiting, others_stay, some_waits}
 use Rattle.vcd_merge.proofs.merge_steps.run_step.Goals as goal
 
 pub take_next-next-requires-clause-some : goal.take_next-next-requires-clause-some

@@ -1,22 +1,7 @@
-use Rattle.std.proofs.Common.{◌≡◌, ◌≢◌, ◌^◌, ◌<◌, ℕ, Err, Some, sym, ap, subst, ◌∙◌, ◌+◌, length, arith, rules, map, slice_set}
-use Rattle.std.proofs.lemmas.Option.{get_or_from_slice_get, slice_get-get_or}
-use Rattle.vcd_text.specs.Advances.{HasNotFailed}
-use Rattle.vcd_text.specs.Feed.{parked_answer, parked_seen}
+use Rattle.vcd_merge.proofs.Cited.{◌≡◌, ◌≢◌, ◌^◌, ◌<◌, ℕ, Err, Some, sym, ap, subst, ◌∙◌, ◌+◌, length, arith, rules, map, slice_set, get_or_from_slice_get, slice_get-get_or, HasNotFailed, parked_answer, parked_seen, Fits, Parked, HeadShown, shown, Views, part_len, AtSeat, spot_with, NamesInput, reads_failed, if_ok_more, get_other}
+use Rattle.vcd_merge.proofs.Facts.{len_put, lent_len, part_ends, part_other, spot_lent, spot_put, spot_other, seated_put, get_map_or, left_moved, map_set, set_last, run_from}
 use Rattle.vcd_text.specs.declared.answer.Halt.TheVariants as halt
-use Rattle.vcd_text.specs.Registers.{Fits}
-use Rattle.vcd_text.specs.declared.registers.Parked.{Parked}
-use Rattle.vcd_view.specs.Shown.{HeadShown}
-use Rattle.vcd_head.specs.Shown.{shown}
-use Rattle.vcd_view.specs.Views.{Views}
-use Rattle.vcd_merge.specs.MergeParts.{part_len}
-use Rattle.vcd_merge.specs.Seat.{AtSeat, spot_with}
-use Rattle.vcd_merge.proofs.PartLemmas.{len_put, lent_len, part_ends, part_other, spot_lent, spot_put, spot_other, seated_put}
-use Rattle.vcd_body.specs.Answer.{NamesInput, reads_failed}
-use Rattle.vcd_merge.proofs.MergeCounts.{get_map_or, left_moved, map_set, set_last}
-use Rattle.vcd_merge.proofs.SeatTrails.{run_from}
-use Rattle.vcd_body.proofs.Results.{if_ok_more}
 use Rattle.vcd_merge.proofs.merge_steps.run_turn.Goals as goal
-use Rattle.vcd_body.proofs.StoreLemmas.{get_other}
 
 pub overflow_mul-chunk_at : goal.overflow_mul-chunk_at
 overflow_mul-chunk_at g c =

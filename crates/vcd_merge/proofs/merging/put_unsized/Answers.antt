@@ -1,16 +1,5 @@
-use Rattle.std.specs.Prelude.{get_or, slice_get}
-use Rattle.std.proofs.Common.{List, ◌≡◌, ◌&&◌, true, false, ap, sym, ◌∙◌, Err, rules, ℕ, ◌+◌, ◌*◌, Some, arith, refl}
-use Rattle.std.proofs.lemmas.Option.{slice_get-get_or, slice_get_within}
-use Rattle.vcd_model.specs.HeadText.{new_code}
-use Rattle.vcd_model.specs.ItemText.{time_due}
-use Rattle.vcd_model.specs.Items.{Change, leaves_open, time_after}
-use Rattle.vcd_model.proofs.MergedText.{left_out, left_time, line_due, time_written}
-use Rattle.vcd_text.proofs.Writes.{appends-none, appends-first, takes-twice}
-use Rattle.vcd_view.specs.Shown.{parts}
-use Rattle.vcd_view.specs.declared.view.Code.{Code}
-use Rattle.vcd_body.specs.Items.{model_form}
-use Rattle.vcd_body.proofs.Results.{if_ok}
-use Rattle.vcd_merge.proofs.MergeItem.{section_is, event_of, line_is, number_fits, some_digits}
+use Rattle.vcd_merge.proofs.Cited.{get_or, slice_get, List, ◌≡◌, ◌&&◌, true, false, ap, sym, ◌∙◌, Err, rules, ℕ, ◌+◌, ◌*◌, Some, arith, refl, slice_get-get_or, slice_get_within, new_code, time_due, Change, leaves_open, time_after, left_out, left_time, line_due, time_written, appends-none, appends-first, takes-twice, parts, Code, model_form, if_ok}
+use Rattle.vcd_merge.proofs.Facts.{section_is, event_of, line_is, number_fits, some_digits}
 use Rattle.vcd_merge.proofs.merging.put_unsized.Goals as goal
 
 -- what is read where there is no code

@@ -1,21 +1,7 @@
-use Rattle.std.proofs.Common.{true, ◌+◌, ℕ, List, ◌≡◌, ◌≤◌, ◌^◌, sym, ap, subst, ◌∙◌, refl, ◌*◌, inl, inr, rules, arith, Err, mul_comm}
-use Rattle.vcd_model.specs.Items.{BodyItem}
-use Rattle.vcd_view.specs.Shown.{HeadShown}
-use Rattle.vcd_view.specs.Views.{Views}
-use Rattle.vcd_body.specs.Given.{text_of}
-use Rattle.vcd_body.specs.Items.{AreRegsAfter, model_form, model_section}
-use Rattle.vcd_body.specs.declared.item.Regs.{Regs}
-use Rattle.vcd_text.specs.Feed.{limit_of}
-use Rattle.vcd_body.specs.Answer.{stop_of_body}
-use Rattle.vcd_body.specs.Fault.{call_end}
-use Rattle.vcd_body.specs.declared.answer.Stop.TheVariants.{Read, Write}
-use Rattle.vcd_body.specs.declared.fault.BodyFault.{BodyFault}
-use Rattle.vcd_body.specs.declared.item.Item.{Item}
+use Rattle.vcd_merge.proofs.Cited.{true, ◌+◌, ℕ, List, ◌≡◌, ◌≤◌, ◌^◌, sym, ap, subst, ◌∙◌, refl, ◌*◌, inl, inr, rules, arith, Err, mul_comm, BodyItem, HeadShown, Views, text_of, AreRegsAfter, model_form, model_section, Regs, limit_of, stop_of_body, call_end, Read, Write, BodyFault, Item, CallEnd, writes-none}
+use Rattle.vcd_merge.proofs.Facts.{marked_dump, out_of, turned, faulty, large, not_large, timed, no_more_at_end, no_more_at_item}
 use Rattle.vcd_body.specs.declared.fault.BodyFault.TheVariants as fault
-use Rattle.vcd_text.specs.Advances.{CallEnd}
-use Rattle.vcd_body.proofs.Results.{writes-none}
-use Rattle.vcd_merge.proofs.Dumps.{marked_dump}
-use Rattle.vcd_merge.proofs.SeatLemmas.{out_of, turned, ended, faulty, large, not_large, timed, no_more_at_end, no_more_at_item}
+use Rattle.vcd_merge.proofs.SeatLemmas.{ended}
 use Rattle.vcd_merge.proofs.merging.take_item.Goals as goal
 
 pub returns-in-Err-clause-turns : goal.returns-in-Err-clause-turns

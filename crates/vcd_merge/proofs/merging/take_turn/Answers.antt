@@ -1,11 +1,6 @@
-use Rattle.std.proofs.Common.{◌≡◌, ◌<◌, Ok, Err, refl, ap, ◌∙◌, add-zero, rules, arith}
-use Rattle.vcd_text.specs.Device.{Device}
-use Rattle.vcd_merge.specs.MergeTrail.{stage_with}
-use Rattle.vcd_merge.specs.Seat.{spot_with}
-use Rattle.vcd_body.specs.declared.answer.Stop.{Stop}
-use Rattle.vcd_body.specs.declared.answer.Stop.TheVariants.{Read, Write}
-use Rattle.vcd_merge.specs.declared.seat.Seat.{Seat}
-use Rattle.vcd_merge.proofs.SeatTrails.{at_once, cut_ahead, goes_on, late_ahead, past_ahead, stays_at, turns_after, turns_at}
+use Rattle.vcd_merge.proofs.Cited.{◌≡◌, ◌<◌, Ok, Err, refl, ap, ◌∙◌, add-zero, rules, arith, Device, stage_with, spot_with, Stop, Read, Write, Seat}
+use Rattle.vcd_merge.proofs.Facts.{at_once, cut_ahead, late_ahead, past_ahead, stays_at, turns_after, turns_at}
+use Rattle.vcd_merge.proofs.SeatTrails.{goes_on}
 use Rattle.vcd_merge.proofs.merging.take_turn.Goals as goal
 
 pub items-init : goal.items-init

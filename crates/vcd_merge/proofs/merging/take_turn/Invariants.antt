@@ -1,11 +1,4 @@
-use Rattle.std.proofs.Common.{◌≡◌, ℕ, ◌≤◌, ◌-◌, ◌^◌, List, false}
-use Rattle.vcd_model.specs.Items.{BodyItem}
-use Rattle.vcd_text.specs.Feed.{SameLoans, limit_of, chunk_len_of, seen, source_of}
-use Rattle.vcd_text.specs.Advances.{HasNotFailed}
-use Rattle.vcd_head.specs.Shown.{shown}
-use Rattle.vcd_view.specs.Views.{Views}
-use Rattle.vcd_merge.specs.MergeTrail.{Reaches, stage_with}
-use Rattle.vcd_merge.specs.Seat.{AtSeat, Lane, SameSeat, spot_with}
+use Rattle.vcd_merge.proofs.Cited.{◌≡◌, ℕ, ◌≤◌, ◌-◌, ◌^◌, List, false, BodyItem, SameLoans, limit_of, chunk_len_of, seen, source_of, HasNotFailed, shown, Views, Reaches, stage_with, AtSeat, Lane, SameSeat, spot_with}
 use Rattle.vcd_merge.proofs.merging.take_turn.Given as goal
 
 abbrev pub invariant-items : goal.invariant-items

@@ -1,13 +1,6 @@
-use Rattle.std.proofs.Common.{[], refl, subst, sym, arith}
-use Rattle.vcd_text.specs.Ahead.{lines_of}
-use Rattle.vcd_text.specs.Device.{Device}
-use Rattle.vcd_view.specs.Shown.{HeadShown}
-use Rattle.vcd_view.specs.Views.{Views}
-use Rattle.vcd_merge.specs.MergeAhead.{Stands, StageAhead}
-use Rattle.vcd_body.proofs.WalkLemmas.{walk_counts, walk_further, walk_passes}
-use Rattle.vcd_merge.proofs.AheadTrails.{walk_runs}
-use Rattle.vcd_merge.proofs.SeatAhead.{ahead_turns, lies_first}
-use Rattle.vcd_merge.proofs.SeatLemmas.{out_of}
+use Rattle.vcd_merge.proofs.Cited.{[], refl, subst, sym, arith, lines_of, Device, HeadShown, Views, StageAhead, walk_counts, walk_further, walk_passes}
+use Rattle.vcd_merge.proofs.Facts.{walk_runs, ahead_turns, lies_first, out_of}
+use Rattle.vcd_merge.specs.MergeAhead.{Stands}
 use Rattle.vcd_merge.proofs.merging.take_turn_ahead.Goals as goal
 
 pub pass_items-requires : goal.pass_items-requires

@@ -1,19 +1,5 @@
-use Rattle.std.proofs.Common.{◌≡◌, ◌*◌, List, length, map, Err, refl, sym, ap, subst, ◌∙◌, add-zero, arith, rules}
-use Rattle.std.specs.Prelude.{get_or, slice_set}
-use Rattle.std.proofs.lemmas.List.{set-get_or}
-use Rattle.std.proofs.lemmas.Slice.Zip.{AllZip-long}
-use Rattle.vcd_model.specs.HeadText.{merged_head}
-use Rattle.vcd_text.specs.Device.{Device, Supply, Writes, WritesSome, supply}
-use Rattle.vcd_merge.specs.MergeParts.{part_len}
-use Rattle.vcd_merge.specs.MergeRoom.{windows_size}
-use Rattle.vcd_merge.specs.MergeRun.{Follows}
-use Rattle.vcd_merge.specs.MergeStart.{no_items}
-use Rattle.vcd_merge.specs.Seat.{Lane}
-use Rattle.vcd_body.specs.declared.answer.Stop.TheVariants.{Write}
-use Rattle.vcd_merge.proofs.MergeRoomLemmas.{still_within, without_windows}
-use Rattle.vcd_merge.proofs.MergeRuns.{unwritten_head}
-use Rattle.vcd_merge.proofs.MergeStart.{heads_given, holds_begun, opens, opens_with, ready_begun}
-use Rattle.vcd_merge.proofs.MergeSteps.{len_map}
+use Rattle.vcd_merge.proofs.Cited.{◌≡◌, ◌*◌, List, length, map, Err, refl, sym, ap, subst, ◌∙◌, add-zero, arith, rules, get_or, slice_set, set-get_or, AllZip-long, merged_head, Device, Supply, Writes, WritesSome, supply, part_len, windows_size, Follows, no_items, Lane, Write}
+use Rattle.vcd_merge.proofs.Facts.{still_within, without_windows, unwritten_head, heads_given, holds_begun, opens, opens_with, ready_begun, len_map}
 use Rattle.vcd_merge.proofs.whole_merge.merge.Goals as goal
 
 pub returns-in_err-merge-clause-follows : goal.returns-in_err-merge-clause-follows

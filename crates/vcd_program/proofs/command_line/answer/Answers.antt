@@ -1,5 +1,5 @@
-use Rattle.std.proofs.Common.{inr}
-use Rattle.vcd_program.proofs.RunsLemmas.{memory-shown, put-shows, shown_once, writes-none}
+use Rattle.vcd_program.proofs.Cited.{inr}
+use Rattle.vcd_program.proofs.Facts.{memory-shown, put-shows, shown_once, writes-none}
 use Rattle.vcd_program.proofs.command_line.answer.Goals as goal
 
 pub returns-then-status-eq3-clause-answers : goal.returns-then-status-eq3-clause-answers

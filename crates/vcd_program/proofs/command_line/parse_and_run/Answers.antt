@@ -1,8 +1,6 @@
-use Rattle.std.proofs.Common.{◌≡◌, ◌⊎◌, inl, inr, map, refl, string_bytes, subst, true}
-use Rattle.clap.specs.Words.{HasMatchesOf, IsAmong, fault_of, is_simple_and_free, kind_of, takes}
+use Rattle.vcd_program.proofs.Cited.{◌≡◌, ◌⊎◌, inl, inr, map, refl, string_bytes, subst, true, HasMatchesOf, IsAmong, fault_of, is_simple_and_free, kind_of, takes, RunsOn}
+use Rattle.vcd_program.proofs.Facts.{memory-shown, shown_once, simple, writes-none}
 use Rattle.clap.specs.declared.error.kind.ErrorKind.TheVariants as kind
-use Rattle.vcd_program.specs.Runs.{RunsOn}
-use Rattle.vcd_program.proofs.RunsLemmas.{memory-shown, shown_once, simple, writes-none}
 use Rattle.vcd_program.proofs.command_line.parse_and_run.Goals as goal
 
 pub returns-in_default-clause-runs : goal.returns-in_default-clause-runs

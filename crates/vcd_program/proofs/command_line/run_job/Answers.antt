@@ -1,13 +1,6 @@
-use Rattle.std.proofs.Common.{rules, ◌≡◌, length, map, ap, sym, subst, ◌∙◌, arith, string_bytes}
-use Rattle.vcd_words.specs.Job.{model_want, names_asked}
-use Rattle.vcd_words.specs.Words.{words_used}
-use Rattle.vcdkit.specs.Message.{unopened_outcome, Shows}
-use Rattle.vcd_host.specs.Asked.{inputs_asked, inputs_for}
-use Rattle.vcd_host.specs.Opens.{called, text_of, Opens}
+use Rattle.vcd_program.proofs.Cited.{rules, ◌≡◌, length, map, ap, sym, subst, ◌∙◌, arith, string_bytes, model_want, names_asked, words_used, unopened_outcome, Shows, inputs_asked, inputs_for, called, text_of, Opens, asked-is, opens-many}
+use Rattle.vcd_program.proofs.Facts.{memory-shown, memory-stopped, merge-same, names-many, names-same, near-limit, no-memory, ran, shown_once, stopped, within-known}
 use Rattle.vcd_host.specs.declared.opened.OpenStop.TheVariants as stop
-use Rattle.vcd_host.proofs.AskedLemmas.{asked-is}
-use Rattle.vcd_host.proofs.OpensLemmas.{opens-many}
-use Rattle.vcd_program.proofs.RunsLemmas.{memory-shown, memory-stopped, merge-same, names-many, names-same, near-limit, no-memory, ran, shown_once, stopped, within-known}
 use Rattle.vcd_program.proofs.command_line.run_job.Goals as goal
 
 pub returns-in_default-clause-runs : goal.returns-in_default-clause-runs

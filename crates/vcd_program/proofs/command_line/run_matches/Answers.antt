@@ -1,6 +1,5 @@
-use Rattle.vcd_words.specs.Words.{words_used}
-use Rattle.vcd_host.specs.Asked.{inputs_asked}
-use Rattle.vcd_program.proofs.RunsLemmas.{refused, shown_once}
+use Rattle.vcd_program.proofs.Cited.{words_used, inputs_asked}
+use Rattle.vcd_program.proofs.Facts.{refused, shown_once}
 use Rattle.vcd_program.proofs.command_line.run_matches.Goals as goal
 
 pub returns-in-Err-clause-runs : goal.returns-in-Err-clause-runs

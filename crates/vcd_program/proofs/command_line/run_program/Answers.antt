@@ -1,6 +1,5 @@
-use Rattle.std.proofs.Common.{◌≡◌, ◌∙◌, ap, false, is_ok, not, subst, sym}
-use Rattle.vcd_program.specs.Runs.{Finishes}
-use Rattle.vcd_program.proofs.RunsLemmas.{apart, finished}
+use Rattle.vcd_program.proofs.Cited.{◌≡◌, ◌∙◌, ap, false, is_ok, not, subst, sym, Finishes}
+use Rattle.vcd_program.proofs.Facts.{apart, finished}
 use Rattle.vcd_program.proofs.command_line.run_program.Goals as goal
 use Rattle.vcd_program.proofs.command_line.run_program.Goals.{else-status-lt3-via-then-status-lt3+else-is_err, else-status-lt3-via-else-status-lt3}
 

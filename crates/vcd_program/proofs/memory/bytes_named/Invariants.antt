@@ -1,5 +1,4 @@
-use Rattle.std.proofs.Common.{◌≡◌, drop}
-use Rattle.vcd_program.specs.Memory.{bytes_named}
+use Rattle.vcd_program.proofs.Cited.{◌≡◌, drop, bytes_named}
 use Rattle.vcd_program.proofs.memory.bytes_named.Given as goal
 
 -- the files before this index have other names

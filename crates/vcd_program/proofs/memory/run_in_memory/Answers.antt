@@ -1,6 +1,5 @@
-use Rattle.std.proofs.Common.{◌≡◌, ◌∙◌, ap, arith, map, option_map, refl, string_bytes}
-use Rattle.vcd_text.specs.Watch.{failed_calls, has_just_failed}
-use Rattle.vcd_program.proofs.MemoryLemmas.{is-holding, left-in-memory}
+use Rattle.vcd_program.proofs.Cited.{◌≡◌, ◌∙◌, ap, arith, map, option_map, refl, string_bytes, failed_calls, has_just_failed}
+use Rattle.vcd_program.proofs.Facts.{is-holding, left-in-memory}
 use Rattle.vcd_program.proofs.memory.run_in_memory.Goals as goal
 
 pub returns : goal.returns

@@ -1,5 +1,5 @@
-use Rattle.std.proofs.Common.{map, refl, string_bytes}
-use Rattle.vcd_program.proofs.LentLemmas.{left-in-outputs}
+use Rattle.vcd_program.proofs.Cited.{map, refl, string_bytes}
+use Rattle.vcd_program.proofs.Facts.{left-in-outputs}
 use Rattle.vcd_program.proofs.memory.run_into_lent.Goals as goal
 
 pub returns-clause-out_loan : goal.returns-clause-out_loan

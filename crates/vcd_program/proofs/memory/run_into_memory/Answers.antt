@@ -1,5 +1,5 @@
-use Rattle.std.proofs.Common.{map, rules, string_bytes}
-use Rattle.vcd_program.proofs.LentLemmas.{left-in-lent}
+use Rattle.vcd_program.proofs.Cited.{map, rules, string_bytes}
+use Rattle.vcd_program.proofs.Facts.{left-in-lent}
 use Rattle.vcd_program.proofs.memory.run_into_memory.Goals as goal
 
 pub returns : goal.returns

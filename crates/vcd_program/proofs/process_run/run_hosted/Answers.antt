@@ -1,6 +1,5 @@
-use Rattle.std.proofs.Common.{map, string_bytes}
-use Rattle.vcd_program.proofs.HostLemmas.{run-hosted}
-use Rattle.vcd_program.proofs.Statuses.{finishes-low, words-low}
+use Rattle.vcd_program.proofs.Cited.{map, string_bytes}
+use Rattle.vcd_program.proofs.Facts.{run-hosted, finishes-low, words-low}
 use Rattle.vcd_program.proofs.process_run.run_hosted.Goals as goal
 
 pub returns-clause-loan : goal.returns-clause-loan

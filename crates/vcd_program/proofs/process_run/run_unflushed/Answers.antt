@@ -1,6 +1,5 @@
-use Rattle.std.proofs.Common.{arith, map, refl, string_bytes, subst, sym}
-use Rattle.vcd_program.specs.ProcessRun.{RunsAs}
-use Rattle.vcd_program.proofs.Statuses.{use-low}
+use Rattle.vcd_program.proofs.Cited.{arith, map, refl, string_bytes, subst, sym, RunsAs}
+use Rattle.vcd_program.proofs.Facts.{use-low}
 use Rattle.vcd_program.proofs.process_run.run_unflushed.Goals as goal
 
 pub returns-in-Ok-clause-runs : goal.returns-in-Ok-clause-runs

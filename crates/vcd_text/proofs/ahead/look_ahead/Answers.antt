@@ -1,5 +1,5 @@
-use Rattle.std.proofs.Common.{arith}
-use Rattle.vcd_text.proofs.Masks.{tells-none}
+use Rattle.vcd_text.proofs.Cited.{arith}
+use Rattle.vcd_text.proofs.Facts.{tells-none}
 use Rattle.vcd_text.proofs.ahead.look_ahead.Goals as goal
 
 pub loop-next-preserved : goal.loop-next-preserved

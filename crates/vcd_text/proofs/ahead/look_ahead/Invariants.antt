@@ -1,5 +1,4 @@
-use Rattle.std.proofs.Common.{◌≡◌, ◌-◌, ◌<◌, ◌≤◌, ℕ, false, length, slice_index}
-use Rattle.vcd_model.specs.Bytes.{is_white_space}
+use Rattle.vcd_text.proofs.Cited.{◌≡◌, ◌-◌, ◌<◌, ◌≤◌, ℕ, false, length, slice_index, is_white_space}
 use Rattle.vcd_text.proofs.ahead.look_ahead.Given as goal
 
 abbrev pub invariant-loop-next : goal.invariant-loop-next

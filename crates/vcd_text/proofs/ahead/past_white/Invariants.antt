@@ -1,5 +1,4 @@
-use Rattle.std.proofs.Common.{◌-◌, ◌≤◌, length}
-use Rattle.vcd_text.specs.Passed.{AreWhite}
+use Rattle.vcd_text.proofs.Cited.{◌-◌, ◌≤◌, length, AreWhite}
 use Rattle.vcd_text.proofs.ahead.past_white.Given as goal
 
 abbrev pub invariant-loop-at : goal.invariant-loop-at

@@ -1,6 +1,5 @@
-use Rattle.std.proofs.Common.{inl, inr}
-use Rattle.std.proofs.lemmas.Bool.{cases_lt}
-use Rattle.vcd_text.proofs.Masks.{bits-none}
+use Rattle.vcd_text.proofs.Cited.{inl, inr, cases_lt}
+use Rattle.vcd_text.proofs.Facts.{bits-none}
 use Rattle.vcd_text.proofs.ahead.white_ahead.Goals as goal
 
 pub returns-then-white-eq0-clause-none : goal.returns-then-white-eq0-clause-none

@@ -1,5 +1,4 @@
-use Rattle.std.proofs.Common.{◌≤◌, take, ap, sym, ◌∙◌, arith}
-use Rattle.std.proofs.lemmas.List.{take-take}
+use Rattle.vcd_text.proofs.Cited.{◌≤◌, take, ap, sym, ◌∙◌, arith, take-take}
 use Rattle.vcd_text.proofs.feed.copy_front.Goals as goal
 
 pub returns-then-from-ge16-clause-copied : goal.returns-then-from-ge16-clause-copied

@@ -1,18 +1,7 @@
-use Rattle.std.specs.Prelude.{Err, IfSome, Ok, Result, Some}
-use Rattle.std.proofs.Common.{◌≡◌, ◌≢◌, ℕ, zero, suc, ◌+◌, ◌-◌, ◌≤◌, ◌<◌, List, length, Bool, true, false, arith, refl, ap, sym, subst, ◌∙◌, add-one}
-use Rattle.vcd_text.specs.ReadAhead.{HasRest}
-use Rattle.vcd_text.specs.Registers.{Fits, looked, settled}
+use Rattle.vcd_text.proofs.Cited.{Err, IfSome, Ok, Result, Some, ◌≡◌, ◌≢◌, ℕ, zero, suc, ◌+◌, ◌-◌, ◌≤◌, ◌<◌, List, length, Bool, true, false, arith, refl, ap, sym, subst, ◌∙◌, add-one, HasRest, Fits, looked, settled, Collects, Finishes, Skips, is_white_at, Whole, Parked, Finish, Next, Halt, InputTooLong, ReadFailed, TokenTooLong, Ended, Going, Halted}
+use Rattle.vcd_text.proofs.Facts.{after-skip, whole-stands, part-within, more-within, again-gives, long-gives, input-gives, fail-gives, finish-stands, whole-near, finish-near, fail-rest, failed-marked, stays_long, stays_part, stays_whole}
 use Rattle.vcd_text.specs.Turn.{Turns}
-use Rattle.vcd_text.specs.Window.{Collects, Finishes, Skips, is_white_at}
-use Rattle.vcd_text.specs.declared.window.Collected.TheVariants.{Whole}
-use Rattle.vcd_text.specs.declared.registers.Parked.{Parked}
-use Rattle.vcd_text.specs.declared.answer.Next.TheVariants.{Finish, Token as token}
-use Rattle.vcd_text.specs.declared.answer.Next.{Next}
-use Rattle.vcd_text.specs.declared.answer.Halt.{Halt}
-use Rattle.vcd_text.specs.declared.answer.Halt.TheVariants.{InputTooLong, ReadFailed, TokenTooLong}
-use Rattle.vcd_text.specs.declared.registers.Phase.TheVariants.{Ended, Going, Halted}
-use Rattle.vcd_text.proofs.WindowLemmas.{after-skip, whole-stands, part-within, more-within, again-gives, long-gives, input-gives, fail-gives, finish-stands, whole-near, finish-near, fail-rest, failed-marked}
-use Rattle.vcd_text.proofs.FirstLemmas.{stays_long, stays_part, stays_whole}
+use Rattle.vcd_text.specs.declared.answer.Next.TheVariants.{Token as token}
 use Rattle.vcd_text.proofs.feed.gather.Goals as goal
 
 err-is : (h : Halt) → ◌≡◌ {A = Result Next Halt} (Err h) (Err ReadFailed) → h ≡ ReadFailed

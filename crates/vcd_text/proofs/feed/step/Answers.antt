@@ -1,9 +1,5 @@
-use Rattle.std.proofs.Common.{◌≡◌, ℕ, List, ◌∷◌, length, refl, sym, subst, arith, add-one}
-use Rattle.vcd_text.specs.Passed.{AreFirst}
-use Rattle.vcd_text.specs.Registers.{ahead_in}
-use Rattle.vcd_text.specs.declared.registers.Parked.{Parked}
-use Rattle.vcd_text.proofs.WindowLemmas.{short-going, short-near, short-skips, short-stands}
-use Rattle.vcd_text.proofs.FirstLemmas.{stays_whole}
+use Rattle.vcd_text.proofs.Cited.{◌≡◌, ℕ, List, ◌∷◌, length, refl, sym, subst, arith, add-one, AreFirst, ahead_in, Parked}
+use Rattle.vcd_text.proofs.Facts.{short-going, short-near, short-skips, short-stands, stays_whole}
 use Rattle.vcd_text.proofs.feed.step.Goals as goal
 
 pub returns-then-collect_short-clause-says : goal.returns-then-collect_short-clause-says

@@ -1,10 +1,5 @@
-use Rattle.std.proofs.Common.{◌≡◌, ℕ, zero, suc, ◌+◌, ◌-◌, ◌*◌, ◌^◌, ◌≤◌, ◌<◌, ◌++◌, List, Option, length, get_or, refl, ap, sym, subst, ◌∙◌, arith}
-use Rattle.std.specs.Prelude.{slice_range}
-use Rattle.vcd_text.specs.Digits.{spelled, spelled_below}
-use Rattle.vcd_text.specs.declared.number.TheConstants.{WORTH}
-use Rattle.vcd_text.proofs.AheadLemmas.{slice_range-append}
-use Rattle.vcd_text.proofs.Digits.{back_fails, few_below, front_fails, two_below, two_spelled}
-use Rattle.vcd_text.proofs.Places.{length-slice_range}
+use Rattle.vcd_text.proofs.Cited.{◌≡◌, ℕ, zero, suc, ◌+◌, ◌-◌, ◌*◌, ◌^◌, ◌≤◌, ◌<◌, ◌++◌, List, Option, length, get_or, refl, ap, sym, subst, ◌∙◌, arith, slice_range, spelled, spelled_below, WORTH}
+use Rattle.vcd_text.proofs.Facts.{slice_range-append, back_fails, few_below, front_fails, two_below, two_spelled, length-slice_range}
 use Rattle.vcd_text.proofs.number.decimal_at.Goals as goal
 
 -- one to 16 bytes

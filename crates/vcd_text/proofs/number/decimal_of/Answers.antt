@@ -1,5 +1,5 @@
-use Rattle.std.proofs.Common.{◌≡◌, ◌+◌, ◌*◌, ◌-◌, get_or, refl, sym, ◌∙◌, subst, arith}
-use Rattle.vcd_text.proofs.Digits.{HasRead, product_too_large, read_all, read_more, sum_too_large}
+use Rattle.vcd_text.proofs.Cited.{◌≡◌, ◌+◌, ◌*◌, ◌-◌, get_or, refl, sym, ◌∙◌, subst, arith}
+use Rattle.vcd_text.proofs.Facts.{HasRead, product_too_large, read_all, read_more, sum_too_large}
 use Rattle.vcd_text.proofs.number.decimal_of.Goals as goal
 
 pub loop-digit-init : goal.loop-digit-init

@@ -1,4 +1,4 @@
-use Rattle.vcd_text.proofs.Digits.{HasRead}
+use Rattle.vcd_text.proofs.Facts.{HasRead}
 use Rattle.vcd_text.proofs.number.decimal_of.Given as goal
 
 abbrev pub invariant-loop-digit : goal.invariant-loop-digit

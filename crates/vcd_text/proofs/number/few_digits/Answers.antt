@@ -1,7 +1,6 @@
-use Rattle.std.proofs.Common.{◌+◌, ◌-◌, ◌*◌, ◌%◌, ◌^◌, replicate, cond, nat_lt, map, Some, refl, ap, sym, ◌∙◌, arith, w8}
-use Rattle.std.proofs.lemmas.Simd.{length-chunk, chunk-fits}
-use lib.Lanes.{chunk, fold_l, mask_l, top, zip2}
-use Rattle.vcd_text.proofs.Eights.{all_digits, fits-padded, lanes_kept, lanes_value, last_of_eight, length-padded, no_digits, padded, spelled-padded, worth}
+use Rattle.vcd_text.proofs.Cited.{◌+◌, ◌-◌, ◌*◌, ◌%◌, ◌^◌, cond, nat_lt, map, Some, refl, ap, sym, ◌∙◌, arith, w8, length-chunk, chunk-fits, chunk, fold_l, mask_l, top, zip2}
+use Rattle.vcd_text.proofs.Facts.{all_digits, fits-padded, lanes_kept, lanes_value, last_of_eight, length-padded, no_digits, padded, spelled-padded, worth}
+use Rattle.std.proofs.Common.{replicate}
 use Rattle.vcd_text.proofs.number.few_digits.Goals as goal
 
 pub returns-then-digits-ne0 : goal.returns-then-digits-ne0

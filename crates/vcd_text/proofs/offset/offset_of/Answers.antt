@@ -1,6 +1,5 @@
-use Rattle.std.proofs.Common.{◌∙◌, ap}
-use Rattle.vcd_text.specs.Registers.{phase_at}
-use Rattle.vcd_text.proofs.OffsetLemmas.{phase_back}
+use Rattle.vcd_text.proofs.Cited.{◌∙◌, ap, phase_at}
+use Rattle.vcd_text.proofs.Facts.{phase_back}
 use Rattle.vcd_text.proofs.offset.offset_of.Goals as goal
 
 pub returns-clause-comes : goal.returns-clause-comes

@@ -1,6 +1,5 @@
-use Rattle.std.proofs.Common.{[], ◌∷◌, ◌++◌, take}
-use Rattle.std.proofs.lemmas.Result.{err_from_is_err_and}
-use Rattle.vcd_text.proofs.Writes.{puts-twice, some-behind, some-first}
+use Rattle.vcd_text.proofs.Cited.{[], ◌∷◌, ◌++◌, take, err_from_is_err_and}
+use Rattle.vcd_text.proofs.Facts.{puts-twice, some-behind, some-first}
 use Rattle.vcd_text.proofs.output.put_each.Goals as goal
 
 pub returns-in_err-put : goal.returns-in_err-put

@@ -1,6 +1,5 @@
-use Rattle.std.proofs.Common.{◌+◌, drop, ap, ◌∙◌}
-use Rattle.std.proofs.lemmas.List.{drop-drop, take_rest}
-use Rattle.vcd_text.proofs.Writes.{appends-more}
+use Rattle.vcd_text.proofs.Cited.{◌+◌, drop, ap, ◌∙◌, drop-drop, take_rest}
+use Rattle.vcd_text.proofs.Facts.{appends-more}
 use Rattle.vcd_text.proofs.output.put_rest.Goals as goal
 
 pub loop-rest-preserved : goal.loop-rest-preserved

@@ -1,5 +1,4 @@
-use Rattle.std.proofs.Common.{◌≡◌, ◌≤◌, take}
-use Rattle.vcd_text.specs.Window.{line_feeds_in}
+use Rattle.vcd_text.proofs.Cited.{◌≡◌, ◌≤◌, take, line_feeds_in}
 use Rattle.vcd_text.proofs.scan.count_each.Given as goal
 
 abbrev pub invariant-loop-byte : goal.invariant-loop-byte

@@ -1,7 +1,5 @@
-use Rattle.std.proofs.Common.{◌≡◌, ◌+◌, ◌-◌, ◌∙◌, ap, ap₂, arith}
-use Rattle.std.specs.Prelude.{slice_range}
-use Rattle.vcd_text.specs.Window.{line_feeds_in}
-use Rattle.vcd_text.proofs.AheadLemmas.{line_feeds_in-joined}
+use Rattle.vcd_text.proofs.Cited.{◌≡◌, ◌+◌, ◌-◌, ◌∙◌, ap, ap₂, arith, slice_range, line_feeds_in}
+use Rattle.vcd_text.proofs.Facts.{line_feeds_in-joined}
 use Rattle.vcd_text.proofs.scan.count_few.Goals as goal
 
 pub loop-at-preserved : goal.loop-at-preserved

@@ -1,6 +1,4 @@
-use Rattle.std.proofs.Common.{◌≡◌, ◌-◌, ◌≤◌}
-use Rattle.std.specs.Prelude.{slice_range}
-use Rattle.vcd_text.specs.Window.{line_feeds_in}
+use Rattle.vcd_text.proofs.Cited.{◌≡◌, ◌-◌, ◌≤◌, slice_range, line_feeds_in}
 use Rattle.vcd_text.proofs.scan.count_few.Given as goal
 
 abbrev pub invariant-loop-at : goal.invariant-loop-at

@@ -1,10 +1,6 @@
-use Rattle.std.proofs.Common.{◌==◌, ℕ, cond, ap, ◌∙◌, arith, w8}
-use Rattle.std.proofs.lemmas.List.{length-map}
-use Rattle.std.proofs.lemmas.Simd.{length-chunk, tops_compared, zip2_splat}
-use lib.Lanes.{chunk, sel_l, sum_l}
-use lib.ListN.{length, replicate}
-use Rattle.vcd_text.proofs.Masks.{ones-sel, sum-ones}
-use Rattle.vcd_text.proofs.PassedLemmas.{line_feeds_in-few}
+use Rattle.vcd_text.proofs.Cited.{◌==◌, ℕ, cond, ap, ◌∙◌, arith, w8, length-map, length-chunk, tops_compared, zip2_splat, chunk, sel_l, sum_l, replicate}
+use Rattle.vcd_text.proofs.Facts.{ones-sel, sum-ones, line_feeds_in-few}
+use lib.ListN.{length}
 use Rattle.vcd_text.proofs.scan.line_feed_lanes.Goals as goal
 
 pub returns-clause-sum : goal.returns-clause-sum

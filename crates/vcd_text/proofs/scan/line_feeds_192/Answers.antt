@@ -1,10 +1,5 @@
-use Rattle.std.proofs.Common.{◌≡◌, ◌+◌, ◌∙◌, ap, sym, take, drop, arith, w8}
-use Rattle.std.proofs.lemmas.Simd.{adds_fit, sum_fits, fold-sum, sum-zip2, length-chunk}
-use lib.Lanes.{chunk, zip2}
-use Rattle.vcd_text.proofs.Masks.{sum-three}
-use Rattle.vcd_text.specs.Window.{line_feeds_in}
-use Rattle.vcd_text.proofs.AheadLemmas.{line_feeds_in-next}
-use Rattle.vcd_text.proofs.PassedLemmas.{line_feeds_in-few}
+use Rattle.vcd_text.proofs.Cited.{◌≡◌, ◌+◌, ◌∙◌, ap, sym, take, drop, arith, w8, adds_fit, sum_fits, fold-sum, sum-zip2, length-chunk, chunk, zip2, line_feeds_in}
+use Rattle.vcd_text.proofs.Facts.{sum-three, line_feeds_in-next, line_feeds_in-few}
 use Rattle.vcd_text.proofs.scan.line_feeds_192.Goals as goal
 
 pub overflow_add-first : goal.overflow_add-first

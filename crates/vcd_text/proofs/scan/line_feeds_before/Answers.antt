@@ -1,13 +1,6 @@
-use Rattle.std.proofs.Common.{◌≡◌, ◌==◌, ◌+◌, ◌-◌, ◌/◌, ◌^◌, ◌≤◌, List, ℕ, take, drop, map, ap, ◌∙◌, arith, w8}
-use Rattle.std.specs.Prelude.{slice_range}
-use Rattle.std.specs.Int.RustNames.{count_ones}
-use Rattle.std.specs.List.{drop-map}
-use Rattle.std.proofs.lemmas.List.{drop-take, drop-drop, length-drop, length-take-le}
-use Rattle.std.proofs.lemmas.Simd.{length-chunk, bitmask_splat, ones-mask_l}
-use lib.Lanes.{chunk, mask_l}
-use Rattle.vcd_text.proofs.Masks.{mask-shifted}
-use Rattle.vcd_text.specs.Window.{line_feeds_in}
-use Rattle.vcd_text.proofs.PassedLemmas.{line_feeds_in-few}
+use Rattle.vcd_text.proofs.Cited.{◌≡◌, ◌==◌, ◌+◌, ◌-◌, ◌/◌, ◌^◌, ◌≤◌, List, ℕ, take, drop, map, ap, ◌∙◌, arith, w8, slice_range, count_ones, drop-map, drop-take, drop-drop, length-take-le, length-chunk, bitmask_splat, ones-mask_l, chunk, mask_l, line_feeds_in}
+use Rattle.vcd_text.proofs.Facts.{mask-shifted, line_feeds_in-few}
+use Rattle.std.proofs.lemmas.List.{length-drop}
 use Rattle.vcd_text.proofs.scan.line_feeds_before.Goals as goal
 
 -- the last n of the 64 bytes before an offset

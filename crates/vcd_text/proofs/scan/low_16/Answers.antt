@@ -1,7 +1,5 @@
-use Rattle.std.proofs.Common.{nat_le, w8, arith}
-use Rattle.std.proofs.lemmas.Simd.{length-chunk, bitmask_splat}
-use lib.Lanes.{chunk}
-use Rattle.vcd_text.proofs.Masks.{above_space, clear-is, set-inside}
+use Rattle.vcd_text.proofs.Cited.{nat_le, w8, arith, length-chunk, bitmask_splat, chunk}
+use Rattle.vcd_text.proofs.Facts.{above_space, clear-is, set-inside}
 use Rattle.vcd_text.proofs.scan.low_16.Goals as goal
 
 pub returns-clause-inside : goal.returns-clause-inside

@@ -1,8 +1,4 @@
-use Rattle.std.proofs.Common.{◌≡◌, ◌<◌, ◌+◌, ◌-◌, true, take, drop, ap, sym, ◌∙◌, arith, rules}
-use Rattle.std.specs.Prelude.{slice_index}
-use Rattle.std.proofs.lemmas.List.{take-take}
-use Rattle.vcd_model.specs.Bytes.{is_white_space}
-use Rattle.vcd_text.specs.Window.{stepped_past}
+use Rattle.vcd_text.proofs.Cited.{◌≡◌, ◌<◌, ◌+◌, ◌-◌, true, take, drop, ap, sym, ◌∙◌, arith, rules, slice_index, take-take, is_white_space, stepped_past}
 use Rattle.vcd_text.proofs.window.collect_short.Goals as goal
 
 pub returns-clause-takes : goal.returns-clause-takes

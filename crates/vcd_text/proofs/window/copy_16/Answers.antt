@@ -1,6 +1,4 @@
-use Rattle.std.proofs.Common.{◌≡◌, ◌+◌, ◌-◌, take, drop, ap, ◌∙◌, arith}
-use Rattle.std.proofs.lemmas.Simd.{length-chunk, length-put_chunk, take_more_put_chunk}
-use lib.Lanes.{chunk}
+use Rattle.vcd_text.proofs.Cited.{◌≡◌, ◌+◌, ◌-◌, take, drop, ap, ◌∙◌, arith, length-chunk, length-put_chunk, take_more_put_chunk, chunk}
 use Rattle.vcd_text.proofs.window.copy_16.Goals as goal
 
 pub returns-clause-copied : goal.returns-clause-copied

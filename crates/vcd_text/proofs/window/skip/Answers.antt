@@ -1,10 +1,5 @@
-use Rattle.std.proofs.Common.{◌≡◌, ℕ, ◌+◌, ◌-◌, ◌≤◌, ◌<◌, true, false, List, length, take, drop, sym, ap, subst, ◌∙◌, arith, length-drop}
-use Rattle.std.specs.Prelude.{slice_index, slice_range}
-use Rattle.std.proofs.lemmas.List.{take-take, length-take-le}
-use Rattle.vcd_model.specs.Bytes.{is_white_space}
-use Rattle.vcd_text.specs.Window.{Whites, skipped, line_feeds_in}
-use Rattle.vcd_text.specs.declared.registers.Parked.{Parked}
-use Rattle.vcd_text.proofs.AheadLemmas.{slice-index}
+use Rattle.vcd_text.proofs.Cited.{◌≡◌, ℕ, ◌+◌, ◌-◌, ◌≤◌, ◌<◌, true, false, List, length, take, drop, sym, ap, subst, ◌∙◌, arith, length-drop, slice_index, slice_range, take-take, length-take-le, is_white_space, Whites, skipped, line_feeds_in, Parked}
+use Rattle.vcd_text.proofs.Facts.{slice-index}
 use Rattle.vcd_text.proofs.window.skip.Goals as goal
 
 skips : (chunk : List ℕ) (p : Parked) (d e f : ℕ) → d ≡ e → p.at ≤ p.stop → p.stop ≤ length chunk → d ≤ length (slice_range chunk p.at p.stop)

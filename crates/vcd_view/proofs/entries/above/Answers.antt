@@ -1,4 +1,4 @@
-use Rattle.std.proofs.Common.{◌+◌, ◌*◌, ◌^◌, ◌%◌, ℕ, ap}
+use Rattle.vcd_view.proofs.Cited.{◌+◌, ◌*◌, ◌^◌, ◌%◌, ℕ, ap}
 use Rattle.vcd_view.proofs.entries.above.Goals as goal
 
 pub returns : goal.returns

@@ -1,11 +1,5 @@
-use Rattle.std.proofs.Common.{◌≢◌, subst, ◌∙◌, arith}
-use Rattle.std.proofs.lemmas.Grind.{get_or_default_zero}
-use Rattle.std.proofs.lemmas.Option.{IfSome_then}
-use Rattle.std.specs.Option.{IfSome}
-use Rattle.vcd_view.specs.Entries.{HasEntry}
-use Rattle.vcd_view.specs.Keys.{AreBytes, key_in}
-use Rattle.vcd_view.proofs.EntryLemmas.{at_finds, at_within, entry_finds, entry_within}
-use Rattle.vcd_view.proofs.KeyLemmas.{are_bytes}
+use Rattle.vcd_view.proofs.Cited.{◌≢◌, subst, ◌∙◌, arith, get_or_default_zero, IfSome_then, IfSome, HasEntry, AreBytes, key_in}
+use Rattle.vcd_view.proofs.Facts.{at_finds, at_within, entry_finds, entry_within, are_bytes}
 use Rattle.vcd_view.proofs.entries.index_by_hash.Goals as goal
 
 pub returns-then-key-eq0-clause-found : goal.returns-then-key-eq0-clause-found

@@ -1,5 +1,5 @@
-use Rattle.std.proofs.Common.{sym, ◌∙◌}
-use Rattle.vcd_view.proofs.LookUpLemmas.{equal_bytes}
+use Rattle.vcd_view.proofs.Cited.{sym, ◌∙◌}
+use Rattle.vcd_view.proofs.Facts.{equal_bytes}
 use Rattle.vcd_view.proofs.entries.index_of_long.Goals as goal
 
 pub returns-in-Equal-clause-found : goal.returns-in-Equal-clause-found

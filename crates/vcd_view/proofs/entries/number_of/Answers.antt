@@ -1,6 +1,4 @@
-use Rattle.std.proofs.Common.{◌≡◌, ◌-◌, ◌+◌, get_or, ap, ◌∙◌, arith}
-use Rattle.std.proofs.lemmas.List.{drop_more}
-use Rattle.vcd_view.specs.Entries.{above}
+use Rattle.vcd_view.proofs.Cited.{◌≡◌, ◌-◌, ◌+◌, get_or, ap, ◌∙◌, arith, drop_more, above}
 use Rattle.vcd_view.proofs.entries.number_of.Goals as goal
 
 pub loop-position-preserved : goal.loop-position-preserved

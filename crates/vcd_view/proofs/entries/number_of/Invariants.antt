@@ -1,5 +1,4 @@
-use Rattle.std.proofs.Common.{◌≡◌, ◌≤◌, drop, length}
-use Rattle.vcd_view.specs.Entries.{number_in}
+use Rattle.vcd_view.proofs.Cited.{◌≡◌, ◌≤◌, drop, length, number_in}
 use Rattle.vcd_view.proofs.entries.number_of.Given as goal
 
 abbrev pub invariant-loop-position : goal.invariant-loop-position

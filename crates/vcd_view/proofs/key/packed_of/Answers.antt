@@ -1,6 +1,6 @@
-use Rattle.std.proofs.Common.{◌≡◌, ◌-◌, ◌<◌, ◌*◌, ◌+◌, ◌^◌, length, ap, sym, subst, arith}
-use Rattle.std.proofs.lemmas.List.{drop_more}
-use Rattle.vcd_view.proofs.KeyLemmas.{grown, fits}
+use Rattle.vcd_view.proofs.Cited.{◌≡◌, ◌-◌, ◌<◌, ◌*◌, ◌+◌, ◌^◌, length, ap, sym, subst, arith, drop_more}
+use Rattle.vcd_view.proofs.Facts.{grown}
+use Rattle.vcd_view.proofs.KeyLemmas.{fits}
 use Rattle.vcd_view.proofs.key.packed_of.Goals as goal
 
 byte : (c : goal.After-from) → c.from.result < 256

@@ -1,5 +1,4 @@
-use Rattle.std.proofs.Common.{◌≡◌, ◌≤◌, ◌<◌, ◌*◌, ◌^◌, ◌-◌, drop, length}
-use Rattle.vcd_view.specs.Keys.{packed}
+use Rattle.vcd_view.proofs.Cited.{◌≡◌, ◌≤◌, ◌<◌, ◌*◌, ◌^◌, ◌-◌, drop, length, packed}
 use Rattle.vcd_view.proofs.key.packed_of.Given as goal
 
 abbrev pub invariant-loop-position : goal.invariant-loop-position

@@ -1,6 +1,5 @@
-use Rattle.std.proofs.Common.{sym, ◌∙◌}
-use Rattle.vcd_model.specs.Keywords.{Keyword}
-use Rattle.vcd_view.proofs.KeywordLemmas.{keyword_found}
+use Rattle.vcd_view.proofs.Cited.{sym, ◌∙◌, Keyword}
+use Rattle.vcd_view.proofs.Facts.{keyword_found}
 use Rattle.vcd_view.proofs.keyword.keyword_of.Goals as goal
 
 pub returns-then-is_var : goal.returns-then-is_var

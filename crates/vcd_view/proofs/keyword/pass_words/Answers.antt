@@ -1,4 +1,4 @@
-use Rattle.vcd_text.specs.Ahead.{lines_of}
+use Rattle.vcd_view.proofs.Cited.{lines_of}
 use Rattle.vcd_view.proofs.keyword.pass_words.Goals as goal
 
 pub pass-requires : goal.pass-requires

@@ -1,6 +1,6 @@
-use Rattle.std.proofs.Common.{◌≡◌, false, bytes_eq, codes, refl, sym, ◌∙◌}
-use Rattle.vcd_model.specs.Keywords.{Keyword, keyword_of}
-use Rattle.vcd_view.proofs.KeywordLemmas.{keyword_found}
+use Rattle.vcd_view.proofs.Cited.{◌≡◌, false, bytes_eq, codes, refl, sym, ◌∙◌, Keyword}
+use Rattle.vcd_view.proofs.Facts.{keyword_found}
+use Rattle.vcd_model.specs.Keywords.{keyword_of}
 use Rattle.vcd_view.proofs.keyword.rarer_keyword_of.Goals as goal
 
 pub returns-then-is : goal.returns-then-is

@@ -1,8 +1,5 @@
-use Rattle.std.proofs.Common.{[], ◌∷◌, ◌++◌, refl, ap, subst, sym, ◌∙◌}
-use Rattle.vcd_model.specs.Tokens.{Token}
-use Rattle.vcd_text.specs.Ahead.{bytes_of, longest_of, passed_of, start_of}
-use Rattle.vcd_text.specs.Passed.{Passed, line_ahead}
-use Rattle.vcd_view.proofs.KeywordLemmas.{passed_on, words_more}
+use Rattle.vcd_view.proofs.Cited.{[], ◌∷◌, ◌++◌, refl, ap, subst, sym, ◌∙◌, Token, bytes_of, longest_of, passed_of, start_of, Passed, line_ahead}
+use Rattle.vcd_view.proofs.Facts.{passed_on, words_more}
 use Rattle.vcd_view.proofs.keyword.words_len.Goals as goal
 
 pub words-init : goal.words-init

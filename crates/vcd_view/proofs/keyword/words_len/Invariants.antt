@@ -1,8 +1,4 @@
-use Rattle.std.proofs.Common.{◌≡◌, ℕ, ◌-◌, List, length}
-use Rattle.vcd_model.specs.Tokens.{Token}
-use Rattle.vcd_text.specs.Ahead.{bytes_of, longest_of, passed_of}
-use Rattle.vcd_text.specs.Passed.{Passed}
-use Rattle.vcd_view.specs.Keywords.{AreWords}
+use Rattle.vcd_view.proofs.Cited.{◌≡◌, ℕ, ◌-◌, List, length, Token, bytes_of, longest_of, passed_of, Passed, AreWords}
 use Rattle.vcd_view.proofs.keyword.words_len.Given as goal
 
 abbrev pub invariant-words : goal.invariant-words

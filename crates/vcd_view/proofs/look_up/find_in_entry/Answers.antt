@@ -1,11 +1,5 @@
-use Rattle.std.proofs.Common.{◌≡◌, ◌<◌, Some, bit_xor, slice_get, sym, ap, ◌∙◌, arith}
-use Rattle.std.proofs.lemmas.Grind.{get_or_default_zero}
-use Rattle.std.proofs.lemmas.Option.{slice_get-get_or}
-use Rattle.vcd_view.specs.Keys.{AreBytes, key_in}
-use Rattle.vcd_view.proofs.EntryLemmas.{entry_found}
-use Rattle.vcd_view.proofs.LookUpLemmas.{found_at}
-use Rattle.vcd_view.proofs.RowLemmas.{text_within, code_of_shown}
-use Rattle.vcd_view.proofs.KeyLemmas.{are_bytes, same_key, bytes_at_place, key_below}
+use Rattle.vcd_view.proofs.Cited.{◌≡◌, ◌<◌, Some, bit_xor, slice_get, sym, ap, ◌∙◌, arith, get_or_default_zero, slice_get-get_or, AreBytes, key_in}
+use Rattle.vcd_view.proofs.Facts.{entry_found, found_at, text_within, code_of_shown, are_bytes, same_key, bytes_at_place, key_below}
 use Rattle.vcd_view.proofs.look_up.find_in_entry.Goals as goal
 
 pub returns-then-entry-key-clause-found : goal.returns-then-entry-key-clause-found

@@ -1,7 +1,5 @@
-use Rattle.std.proofs.Common.{Some, subst, arith}
-use Rattle.std.specs.Option.{IfSome}
-use Rattle.vcd_view.specs.Finds.{Finds}
-use Rattle.vcd_view.proofs.LookUpLemmas.{distinct}
+use Rattle.vcd_view.proofs.Cited.{Some, subst, arith, IfSome, Finds}
+use Rattle.vcd_view.proofs.Facts.{distinct}
 use Rattle.vcd_view.proofs.look_up.find_slowly.Goals as goal
 
 pub returns-in-Some-clause-found : goal.returns-in-Some-clause-found

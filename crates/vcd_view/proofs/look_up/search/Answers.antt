@@ -1,8 +1,5 @@
-use Rattle.std.proofs.Common.{◌≡◌, ◌+◌, ◌-◌, ◌/◌, ◌<◌, length, get_or, Some, rules, sym, ap, subst, ◌∙◌, arith}
-use Rattle.std.specs.Int.Digits.{digits_of}
-use Rattle.std.specs.Ordering.{nat_cmp}
-use Rattle.std.specs.Cmp.Lexicographic.{slice_cmp}
-use Rattle.vcd_view.proofs.LookUpLemmas.{codes_len, index_len, place_below, between_all, between_above, between_below, none_between, found_equal, bits_of_half, IsBetween}
+use Rattle.vcd_view.proofs.Cited.{◌≡◌, ◌+◌, ◌-◌, ◌/◌, ◌<◌, length, get_or, Some, rules, sym, ap, subst, ◌∙◌, arith, digits_of, nat_cmp, slice_cmp}
+use Rattle.vcd_view.proofs.Facts.{codes_len, index_len, place_below, between_all, between_above, between_below, none_between, found_equal, bits_of_half, IsBetween}
 use Rattle.vcd_view.proofs.look_up.search.Goals as goal
 
 pub loop-low-init : goal.loop-low-init

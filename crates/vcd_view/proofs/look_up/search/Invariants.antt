@@ -1,9 +1,5 @@
-use Rattle.std.proofs.Common.{◌+◌, ◌-◌, ◌<◌, ◌≤◌, List, length}
-use Rattle.std.specs.List.{AllZip}
-use Rattle.std.specs.Int.Digits.{digits_of}
-use Rattle.vcd_model.specs.Declarations.{IdCode}
-use Rattle.vcd_view.specs.Views.{IsCode, IsIndex}
-use Rattle.vcd_view.proofs.LookUpLemmas.{IsBetween}
+use Rattle.vcd_view.proofs.Cited.{◌+◌, ◌-◌, ◌<◌, ◌≤◌, List, length, AllZip, digits_of, IdCode, IsCode, IsIndex}
+use Rattle.vcd_view.proofs.Facts.{IsBetween}
 use Rattle.vcd_view.proofs.look_up.search.Given as goal
 
 abbrev pub invariant-loop-low : goal.invariant-loop-low

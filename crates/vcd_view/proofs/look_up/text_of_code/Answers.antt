@@ -1,8 +1,5 @@
-use Rattle.std.proofs.Common.{◌≡◌, Some, None, slice_get, sym, subst, ◌∙◌, arith, rules}
-use Rattle.std.proofs.lemmas.Option.{get_or_from_slice_get, slice_get-get_or}
-use Rattle.vcd_view.specs.Views.{IsCode}
-use Rattle.vcd_view.proofs.LookUpLemmas.{blank, code_at, codes_len, text_at}
-use Rattle.vcd_view.proofs.RowLemmas.{text_within}
+use Rattle.vcd_view.proofs.Cited.{◌≡◌, Some, None, slice_get, sym, subst, ◌∙◌, arith, rules, get_or_from_slice_get, slice_get-get_or, IsCode}
+use Rattle.vcd_view.proofs.Facts.{blank, code_at, codes_len, text_at, text_within}
 use Rattle.vcd_view.proofs.look_up.text_of_code.Goals as goal
 
 pub returns-in-Some : goal.returns-in-Some

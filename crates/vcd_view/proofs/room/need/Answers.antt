@@ -1,12 +1,5 @@
-use Rattle.std.proofs.Common.{◌≡◌, ◌-◌, ◌^◌, min, sum_by, ap, ◌∙◌, arith}
-use Rattle.std.proofs.lemmas.List.{take_all}
-use Rattle.std.proofs.lemmas.List.Sums.{sum_by_more}
-use Rattle.vcd_model.specs.Header.{Header}
-use Rattle.vcd_view.specs.Needs.{value_bytes}
-use Rattle.vcd_view.specs.Shown.{parts}
-use Rattle.vcd_view.specs.Views.{Views}
-use Rattle.vcd_view.proofs.LookUpLemmas.{blank}
-use Rattle.vcd_view.proofs.RoomLemmas.{sum_fits, is_room, fits}
+use Rattle.vcd_view.proofs.Cited.{◌≡◌, ◌-◌, ◌^◌, min, sum_by, ap, ◌∙◌, arith, take_all, sum_by_more, Header, value_bytes, parts, Views}
+use Rattle.vcd_view.proofs.Facts.{blank, sum_fits, is_room, fits}
 use Rattle.vcd_view.proofs.room.need.Goals as goal
 
 pub loop-code-preserved : goal.loop-code-preserved

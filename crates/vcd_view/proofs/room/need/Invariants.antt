@@ -1,5 +1,4 @@
-use Rattle.std.proofs.Common.{◌≡◌, ◌-◌, ◌^◌, min, take, sum_by}
-use Rattle.vcd_view.specs.Needs.{value_bytes}
+use Rattle.vcd_view.proofs.Cited.{◌≡◌, ◌-◌, ◌^◌, min, take, sum_by, value_bytes}
 use Rattle.vcd_view.proofs.room.need.Given as goal
 
 abbrev pub invariant-loop-code : goal.invariant-loop-code

@@ -1,10 +1,4 @@
-use Rattle.std.proofs.Common.{arith, ap, ap₂, ◌≡◌, ◌∙◌, Bool, true, false, not, ◌&&◌, ◌||◌, subst}
-use Rattle.std.specs.Prelude.{IfOk}
-use Rattle.std.proofs.lemmas.Result.{IfOk-weaker}
-use Rattle.clap.specs.Built.{AddsSubcommand}
-use Rattle.clap.specs.Words.{App, with_subcommand}
-use Rattle.clap.specs.declared.builder.command.Command.{Command}
-use Rattle.vcd_words.specs.Words.{IsWhole}
+use Rattle.vcd_words.proofs.Cited.{arith, ap, ap₂, ◌≡◌, ◌∙◌, Bool, true, false, not, ◌&&◌, ◌||◌, subst, IfOk, IfOk-weaker, AddsSubcommand, App, with_subcommand, Command, IsWhole}
 use Rattle.vcd_words.proofs.command.add.Goals as goal
 
 -- a plain command has no global argument

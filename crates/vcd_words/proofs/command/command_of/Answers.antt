@@ -1,7 +1,5 @@
-use Rattle.std.proofs.Common.{codes, refl, true, false}
-use Rattle.clap.specs.Words.{new_app}
-use Rattle.vcd_words.specs.Words.{file_app, bare_app, cut_app, merge_app, named_app, sample_app, IsWhole}
-use Rattle.vcd_words.proofs.CommandLemmas.{with_subcommand_required, with_version, without_help}
+use Rattle.vcd_words.proofs.Cited.{codes, refl, true, false, new_app, file_app, bare_app, cut_app, merge_app, named_app, sample_app, IsWhole}
+use Rattle.vcd_words.proofs.Facts.{with_subcommand_required, with_version, without_help}
 use Rattle.vcd_words.proofs.command.command_of.Goals as goal
 
 pub returns : goal.returns

@@ -1,8 +1,5 @@
-use Rattle.std.proofs.Common.{codes}
-use Rattle.std.proofs.lemmas.Result.{IfOk-weaker}
-use Rattle.clap.specs.Words.{with_rule}
-use Rattle.vcd_words.specs.Words.{file_app, time_or_rule, time_rule, IsLocal}
-use Rattle.vcd_words.proofs.CommandLemmas.{with_arg, with_default, with_hidden_default}
+use Rattle.vcd_words.proofs.Cited.{codes, IfOk-weaker, with_rule, file_app, time_or_rule, time_rule, IsLocal}
+use Rattle.vcd_words.proofs.Facts.{with_arg, with_default, with_hidden_default}
 use Rattle.vcd_words.proofs.command.cut.Goals as goal
 
 pub returns : goal.returns

@@ -1,11 +1,5 @@
-use Rattle.std.proofs.Common.{codes}
-use Rattle.std.proofs.lemmas.Result.{IfOk-weaker}
-use Rattle.clap.specs.Lexer.{usize_max}
-use Rattle.clap.specs.Words.{new_app, new_rule, with_rule}
-use Rattle.clap.specs.declared.builder.range.ValueRange.{ValueRange}
-use Rattle.vcd_words.specs.Words.{files_rule, limit_rule, IsLocal}
-use Rattle.vcd_words.proofs.CommandLemmas.{with_arg, with_help, with_range, with_required, with_value_name}
-use Rattle.vcd_words.proofs.WordsLemmas.{some-is}
+use Rattle.vcd_words.proofs.Cited.{codes, IfOk-weaker, usize_max, new_app, new_rule, with_rule, ValueRange, files_rule, limit_rule, IsLocal}
+use Rattle.vcd_words.proofs.Facts.{with_arg, with_help, with_range, with_required, with_value_name, some-is}
 use Rattle.vcd_words.proofs.command.merge.Goals as goal
 
 pub returns : goal.returns

@@ -1,11 +1,5 @@
-use Rattle.std.proofs.Common.{codes}
-use Rattle.std.proofs.lemmas.Result.{IfOk-weaker}
-use Rattle.clap.specs.Lexer.{usize_max}
-use Rattle.clap.specs.Words.{new_rule}
-use Rattle.clap.specs.declared.builder.range.ValueRange.{ValueRange}
-use Rattle.vcd_words.specs.Words.{names_rule, one_input_app, IsLocal}
-use Rattle.vcd_words.proofs.CommandLemmas.{with_arg, with_help, with_range, with_required, with_value_name}
-use Rattle.vcd_words.proofs.WordsLemmas.{some-is}
+use Rattle.vcd_words.proofs.Cited.{codes, IfOk-weaker, usize_max, new_rule, ValueRange, names_rule, one_input_app, IsLocal}
+use Rattle.vcd_words.proofs.Facts.{with_arg, with_help, with_range, with_required, with_value_name, some-is}
 use Rattle.vcd_words.proofs.command.named.Goals as goal
 
 pub returns : goal.returns

@@ -1,5 +1,5 @@
-use Rattle.clap.specs.Words.{new_app}
-use Rattle.vcd_words.proofs.CommandLemmas.{with_about, with_after_help, with_usage}
+use Rattle.vcd_words.proofs.Cited.{new_app}
+use Rattle.vcd_words.proofs.Facts.{with_about, with_after_help, with_usage}
 use Rattle.vcd_words.proofs.command.new_command.Goals as goal
 
 pub returns : goal.returns

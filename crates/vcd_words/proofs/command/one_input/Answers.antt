@@ -1,8 +1,5 @@
-use Rattle.std.proofs.Common.{codes}
-use Rattle.std.proofs.lemmas.Result.{IfOk-weaker}
-use Rattle.clap.specs.Words.{new_app, new_rule, with_rule}
-use Rattle.vcd_words.specs.Words.{input_rule, limit_rule, IsLocal}
-use Rattle.vcd_words.proofs.CommandLemmas.{with_arg, with_help, with_short, with_value_name}
+use Rattle.vcd_words.proofs.Cited.{codes, IfOk-weaker, new_app, new_rule, with_rule, input_rule, limit_rule, IsLocal}
+use Rattle.vcd_words.proofs.Facts.{with_arg, with_help, with_short, with_value_name}
 use Rattle.vcd_words.proofs.command.one_input.Goals as goal
 
 pub returns : goal.returns

@@ -1,7 +1,5 @@
-use Rattle.std.proofs.Common.{codes, false, true}
-use Rattle.std.proofs.lemmas.Result.{IfOk-weaker}
-use Rattle.vcd_words.specs.Words.{named_app, time_rule}
-use Rattle.vcd_words.proofs.CommandLemmas.{with_arg, with_required}
+use Rattle.vcd_words.proofs.Cited.{codes, false, true, IfOk-weaker, named_app, time_rule}
+use Rattle.vcd_words.proofs.Facts.{with_arg, with_required}
 use Rattle.vcd_words.proofs.command.sample.Goals as goal
 
 pub returns : goal.returns

@@ -1,5 +1,5 @@
-use Rattle.clap.specs.Words.{new_rule}
-use Rattle.vcd_words.proofs.CommandLemmas.{with_help, with_long, with_value_name}
+use Rattle.vcd_words.proofs.Cited.{new_rule}
+use Rattle.vcd_words.proofs.Facts.{with_help, with_long, with_value_name}
 use Rattle.vcd_words.proofs.command.time.Goals as goal
 
 pub returns : goal.returns

@@ -1,8 +1,5 @@
-use Rattle.std.proofs.Common.{codes}
-use Rattle.std.proofs.lemmas.Result.{IfOk-weaker}
-use Rattle.clap.specs.Words.{new_rule}
-use Rattle.vcd_words.specs.Words.{file_rule, one_input_app, IsLocal}
-use Rattle.vcd_words.proofs.CommandLemmas.{with_arg, with_help, with_value_name}
+use Rattle.vcd_words.proofs.Cited.{codes, IfOk-weaker, new_rule, file_rule, one_input_app, IsLocal}
+use Rattle.vcd_words.proofs.Facts.{with_arg, with_help, with_value_name}
 use Rattle.vcd_words.proofs.command.with_file.Goals as goal
 
 pub returns : goal.returns

@@ -1,9 +1,6 @@
-use Rattle.std.proofs.Common.{◌≡◌, ◌∙◌, ap, codes, option_map, rules, subst, sym}
-use Rattle.std.specs.Prelude.{ℕ, Result, Err, None, Some}
+use Rattle.vcd_words.proofs.Cited.{◌≡◌, ◌∙◌, ap, codes, option_map, rules, subst, sym, ℕ, Result, Err, None, Some, model_want, command_used, complete, word_after, words_command, IsFaultIn}
+use Rattle.vcd_words.proofs.Facts.{job-is, limit-fault, no-job, want-fault}
 use Rattle.vcd_model.specs.Words as model
-use Rattle.vcd_words.specs.Job.{model_want}
-use Rattle.vcd_words.specs.Words.{command_used, complete, word_after, words_command, IsFaultIn}
-use Rattle.vcd_words.proofs.WordsLemmas.{job-is, limit-fault, no-job, want-fault}
 use Rattle.vcd_words.proofs.job.job_of.Goals as goal
 
 pub returns-in_default-clause-fault : goal.returns-in_default-clause-fault

@@ -1,12 +1,6 @@
-use Rattle.std.proofs.Common.{◌≡◌, ◌∷◌, ◌&&◌, [], false, not, length, Err, rules, refl, sym, ap, ◌∙◌, lit<}
-use Rattle.std.specs.Borrow.{Bor}
-use Rattle.std.specs.Prelude.{List, ℕ}
-use Rattle.std.proofs.lemmas.Iterator.Consumers.{YieldsList-so_far, YieldsList-turn, YieldsList-end}
-use Rattle.std.proofs.lemmas.Iterator.Splits.{YieldsList-from_str_split}
-use Rattle.std.proofs.lemmas.List.{map-append}
+use Rattle.vcd_words.proofs.Cited.{◌≡◌, ◌∷◌, ◌&&◌, [], false, not, length, Err, rules, refl, sym, ap, ◌∙◌, lit<, Bor, List, ℕ, YieldsList-so_far, YieldsList-turn, YieldsList-end, YieldsList-from_str_split, map-append, asked}
+use Rattle.vcd_words.proofs.Facts.{times_of-push, word_fails, sample_good, sample_falls}
 use Rattle.vcd_model.specs.Words as model
-use Rattle.vcd_head.specs.Moments.{asked}
-use Rattle.vcd_words.proofs.TimesLemmas.{times_of-push, word_fails, sample_good, sample_falls}
 use Rattle.vcd_words.proofs.moment_word.check_times.Goals as goal
 use Rattle.vcd_words.proofs.moment_word.check_times.Goals.{else-not-order-via-then-not-order+else-not-order-2, else-not-order-via-else-not-order}
 

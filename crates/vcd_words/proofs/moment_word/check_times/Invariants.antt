@@ -1,8 +1,6 @@
-use Rattle.std.proofs.Common.{◌≡◌, ℕ, List, map, Ok}
-use Rattle.std.specs.Borrow.{Bor}
+use Rattle.vcd_words.proofs.Cited.{◌≡◌, ℕ, List, map, Ok, Bor, IsOrderOf}
 use Rattle.vcd_model.specs.Ticks as model_ticks
 use Rattle.vcd_model.specs.Words as model
-use Rattle.vcd_words.specs.Times.{IsOrderOf}
 use Rattle.vcd_words.proofs.moment_word.check_times.Given as goal
 
 abbrev pub invariant-loop-word : goal.invariant-loop-word

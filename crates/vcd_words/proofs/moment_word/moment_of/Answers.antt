@@ -1,7 +1,6 @@
-use Rattle.std.proofs.Common.{◌∙◌, ap, sym, option_map}
+use Rattle.vcd_words.proofs.Cited.{◌∙◌, ap, sym, option_map, asked, with_unit}
+use Rattle.vcd_words.proofs.Facts.{no_moment, moment_is}
 use Rattle.vcd_model.specs.Job as model
-use Rattle.vcd_head.specs.Moments.{asked, with_unit}
-use Rattle.vcd_words.proofs.TimesLemmas.{no_moment, moment_is}
 use Rattle.vcd_words.proofs.moment_word.moment_of.Goals as goal
 
 pub returns-in_err-number_of : goal.returns-in_err-number_of

@@ -1,12 +1,7 @@
-use Rattle.std.proofs.Common.{option_map, ◌∙◌, lit<, rules}
+use Rattle.vcd_words.proofs.Cited.{option_map, ◌∙◌, lit<, rules, items_from_collect, YieldsList-from_map, YieldsList-at, YieldsList-from_filter_map, YieldsList-from_str_split, IfOk-weaker, parts}
+use Rattle.vcd_words.proofs.Facts.{kept, same_moment, read_of_kept}
 use Rattle.vcd_model.specs.Job as model
-use Rattle.std.proofs.lemmas.Iterator.{items_from_collect, YieldsList-from_map}
-use Rattle.std.proofs.lemmas.Iterator.Consumers.{YieldsList-at, YieldsList-from_filter_map}
-use Rattle.std.proofs.lemmas.Iterator.Splits.{YieldsList-from_str_split}
-use Rattle.std.proofs.lemmas.Result.{IfOk-weaker}
 use Rattle.vcd_head.specs.declared.moment.Moment.{Moment}
-use Rattle.vcd_words.specs.Times.{parts}
-use Rattle.vcd_words.proofs.TimesLemmas.{kept, same_moment, read_of_kept}
 use Rattle.vcd_words.proofs.moment_word.numbers_in.Goals as goal
 
 pub returns : goal.returns

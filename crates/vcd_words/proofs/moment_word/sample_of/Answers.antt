@@ -1,13 +1,6 @@
-use Rattle.std.proofs.Common.{◌≡◌, List, ℕ, map, Ok, Err, ap, ap₂, sym, ◌∙◌, rules}
-use Rattle.vcd_model.specs.Job.{Want, do_rise}
-use Rattle.vcd_model.specs.Ticks.{Moment}
+use Rattle.vcd_words.proofs.Cited.{◌≡◌, List, ℕ, map, Ok, Err, ap, ap₂, sym, ◌∙◌, rules, Want, do_rise, Moment, OutOfMemory, has_units, times_with, parts, some_names}
+use Rattle.vcd_words.proofs.Facts.{asked_of, long_units, good_rises, put_together, some_times, times_kept}
 use Rattle.vcd_model.specs.Words as model
-use Rattle.vcd_words.specs.declared.job.UseFault.TheVariants.{OutOfMemory}
-use Rattle.vcd_words.specs.Ticks.{has_units, times_with}
-use Rattle.vcd_words.specs.Times.{parts}
-use Rattle.vcd_words.specs.Words.{some_names}
-use Rattle.vcd_words.proofs.SampleLemmas.{asked_of, long_units}
-use Rattle.vcd_words.proofs.TimesLemmas.{good_rises, put_together, some_times, times_kept}
 use Rattle.vcd_words.proofs.moment_word.sample_of.Goals as goal
 
 pub returns-in_err-numbers : goal.returns-in_err-numbers

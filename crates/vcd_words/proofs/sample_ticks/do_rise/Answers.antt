@@ -1,6 +1,5 @@
-use Rattle.std.proofs.Common.{rules, nat_lt}
-use Rattle.std.proofs.lemmas.List.Sorted.{answers_always}
-use Rattle.vcd_words.proofs.SampleLemmas.{rise_is}
+use Rattle.vcd_words.proofs.Cited.{rules, nat_lt, answers_always}
+use Rattle.vcd_words.proofs.Facts.{rise_is}
 use Rattle.vcd_words.proofs.sample_ticks.do_rise.Goals as goal
 
 pub returns : goal.returns

@@ -1,7 +1,5 @@
-use Rattle.std.proofs.Common.{◌≡◌, ◌<◌, ◌∙◌, sym, ap, refl, length, Err, drop, arith, rules}
-use Rattle.std.specs.Prelude.{ℕ}
-use Rattle.vcd_words.specs.Refusal.{tick_refusal}
-use Rattle.vcd_words.proofs.SampleLemmas.{all_written, one_more, refused, so_far}
+use Rattle.vcd_words.proofs.Cited.{◌≡◌, ◌<◌, ◌∙◌, sym, ap, refl, length, Err, drop, arith, rules, ℕ, tick_refusal}
+use Rattle.vcd_words.proofs.Facts.{all_written, one_more, refused, so_far}
 use Rattle.vcd_words.proofs.sample_ticks.write_ticks.Goals as goal
 
 pub loop-place-init : goal.loop-place-init

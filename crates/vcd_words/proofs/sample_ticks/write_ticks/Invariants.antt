@@ -1,8 +1,5 @@
-use Rattle.std.proofs.Common.{◌≡◌}
-use Rattle.vcd_model.specs.Header.{Header}
-use Rattle.vcd_view.specs.Views.{IsViewOf}
-use Rattle.vcd_words.specs.Ticks.{all_ticks}
-use Rattle.vcd_words.proofs.SampleLemmas.{so_far}
+use Rattle.vcd_words.proofs.Cited.{◌≡◌, Header, IsViewOf, all_ticks}
+use Rattle.vcd_words.proofs.Facts.{so_far}
 use Rattle.vcd_words.proofs.sample_ticks.write_ticks.Given as goal
 
 abbrev pub invariant-loop-place : goal.invariant-loop-place

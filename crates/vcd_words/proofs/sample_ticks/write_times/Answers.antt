@@ -1,10 +1,5 @@
-use Rattle.std.proofs.Common.{◌≡◌, ◌∙◌, Ok, Err, ap, length, rules, sym, true, false}
-use Rattle.std.specs.Vec.{with_items}
-use Rattle.std.proofs.lemmas.List.{with_items_is}
-use Rattle.vcd_model.specs.Job.{do_rise}
-use Rattle.vcd_model.specs.Outcome.{Request}
-use Rattle.vcd_words.specs.Ticks.{all_ticks, has_units, AreRefused, AreTicks}
-use Rattle.vcd_words.proofs.SampleLemmas.{falling_request, no_units_left, plain_request, refused_request, rising_request}
+use Rattle.vcd_words.proofs.Cited.{◌≡◌, ◌∙◌, Ok, Err, ap, length, rules, sym, true, false, with_items, with_items_is, do_rise, Request, all_ticks, has_units, AreRefused, AreTicks}
+use Rattle.vcd_words.proofs.Facts.{falling_request, no_units_left, plain_request, refused_request, rising_request}
 use Rattle.vcd_words.proofs.sample_ticks.write_times.Goals as goal
 
 pub returns-in_err-write_ticks-clause-same : goal.returns-in_err-write_ticks-clause-same

@@ -1,4 +1,4 @@
-use Rattle.std.proofs.Common.{◌≡◌, map, take, string_bytes}
+use Rattle.vcd_words.proofs.Cited.{◌≡◌, map, take, string_bytes}
 use Rattle.vcd_words.proofs.words.copied.Given as goal
 
 abbrev pub invariant-loop-name : goal.invariant-loop-name

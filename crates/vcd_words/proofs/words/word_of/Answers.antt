@@ -1,7 +1,5 @@
-use Rattle.std.proofs.Common.{◌∙◌}
-use Rattle.clap.specs.Words.{found_of, rows_of, subcommand_rows_of}
-use Rattle.clap.proofs.WalkLemmas.{first_value-rows}
-use Rattle.vcd_words.proofs.WordsLemmas.{first-after}
+use Rattle.vcd_words.proofs.Cited.{◌∙◌, found_of, rows_of, subcommand_rows_of, first_value-rows}
+use Rattle.vcd_words.proofs.Facts.{first-after}
 use Rattle.vcd_words.proofs.words.word_of.Goals as goal
 
 pub returns : goal.returns

@@ -1,8 +1,5 @@
-use Rattle.std.proofs.Common.{◌∙◌, ap, map, not, option_map, sym}
-use Rattle.std.specs.Bool.{then_some}
-use Rattle.clap.specs.Words.{found_of, rows_of, subcommand_rows_of}
-use Rattle.clap.proofs.WalkLemmas.{raw_values-rows}
-use Rattle.vcd_words.proofs.WordsLemmas.{all-after, no-names, some-names}
+use Rattle.vcd_words.proofs.Cited.{◌∙◌, ap, map, not, option_map, sym, then_some, found_of, rows_of, subcommand_rows_of, raw_values-rows}
+use Rattle.vcd_words.proofs.Facts.{all-after, no-names, some-names}
 use Rattle.vcd_words.proofs.words.words_of.Goals as goal
 
 pub returns-in_err-words : goal.returns-in_err-words

@@ -1,10 +1,5 @@
-use Rattle.std.proofs.Common.{rules, ◌≡◌, ◌∙◌, ℕ, List, [], Option, Some, None, Err, ap, subst}
-use Rattle.std.specs.Prelude.{IfSome}
-use Rattle.vcd_text.specs.Answer.{whole}
-use Rattle.vcd_text.specs.Device.{Supply, supply}
-use Rattle.vcd_text.specs.Feed.{HasGiven, source_of}
-use Rattle.vcdkit.specs.Failure.{CountsRead}
-use Rattle.vcdkit.proofs.HeaderLemmas.{begins, failed, seated}
+use Rattle.vcdkit.proofs.Cited.{rules, ◌≡◌, ◌∙◌, ℕ, List, [], Option, Some, None, Err, ap, subst, IfSome, whole, Supply, supply, HasGiven, source_of, CountsRead}
+use Rattle.vcdkit.proofs.Facts.{begins, failed, seated}
 use Rattle.vcdkit.proofs.inputs.begin.Goals as goal
 
 pub returns-in_err-head-clause-begins : goal.returns-in_err-head-clause-begins

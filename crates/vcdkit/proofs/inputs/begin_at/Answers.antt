@@ -1,8 +1,5 @@
-use Rattle.std.proofs.Common.{◌∙◌, ap, length, refl, arith}
-use Rattle.std.proofs.lemmas.Option.{get_or_from_slice_get}
-use Rattle.vcd_merge.specs.MergeParts.{part_len}
-use Rattle.vcd_merge.proofs.PartLemmas.{lent_len, part_other, part_put}
-use Rattle.vcdkit.proofs.RunLemmas.{one_last}
+use Rattle.vcdkit.proofs.Cited.{◌∙◌, ap, length, refl, arith, get_or_from_slice_get, part_len, lent_len, part_other, part_put}
+use Rattle.vcdkit.proofs.Facts.{one_last}
 use Rattle.vcdkit.proofs.inputs.begin_at.Goals as goal
 
 pub returns-clause-begins : goal.returns-clause-begins

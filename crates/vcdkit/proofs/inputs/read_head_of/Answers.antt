@@ -1,6 +1,5 @@
-use Rattle.std.proofs.Common.{Err, ap}
-use Rattle.vcd_head.specs.declared.fault.HeadFault.{HeadFault}
-use Rattle.vcdkit.proofs.HeaderLemmas.{head_last}
+use Rattle.vcdkit.proofs.Cited.{Err, ap, HeadFault}
+use Rattle.vcdkit.proofs.Facts.{head_last}
 use Rattle.vcdkit.proofs.inputs.read_head_of.Goals as goal
 
 pub returns-in-Err-clause-last : goal.returns-in-Err-clause-last

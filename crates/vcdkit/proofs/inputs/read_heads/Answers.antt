@@ -1,9 +1,5 @@
-use Rattle.std.proofs.Common.{rules, ◌≡◌, ℕ, ◌-◌, ◌<◌, length, Err, refl, ap, subst, arith}
-use Rattle.vcd_view.specs.Shown.{HeadShown}
-use Rattle.vcd_head.specs.Shown.{shown}
-use Rattle.vcd_merge.specs.MergeParts.{part_len}
-use Rattle.vcdkit.specs.declared.failure.Failure.TheVariants.{OutOfMemory}
-use Rattle.vcdkit.proofs.OpenLemmas.{BegunSoFar, all_begun, counted, goes_on, nothing_begun, nothing_stops, still, still_low, stops, stops_full}
+use Rattle.vcdkit.proofs.Cited.{rules, ◌≡◌, ℕ, ◌-◌, ◌<◌, length, Err, refl, ap, subst, arith, HeadShown, shown, part_len, OutOfMemory}
+use Rattle.vcdkit.proofs.Facts.{BegunSoFar, all_begun, counted, goes_on, nothing_begun, nothing_stops, still, still_low, stops, stops_full}
 use Rattle.vcdkit.proofs.inputs.read_heads.Goals as goal
 
 pub returns-in_err-with_capacity-clause-begins : goal.returns-in_err-with_capacity-clause-begins

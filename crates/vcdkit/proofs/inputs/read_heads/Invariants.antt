@@ -1,4 +1,4 @@
-use Rattle.vcdkit.proofs.OpenLemmas.{Opening}
+use Rattle.vcdkit.proofs.Facts.{Opening}
 use Rattle.vcdkit.proofs.inputs.read_heads.Given as goal
 
 abbrev pub invariant-loop-input : goal.invariant-loop-input

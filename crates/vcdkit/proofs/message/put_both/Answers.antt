@@ -1,5 +1,4 @@
-use Rattle.std.proofs.Common.{◌++◌, codes, [], ◌∷◌, append_assoc}
-use Rattle.vcd_text.proofs.Writes.{puts-first, puts-twice}
+use Rattle.vcdkit.proofs.Cited.{◌++◌, codes, [], ◌∷◌, append_assoc, puts-first, puts-twice}
 use Rattle.vcdkit.proofs.message.put_both.Goals as goal
 
 pub returns-in_err-put : goal.returns-in_err-put

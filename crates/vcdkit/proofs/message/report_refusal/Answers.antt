@@ -1,4 +1,4 @@
-use Rattle.std.proofs.Common.{append_assoc, codes}
+use Rattle.vcdkit.proofs.Cited.{append_assoc, codes}
 use Rattle.vcd_model.specs.Outcome.{fault_text}
 use Rattle.vcdkit.proofs.message.report_refusal.Goals as goal
 

@@ -1,5 +1,5 @@
-use Rattle.std.proofs.Common.{refl}
-use Rattle.vcdkit.proofs.MessageLemmas.{puts-shows}
+use Rattle.vcdkit.proofs.Cited.{refl}
+use Rattle.vcdkit.proofs.Facts.{puts-shows}
 use Rattle.vcdkit.proofs.message.say_both.Goals as goal
 
 pub returns : goal.returns

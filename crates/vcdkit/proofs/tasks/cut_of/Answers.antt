@@ -1,7 +1,4 @@
-use Rattle.std.proofs.Common.{◌≡◌, Err, rules, sym}
-use Rattle.vcd_head.specs.Moments.{asked}
-use Rattle.vcd_words.specs.Refusal.{tick_refusal}
-use Rattle.vcd_words.proofs.PeriodLemmas.{above, from_refused, in_order, ordered, to_refused}
+use Rattle.vcdkit.proofs.Cited.{◌≡◌, Err, rules, sym, asked, tick_refusal, above, from_refused, in_order, ordered, to_refused}
 use Rattle.vcdkit.proofs.tasks.cut_of.Goals as goal
 
 pub returns-in_err-from-clause-request : goal.returns-in_err-from-clause-request

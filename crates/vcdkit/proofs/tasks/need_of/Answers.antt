@@ -1,5 +1,5 @@
+use Rattle.vcdkit.proofs.Cited.{no_room_within, still_within}
 use Rattle.vcd_model.specs.Bound.{no_room}
-use Rattle.vcd_engine.proofs.RoomLemmas.{no_room_within, still_within}
 use Rattle.vcdkit.proofs.tasks.need_of.Goals as goal
 
 pub returns-in-None-clause-bound : goal.returns-in-None-clause-bound

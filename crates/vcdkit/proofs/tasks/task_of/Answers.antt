@@ -1,11 +1,5 @@
-use Rattle.std.proofs.Common.{◌≡◌, false, true, map, refl}
-use Rattle.std.specs.Prelude.{string_bytes}
+use Rattle.vcdkit.proofs.Cited.{◌≡◌, false, true, map, refl, string_bytes, rises_at, is_asked, has_units, Sample, asked_pairs, asked_rises, asked_some, plain_request}
 use Rattle.vcd_model.specs.Job.{request_of}
-use Rattle.vcd_model.proofs.JobLemmas.{rises_at}
-use Rattle.vcd_words.specs.Job.{is_asked}
-use Rattle.vcd_words.specs.Ticks.{has_units}
-use Rattle.vcd_words.specs.declared.job.Want.TheVariants.{Sample}
-use Rattle.vcd_words.proofs.SampleLemmas.{asked_pairs, asked_rises, asked_some, plain_request}
 use Rattle.vcdkit.proofs.tasks.task_of.Goals as goal
 
 pub returns-in-Check-clause-request : goal.returns-in-Check-clause-request

@@ -1,6 +1,5 @@
-use Rattle.std.proofs.Common.{refl}
-use Rattle.vcd_engine.proofs.RoomLemmas.{no_room_in_each}
-use Rattle.vcdkit.proofs.RunLemmas.{list_last, list_passed, list_reads, list_writes, listed}
+use Rattle.vcdkit.proofs.Cited.{refl, no_room_in_each}
+use Rattle.vcdkit.proofs.Facts.{list_last, list_passed, list_reads, list_writes, listed}
 use Rattle.vcdkit.proofs.whole_run.run_in.Goals as goal
 
 pub list-requires-clause-bound : goal.list-requires-clause-bound

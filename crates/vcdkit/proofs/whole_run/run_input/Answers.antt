@@ -1,18 +1,5 @@
-use Rattle.std.proofs.Common.{◌≡◌, ℕ, List, [], Option, Some, Err, sym, ap, subst, ◌∙◌, arith, rules}
-use Rattle.std.specs.Prelude.{IfSome}
-use Rattle.vcd_model.specs.Header.{header_of}
-use Rattle.vcd_model.specs.Reading.{phrases_of}
-use Rattle.vcd_text.specs.Answer.{whole}
-use Rattle.vcd_text.specs.Device.{Supply, supply}
-use Rattle.vcd_text.specs.Feed.{HasGiven, chunk_len_of, limit_of, source_of}
-use Rattle.vcd_view.specs.Shown.{HeadShown}
-use Rattle.vcd_head.specs.Shown.{shown}
-use Rattle.vcd_model.specs.Outcome.{declarations_allowed}
-use Rattle.vcd_view.specs.Views.{Views}
-use Rattle.vcdkit.specs.Failure.{CountsRead}
-use Rattle.vcdkit.specs.declared.failure.Failure.TheVariants.{OutOfMemory}
-use Rattle.vcdkit.proofs.HeaderLemmas.{begun, failed}
-use Rattle.vcdkit.proofs.RunLemmas.{no_memory, read_on, refused}
+use Rattle.vcdkit.proofs.Cited.{◌≡◌, ℕ, List, [], Option, Some, Err, sym, ap, subst, ◌∙◌, arith, rules, IfSome, header_of, phrases_of, whole, Supply, supply, HasGiven, chunk_len_of, limit_of, source_of, HeadShown, shown, declarations_allowed, Views, CountsRead, OutOfMemory}
+use Rattle.vcdkit.proofs.Facts.{begun, failed, no_memory, read_on, refused}
 use Rattle.vcdkit.proofs.whole_run.run_input.Goals as goal
 
 pub returns-in_err-memory-clause-ends : goal.returns-in_err-memory-clause-ends

@@ -1,12 +1,5 @@
-use Rattle.std.proofs.Common.{◌≡◌, ◌∙◌, ◌*◌, ◌/◌, List, length, Err, refl, sym, ap, ap₂, subst, arith, rules}
-use Rattle.std.proofs.lemmas.List.{length-map}
-use Rattle.vcd_merge.specs.declared.seat.Seat.{Seat}
-use Rattle.vcd_merge.proofs.PartLemmas.{parts_same}
-use Rattle.vcdkit.specs.declared.failure.Failure.TheVariants.{OutOfMemory}
-use Rattle.vcdkit.specs.Inputs.{AreParked, headers_in}
-use Rattle.vcdkit.proofs.OpenLemmas.{nothing_stops, still_low}
-use Rattle.vcdkit.proofs.EndLemmas.{counts_merge, lends_within, merge_ends, part_is, parts_of, stopped}
-use Rattle.vcdkit.proofs.RunLemmas.{merged_last, merged_passed}
+use Rattle.vcdkit.proofs.Cited.{◌≡◌, ◌∙◌, ◌*◌, ◌/◌, List, length, Err, refl, sym, ap, ap₂, subst, arith, rules, length-map, Seat, parts_same, OutOfMemory, AreParked, headers_in}
+use Rattle.vcdkit.proofs.Facts.{nothing_stops, still_low, counts_merge, lends_within, merge_ends, part_is, parts_of, stopped, merged_last, merged_passed}
 use Rattle.vcdkit.proofs.whole_run.run_merge.Goals as goal
 
 pub returns-in_err-memory-clause-ends : goal.returns-in_err-memory-clause-ends

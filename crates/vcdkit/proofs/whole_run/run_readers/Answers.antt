@@ -1,5 +1,5 @@
-use Rattle.std.proofs.Common.{◌≡◌, ◌∙◌, length, get_or, sym, arith}
-use Rattle.vcdkit.proofs.RunLemmas.{one_last, one_of, readers_end, set_one}
+use Rattle.vcdkit.proofs.Cited.{◌≡◌, ◌∙◌, length, get_or, sym, arith}
+use Rattle.vcdkit.proofs.Facts.{one_last, one_of, readers_end, set_one}
 use Rattle.vcdkit.proofs.whole_run.run_readers.Goals as goal
 
 pub returns-clause-ends : goal.returns-clause-ends

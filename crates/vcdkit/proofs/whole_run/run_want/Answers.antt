@@ -1,11 +1,5 @@
-use Rattle.std.proofs.Common.{◌≡◌, ◌∙◌, Ok, Err, refl, rules, sym}
-use Rattle.vcd_model.specs.Job.{request_of}
-use Rattle.vcd_words.specs.Refusal.{model_refusal}
-use Rattle.vcd_words.specs.Job.{model_want}
-use Rattle.vcdkit.specs.Tasks.{request_for}
-use Rattle.vcdkit.specs.declared.failure.Failure.TheVariants.{OutOfMemory, Refused}
-use Rattle.vcdkit.proofs.OutcomeLemmas.{asked_for}
-use Rattle.vcdkit.proofs.RunLemmas.{ended_last, ended_passed, followed, no_room, no_ticks}
+use Rattle.vcdkit.proofs.Cited.{◌≡◌, ◌∙◌, Ok, Err, refl, rules, sym, request_of, model_refusal, model_want, request_for, OutOfMemory, Refused}
+use Rattle.vcdkit.proofs.Facts.{asked_for, ended_last, ended_passed, followed, no_room, no_ticks}
 use Rattle.vcdkit.proofs.whole_run.run_want.Goals as goal
 
 pub returns-in_err-write_ticks-clause-ends : goal.returns-in_err-write_ticks-clause-ends

@@ -1,10 +1,7 @@
-use Rattle.std.proofs.Common.{◌≡◌, ◌∙◌, length, map, Ok, Err, None, Some, refl}
-use Rattle.std.specs.Prelude.{string_bytes}
-use Rattle.std.proofs.lemmas.List.{length-map}
-use Rattle.vcd_words.specs.Job.{model_want, names_asked}
+use Rattle.vcdkit.proofs.Cited.{◌≡◌, ◌∙◌, length, map, Ok, Err, None, Some, refl, string_bytes, length-map, model_want, names_asked}
+use Rattle.vcdkit.proofs.Facts.{counted_reads, has_run, shows_nothing, few_writes, most_one, shown_once}
 use Rattle.vcdkit.specs.Failure.{writes_failed}
-use Rattle.vcdkit.proofs.EndLemmas.{counted_reads, has_run, shows_nothing}
-use Rattle.vcdkit.proofs.RunLemmas.{failed_read, few_writes, most_one, shown_once}
+use Rattle.vcdkit.proofs.RunLemmas.{failed_read}
 use Rattle.vcdkit.proofs.whole_run.run_with_hasher.Goals as goal
 
 pub returns-in-Ok-clause-gives : goal.returns-in-Ok-clause-gives

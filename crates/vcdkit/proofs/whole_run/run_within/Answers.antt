@@ -1,10 +1,6 @@
-use Rattle.std.proofs.Common.{map, subst}
-use Rattle.std.specs.Prelude.{string_bytes}
-use Rattle.vcd_words.specs.Job.{model_want}
+use Rattle.vcdkit.proofs.Cited.{map, subst, string_bytes, model_want, supplies, HasRun}
+use Rattle.vcdkit.proofs.Facts.{run_within, same_limit, short_texts}
 use Rattle.vcd_words.specs.declared.job.Want.{Want}
-use Rattle.vcdkit.specs.Calls.{supplies}
-use Rattle.vcdkit.specs.Run.{HasRun}
-use Rattle.vcdkit.proofs.WithinLemmas.{run_within, same_limit, short_texts}
 use Rattle.vcdkit.proofs.whole_run.run_within.Goals as goal
 
 pub returns-clause-gives : goal.returns-clause-gives

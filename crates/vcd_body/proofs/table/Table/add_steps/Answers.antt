@@ -1,11 +1,5 @@
-use Rattle.std.proofs.Common.{get_or, length, refl}
-use Rattle.std.proofs.Math.ListN.{length-set}
-use Rattle.std.proofs.lemmas.Option.{slice_get-get_or}
-use Rattle.vcd_body.specs.Counters.{counts_of}
-use Rattle.vcd_body.specs.Steps.{with_steps}
-use Rattle.vcd_body.specs.Stored.{whole}
-use Rattle.vcd_body.proofs.StoreLemmas.{blank_share, counted_laid, more_kept, no_share_there, share_alone_changes}
-use Rattle.vcd_body.proofs.TableLemmas.{keeps_laid}
+use Rattle.vcd_body.proofs.Cited.{get_or, length, refl, length-set, slice_get-get_or, counts_of, with_steps, whole}
+use Rattle.vcd_body.proofs.Facts.{blank_share, counted_laid, more_kept, no_share_there, share_alone_changes, keeps_laid}
 use Rattle.vcd_body.proofs.table.Table.add_steps.Goals as goal
 
 pub returns-then-code-self-clause-keeps : goal.returns-then-code-self-clause-keeps

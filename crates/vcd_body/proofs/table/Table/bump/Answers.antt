@@ -1,12 +1,5 @@
-use Rattle.std.proofs.Common.{ℕ, get_or, length, refl, subst, sym}
-use Rattle.std.proofs.Math.ListN.{length-set}
-use Rattle.std.proofs.lemmas.Option.{slice_get-get_or}
-use Rattle.vcd_body.specs.Contents.{ChangesCode}
-use Rattle.vcd_body.specs.Counters.{counts_of}
-use Rattle.vcd_body.specs.Kept.{one_more}
-use Rattle.vcd_body.specs.Stored.{whole}
-use Rattle.vcd_body.proofs.StoreLemmas.{blank_share, counted_laid, counts_kept, no_share_there, no_slot_there, share_alone_changes}
-use Rattle.vcd_body.proofs.TableLemmas.{keeps_laid}
+use Rattle.vcd_body.proofs.Cited.{ℕ, get_or, length, refl, subst, sym, length-set, slice_get-get_or, ChangesCode, counts_of, one_more, whole}
+use Rattle.vcd_body.proofs.Facts.{blank_share, counted_laid, counts_kept, no_share_there, no_slot_there, share_alone_changes, keeps_laid}
 use Rattle.vcd_body.proofs.table.Table.bump.Goals as goal
 use Rattle.vcd_body.proofs.table.Table.bump.Goals.{else-code-self-via-then-code-self+else-code-self-2, else-code-self-via-else-code-self}
 

@@ -1,9 +1,5 @@
-use Rattle.std.proofs.Common.{get_or, length, refl}
-use Rattle.std.proofs.Math.ListN.{length-set}
-use Rattle.std.proofs.lemmas.Option.{slice_get-get_or}
-use Rattle.vcd_body.specs.Kept.{as_chosen}
-use Rattle.vcd_body.proofs.StoreLemmas.{blank_share, counted_laid, no_share_there, share_alone_changes}
-use Rattle.vcd_body.proofs.TableLemmas.{keeps_laid}
+use Rattle.vcd_body.proofs.Cited.{get_or, length, refl, length-set, slice_get-get_or, as_chosen}
+use Rattle.vcd_body.proofs.Facts.{blank_share, counted_laid, no_share_there, share_alone_changes, keeps_laid}
 use Rattle.vcd_body.proofs.table.Table.choose.Goals as goal
 
 pub returns-then-code-self-clause-keeps : goal.returns-then-code-self-clause-keeps

@@ -1,9 +1,5 @@
-use Rattle.std.proofs.Common.{◌==◌, Bool, length, refl, subst, sym}
-use Rattle.vcd_body.specs.Kept.{with_step}
-use Rattle.vcd_body.specs.Steps.{with_steps}
-use Rattle.vcd_body.specs.Stored.{ChangesAt}
-use Rattle.vcd_body.proofs.FollowLemmas.{change_as}
-use Rattle.vcd_body.proofs.StoreLemmas.{one_step}
+use Rattle.vcd_body.proofs.Cited.{◌==◌, Bool, length, refl, subst, sym, with_step, with_steps, ChangesAt}
+use Rattle.vcd_body.proofs.Facts.{change_as, one_step}
 use Rattle.vcd_body.proofs.table.Table.count.Goals as goal
 
 pub returns-then-not-count_in_slot-clause-keeps : goal.returns-then-not-count_in_slot-clause-keeps

@@ -1,7 +1,5 @@
-use Rattle.std.proofs.Common.{Option, sym, ap, ◌∙◌}
-use Rattle.vcd_model.specs.Values.{Value}
-use Rattle.vcd_body.specs.Kept.{Held, digit_in, value_at_size}
-use Rattle.vcd_body.proofs.TableLemmas.{value_there}
+use Rattle.vcd_body.proofs.Cited.{Option, sym, ap, ◌∙◌, Value, Held, digit_in, value_at_size}
+use Rattle.vcd_body.proofs.Facts.{value_there}
 use Rattle.vcd_body.proofs.table.Table.digit.Goals as goal
 
 pub returns-in_err-held : goal.returns-in_err-held

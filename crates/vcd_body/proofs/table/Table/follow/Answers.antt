@@ -1,8 +1,6 @@
-use Rattle.std.proofs.Common.{subst, sym}
-use Rattle.vcd_body.specs.Contents.{SetsCode}
-use Rattle.vcd_body.specs.Values.{with_value_change}
+use Rattle.vcd_body.proofs.Cited.{subst, sym, SetsCode, with_value_change}
+use Rattle.vcd_body.proofs.Facts.{change_as_text, change_gives}
 use Rattle.vcd_body.specs.declared.value.Value.{Value}
-use Rattle.vcd_body.proofs.FollowLemmas.{change_as_text, change_gives}
 use Rattle.vcd_body.proofs.table.Table.follow.Goals as goal
 
 pub returns-in-Digits-clause-sets : goal.returns-in-Digits-clause-sets

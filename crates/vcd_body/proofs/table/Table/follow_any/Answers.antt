@@ -1,7 +1,6 @@
-use Rattle.std.proofs.Common.{sym, ◌∙◌}
-use Rattle.vcd_body.proofs.FollowLemmas.{keeps_twice, set_and_counted}
+use Rattle.vcd_body.proofs.Cited.{sym, ◌∙◌}
+use Rattle.vcd_body.proofs.Facts.{keeps_twice, set_and_counted, some_bytes}
 use Rattle.vcd_body.proofs.table.Table.follow_any.Goals as goal
-use Rattle.vcd_body.proofs.WordLemmas.{some_bytes}
 
 pub returns-then-step : goal.returns-then-step
 returns-then-step c = record {

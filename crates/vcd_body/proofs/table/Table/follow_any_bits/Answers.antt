@@ -1,4 +1,4 @@
-use Rattle.vcd_body.proofs.FollowLemmas.{keeps_twice, number_alone, number_and_counted, step_put}
+use Rattle.vcd_body.proofs.Facts.{keeps_twice, number_alone, number_and_counted, step_put}
 use Rattle.vcd_body.proofs.table.Table.follow_any_bits.Goals as goal
 
 pub returns-then-step : goal.returns-then-step

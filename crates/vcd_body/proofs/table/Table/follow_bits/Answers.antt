@@ -1,4 +1,4 @@
-use Rattle.std.proofs.Common.{length, refl}
+use Rattle.vcd_body.proofs.Cited.{length, refl}
 use Rattle.vcd_body.proofs.table.Table.follow_bits.Goals as goal
 
 pub returns-in-Uncounted : goal.returns-in-Uncounted

@@ -1,5 +1,5 @@
-use Rattle.std.proofs.Common.{refl}
-use Rattle.vcd_body.proofs.FollowLemmas.{keeps_twice, same_again, set_and_counted}
+use Rattle.vcd_body.proofs.Cited.{refl}
+use Rattle.vcd_body.proofs.Facts.{keeps_twice, same_again, set_and_counted}
 use Rattle.vcd_body.specs.declared.item.Form.TheVariants as form
 use Rattle.vcd_body.proofs.table.Table.follow_by_ends.Goals as goal
 

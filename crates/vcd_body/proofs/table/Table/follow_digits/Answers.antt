@@ -1,8 +1,6 @@
-use Rattle.std.proofs.Common.{List, length, refl, subst, ℕ}
-use Rattle.vcd_body.specs.Kept.{with_change}
-use Rattle.vcd_body.specs.Stored.{ChangesAt}
+use Rattle.vcd_body.proofs.Cited.{List, length, refl, subst, ℕ, with_change, ChangesAt}
+use Rattle.vcd_body.proofs.Facts.{alone}
 use Rattle.vcd_body.specs.declared.item.Form.TheVariants as form
-use Rattle.vcd_body.proofs.StoreLemmas.{alone}
 use Rattle.vcd_body.proofs.table.Table.follow_digits.Goals as goal
 
 pub returns-in-Uncounted : goal.returns-in-Uncounted

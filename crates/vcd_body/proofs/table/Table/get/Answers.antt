@@ -1,10 +1,5 @@
-use Rattle.std.proofs.Common.{ap, drop, get_or, sym, take, ◌∙◌}
-use Rattle.std.proofs.lemmas.Option.{slice_get-get_or}
-use Rattle.vcd_body.specs.Contents.{shown_as}
-use Rattle.vcd_body.specs.Stored.{held_by, holding_of, len_in, used}
-use Rattle.vcd_body.specs.declared.slot.State.{State}
-use Rattle.vcd_body.proofs.StoreLemmas.{blank, blank_share}
-use Rattle.vcd_body.proofs.TableLemmas.{held_here, shows_digits}
+use Rattle.vcd_body.proofs.Cited.{ap, drop, get_or, sym, take, ◌∙◌, slice_get-get_or, shown_as, held_by, holding_of, len_in, used, State}
+use Rattle.vcd_body.proofs.Facts.{blank, blank_share, held_here, shows_digits}
 use Rattle.vcd_body.proofs.table.Table.get.Goals as goal
 
 pub returns-in_default : goal.returns-in_default

@@ -1,8 +1,5 @@
-use Rattle.std.proofs.Common.{◌≡◌, true, false, get_or, refl, sym, ap, ◌∙◌, arith}
-use Rattle.std.proofs.lemmas.Option.{slice_get-get_or}
-use Rattle.vcd_body.specs.Stored.{held_by, held_from, len_of}
-use Rattle.vcd_body.proofs.StoreLemmas.{blank, blank_share}
-use Rattle.vcd_body.proofs.TableLemmas.{held_here, part_here, share_there}
+use Rattle.vcd_body.proofs.Cited.{◌≡◌, true, false, get_or, refl, sym, ap, ◌∙◌, arith, slice_get-get_or, held_by, held_from, len_of}
+use Rattle.vcd_body.proofs.Facts.{blank, blank_share, held_here, part_here, share_there}
 use Rattle.vcd_body.proofs.table.Table.held.Goals as goal
 
 pub returns-then-not-holds_some : goal.returns-then-not-holds_some

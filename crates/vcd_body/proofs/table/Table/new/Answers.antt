@@ -1,9 +1,6 @@
-use Rattle.std.proofs.Common.{◌+◌, ◌-◌, length, take, Some, option_map, sym, ap, ◌∙◌, arith}
-use Rattle.std.proofs.lemmas.List.{length-take-le}
-use Rattle.vcd_view.specs.declared.view.Code.{Code}
-use Rattle.vcd_body.specs.Kept.{unset}
+use Rattle.vcd_body.proofs.Cited.{◌+◌, ◌-◌, length, take, Some, option_map, sym, ap, ◌∙◌, arith, length-take-le, Code, unset}
+use Rattle.vcd_body.proofs.Facts.{laid, new_kept, whole_share}
 use Rattle.vcd_body.specs.Stored.{start_of}
-use Rattle.vcd_body.proofs.LayoutLemmas.{laid, new_kept, whole_share}
 use Rattle.vcd_body.proofs.table.Table.new.Goals as goal
 
 pub returns-clause-laid : goal.returns-clause-laid

@@ -1,8 +1,5 @@
-use Rattle.std.proofs.Common.{sym, ap, ◌∙◌}
-use Rattle.vcd_body.specs.Kept.{real_text}
-use Rattle.vcd_body.specs.Stored.{held_by, len_of}
-use Rattle.vcd_body.specs.declared.slot.State.{State}
-use Rattle.vcd_body.proofs.TableLemmas.{is_real}
+use Rattle.vcd_body.proofs.Cited.{sym, ap, ◌∙◌, real_text, held_by, len_of, State}
+use Rattle.vcd_body.proofs.Facts.{is_real}
 use Rattle.vcd_body.proofs.table.Table.real.Goals as goal
 
 pub returns-in-Some : goal.returns-in-Some

@@ -1,7 +1,5 @@
-use Rattle.std.proofs.Common.{◌<◌, get_or, arith}
-use Rattle.std.proofs.lemmas.Option.{slice_get-get_or}
-use Rattle.vcd_body.proofs.SameLemmas.{number_told, short_told}
-use Rattle.vcd_body.proofs.StoreLemmas.{blank}
+use Rattle.vcd_body.proofs.Cited.{◌<◌, get_or, arith, slice_get-get_or}
+use Rattle.vcd_body.proofs.Facts.{number_told, short_told, blank}
 use Rattle.vcd_body.proofs.table.Table.same_short.Goals as goal
 
 pub returns-then-its_tag-le-HIGH : goal.returns-then-its_tag-le-HIGH

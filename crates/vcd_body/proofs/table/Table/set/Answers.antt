@@ -1,7 +1,5 @@
-use Rattle.vcd_body.specs.Kept.{with_text}
-use Rattle.vcd_body.specs.Values.{with_value}
-use Rattle.vcd_body.proofs.FollowLemmas.{change_as}
-use Rattle.vcd_body.proofs.SetLemmas.{set_value}
+use Rattle.vcd_body.proofs.Cited.{with_text, with_value}
+use Rattle.vcd_body.proofs.Facts.{change_as, set_value}
 use Rattle.vcd_body.proofs.table.Table.set.Goals as goal
 
 pub returns-clause-sets : goal.returns-clause-sets

@@ -1,6 +1,5 @@
-use Rattle.std.proofs.Common.{refl}
-use Rattle.vcd_body.specs.Kept.{with_text}
-use Rattle.vcd_body.proofs.StoreLemmas.{no_share_there, no_slot_there}
+use Rattle.vcd_body.proofs.Cited.{refl, with_text}
+use Rattle.vcd_body.proofs.Facts.{no_share_there, no_slot_there}
 use Rattle.vcd_body.proofs.table.Table.set_text.Goals as goal
 use Rattle.vcd_body.proofs.table.Table.set_text.Goals.{else-code-self-via-then-code-self+else-code-self-2, else-code-self-via-else-code-self}
 

@@ -1,15 +1,8 @@
-use Rattle.std.proofs.Common.{inl, inr, ◌≡◌, ◌≤◌, ◌-◌, sym, ap, ◌∙◌, refl, arith, length, take, drop, length-take, length-drop, get_or}
-use Rattle.std.proofs.Math.ListN.{length-set}
-use Rattle.std.proofs.lemmas.Bool.{eqb-true}
-use Rattle.std.proofs.lemmas.Option.{slice_get-get_or}
-use borrow.Rule.Slice.PartMut.{put_mid}
-use Rattle.vcd_body.specs.Kept.{with_text}
-use Rattle.vcd_body.specs.Stored.{Whole, end_at, holding_of, kept_with, some_by, used, used_by, whole}
-use Rattle.vcd_body.proofs.StoreLemmas.{blank, blank_share, both_laid, fits_in, form_kept, form_past, length-put_mid, none_fits, not_outside, share_changes, text_stays}
-use Rattle.vcd_body.proofs.TableLemmas.{keeps_laid}
+use Rattle.vcd_body.proofs.Cited.{inl, inr, ◌≡◌, ◌≤◌, ◌-◌, sym, ap, ◌∙◌, refl, arith, length, take, drop, get_or, length-set, eqb-true, slice_get-get_or, put_mid, with_text, Whole, end_at, holding_of, kept_with, some_by, used, used_by, whole}
+use Rattle.vcd_body.proofs.Facts.{blank, blank_share, both_laid, fits_in, form_kept, form_past, length-put_mid, none_fits, not_outside, share_changes, text_stays, keeps_laid, some_bytes}
+use Rattle.std.proofs.Common.{length-take, length-drop}
 use Rattle.vcd_body.proofs.table.Table.set_text_in.Goals as goal
 use Rattle.vcd_body.proofs.table.Table.set_text_in.Goals.{then-end-start-via-then-end-start, then-end-start-via-else-end-start+then-self-end, then-is_empty-via-then-is_empty, then-is_empty-via-else-is_empty+then-text_bytes-end}
-use Rattle.vcd_body.proofs.WordLemmas.{some_bytes}
 
 pub returns : goal.returns
 returns c =

@@ -1,13 +1,7 @@
-use Rattle.std.proofs.Common.{◌≡◌, ◌∷◌, [], List, ℕ, get_or, length, refl, subst, sym, ap, ◌∙◌}
-use Rattle.vcd_body.specs.Contents.{SetsCode}
-use Rattle.vcd_body.specs.Kept.{Held, with_held, with_text}
-use Rattle.vcd_body.specs.Packed.{held_digit}
-use Rattle.vcd_body.specs.Stored.{ChangesAt}
-use Rattle.vcd_body.specs.Values.{with_value}
+use Rattle.vcd_body.proofs.Cited.{◌≡◌, ◌∷◌, [], List, ℕ, get_or, length, refl, subst, sym, ap, ◌∙◌, SetsCode, Held, with_held, with_text, held_digit, ChangesAt, with_value}
+use Rattle.vcd_body.proofs.Facts.{change_as, number_as_text, one_text, sets_text, sets_value, alone}
 use Rattle.vcd_body.specs.declared.item.Form.TheVariants as form
 use Rattle.vcd_body.specs.declared.value.Value.{Value}
-use Rattle.vcd_body.proofs.FollowLemmas.{change_as, number_as_text, one_text, sets_text, sets_value}
-use Rattle.vcd_body.proofs.StoreLemmas.{alone}
 use Rattle.vcd_body.proofs.table.Table.set_value.Goals as goal
 
 pub returns-in-len1-clause-sets : goal.returns-in-len1-clause-sets

@@ -1,13 +1,6 @@
-use Rattle.std.proofs.Common.{◌≡◌, ◌≤◌, true, Some, ℕ, length, Option, refl, sym, ap, subst, ◌∙◌, arith}
-use Rattle.std.specs.Str.{str_to_ascii_lowercase}
-use Rattle.vcd_model.specs.Values.{value_with}
-use Rattle.vcd_body.specs.Items.{model_form}
-use Rattle.vcd_body.specs.Kept.{Held, differs, goes_from, last_digit_in, value_at_size}
-use Rattle.vcd_body.specs.Packed.{digits_in}
-use Rattle.vcd_body.specs.Stored.{held_by, len_of, some_by, used_by}
+use Rattle.vcd_body.proofs.Cited.{◌≡◌, ◌≤◌, true, Some, ℕ, length, Option, refl, sym, ap, subst, ◌∙◌, arith, str_to_ascii_lowercase, value_with, model_form, Held, differs, goes_from, last_digit_in, value_at_size, digits_in, held_by, len_of, some_by, used_by, State}
+use Rattle.vcd_body.proofs.Facts.{differ_for, differ_where_as_many}
 use Rattle.vcd_body.specs.declared.item.Form.TheVariants as form
-use Rattle.vcd_body.specs.declared.slot.State.{State}
-use Rattle.vcd_body.proofs.CompareLemmas.{differ_for, differ_where_as_many}
 use Rattle.vcd_body.proofs.table.Table.step_by_ends.Goals as goal
 
 pub returns-in-Packed-clause-step : goal.returns-in-Packed-clause-step

@@ -1,7 +1,4 @@
-use Rattle.std.proofs.Common.{Some, ℕ, Option, sym, ap, ◌∙◌}
-use Rattle.vcd_model.specs.Values.{value_with}
-use Rattle.vcd_body.specs.Items.{model_form}
-use Rattle.vcd_body.specs.Kept.{Held, differs, goes_from, last_digit_in, value_at_size}
+use Rattle.vcd_body.proofs.Cited.{Some, ℕ, Option, sym, ap, ◌∙◌, value_with, model_form, Held, differs, goes_from, last_digit_in, value_at_size}
 use Rattle.vcd_body.proofs.table.Table.step_to.Goals as goal
 
 pub returns-in_default : goal.returns-in_default

@@ -1,5 +1,5 @@
-use Rattle.std.proofs.Common.{◌++◌, ◌∙◌, ap, append-nil, refl, sym, take}
-use Rattle.vcd_changes.proofs.RowLemmas.{no_row, not_both}
+use Rattle.vcd_changes.proofs.Cited.{◌++◌, ◌∙◌, ap, append-nil, refl, sym, take}
+use Rattle.vcd_changes.proofs.Facts.{no_row, not_both}
 use Rattle.vcd_changes.proofs.walk.CollectingVisitRows.take_section.Goals as goal
 
 pub returns-clause-takes : goal.returns-clause-takes

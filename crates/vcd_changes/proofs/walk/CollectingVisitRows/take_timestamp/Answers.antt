@@ -1,8 +1,5 @@
-use Rattle.std.proofs.Common.{◌≡◌, ◌++◌, append-nil, refl, subst, sym, take}
-use Rattle.vcd_body.specs.Items.{regs_after}
-use Rattle.vcd_body.specs.declared.item.Item.{Item}
-use Rattle.vcd_changes.specs.Rows.{row_added}
-use Rattle.vcd_changes.proofs.RowLemmas.{not_both}
+use Rattle.vcd_changes.proofs.Cited.{◌≡◌, ◌++◌, append-nil, refl, subst, sym, take, regs_after, Item, row_added}
+use Rattle.vcd_changes.proofs.Facts.{not_both}
 use Rattle.vcd_changes.proofs.walk.CollectingVisitRows.take_timestamp.Goals as goal
 
 pub returns-clause-takes : goal.returns-clause-takes

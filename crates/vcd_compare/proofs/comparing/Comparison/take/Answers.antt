@@ -1,15 +1,5 @@
-use Rattle.std.proofs.Common.{◌≡◌, ℕ, true, List, [], ◌∷◌, ◌++◌, Option, refl, sym, ap, subst, ◌∙◌}
-use Rattle.std.proofs.lemmas.Option.{same_Some}
-use Rattle.std.proofs.lemmas.Slice.Eq.{bytes_eq-Decides}
-use Rattle.vcd_model.specs.History.{gives_to}
-use Rattle.vcd_model.specs.Items.{BodyItem, marks}
-use Rattle.vcd_view.specs.declared.view.Code.{Code}
-use Rattle.vcd_view.proofs.RowLemmas.{code_at}
-use Rattle.vcd_body.specs.Given.{HasGoodText, IsItem}
-use Rattle.vcd_body.specs.declared.item.Item.{Item}
-use Rattle.vcd_compare.specs.Comparing.{AreTriggers}
-use Rattle.vcd_compare.proofs.CompareSteps.{compares_still, compares_with, open_same, other_quiet, same_time}
-use Rattle.vcd_compare.proofs.TriggerLemmas.{triggers_after}
+use Rattle.vcd_compare.proofs.Cited.{◌≡◌, ℕ, true, List, [], ◌∷◌, ◌++◌, Option, refl, sym, ap, subst, ◌∙◌, same_Some, bytes_eq-Decides, gives_to, BodyItem, marks, Code, code_at, HasGoodText, IsItem, Item, AreTriggers}
+use Rattle.vcd_compare.proofs.Facts.{compares_still, compares_with, open_same, other_quiet, same_time, triggers_after}
 use Rattle.vcd_compare.proofs.comparing.Comparison.take.Goals as goal
 
 pub returns-in_default : goal.returns-in_default

@@ -1,5 +1,5 @@
-use Rattle.std.proofs.Common.{refl}
-use Rattle.vcd_compare.proofs.CompareSteps.{compares_still, open_same, section_quiet}
+use Rattle.vcd_compare.proofs.Cited.{refl}
+use Rattle.vcd_compare.proofs.Facts.{compares_still, open_same, section_quiet}
 use Rattle.vcd_compare.proofs.comparing.WatchedVisitComparison.take_section.Goals as goal
 
 pub returns-clause-takes : goal.returns-clause-takes

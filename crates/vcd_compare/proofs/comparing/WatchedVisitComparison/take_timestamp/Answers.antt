@@ -1,13 +1,5 @@
-use Rattle.std.proofs.Common.{◌≡◌, ◌≤◌, max, [], ◌∷◌, ◌++◌, refl, sym, ap, subst, ◌∙◌, arith}
-use Rattle.vcd_model.specs.Items.{BodyItem, time_after}
-use Rattle.vcd_model.specs.Within.{within_open}
-use Rattle.vcd_body.specs.Given.{IsItem}
-use Rattle.vcd_body.specs.Items.{AreRegsAfter, regs_after}
-use Rattle.vcd_body.specs.declared.item.Item.{Item}
-use Rattle.vcd_compare.specs.Asked.{model_asked}
-use Rattle.vcd_compare.specs.Comparing.{Compares}
-use Rattle.vcd_compare.specs.declared.comparing.Watched.{Watched}
-use Rattle.vcd_compare.proofs.CompareSteps.{time_more, timestamp_on}
+use Rattle.vcd_compare.proofs.Cited.{◌≡◌, ◌≤◌, max, [], ◌∷◌, ◌++◌, refl, sym, ap, subst, ◌∙◌, arith, BodyItem, time_after, within_open, IsItem, AreRegsAfter, regs_after, Item, model_asked, Compares, Watched}
+use Rattle.vcd_compare.proofs.Facts.{time_more, timestamp_on}
 use Rattle.vcd_compare.proofs.comparing.WatchedVisitComparison.take_timestamp.Goals as goal
 
 pub returns-clause-takes : goal.returns-clause-takes

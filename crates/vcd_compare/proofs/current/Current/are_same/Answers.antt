@@ -1,13 +1,4 @@
-use Rattle.std.proofs.Common.{◌≡◌, ℕ, Bool, false, Option, Some, None, sym, ap, ◌∙◌}
-use Rattle.std.specs.Prelude.{IfSome}
-use Rattle.std.specs.Bool.{Decides}
-use Rattle.std.proofs.lemmas.Option.{same_Some}
-use Rattle.vcd_model.specs.History.{final_value}
-use Rattle.vcd_model.specs.Values.{Value}
-use Rattle.vcd_view.specs.declared.view.Code.{Code}
-use Rattle.vcd_view.proofs.RowLemmas.{code_at}
-use Rattle.vcd_body.specs.Contents.{held_at}
-use Rattle.vcd_body.specs.Kept.{value_at_size}
+use Rattle.vcd_compare.proofs.Cited.{◌≡◌, ℕ, Bool, false, Option, Some, None, sym, ap, ◌∙◌, IfSome, Decides, same_Some, final_value, Value, Code, code_at, held_at, value_at_size}
 use Rattle.vcd_compare.proofs.current.Current.are_same.Goals as goal
 
 -- what is told at each size is told at one

@@ -1,12 +1,5 @@
-use Rattle.std.proofs.Common.{◌≡◌, false, not, cond, Option, sym, ap, ◌∙◌}
-use Rattle.std.specs.Prelude.{option_map, unwrap_or}
-use Rattle.vcd_model.specs.Compare.{exactly, match, state_at}
-use Rattle.vcd_model.specs.Declarations.{IdCode}
-use Rattle.vcd_model.specs.Values.{Value}
-use Rattle.vcd_view.proofs.RowLemmas.{code_at}
-use Rattle.vcd_body.specs.Contents.{codes_shown, value_in}
-use Rattle.vcd_compare.specs.Asked.{rule_of}
-use Rattle.vcd_compare.proofs.StatesNow.{held_state}
+use Rattle.vcd_compare.proofs.Cited.{◌≡◌, false, not, cond, Option, sym, ap, ◌∙◌, option_map, unwrap_or, exactly, match, state_at, IdCode, Value, code_at, codes_shown, value_in, rule_of}
+use Rattle.vcd_compare.proofs.Facts.{held_state}
 use Rattle.vcd_compare.proofs.current.Current.differ.Goals as goal
 
 pub returns : goal.returns

@@ -1,5 +1,5 @@
-use Rattle.std.proofs.Common.{◌≡◌, ◌⊎◌, inl, inr, true, false, sym, ◌∙◌}
-use Rattle.vcd_compare.proofs.StatesNow.{told_same}
+use Rattle.vcd_compare.proofs.Cited.{◌≡◌, ◌⊎◌, inl, inr, true, false, sym, ◌∙◌}
+use Rattle.vcd_compare.proofs.Facts.{told_same}
 use Rattle.vcd_compare.proofs.current.Current.differs.Goals as goal
 use Rattle.vcd_compare.proofs.current.Current.differs.Goals.{then-same-via-then-same, then-same-via-else-same+then-not-self, then-self, else-self}
 

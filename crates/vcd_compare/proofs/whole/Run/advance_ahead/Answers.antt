@@ -1,8 +1,5 @@
-use Rattle.std.proofs.Common.{ℕ, refl, subst, sym}
-use Rattle.vcd_text.specs.Ahead.{lines_of}
-use Rattle.vcd_body.specs.Ahead.{GivesAhead}
-use Rattle.vcd_compare.specs.declared.whole.Run.{Run}
-use Rattle.vcd_compare.proofs.AheadSteps.{come_ahead, counted_ahead, passes_ahead}
+use Rattle.vcd_compare.proofs.Cited.{ℕ, refl, subst, sym, lines_of, GivesAhead, Run}
+use Rattle.vcd_compare.proofs.Facts.{come_ahead, counted_ahead, passes_ahead}
 use Rattle.vcd_compare.proofs.whole.Run.advance_ahead.Goals as goal
 
 pub pass_items-requires : goal.pass_items-requires

@@ -1,5 +1,5 @@
-use Rattle.std.proofs.Common.{◌≡◌, ◌∙◌, Err, rules, sym}
-use Rattle.vcd_compare.proofs.TimeSteps.{differs_none, differs_some, left_due}
+use Rattle.vcd_compare.proofs.Cited.{◌≡◌, ◌∙◌, Err, rules, sym}
+use Rattle.vcd_compare.proofs.Facts.{differs_none, differs_some, left_due}
 use Rattle.vcd_compare.proofs.whole.Run.close.Goals as goal
 
 pub returns-in_err-put_due-clause-closes : goal.returns-in_err-put_due-clause-closes

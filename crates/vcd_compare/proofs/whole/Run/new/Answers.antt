@@ -1,8 +1,5 @@
-use Rattle.std.proofs.Common.{◌∙◌, not, refl, sym, ap}
-use Rattle.vcd_model.specs.Bytes.{is_empty}
-use Rattle.vcd_body.proofs.CurrentLemmas.{new_holds, room_enough}
-use Rattle.vcd_compare.specs.Asked.{model_asked}
-use Rattle.vcd_compare.proofs.StartLemmas.{compares_first, open_first}
+use Rattle.vcd_compare.proofs.Cited.{◌∙◌, not, refl, sym, ap, is_empty, new_holds, room_enough, model_asked}
+use Rattle.vcd_compare.proofs.Facts.{compares_first, open_first}
 use Rattle.vcd_compare.proofs.whole.Run.new.Goals as goal
 
 pub returns-clause-stands : goal.returns-clause-stands

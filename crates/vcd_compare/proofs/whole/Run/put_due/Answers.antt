@@ -1,7 +1,5 @@
-use Rattle.std.proofs.Common.{◌≡◌, ◌∙◌, Err, rules, sym}
-use Rattle.std.specs.Io.KnownBytes.{Appends}
-use Rattle.vcd_text.proofs.Writes.{AppendsSome, appends-none}
-use Rattle.vcd_compare.proofs.TimeSteps.{none_now, puts_now}
+use Rattle.vcd_compare.proofs.Cited.{◌≡◌, ◌∙◌, Err, rules, sym, Appends, AppendsSome, appends-none}
+use Rattle.vcd_compare.proofs.Facts.{none_now, puts_now}
 use Rattle.vcd_compare.proofs.whole.Run.put_due.Goals as goal
 
 pub returns-then-not-is_due-clause-puts : goal.returns-then-not-is_due-clause-puts

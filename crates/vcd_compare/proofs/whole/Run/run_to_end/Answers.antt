@@ -1,13 +1,5 @@
-use Rattle.std.proofs.Common.{◌≡◌, ◌∙◌, ◌+◌, ℕ, Result, Ok, Err, inl, inr, refl, sym, ap, subst, rules, arith}
-use Rattle.vcd_text.specs.Advances.{Advances, CallEnd}
-use Rattle.vcd_text.specs.Device.{Device}
-use Rattle.vcd_text.specs.Feed.{limit_of, seen}
-use Rattle.vcd_text.proofs.AdvancesLemmas.{advances_nowhere, advances_on}
-use Rattle.vcd_body.specs.declared.answer.More.{More}
-use Rattle.vcd_body.specs.declared.answer.Stop.{Stop}
-use Rattle.vcd_body.specs.declared.answer.Stop.TheVariants.{Read, Write}
-use Rattle.vcd_compare.specs.Run.{BodyGives, StepGives, step_end}
-use Rattle.vcd_compare.proofs.RunSteps.{come_passed, pass_fails}
+use Rattle.vcd_compare.proofs.Cited.{◌≡◌, ◌∙◌, ◌+◌, ℕ, Result, Ok, Err, inl, inr, refl, sym, ap, subst, rules, arith, Advances, CallEnd, Device, limit_of, seen, advances_nowhere, advances_on, More, Stop, Read, Write, BodyGives, StepGives, step_end}
+use Rattle.vcd_compare.proofs.Facts.{come_passed, pass_fails}
 use Rattle.vcd_compare.proofs.whole.Run.run_to_end.Goals as goal
 
 not_one_more : (n : ℕ) → n ≡ n + 1 → ⊥

@@ -1,16 +1,5 @@
-use Rattle.std.proofs.Common.{◌≡◌, ◌-◌, ◌^◌, ℕ, List}
+use Rattle.vcd_compare.proofs.Cited.{◌≡◌, ◌-◌, ◌^◌, ℕ, List, Header, Input, BodyItem, Token, Names, Advances, CallEnd, Device, seen, IsViewOf, IsCounted, HasCome}
 use Rattle.vcd_model.specs.Compare.{Asked as ModelAsked}
-use Rattle.vcd_model.specs.Header.{Header}
-use Rattle.vcd_model.specs.Input.{Input}
-use Rattle.vcd_model.specs.Items.{BodyItem}
-use Rattle.vcd_model.specs.Tokens.{Token}
-use Rattle.vcd_model.specs.Within.{Names}
-use Rattle.vcd_text.specs.Advances.{Advances, CallEnd}
-use Rattle.vcd_text.specs.Device.{Device}
-use Rattle.vcd_text.specs.Feed.{seen}
-use Rattle.vcd_view.specs.Views.{IsViewOf}
-use Rattle.vcd_compare.specs.Comparing.{IsCounted}
-use Rattle.vcd_compare.specs.Run.{HasCome}
 use Rattle.vcd_compare.proofs.whole.Run.run_to_end.Given as goal
 
 -- the run has come past some more items, and nothing failed

@@ -1,14 +1,5 @@
-use Rattle.std.proofs.Common.{◌≡◌, ◌∙◌, ◌++◌, ◌∷◌, [], Err, refl, sym, ap, subst, rules}
-use Rattle.vcd_model.specs.Items.{BodyItem}
-use Rattle.vcd_text.specs.Device.{Device}
-use Rattle.vcd_body.specs.Given.{GivesItem}
-use Rattle.vcd_body.specs.Items.{AreRegsAfter, regs_after}
-use Rattle.vcd_body.specs.Reads.{GaveItems}
-use Rattle.vcd_body.specs.Taken.{IsSection}
-use Rattle.vcd_body.specs.declared.answer.Stop.TheVariants.{Write}
-use Rattle.vcd_body.specs.declared.item.Regs.{Regs}
-use Rattle.vcd_compare.specs.declared.whole.Run.{Run}
-use Rattle.vcd_compare.proofs.RunSteps.{change_given, close_fails, ends_whole, goes_quiet, section_come, stopped, time_ends, time_fails, time_forth, time_on}
+use Rattle.vcd_compare.proofs.Cited.{◌≡◌, ◌∙◌, ◌++◌, ◌∷◌, [], Err, refl, sym, ap, subst, rules, BodyItem, Device, GivesItem, AreRegsAfter, regs_after, GaveItems, IsSection, Write, Regs, Run}
+use Rattle.vcd_compare.proofs.Facts.{change_given, close_fails, ends_whole, goes_quiet, section_come, stopped, time_ends, time_fails, time_forth, time_on}
 use Rattle.vcd_compare.proofs.whole.Run.step.Goals as goal
 
 pub returns-in-Err-clause-steps : goal.returns-in-Err-clause-steps

@@ -1,12 +1,8 @@
-use Rattle.std.proofs.Common.{◌≡◌, ◌∙◌, ◌<◌, get_or, length, ℕ, Err, refl, sym, ap, subst, rules}
-use Rattle.vcd_text.specs.Device.{Device}
-use Rattle.vcd_text.proofs.Writes.{appends-none}
-use Rattle.vcd_compare.specs.Asked.{model_extent}
+use Rattle.vcd_compare.proofs.Cited.{◌≡◌, ◌∙◌, ◌<◌, get_or, length, ℕ, Err, refl, sym, ap, subst, rules, Device, appends-none, model_extent, settled_as}
+use Rattle.vcd_compare.proofs.Facts.{counted_none, settles_due, settles_none, tells_again, tells_first, tells_later, tells_none}
 use Rattle.vcd_model.specs.Compare.{Extent as ModelExtent}
-use Rattle.vcd_compare.specs.Flags.{settled_as}
 use Rattle.vcd_compare.specs.declared.asked.Extent.{Extent}
 use Rattle.vcd_compare.specs.declared.asked.Extent.TheVariants as extent
-use Rattle.vcd_compare.proofs.TimeSteps.{counted_none, settles_due, settles_none, tells_again, tells_first, tells_later, tells_none}
 use Rattle.vcd_compare.proofs.whole.Run.take_time.Goals as goal
 
 pub returns-then-time-self-clause-takes : goal.returns-then-time-self-clause-takes

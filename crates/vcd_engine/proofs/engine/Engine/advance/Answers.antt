@@ -1,10 +1,5 @@
-use Rattle.std.proofs.Common.{◌≡◌, ◌++◌, Err, inl, inr, refl, rules, subst}
-use Rattle.vcd_model.specs.Outcome.{Request}
-use Rattle.vcd_body.specs.declared.answer.Stop.TheVariants.{Write}
-use Rattle.vcd_engine.specs.Engine.{request_of_engine}
-use Rattle.vcd_engine.specs.Step.{StepGives}
-use Rattle.vcd_engine.proofs.WaitLemmas.{grows_still, some_still}
-use Rattle.vcd_engine.proofs.RunLemmas.{steps_behind}
+use Rattle.vcd_engine.proofs.Cited.{◌≡◌, ◌++◌, Err, inl, inr, refl, rules, subst, Request, Write, request_of_engine, StepGives}
+use Rattle.vcd_engine.proofs.Facts.{grows_still, some_still, steps_behind}
 use Rattle.vcd_engine.proofs.engine.Engine.advance.Goals as goal
 
 pub returns-in_err-advance_ahead-clause-gives : goal.returns-in_err-advance_ahead-clause-gives

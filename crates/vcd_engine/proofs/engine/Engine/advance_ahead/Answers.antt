@@ -1,13 +1,6 @@
-use Rattle.std.proofs.Common.{◌+◌, ◌^◌, ◌<◌, [], length, refl, sym, subst, arith}
-use Rattle.vcd_text.specs.Ahead.{ahead_of, bytes_of, lines_of, longest_of}
-use Rattle.vcd_text.specs.Feed.{limit_of, seen}
-use Rattle.vcd_text.specs.declared.device.WriteFailed.{WriteFailed}
-use Rattle.vcd_view.specs.Shown.{parts}
-use Rattle.vcd_view.specs.Views.{Views}
-use Rattle.vcd_engine.specs.Ahead.{RunsAhead, StandsAhead}
-use Rattle.vcd_engine.specs.Engine.{request_of_engine}
-use Rattle.vcd_engine.specs.declared.engine.Engine.{Engine}
-use Rattle.vcd_engine.proofs.AheadLemmas.{gave_over, runs_behind, stands_first}
+use Rattle.vcd_engine.proofs.Cited.{◌+◌, ◌^◌, ◌<◌, [], length, refl, sym, subst, arith, ahead_of, bytes_of, longest_of, limit_of, seen, WriteFailed, parts, Views, RunsAhead, StandsAhead, request_of_engine, Engine}
+use Rattle.vcd_engine.proofs.Facts.{gave_over, runs_behind, stands_first}
+use Rattle.vcd_text.specs.Ahead.{lines_of}
 use Rattle.vcd_engine.proofs.engine.Engine.advance_ahead.Goals as goal
 
 pub pass_items-requires : goal.pass_items-requires

@@ -1,5 +1,4 @@
-use Rattle.std.proofs.Common.{◌≡◌, ◌∙◌, ◌+◌, ℕ, inl, inr, sym, ap, arith}
-use Rattle.vcd_engine.specs.Step.{step_end}
+use Rattle.vcd_engine.proofs.Cited.{◌≡◌, ◌∙◌, ◌+◌, ℕ, inl, inr, sym, ap, arith, step_end}
 use Rattle.vcd_engine.proofs.engine.Engine.read_on.Goals as goal
 
 not_one_more : (n : ℕ) → n ≡ n + 1 → ⊥

@@ -1,18 +1,6 @@
-use Rattle.std.proofs.Common.{◌≡◌, ◌+◌, ◌∙◌, Ok, Err, inl, inr, [], add-zero, refl, ap, rules, subst}
-use Rattle.vcd_body.specs.Answer.{goes_on, reads_failed}
-use Rattle.vcd_text.specs.Device.{Device}
-use Rattle.vcd_engine.specs.Engine.{request_of_engine}
-use Rattle.vcd_engine.specs.Step.{step_end}
-use Rattle.vcd_text.specs.Advances.{Advances, CallEnd}
-use Rattle.vcd_text.proofs.AdvancesLemmas.{advances_nowhere, advances_on}
-use Rattle.vcd_body.specs.declared.answer.More.{More}
-use Rattle.vcd_body.specs.declared.answer.Done.{Done}
-use Rattle.vcd_body.specs.declared.answer.Stop.{Stop}
-use Rattle.vcd_body.specs.declared.answer.Stop.TheVariants.{Read}
-use Rattle.vcd_body.specs.declared.answer.More.TheVariants.{Again, Ended}
-use Rattle.vcd_text.specs.ReadAhead.ReadsAsNeeded.{Nothing}
-use Rattle.vcd_engine.proofs.RunLemmas.{runs_first, steps_end, steps_stop, steps_go_on, asked, can_run, step_last, step_reads}
-use Rattle.vcd_engine.proofs.WaitLemmas.{steps_done, stops_before}
+use Rattle.vcd_engine.proofs.Cited.{◌≡◌, ◌+◌, ◌∙◌, Ok, Err, inl, inr, [], add-zero, refl, ap, rules, subst, reads_failed, Device, request_of_engine, step_end, Advances, CallEnd, advances_nowhere, advances_on, More, Done, Stop, Read, Again, Ended, Nothing}
+use Rattle.vcd_engine.proofs.Facts.{runs_first, steps_end, steps_stop, steps_go_on, asked, can_run, step_last, step_reads, steps_done, stops_before}
+use Rattle.vcd_body.specs.Answer.{goes_on}
 use Rattle.vcd_engine.proofs.engine.Engine.run_to_end.Goals as goal
 
 pub items-init : goal.items-init

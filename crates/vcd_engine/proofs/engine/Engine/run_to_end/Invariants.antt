@@ -1,15 +1,5 @@
-use Rattle.std.proofs.Common.{◌≡◌, ◌-◌, ◌^◌, List, [], true}
-use Rattle.vcd_model.specs.Input.{Input}
-use Rattle.vcd_model.specs.Tokens.{Token}
-use Rattle.vcd_model.specs.Header.{Header}
-use Rattle.vcd_model.specs.Items.{BodyItem}
-use Rattle.vcd_model.specs.Outcome.{open_text}
-use Rattle.vcd_text.specs.Feed.{HasGiven, chunk_len_of, limit_of, seen, supply_of}
-use Rattle.vcd_text.specs.Device.{Device, Writes}
-use Rattle.vcd_engine.specs.Engine.{Holds, Runs, is_going, request_of_engine}
-use Rattle.vcd_text.specs.Advances.{Advances, CallEnd}
-use Rattle.vcd_engine.specs.Room.{room_in, view_in}
-use Rattle.vcd_engine.proofs.ReadLemmas.{HasReadFor}
+use Rattle.vcd_engine.proofs.Cited.{◌≡◌, ◌-◌, ◌^◌, List, [], true, Input, Token, Header, BodyItem, open_text, HasGiven, chunk_len_of, limit_of, seen, supply_of, Device, Writes, Holds, Runs, is_going, request_of_engine, Advances, CallEnd, room_in, view_in}
+use Rattle.vcd_engine.proofs.Facts.{HasReadFor}
 use Rattle.vcd_engine.proofs.engine.Engine.run_to_end.Given as goal
 
 abbrev pub invariant-items : goal.invariant-items

@@ -1,13 +1,5 @@
-use Rattle.std.proofs.Common.{◌≡◌, ◌∙◌, ◌++◌, ◌∷◌, ap, refl, sym, Ok, Err, [], inl, inr, rules, subst}
-use Rattle.vcd_model.specs.Outcome.{close_text}
-use Rattle.vcd_view.specs.Shown.{parts}
-use Rattle.vcd_view.specs.Views.{Views}
-use Rattle.vcd_body.specs.Reads.{GaveItems}
-use Rattle.vcd_body.specs.declared.item.Regs.{Regs}
-use Rattle.vcd_engine.specs.Engine.{request_of_engine}
-use Rattle.vcd_body.specs.Given.{IsItem}
-use Rattle.vcd_body.specs.declared.answer.Stop.TheVariants.{Write}
-use Rattle.vcd_engine.proofs.EngineLemmas.{stopped, all_given, ended_with, holds_still, few_items, item_given, runs_on}
+use Rattle.vcd_engine.proofs.Cited.{◌≡◌, ◌∙◌, ◌++◌, ◌∷◌, ap, refl, sym, Ok, Err, [], inl, inr, rules, subst, close_text, parts, Views, GaveItems, Regs, request_of_engine, IsItem, Write}
+use Rattle.vcd_engine.proofs.Facts.{stopped, all_given, ended_with, holds_still, few_items, item_given, runs_on}
 use Rattle.vcd_engine.proofs.engine.Engine.step_with_view.Goals as goal
 
 pub returns-in-Err-clause-gives : goal.returns-in-Err-clause-gives

@@ -1,9 +1,5 @@
-use Rattle.std.proofs.Common.{◌≡◌, ◌++◌, Err, rules}
-use Rattle.vcd_model.specs.ItemText.{item_line}
-use Rattle.vcd_text.proofs.Writes.{appends-first, takes-twice}
-use Rattle.vcd_model.specs.ItemText.{time_due}
-use Rattle.vcd_engine.proofs.ItemTextLemmas.{text_with, written_with}
-use Rattle.vcd_body.proofs.Results.{if_ok}
+use Rattle.vcd_engine.proofs.Cited.{◌≡◌, ◌++◌, Err, rules, item_line, appends-first, takes-twice, time_due, if_ok}
+use Rattle.vcd_engine.proofs.Facts.{text_with, written_with}
 use Rattle.vcd_engine.proofs.item_text.ItemText.put.Goals as goal
 
 pub returns-in_err-put_time_unless-clause-text : goal.returns-in_err-put_time_unless-clause-text

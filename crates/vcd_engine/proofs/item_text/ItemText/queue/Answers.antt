@@ -1,12 +1,5 @@
-use Rattle.std.proofs.Common.{◌≡◌, ◌++◌, ◌∷◌, [], Err, rules, sym, subst}
-use Rattle.vcd_model.specs.ItemText.{item_line, time_due}
-use Rattle.vcd_text.proofs.Writes.{some-first}
-use Rattle.vcd_engine.specs.ItemText.{HasWritten}
-use Rattle.vcd_engine.specs.PendingCopy.{PutsOn, pending_in}
-use Rattle.vcd_engine.proofs.ItemTextLemmas.{text_with, written_with}
-use Rattle.vcd_engine.proofs.PieceLemmas.{first_on, put_on, twice_behind}
-use Rattle.vcd_body.specs.Spelled.{line_without}
-use Rattle.vcd_body.proofs.Results.{if_ok}
+use Rattle.vcd_engine.proofs.Cited.{◌≡◌, ◌++◌, ◌∷◌, [], Err, rules, sym, subst, item_line, time_due, some-first, HasWritten, PutsOn, pending_in, line_without, if_ok}
+use Rattle.vcd_engine.proofs.Facts.{text_with, written_with, first_on, put_on, twice_behind}
 use Rattle.vcd_engine.proofs.item_text.ItemText.queue.Goals as goal
 
 pub left_out-requires : goal.left_out-requires

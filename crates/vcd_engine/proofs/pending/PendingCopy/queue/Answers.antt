@@ -1,7 +1,5 @@
-use Rattle.std.proofs.Common.{◌≡◌, Err, arith, refl, rules}
-use Rattle.vcd_text.proofs.Writes.{some-first}
-use Rattle.vcd_engine.specs.PendingCopy.{pending_in}
-use Rattle.vcd_engine.proofs.PieceLemmas.{begun_on, pending_on, joined}
+use Rattle.vcd_engine.proofs.Cited.{◌≡◌, Err, arith, refl, rules, some-first, pending_in}
+use Rattle.vcd_engine.proofs.Facts.{begun_on, pending_on, joined}
 use Rattle.vcd_engine.proofs.pending.PendingCopy.queue.Goals as goal
 
 pub returns-then-from-self : goal.returns-then-from-self

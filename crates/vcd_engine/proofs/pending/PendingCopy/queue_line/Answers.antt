@@ -1,9 +1,5 @@
-use Rattle.std.proofs.Common.{◌≡◌, Err, rules, subst}
-use Rattle.vcd_text.specs.Device.{Puts}
-use Rattle.vcd_text.proofs.Writes.{counts-on, some-first}
-use Rattle.vcd_body.proofs.Results.{if_ok}
-use Rattle.vcd_engine.specs.PendingCopy.{PutsBehind}
-use Rattle.vcd_engine.proofs.PieceLemmas.{line_there, put_on, two_bytes_line}
+use Rattle.vcd_engine.proofs.Cited.{◌≡◌, Err, rules, subst, Puts, counts-on, some-first, if_ok, PutsBehind}
+use Rattle.vcd_engine.proofs.Facts.{line_there, put_on, two_bytes_line}
 use Rattle.vcd_engine.proofs.pending.PendingCopy.queue_line.Goals as goal
 
 pub returns-then-bytes-last-eq10 : goal.returns-then-bytes-last-eq10

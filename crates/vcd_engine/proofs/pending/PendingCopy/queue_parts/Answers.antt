@@ -1,6 +1,5 @@
-use Rattle.std.proofs.Common.{◌≡◌, ◌+◌, slice_range, Err, arith, rules, sym, subst}
-use Rattle.vcd_engine.specs.PendingCopy.{PutsBehind, pending_in}
-use Rattle.vcd_engine.proofs.PieceLemmas.{first_on, joined, twice_behind}
+use Rattle.vcd_engine.proofs.Cited.{◌≡◌, ◌+◌, slice_range, Err, arith, rules, sym, subst, PutsBehind, pending_in}
+use Rattle.vcd_engine.proofs.Facts.{first_on, joined, twice_behind}
 use Rattle.vcd_engine.proofs.pending.PendingCopy.queue_parts.Goals as goal
 
 pub returns-then-n-eq0 : goal.returns-then-n-eq0

@@ -1,8 +1,5 @@
-use Rattle.std.proofs.Common.{◌≡◌, Err, arith, rules, subst}
-use Rattle.vcd_text.proofs.Writes.{counts-on, some-first}
-use Rattle.vcd_body.proofs.Results.{if_ok}
-use Rattle.vcd_engine.specs.PendingCopy.{PutsBehind}
-use Rattle.vcd_engine.proofs.PieceLemmas.{put_on}
+use Rattle.vcd_engine.proofs.Cited.{◌≡◌, Err, arith, rules, subst, counts-on, some-first, if_ok, PutsBehind}
+use Rattle.vcd_engine.proofs.Facts.{put_on}
 use Rattle.vcd_engine.proofs.pending.PendingCopy.queue_time.Goals as goal
 
 pub queue_line-requires-clause-within : goal.queue_line-requires-clause-within

@@ -1,4 +1,4 @@
-use Rattle.vcd_engine.proofs.RoomLemmas.{no_room_fits, pick_room_fits, no_room_within, pick_room_within, still_within, windows}
+use Rattle.vcd_engine.proofs.Facts.{no_room_fits, pick_room_fits, no_room_within, pick_room_within, still_within, windows}
 use Rattle.vcd_engine.proofs.task.Task.need.Goals as goal
 
 pub returns-in-Check-clause-fits : goal.returns-in-Check-clause-fits

@@ -1,6 +1,4 @@
-use Rattle.std.proofs.Common.{subst}
-use Rattle.vcd_engine.specs.Engine.{Keeps}
-use Rattle.vcd_engine.specs.declared.task_state.TaskState.{TaskState}
+use Rattle.vcd_engine.proofs.Cited.{subst, Keeps, TaskState}
 use Rattle.vcd_engine.proofs.task_state.TaskState.close.Goals as goal
 
 pub returns-in-Pick-clause-takes : goal.returns-in-Pick-clause-takes

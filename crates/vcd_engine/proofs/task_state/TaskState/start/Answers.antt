@@ -1,9 +1,4 @@
-use Rattle.std.proofs.Common.{map, string_bytes, refl, sym, subst}
-use Rattle.std.specs.Io.KnownBytes.{Appends}
-use Rattle.vcd_model.proofs.SampleSteps.{open_none}
-use Rattle.vcd_text.proofs.Writes.{appends-none}
-use Rattle.vcd_model.specs.Laws.{IsValid}
-use Rattle.vcd_engine.specs.Engine.{request_of}
+use Rattle.vcd_engine.proofs.Cited.{map, string_bytes, refl, sym, subst, Appends, open_none, appends-none, IsValid, request_of}
 use Rattle.vcd_engine.specs.declared.task.Task.TheVariants as task
 use Rattle.vcd_engine.proofs.task_state.TaskState.start.Goals as goal
 

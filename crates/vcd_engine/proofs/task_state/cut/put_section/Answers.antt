@@ -1,18 +1,7 @@
-use Rattle.std.proofs.Common.{◌≡◌, List, ℕ, ◌+◌, ◌++◌, Err, length, take, drop, sym, ap, ◌∙◌, append_assoc, append-nil, subst, arith, rules}
-use Rattle.std.specs.Io.KnownBytes.{Appends}
-use Rattle.std.proofs.Math.Seq.{take-length}
-use Rattle.vcd_model.specs.Bytes.{as_line}
-use Rattle.vcd_model.specs.Cut.{line_if_set, start_section}
-use Rattle.vcd_model.specs.Header.{Header}
-use Rattle.vcd_model.specs.History.{value_before}
-use Rattle.vcd_model.specs.Items.{BodyItem}
-use Rattle.vcd_model.specs.ItemText.{time_line}
-use Rattle.vcd_model.specs.Keywords.{Keyword, keyword_text}
-use Rattle.vcd_text.specs.Device.{Takes}
-use Rattle.vcd_text.proofs.Writes.{AppendsSome, appends-first, appends-some, appends-twice, takes-twice}
-use Rattle.vcd_view.proofs.LookUpLemmas.{codes_len}
-use Rattle.vcd_engine.specs.Cut.{values_text}
-use Rattle.vcd_engine.proofs.CutLemmas.{line_at, read_code, values_line, values_pass, values_rest}
+use Rattle.vcd_engine.proofs.Cited.{◌≡◌, List, ℕ, ◌+◌, ◌++◌, Err, length, take, drop, sym, ap, ◌∙◌, append_assoc, append-nil, subst, arith, rules, Appends, take-length, as_line, line_if_set, Header, value_before, BodyItem, time_line, Keyword, keyword_text, Takes, AppendsSome, appends-first, appends-some, appends-twice, takes-twice, codes_len, values_text}
+use Rattle.vcd_engine.proofs.Facts.{read_code, values_line, values_pass, values_rest}
+use Rattle.vcd_model.specs.Cut.{start_section}
+use Rattle.vcd_engine.proofs.CutLemmas.{line_at}
 use Rattle.vcd_engine.proofs.task_state.cut.put_section.Goals as goal
 use Rattle.vcd_engine.proofs.task_state.cut.put_section.Goals.{then-not-declared+in_ok-put_short, else-not-declared}
 

@@ -1,14 +1,4 @@
-use Rattle.std.proofs.Common.{◌≡◌, ◌++◌, List, take}
-use Rattle.std.specs.Io.KnownBytes.{Appends}
-use Rattle.vcd_model.specs.Bytes.{as_line}
-use Rattle.vcd_model.specs.Header.{Header}
-use Rattle.vcd_model.specs.History.{value_before}
-use Rattle.vcd_model.specs.Items.{BodyItem}
-use Rattle.vcd_model.specs.ItemText.{time_line}
-use Rattle.vcd_model.specs.Keywords.{Keyword, keyword_text}
-use Rattle.vcd_view.specs.Views.{IsViewOf}
-use Rattle.vcd_engine.specs.Cut.{values_text}
-use Rattle.vcd_body.specs.Current.{HasValues}
+use Rattle.vcd_engine.proofs.Cited.{◌≡◌, ◌++◌, List, take, Appends, as_line, Header, value_before, BodyItem, time_line, Keyword, keyword_text, IsViewOf, values_text, HasValues}
 use Rattle.vcd_engine.proofs.task_state.cut.put_section.Given as goal
 
 abbrev pub invariant-loop-code : goal.invariant-loop-code

@@ -1,7 +1,5 @@
-use Rattle.std.proofs.Common.{ℕ, nat_le, ◌∙◌, rules, tests}
-use Rattle.std.proofs.lemmas.Iterator.{YieldsList-from_slice}
-use Rattle.std.proofs.lemmas.Iterator.Search.{position_from_yields_List}
-use Rattle.vcd_engine.proofs.SampleLemmas.{first_or_len}
+use Rattle.vcd_engine.proofs.Cited.{ℕ, nat_le, ◌∙◌, rules, tests, YieldsList-from_slice, position_from_yields_List}
+use Rattle.vcd_engine.proofs.Facts.{first_or_len}
 use Rattle.vcd_engine.proofs.task_state.sample.count_below.Goals as goal
 
 pub returns : goal.returns

@@ -1,7 +1,5 @@
-use Rattle.std.proofs.Common.{subst}
-use Rattle.vcd_text.specs.Device.{Puts}
-use Rattle.vcd_engine.specs.PendingCopy.{pending_in}
-use Rattle.vcd_engine.proofs.WalkLemmas.{passed_to, walk_begins, walk_ends, walk_over, walk_wrong}
+use Rattle.vcd_engine.proofs.Cited.{subst, Puts, pending_in}
+use Rattle.vcd_engine.proofs.Facts.{passed_to, walk_begins, walk_ends, walk_over, walk_wrong}
 use Rattle.vcd_engine.proofs.task_state.walk.take_each.Goals as goal
 
 pub walk_ahead-walked-requires-clause-stands : goal.walk_ahead-walked-requires-clause-stands

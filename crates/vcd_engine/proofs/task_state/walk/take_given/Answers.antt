@@ -1,8 +1,5 @@
-use Rattle.std.proofs.Common.{refl, sym}
-use Rattle.vcd_engine.proofs.CutLemmas.{no_mark_is}
-use Rattle.vcd_engine.proofs.NextLemmas.{goes_on_item}
-use Rattle.vcd_engine.proofs.PieceLemmas.{none_held}
-use Rattle.vcd_engine.specs.Engine.{request_in}
+use Rattle.vcd_engine.proofs.Cited.{refl, sym, request_in}
+use Rattle.vcd_engine.proofs.Facts.{no_mark_is, goes_on_item, none_held}
 use Rattle.vcd_engine.proofs.task_state.walk.take_given.Goals as goal
 
 pub take_item-requires : goal.take_item-requires

@@ -1,5 +1,5 @@
-use Rattle.std.proofs.Common.{refl}
-use Rattle.vcd_head.proofs.EnclosingLemmas.{leaves_most}
+use Rattle.vcd_head.proofs.Cited.{refl}
+use Rattle.vcd_head.proofs.Facts.{leaves_most}
 use Rattle.vcd_head.proofs.enclosing.Enclosing.innermost.Goals as goal
 
 pub returns : goal.returns

@@ -1,6 +1,5 @@
-use Rattle.std.proofs.Common.{reverse, subst}
-use Rattle.vcd_head.specs.ScopesLeft.{LeavesScopes}
-use Rattle.vcd_head.proofs.EnclosingLemmas.{all_around}
+use Rattle.vcd_head.proofs.Cited.{reverse, subst, LeavesScopes}
+use Rattle.vcd_head.proofs.Facts.{all_around}
 use Rattle.vcd_head.proofs.enclosing.Enclosing.new.Goals as goal
 
 pub returns : goal.returns

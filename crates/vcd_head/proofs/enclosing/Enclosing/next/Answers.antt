@@ -1,6 +1,5 @@
-use Rattle.std.proofs.Common.{◌≡◌, suc, refl, sym, subst, arith, rules}
-use Rattle.vcd_head.specs.declared.enclosing.Enclosing.{Enclosing}
-use Rattle.vcd_head.proofs.EnclosingLemmas.{IsReady, ready_by_walk, ready_as_held, gives_some}
+use Rattle.vcd_head.proofs.Cited.{◌≡◌, suc, refl, sym, subst, arith, rules, Enclosing}
+use Rattle.vcd_head.proofs.Facts.{IsReady, ready_by_walk, ready_as_held, gives_some}
 use Rattle.vcd_head.proofs.enclosing.Enclosing.next.Goals as goal
 use Rattle.vcd_head.proofs.enclosing.Enclosing.next.Goals.{then-self-eq0, else-self-eq0}
 

@@ -1,10 +1,5 @@
-use Rattle.std.proofs.Common.{◌≡◌, Some, slice_get, length, refl, sym, ap, subst, ◌∙◌, rules, arith}
-use Rattle.std.proofs.lemmas.Option.{slice_get_read}
-use Rattle.vcd_head.specs.Inside.{front}
-use Rattle.vcd_head.specs.Runs.{Follows}
-use Rattle.vcd_view.specs.Shown.{parts}
-use Rattle.vcd_view.proofs.ParentLemmas.{parent_of_row}
-use Rattle.vcd_head.proofs.InsideLemmas.{front_is}
+use Rattle.vcd_head.proofs.Cited.{◌≡◌, Some, slice_get, length, refl, sym, ap, subst, ◌∙◌, rules, arith, slice_get_read, front, Follows, parts, parent_of_row}
+use Rattle.vcd_head.proofs.Facts.{front_is}
 use Rattle.vcd_head.proofs.inside.Open.around.Goals as goal
 
 pub returns-clause-run : goal.returns-clause-run

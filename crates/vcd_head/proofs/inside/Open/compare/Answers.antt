@@ -1,10 +1,5 @@
-use Rattle.std.proofs.Common.{◌++◌, Some, map, take, string_bytes, sym, ap, subst, ◌∙◌}
-use Rattle.vcd_model.specs.Declarations.{path_of}
-use Rattle.vcd_model.specs.Selection.{selects_path}
-use Rattle.vcd_head.specs.Matched.{Matches}
-use Rattle.vcd_head.specs.Paths.{scopes_text}
-use Rattle.vcd_head.proofs.InsideLemmas.{the_variable}
-use Rattle.vcd_head.proofs.PathLemmas.{path_is}
+use Rattle.vcd_head.proofs.Cited.{◌++◌, Some, map, take, string_bytes, sym, ap, subst, ◌∙◌, path_of, selects_path, Matches, scopes_text}
+use Rattle.vcd_head.proofs.Facts.{the_variable, path_is}
 use Rattle.vcd_head.proofs.inside.Open.compare.Goals as goal
 
 pub returns-in-Some : goal.returns-in-Some

@@ -1,10 +1,6 @@
-use Rattle.std.proofs.Common.{◌≡◌, ◌++◌, ◌∷◌, [], suc, map, take, string_bytes, refl, sym, ap, subst, ◌∙◌, add-one, inl}
-use Rattle.vcd_head.specs.Inside.{front}
-use Rattle.vcd_head.specs.Paths.{scopes_text}
-use Rattle.vcd_head.specs.Runs.{Follows, GoesOn}
-use Rattle.vcd_head.proofs.InsideLemmas.{front_next, notes_grow, open_kept}
+use Rattle.vcd_head.proofs.Cited.{◌≡◌, ◌++◌, ◌∷◌, [], suc, map, take, string_bytes, refl, sym, ap, subst, ◌∙◌, add-one, inl, front, scopes_text, Follows, GoesOn, there}
+use Rattle.vcd_head.proofs.Facts.{front_next, notes_grow, open_kept}
 use Rattle.vcd_head.proofs.inside.Open.enter.Goals as goal
-use Rattle.vcd_view.proofs.ListLemmas.{there}
 
 pub returns-in_default : goal.returns-in_default
 returns-in_default c = λ h v within are. record { open_scopes = are; notes = λ p name at. inl refl }

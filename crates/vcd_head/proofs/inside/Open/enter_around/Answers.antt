@@ -1,6 +1,5 @@
-use Rattle.std.proofs.Common.{map, take, string_bytes, inl, refl}
-use Rattle.vcd_head.specs.Paths.{scopes_text}
-use Rattle.vcd_head.proofs.InsideLemmas.{left_first, left_next, entered_next}
+use Rattle.vcd_head.proofs.Cited.{map, take, string_bytes, inl, refl, scopes_text}
+use Rattle.vcd_head.proofs.Facts.{left_first, left_next, entered_next}
 use Rattle.vcd_head.proofs.inside.Open.enter_around.Goals as goal
 
 pub loop-scope-init : goal.loop-scope-init

@@ -1,10 +1,5 @@
-use Rattle.std.proofs.Common.{◌<◌, length, take}
-use Rattle.vcd_model.specs.Header.{Header}
-use Rattle.vcd_head.specs.Inside.{Enters}
-use Rattle.vcd_head.specs.Paths.{scopes_text}
-use Rattle.vcd_view.specs.Shown.{parts}
-use Rattle.vcd_view.specs.Views.{Views}
-use Rattle.vcd_head.proofs.InsideLemmas.{LeftAround}
+use Rattle.vcd_head.proofs.Cited.{◌<◌, length, take, Header, Enters, scopes_text, parts, Views}
+use Rattle.vcd_head.proofs.Facts.{LeftAround}
 use Rattle.vcd_head.proofs.inside.Open.enter_around.Given as goal
 
 abbrev pub invariant-loop-scope : goal.invariant-loop-scope

@@ -1,4 +1,4 @@
-use Rattle.std.proofs.Common.{arith}
+use Rattle.vcd_head.proofs.Cited.{arith}
 use Rattle.vcd_head.proofs.InsideLemmas.{held_more}
 use Rattle.vcd_head.proofs.inside.Open.hold.Goals as goal
 

@@ -1,8 +1,5 @@
-use Rattle.std.proofs.Common.{sym, map, string_bytes, inl, inr, subst, arith}
-use Rattle.vcd_head.specs.declared.inside.Inside.{Inside}
-use Rattle.vcd_head.specs.Inside.{front}
-use Rattle.vcd_head.specs.Runs.{Follows}
-use Rattle.vcd_head.proofs.InsideLemmas.{set_at}
+use Rattle.vcd_head.proofs.Cited.{sym, map, string_bytes, inl, inr, subst, arith, Inside, front, Follows}
+use Rattle.vcd_head.proofs.Facts.{set_at}
 use Rattle.vcd_head.proofs.inside.Open.new.Goals as goal
 
 pub returns : goal.returns

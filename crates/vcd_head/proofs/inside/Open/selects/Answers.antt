@@ -1,11 +1,5 @@
-use Rattle.std.proofs.Common.{map, take, string_bytes, inl, refl, sym, subst}
-use Rattle.std.proofs.lemmas.Option.{slice_get_within}
-use Rattle.vcd_model.specs.Declarations.{name_of, path_of}
-use Rattle.vcd_model.specs.Selection.{selects_path}
-use Rattle.vcd_head.specs.Inside.{HasEntered}
-use Rattle.vcd_head.specs.Paths.{scopes_text}
-use Rattle.vcd_head.proofs.InsideLemmas.{notes_then_match, open_matched}
-use Rattle.vcd_head.proofs.PathLemmas.{path_is}
+use Rattle.vcd_head.proofs.Cited.{map, take, string_bytes, inl, refl, sym, subst, slice_get_within, name_of, path_of, selects_path, HasEntered, scopes_text}
+use Rattle.vcd_head.proofs.Facts.{notes_then_match, open_matched, path_is}
 use Rattle.vcd_head.proofs.inside.Open.selects.Goals.{then-self, else-self}
 use Rattle.vcd_head.proofs.inside.Open.selects.Goals as goal
 

@@ -1,9 +1,6 @@
-use Rattle.std.proofs.Common.{◌≡◌, Some, None, map, take, slice_get, string_bytes, sym, ◌∙◌, arith, rules}
-use Rattle.std.proofs.lemmas.Option.{slice_get_within}
-use Rattle.vcd_model.specs.Bytes.{is_empty}
-use Rattle.vcd_view.specs.Shown.{parts}
-use Rattle.vcd_head.proofs.InsideLemmas.{declared_there, declares_none, declares_one, is_empty-map, none_selects}
-use Rattle.vcd_head.proofs.MatchLemmas.{matched_row, no_match, or_false, or_true, selected_row}
+use Rattle.vcd_head.proofs.Cited.{◌≡◌, Some, None, map, take, slice_get, string_bytes, sym, ◌∙◌, arith, rules, slice_get_within, is_empty, parts}
+use Rattle.vcd_head.proofs.Facts.{declares_none, declares_one, is_empty-map, none_selects, matched_row, no_match, or_false, or_true, selected_row}
+use Rattle.vcd_head.proofs.InsideLemmas.{declared_there}
 use Rattle.vcd_view.proofs.RowLemmas.{there}
 use Rattle.vcd_head.proofs.inside.Open.take.Goals as goal
 

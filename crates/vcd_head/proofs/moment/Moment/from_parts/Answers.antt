@@ -1,11 +1,5 @@
-use Rattle.std.proofs.Common.{◌≡◌, Some, None, ℤ, option_map, sym, ap, ◌∙◌, rules}
-use Rattle.std.proofs.lemmas.Int.{to_z-of_z}
-use mir.Syntax.{w8}
-use mir.Val.{SFits}
-use Rattle.vcd_model.specs.Ticks.{Moment}
-use Rattle.vcd_head.specs.Moments.{asked}
-use Rattle.vcd_head.specs.Words.{unit_in}
-use Rattle.vcd_head.proofs.MomentLemmas.{unit_missing, unit_found}
+use Rattle.vcd_head.proofs.Cited.{◌≡◌, Some, None, ℤ, option_map, sym, ap, ◌∙◌, rules, to_z-of_z, w8, SFits, Moment, asked, unit_in}
+use Rattle.vcd_head.proofs.Facts.{unit_missing, unit_found}
 use Rattle.vcd_head.proofs.moment.Moment.from_parts.Goals as goal
 
 pub returns-in_err-unit : goal.returns-in_err-unit

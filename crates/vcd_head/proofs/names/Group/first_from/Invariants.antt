@@ -1,5 +1,5 @@
-use Rattle.std.proofs.Common.{◌-◌, ◌<◌, ◌≤◌, ℕ, map, string_bytes}
-use Rattle.vcd_head.specs.NameOrder.{Rises, next_in}
+use Rattle.vcd_head.proofs.Cited.{◌-◌, ◌<◌, ◌≤◌, ℕ, map, string_bytes, next_in}
+use Rattle.vcd_head.specs.NameOrder.{Rises}
 use Rattle.vcd_head.proofs.names.Group.first_from.Given as goal
 
 abbrev pub invariant-loop-low : goal.invariant-loop-low

@@ -1,7 +1,6 @@
-use Rattle.std.proofs.Common.{◌≡◌, ◌≤◌, ◌+◌, ◌-◌, ◌++◌, sym, ap, subst, ◌∙◌, length, take, drop, length-drop, map, string_bytes, arith}
-use Rattle.std.proofs.lemmas.List.{append_assoc, append-nil, length-take-le, take_all, take-append-drop}
-use Rattle.vcd_head.specs.Runs.{GoesOn}
-use Rattle.vcd_head.proofs.RunSteps.{goes_both, goes_empty, goes_nowhere, take_on}
+use Rattle.vcd_head.proofs.Cited.{◌≡◌, ◌≤◌, ◌+◌, ◌-◌, ◌++◌, sym, ap, subst, ◌∙◌, length, take, drop, map, string_bytes, arith, append_assoc, append-nil, length-take-le, take_all, take-append-drop, GoesOn}
+use Rattle.vcd_head.proofs.Facts.{goes_both, goes_empty, goes_nowhere, take_on}
+use Rattle.std.proofs.Common.{length-drop}
 use Rattle.vcd_head.proofs.names.Group.follow.Goals as goal
 
 pub loop-done-init : goal.loop-done-init

@@ -1,5 +1,4 @@
-use Rattle.std.proofs.Common.{List, ℕ, ◌++◌, ◌-◌, ◌≤◌, length, take, map, string_bytes}
-use Rattle.vcd_head.specs.Runs.{Follows, GoesOn}
+use Rattle.vcd_head.proofs.Cited.{List, ℕ, ◌++◌, ◌-◌, ◌≤◌, length, take, map, string_bytes, Follows, GoesOn}
 use Rattle.vcd_head.proofs.names.Group.follow.Given as goal
 
 abbrev pub invariant-loop-done : goal.invariant-loop-done

@@ -1,6 +1,5 @@
-use Rattle.std.proofs.Common.{map, string_bytes}
-use Rattle.vcd_head.proofs.RunLemmas.{rises_in}
-use Rattle.vcd_head.proofs.RunSteps.{follows_step, notes_step}
+use Rattle.vcd_head.proofs.Cited.{map, string_bytes}
+use Rattle.vcd_head.proofs.Facts.{rises_in, follows_step, notes_step}
 use Rattle.vcd_head.proofs.names.Group.follow_byte.Goals as goal
 
 pub returns : goal.returns

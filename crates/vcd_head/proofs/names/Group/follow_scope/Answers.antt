@@ -1,7 +1,5 @@
-use Rattle.std.proofs.Common.{◌++◌, ◌∷◌, [], map, string_bytes, subst}
-use Rattle.std.proofs.lemmas.List.{append_assoc}
-use Rattle.vcd_head.specs.Runs.{GoesOn}
-use Rattle.vcd_head.proofs.RunSteps.{goes_both}
+use Rattle.vcd_head.proofs.Cited.{◌++◌, ◌∷◌, [], map, string_bytes, subst, append_assoc, GoesOn}
+use Rattle.vcd_head.proofs.Facts.{goes_both}
 use Rattle.vcd_head.proofs.names.Group.follow_scope.Goals as goal
 
 pub returns : goal.returns

@@ -1,8 +1,5 @@
-use Rattle.std.proofs.Common.{◌≡◌, ◌<◌, ◌+◌, ◌++◌, ◌∷◌, [], length, take, get_or, refl, sym, ap, subst, ◌∙◌, map, string_bytes, rules}
-use Rattle.std.proofs.lemmas.List.{append_assoc, take_more}
-use Rattle.vcd_head.specs.Runs.{GoesOn}
-use Rattle.vcd_head.specs.declared.names.NameRun.{NameRun}
-use Rattle.vcd_head.proofs.RunSteps.{follows_along, goes_both, goes_nowhere}
+use Rattle.vcd_head.proofs.Cited.{◌≡◌, ◌<◌, ◌+◌, ◌++◌, ◌∷◌, [], length, take, get_or, refl, sym, ap, subst, ◌∙◌, map, string_bytes, rules, append_assoc, take_more, GoesOn, NameRun}
+use Rattle.vcd_head.proofs.Facts.{follows_along, goes_both, goes_nowhere}
 use Rattle.vcd_head.proofs.names.Group.hop.Goals as goal
 
 pub returns-in-Some-clause-run : goal.returns-in-Some-clause-run

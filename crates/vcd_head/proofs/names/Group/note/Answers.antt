@@ -1,5 +1,6 @@
-use Rattle.std.proofs.Common.{◌+◌, true, false, ap, sym, subst, ◌∙◌, inl, inr, get_or, set, map, string_bytes, arith, length-set}
-use Rattle.vcd_head.proofs.RunLemmas.{Noting, noting_next, none_noted, noted_before, noted_all}
+use Rattle.vcd_head.proofs.Cited.{◌+◌, true, false, ap, sym, subst, ◌∙◌, inl, inr, get_or, set, map, string_bytes, arith}
+use Rattle.vcd_head.proofs.Facts.{Noting, noting_next, none_noted, noted_before, noted_all}
+use Rattle.std.proofs.Common.{length-set}
 use Rattle.vcd_head.proofs.names.Group.note.Goals.{then-run-via-then-run, then-run-via-else-run+then-next_at-ne0}
 use Rattle.vcd_head.proofs.names.Group.note.Goals as goal
 

@@ -1,6 +1,5 @@
-use Rattle.std.proofs.Common.{◌≡◌, ◌≤◌, ℕ, List, length, map, string_bytes}
-use Rattle.vcd_head.specs.Runs.{Follows}
-use Rattle.vcd_head.proofs.RunLemmas.{Noting}
+use Rattle.vcd_head.proofs.Cited.{◌≡◌, ◌≤◌, ℕ, List, length, map, string_bytes, Follows}
+use Rattle.vcd_head.proofs.Facts.{Noting}
 use Rattle.vcd_head.proofs.names.Group.note.Given as goal
 
 abbrev pub invariant-loop-at : goal.invariant-loop-at

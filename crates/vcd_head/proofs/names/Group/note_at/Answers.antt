@@ -1,6 +1,5 @@
-use Rattle.std.proofs.Common.{◌==◌, ◌&&◌, map, string_bytes, bytes_eq, refl}
-use Rattle.std.proofs.lemmas.Bool.{eq-eqb, ne_eqb}
-use Rattle.vcd_head.proofs.MatchLemmas.{match_none}
+use Rattle.vcd_head.proofs.Cited.{◌==◌, ◌&&◌, map, string_bytes, bytes_eq, refl, eq-eqb, ne_eqb}
+use Rattle.vcd_head.proofs.Facts.{match_none}
 use Rattle.vcd_head.proofs.names.Group.note_at.Goals as goal
 
 pub returns-else-byte-eq46 : goal.returns-else-byte-eq46

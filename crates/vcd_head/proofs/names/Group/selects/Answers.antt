@@ -1,5 +1,5 @@
-use Rattle.std.proofs.Common.{◌++◌, map, string_bytes}
-use Rattle.vcd_head.proofs.RunSteps.{path_selected}
+use Rattle.vcd_head.proofs.Cited.{◌++◌, map, string_bytes}
+use Rattle.vcd_head.proofs.Facts.{path_selected}
 use Rattle.vcd_head.proofs.names.Group.selects.Goals as goal
 
 pub returns : goal.returns

@@ -1,6 +1,4 @@
-use Rattle.std.proofs.Common.{◌≡◌, ◌+◌, ◌∙◌, ◌++◌, ℕ, List, ap, sym, length, take, drop, arith}
-use Rattle.std.proofs.lemmas.List.{length-take-le, take-take}
-use Rattle.std.proofs.Math.Seq.{take-append-add, take-append_seam}
+use Rattle.vcd_host.proofs.Cited.{◌≡◌, ◌+◌, ◌∙◌, ◌++◌, ℕ, List, ap, sym, length, take, drop, arith, length-take-le, take-take, take-append-add, take-append_seam}
 use Rattle.vcd_host.proofs.buffer.Buffer.push_few.Goals as goal
 
 pub returns-clause-bytes : goal.returns-clause-bytes

@@ -1,7 +1,4 @@
-use Rattle.std.proofs.Common.{◌≡◌, ◌+◌, ◌-◌, ◌≤◌, ◌∙◌, ap, sym, length, take, drop, arith, length-drop}
-use Rattle.std.proofs.lemmas.List.{drop-take}
-use Rattle.std.proofs.lemmas.List.Edits.{take-paste}
-use Rattle.std.proofs.Math.Seq.{paste}
+use Rattle.vcd_host.proofs.Cited.{◌≡◌, ◌+◌, ◌-◌, ◌≤◌, ◌∙◌, ap, sym, length, take, drop, arith, length-drop, drop-take, take-paste, paste}
 use Rattle.vcd_host.proofs.buffer.Buffer.remove_front.Goals as goal
 
 pub returns-clause-kept : goal.returns-clause-kept

@@ -1,5 +1,5 @@
-use Rattle.std.proofs.Common.{◌+◌, ◌<◌, arith, length, refl, take}
-use Rattle.vcd_host.proofs.LentOutputLemmas.{front-copied, gained, none-gone}
+use Rattle.vcd_host.proofs.Cited.{◌+◌, ◌<◌, arith, length, refl, take}
+use Rattle.vcd_host.proofs.Facts.{front-copied, gained, none-gone}
 use Rattle.vcd_host.proofs.lent_output.LentOutputSink.write_few.Goals as goal
 
 pub returns-clause-all : goal.returns-clause-all

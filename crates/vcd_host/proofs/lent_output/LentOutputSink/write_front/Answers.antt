@@ -1,6 +1,5 @@
-use Rattle.std.proofs.Common.{◌+◌, ◌<◌, ◌≤◌, ◌∙◌, ◌++◌, List, ℕ, ap, arith, length, refl, take}
-use Rattle.std.proofs.lemmas.List.{take-take}
-use Rattle.vcd_host.proofs.LentOutputLemmas.{front-copied, gained, none-gone}
+use Rattle.vcd_host.proofs.Cited.{◌+◌, ◌<◌, ◌≤◌, ◌∙◌, ◌++◌, List, ℕ, ap, arith, length, refl, take, take-take}
+use Rattle.vcd_host.proofs.Facts.{front-copied, gained, none-gone}
 use Rattle.vcd_host.proofs.lent_output.LentOutputSink.write_front.Goals as goal
 
 pub returns-clause-all : goal.returns-clause-all

@@ -1,7 +1,5 @@
-use Rattle.std.proofs.Common.{◌≡◌, ◌+◌, ◌<◌, ◌∙◌, ◌∷◌, ◌++◌, List, ℕ, ap, arith, length, refl, suc, sym, take}
-use Rattle.std.proofs.lemmas.List.{length-take-le}
-use Rattle.std.proofs.Math.Seq.{take-append-add}
-use Rattle.vcd_host.proofs.LentOutputLemmas.{front-copied, gained, none-gone}
+use Rattle.vcd_host.proofs.Cited.{◌≡◌, ◌+◌, ◌<◌, ◌∙◌, ◌∷◌, ◌++◌, List, ℕ, ap, arith, length, refl, suc, sym, take, length-take-le, take-append-add}
+use Rattle.vcd_host.proofs.Facts.{front-copied, gained, none-gone}
 use Rattle.vcd_host.proofs.lent_output.LentOutputSink.write_parts.Goals as goal
 
 pub returns-clause-all : goal.returns-clause-all

@@ -1,20 +1,6 @@
-use Rattle.std.proofs.Common.{◌≡◌, ◌∙◌, ◌+◌, false, List, ℕ, sym, length, map, ap, subst, add-zero, Ok, Err, Result, arith, rules}
-use Rattle.std.proofs.lemmas.Option.{slice_get_within}
-use Rattle.vcd_text.specs.Device.{Device}
-use Rattle.vcd_body.specs.Answer.{writes_failed}
-use Rattle.vcd_merge.specs.MergeParts.{SameLengths, part_len}
-use Rattle.vcd_merge.specs.MergeStep.{Gives, Standing, failures_with, standing, standing_of}
-use Rattle.vcd_body.specs.declared.answer.Done.{Done}
-use Rattle.vcd_body.specs.declared.answer.More.{More}
-use Rattle.vcd_body.specs.declared.answer.Stop.{Stop}
-use Rattle.vcd_body.specs.declared.answer.Stop.TheVariants.{Read}
-use Rattle.vcd_body.specs.declared.answer.More.TheVariants.{Again, Ended}
-use Rattle.vcd_merge.specs.declared.windows.Windows.{Windows}
-use Rattle.vcd_merge.proofs.MergeRuns.{advances_on, ended_merge, long, same_failures, still_low, stopped_merge}
-use Rattle.vcd_merge.proofs.MergeCounts.{still_named}
-use Rattle.vcd_merge.proofs.MergeRunOn.{mid_chunk, mid_counts, mid_limit, mid_next, mid_read, mid_writes}
+use Rattle.vcd_merge.proofs.Cited.{◌≡◌, ◌∙◌, ◌+◌, false, List, ℕ, sym, length, map, ap, subst, add-zero, Ok, Err, Result, arith, rules, slice_get_within, Device, writes_failed, SameLengths, part_len, Gives, Standing, failures_with, standing, standing_of, Done, More, Stop, Read, Again, Ended, Windows}
+use Rattle.vcd_merge.proofs.Facts.{advances_on, ended_merge, long, same_failures, still_low, stopped_merge, still_named, mid_chunk, mid_counts, mid_limit, mid_next, mid_read, mid_writes, same_part}
 use Rattle.vcd_merge.proofs.merge_state.Merge.finish.Goals as goal
-use Rattle.vcd_merge.proofs.PartLemmas.{same_part}
 
 same_twice : (a b c : Windows) → SameLengths a b → SameLengths b c → SameLengths a c
 same_twice a b c p q = record { chunks = q.chunks ∙ p.chunks; tokens = q.tokens ∙ p.tokens; values = q.values ∙ p.values }

@@ -1,12 +1,5 @@
-use Rattle.std.proofs.Common.{◌≡◌, List, false, map, length}
-use Rattle.vcd_model.specs.Header.{Header}
-use Rattle.vcd_model.specs.Merge.{Dump, merge_open, merged_items}
-use Rattle.vcd_text.specs.Device.{Device, Writes, supply}
-use Rattle.vcd_merge.specs.MergeParts.{SameLengths, part_len}
-use Rattle.vcd_merge.specs.MergeStep.{Holds, IsReady, is_going, standing_of, left_of}
-use Rattle.vcd_merge.specs.Order.{IsOrder}
-use Rattle.vcd_merge.specs.Seat.{Lane}
-use Rattle.vcd_merge.proofs.MergeReads.{AreReadSoFar}
+use Rattle.vcd_merge.proofs.Cited.{◌≡◌, List, false, map, length, Header, Dump, merge_open, merged_items, Device, Writes, supply, SameLengths, part_len, Holds, IsReady, is_going, standing_of, left_of, IsOrder, Lane}
+use Rattle.vcd_merge.proofs.Facts.{AreReadSoFar}
 use Rattle.vcd_merge.proofs.merge_state.Merge.finish.Given as goal
 
 abbrev pub invariant-items : goal.invariant-items

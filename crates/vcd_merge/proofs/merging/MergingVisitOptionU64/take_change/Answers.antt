@@ -1,12 +1,5 @@
-use Rattle.std.proofs.Common.{◌≡◌, ◌≢◌, arith, sym, subst, Err, rules, refl, ◌+◌, ◌%◌, ◌^◌}
-use Rattle.vcd_model.specs.HeadText.{new_code}
-use Rattle.vcd_text.specs.Device.{Takes}
-use Rattle.vcd_body.specs.Ahead.{IsSizedItem}
-use Rattle.vcd_body.specs.Spelled.{IsSpelledAs}
-use Rattle.vcd_body.specs.declared.item.Item.{Item}
-use Rattle.vcd_merge.proofs.MergeItem.{some_digits}
-use Rattle.vcd_merge.proofs.AheadTrails.{change_taken}
-use Rattle.vcd_merge.proofs.DueLine.{due_failed, due_put}
+use Rattle.vcd_merge.proofs.Cited.{◌≡◌, ◌≢◌, arith, sym, subst, Err, rules, refl, ◌+◌, ◌%◌, ◌^◌, new_code, Takes, IsSizedItem, IsSpelledAs, Item}
+use Rattle.vcd_merge.proofs.Facts.{some_digits, change_taken, due_failed, due_put}
 use Rattle.vcd_merge.proofs.merging.MergingVisitOptionU64.take_change.Goals as goal
 
 pub put_unsized-requires-clause-sound : goal.put_unsized-requires-clause-sound

@@ -1,5 +1,5 @@
-use Rattle.std.proofs.Common.{refl}
-use Rattle.vcd_merge.proofs.AheadTrails.{section_taken}
+use Rattle.vcd_merge.proofs.Cited.{refl}
+use Rattle.vcd_merge.proofs.Facts.{section_taken}
 use Rattle.vcd_merge.proofs.merging.MergingVisitOptionU64.take_section.Goals as goal
 
 pub returns-clause-takes : goal.returns-clause-takes

@@ -1,6 +1,5 @@
-use Rattle.std.proofs.Common.{◌*◌, ◌^◌, refl}
-use Rattle.std.proofs.lemmas.Bool.{leb-false}
-use Rattle.vcd_merge.proofs.AheadTrails.{mark_taken}
+use Rattle.vcd_merge.proofs.Cited.{◌*◌, ◌^◌, refl, leb-false}
+use Rattle.vcd_merge.proofs.Facts.{mark_taken}
 use Rattle.vcd_merge.proofs.merging.MergingVisitOptionU64.take_timestamp.Goals as goal
 
 pub returns-clause-takes : goal.returns-clause-takes

@@ -1,6 +1,5 @@
-use Rattle.std.proofs.Common.{◌≡◌, ◌+◌, ◌-◌, length, subst, arith}
-use Rattle.vcd_merge.specs.Order.{IsOrder}
-use Rattle.vcd_merge.proofs.OrderLemmas.{alone_before, before_last}
+use Rattle.vcd_merge.proofs.Cited.{◌≡◌, ◌+◌, ◌-◌, length, subst, arith, IsOrder}
+use Rattle.vcd_merge.proofs.Facts.{alone_before, before_last}
 use Rattle.vcd_merge.proofs.order.TurnOrder.end_of.Goals as goal
 
 pub returns-then-count-eq0 : goal.returns-then-count-eq0

@@ -1,5 +1,5 @@
-use Rattle.std.proofs.Common.{◌+◌, ◌-◌, ◌/◌, ◌<◌, arith}
-use Rattle.vcd_merge.proofs.OrderLemmas.{later_to, not_in, sooner_from}
+use Rattle.vcd_merge.proofs.Cited.{◌+◌, ◌-◌, ◌/◌, ◌<◌, arith}
+use Rattle.vcd_merge.proofs.Facts.{later_to, not_in, sooner_from}
 use Rattle.vcd_merge.proofs.order.TurnOrder.index_for.Goals as goal
 
 pub comes_before-requires : goal.comes_before-requires

@@ -1,6 +1,4 @@
-use Rattle.std.proofs.Common.{◌-◌, ℕ, ◌<◌, ◌≤◌}
-use Rattle.std.specs.Prelude.{get_or}
-use Rattle.vcd_merge.specs.Order.{ComesBefore, time_of}
+use Rattle.vcd_merge.proofs.Cited.{◌-◌, ℕ, ◌<◌, ◌≤◌, get_or, ComesBefore, time_of}
 use Rattle.vcd_merge.proofs.order.TurnOrder.index_for.Given as goal
 
 abbrev pub invariant-loop-low : goal.invariant-loop-low

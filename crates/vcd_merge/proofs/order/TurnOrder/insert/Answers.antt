@@ -1,5 +1,5 @@
-use Rattle.std.proofs.Common.{◌+◌, arith}
-use Rattle.vcd_merge.proofs.OrderLemmas.{moved_behind, put_in, with_one}
+use Rattle.vcd_merge.proofs.Cited.{◌+◌, arith}
+use Rattle.vcd_merge.proofs.Facts.{moved_behind, put_in, with_one}
 use Rattle.vcd_merge.proofs.order.TurnOrder.insert.Goals as goal
 
 pub returns-clause-back : goal.returns-clause-back

@@ -1,5 +1,4 @@
-use Rattle.std.proofs.Common.{◌≡◌, ◌≤◌}
-use Rattle.vcd_merge.specs.Order.{IsOrder}
+use Rattle.vcd_merge.proofs.Cited.{◌≡◌, ◌≤◌, IsOrder}
 use Rattle.vcd_merge.proofs.order.TurnOrder.of.Given as goal
 
 abbrev pub invariant-loop-input : goal.invariant-loop-input

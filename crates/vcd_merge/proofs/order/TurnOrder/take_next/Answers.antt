@@ -1,6 +1,5 @@
-use Rattle.std.proofs.Common.{◌≡◌, ◌+◌, ◌-◌, length, subst, arith}
-use Rattle.vcd_merge.specs.Order.{IsOrder}
-use Rattle.vcd_merge.proofs.OrderLemmas.{last_is_next, others_wait}
+use Rattle.vcd_merge.proofs.Cited.{◌≡◌, ◌+◌, ◌-◌, length, subst, arith, IsOrder}
+use Rattle.vcd_merge.proofs.Facts.{last_is_next, others_wait}
 use Rattle.vcd_merge.proofs.order.TurnOrder.take_next.Goals as goal
 
 pub end_of-requires-clause-order : goal.end_of-requires-clause-order

@@ -1,4 +1,4 @@
-use Rattle.std.proofs.Common.{arith}
+use Rattle.vcd_text.proofs.Cited.{arith}
 use Rattle.vcd_text.proofs.ahead.Ahead.new.Goals as goal
 
 pub invariant_of-result-clause-bits : goal.invariant_of-result-clause-bits

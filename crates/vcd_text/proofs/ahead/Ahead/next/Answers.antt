@@ -1,5 +1,5 @@
-use Rattle.std.proofs.Common.{◌+◌, ◌≤◌, length, arith, refl}
-use Rattle.vcd_text.proofs.PassedLemmas.{before_bits, run_behind, run_past, white_on, white_one}
+use Rattle.vcd_text.proofs.Cited.{◌+◌, ◌≤◌, length, arith, refl}
+use Rattle.vcd_text.proofs.Facts.{before_bits, run_behind, run_past, white_on, white_one}
 use Rattle.vcd_text.proofs.ahead.Ahead.next.Goals.{then-begins_at+in_ok-white-3, else-begins_at}
 use Rattle.vcd_text.proofs.ahead.Ahead.next.Goals as goal
 

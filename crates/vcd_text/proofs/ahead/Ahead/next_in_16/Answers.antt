@@ -1,8 +1,4 @@
-use Rattle.std.proofs.Common.{◌≡◌, ◌+◌, ◌-◌, inl, inr, true, false, arith, subst, sym, ap, ◌∙◌}
-use Rattle.std.specs.Prelude.{slice_index}
-use Rattle.std.specs.Int.{bit_at}
-use Rattle.std.proofs.lemmas.Bool.{cases_lt}
-use Rattle.vcd_model.specs.Bytes.{is_white_space}
+use Rattle.vcd_text.proofs.Cited.{◌≡◌, ◌+◌, ◌-◌, inl, inr, true, false, arith, subst, sym, ap, ◌∙◌, slice_index, bit_at, cases_lt, is_white_space}
 use Rattle.vcd_text.proofs.ahead.Ahead.next_in_16.Goals as goal
 
 pub take-requires-clause-bits : goal.take-requires-clause-bits

@@ -1,5 +1,5 @@
-use Rattle.std.proofs.Common.{arith, rules}
-use Rattle.vcd_text.proofs.PassedLemmas.{run_bits}
+use Rattle.vcd_text.proofs.Cited.{arith, rules}
+use Rattle.vcd_text.proofs.Facts.{run_bits}
 use Rattle.vcd_text.proofs.ahead.Ahead.next_short.Goals as goal
 
 pub take-requires-clause-bits : goal.take-requires-clause-bits

@@ -1,9 +1,4 @@
-use Rattle.std.proofs.Common.{◌≡◌, ℕ, ◌+◌, ◌-◌, ◌≤◌, ◌<◌, List, length, drop, get_or, inl, inr, true, false, arith, subst, sym, ap, ◌∙◌, length-drop}
-use Rattle.std.specs.Prelude.{slice_index, slice_range}
-use Rattle.std.specs.Int.{bit_at}
-use Rattle.std.proofs.lemmas.Bool.{cases_lt}
-use Rattle.std.proofs.lemmas.List.{get_or-take, get_or-drop, length-take-le}
-use Rattle.vcd_model.specs.Bytes.{is_white_space}
+use Rattle.vcd_text.proofs.Cited.{◌≡◌, ℕ, ◌+◌, ◌-◌, ◌≤◌, ◌<◌, List, length, drop, get_or, inl, inr, true, false, arith, subst, sym, ap, ◌∙◌, length-drop, slice_index, slice_range, bit_at, cases_lt, get_or-take, get_or-drop, length-take-le, is_white_space}
 use Rattle.vcd_text.proofs.ahead.Ahead.next_slowly.Goals as goal
 
 index : (bytes : List ℕ) (at k : ℕ) → k < length bytes - at → get_or (slice_range bytes at (length bytes)) k 0 ≡ get_or bytes (at + k) 0

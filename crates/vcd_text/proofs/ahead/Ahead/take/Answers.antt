@@ -1,9 +1,5 @@
-use Rattle.std.proofs.Common.{◌≡◌, ℕ, ◌+◌, ◌-◌, [], ◌∷◌, ◌++◌, length, arith, refl, sym, subst, ap₂}
-use Rattle.std.specs.Prelude.{slice_range}
-use Rattle.vcd_text.specs.Passed.{AreWhite, IsRun, Passed, line_ahead}
-use Rattle.vcd_text.proofs.Masks.{bits-on}
-use Rattle.vcd_text.proofs.Places.{length-slice_range}
-use Rattle.vcd_text.proofs.PassedLemmas.{passed_to, marked_run, marked_first, white_rest, run_behind}
+use Rattle.vcd_text.proofs.Cited.{◌≡◌, ℕ, ◌+◌, ◌-◌, [], ◌∷◌, ◌++◌, length, arith, refl, sym, subst, ap₂, slice_range, AreWhite, IsRun, Passed, line_ahead}
+use Rattle.vcd_text.proofs.Facts.{bits-on, length-slice_range, passed_to, marked_run, marked_first, white_rest, run_behind}
 use Rattle.vcd_text.proofs.ahead.Ahead.take.Goals as goal
 
 pub overflow_sub-end : goal.overflow_sub-end

@@ -1,6 +1,5 @@
-use Rattle.std.proofs.Common.{◌+◌, ◌-◌, inl, inr, arith}
-use Rattle.std.proofs.lemmas.Bool.{cases_lt}
-use Rattle.vcd_text.proofs.Masks.{bits-on}
+use Rattle.vcd_text.proofs.Cited.{◌+◌, ◌-◌, inl, inr, arith, cases_lt}
+use Rattle.vcd_text.proofs.Facts.{bits-on}
 use Rattle.vcd_text.proofs.ahead.White.after_first.Goals as goal
 
 pub returns-clause-bits : goal.returns-clause-bits

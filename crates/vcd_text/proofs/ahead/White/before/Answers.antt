@@ -1,6 +1,4 @@
-use Rattle.std.proofs.Common.{inl, inr, arith}
-use Rattle.std.proofs.lemmas.Bool.{cases_order}
-use Rattle.std.proofs.lemmas.Nat.Bits.{bit_at-pow_other}
+use Rattle.vcd_text.proofs.Cited.{inl, inr, arith, cases_order, bit_at-pow_other}
 use Rattle.vcd_text.proofs.ahead.White.before.Goals as goal
 
 pub returns-clause-bit : goal.returns-clause-bit

@@ -1,8 +1,5 @@
-use Rattle.std.proofs.Common.{◌≡◌, ◌+◌, ◌-◌, true, subst, arith}
-use Rattle.std.specs.Int.{bit_at}
-use Rattle.std.specs.Prelude.{slice_index}
+use Rattle.vcd_text.proofs.Cited.{◌≡◌, ◌+◌, ◌-◌, true, subst, arith, bit_at, slice_index, is_white_space}
 use Rattle.std.proofs.lemmas.Bool.{eqb-true}
-use Rattle.vcd_model.specs.Bytes.{is_white_space}
 use Rattle.vcd_text.proofs.ahead.White.begins_at.Goals as goal
 
 pub returns-clause-set : goal.returns-clause-set

@@ -1,7 +1,4 @@
-use Rattle.std.proofs.Common.{◌≡◌, ◌∙◌, ℕ, List, Option, Some, ap, refl, sym, subst, drop}
-use Rattle.vcd_text.specs.Feed.{HasGivenParked}
-use Rattle.vcd_text.specs.Registers.{registers_at}
-use Rattle.vcd_text.specs.declared.registers.Parked.{Parked}
+use Rattle.vcd_text.proofs.Cited.{◌≡◌, ◌∙◌, ℕ, List, Option, Some, ap, refl, sym, subst, drop, HasGivenParked, registers_at, Parked}
 use Rattle.vcd_text.proofs.feed.Feed.at.Goals as goal
 
 pub returns-in-Some-clause-given : goal.returns-in-Some-clause-given

@@ -1,6 +1,5 @@
-use Rattle.std.proofs.Common.{length, sym, subst}
-use Rattle.vcd_text.specs.Feed.{HasGivenTo}
-use Rattle.vcd_text.proofs.OffsetLemmas.{goes_on_at}
+use Rattle.vcd_text.proofs.Cited.{length, sym, subst, HasGivenTo}
+use Rattle.vcd_text.proofs.Facts.{goes_on_at}
 use Rattle.vcd_text.proofs.feed.Feed.offset.Goals as goal
 
 pub returns-clause-given : goal.returns-clause-given

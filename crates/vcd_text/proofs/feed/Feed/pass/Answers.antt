@@ -1,9 +1,5 @@
-use Rattle.std.proofs.Common.{◌++◌, length, refl, arith}
-use Rattle.vcd_model.specs.Tokens.{end_of_tokens}
-use Rattle.vcd_text.specs.Registers.{looked}
-use Rattle.vcd_text.specs.Window.{gone_on}
-use Rattle.vcd_text.proofs.Known.{near-more, parked-stands}
-use Rattle.vcd_text.proofs.PassedLemmas.{passed_within, ahead_fits, gone_fits, pass_stands, pass_far}
+use Rattle.vcd_text.proofs.Cited.{◌++◌, length, refl, arith, end_of_tokens, looked, gone_on}
+use Rattle.vcd_text.proofs.Facts.{near-more, parked-stands, passed_within, ahead_fits, gone_fits, pass_stands, pass_far}
 use Rattle.vcd_text.proofs.feed.Feed.pass.Goals as goal
 
 pub go_on-requires-clause-within : goal.go_on-requires-clause-within

@@ -1,6 +1,5 @@
-use Rattle.std.proofs.Common.{◌≡◌, length, sym, ap, ◌∙◌, arith}
-use Rattle.vcd_view.specs.CodeHash.{mixed}
-use Rattle.vcd_view.proofs.HashLemmas.{word_alone}
+use Rattle.vcd_view.proofs.Cited.{◌≡◌, length, sym, ap, ◌∙◌, arith, mixed}
+use Rattle.vcd_view.proofs.Facts.{word_alone}
 use Rattle.vcd_view.proofs.code_hash.CodeSeed.hashed.Goals as goal
 
 pub returns-in-len8 : goal.returns-in-len8

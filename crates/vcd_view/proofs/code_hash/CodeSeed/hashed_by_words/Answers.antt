@@ -1,7 +1,5 @@
-use Rattle.std.proofs.Common.{◌≡◌, ◌-◌, drop, length, take, sym, ap, ◌∙◌, arith, length-drop}
-use Rattle.std.proofs.lemmas.List.{take_all}
-use Rattle.vcd_view.specs.CodeHash.{hashed, mixed}
-use Rattle.vcd_view.proofs.HashLemmas.{word_first}
+use Rattle.vcd_view.proofs.Cited.{◌≡◌, ◌-◌, drop, length, take, sym, ap, ◌∙◌, arith, length-drop, take_all, hashed, mixed}
+use Rattle.vcd_view.proofs.Facts.{word_first}
 use Rattle.vcd_view.proofs.code_hash.CodeSeed.hashed_by_words.Goals as goal
 
 pub loop-rest-preserved : goal.loop-rest-preserved

@@ -1,5 +1,4 @@
-use Rattle.std.proofs.Common.{◌≡◌, length}
-use Rattle.vcd_view.specs.CodeHash.{hashed}
+use Rattle.vcd_view.proofs.Cited.{◌≡◌, length, hashed}
 use Rattle.vcd_view.proofs.code_hash.CodeSeed.hashed_by_words.Given as goal
 
 abbrev pub invariant-loop-rest : goal.invariant-loop-rest

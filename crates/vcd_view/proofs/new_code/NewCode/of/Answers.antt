@@ -1,5 +1,5 @@
-use Rattle.std.proofs.Common.{◌≡◌, ◌<◌, ◌⊎◌, arith, refl, inl, inr}
-use Rattle.vcd_view.proofs.NewCodeLemmas.{at_first, digit_last, digit_more}
+use Rattle.vcd_view.proofs.Cited.{◌≡◌, ◌<◌, ◌⊎◌, arith, refl, inl, inr}
+use Rattle.vcd_view.proofs.Facts.{at_first, digit_last, digit_more}
 use Rattle.vcd_view.proofs.new_code.NewCode.of.Goals as goal
 use Rattle.vcd_view.proofs.new_code.NewCode.of.Goals.{then-loop-len-test+else-rest-ge94, else-loop-len-test}
 

@@ -1,5 +1,5 @@
-use Rattle.std.proofs.Common.{◌-◌}
-use Rattle.vcd_view.proofs.NewCodeLemmas.{SoFar}
+use Rattle.vcd_view.proofs.Cited.{◌-◌}
+use Rattle.vcd_view.proofs.Facts.{SoFar}
 use Rattle.vcd_view.proofs.new_code.NewCode.of.Given as goal
 
 abbrev pub invariant-loop-len : goal.invariant-loop-len

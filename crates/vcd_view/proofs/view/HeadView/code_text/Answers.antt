@@ -1,6 +1,5 @@
-use Rattle.std.proofs.Common.{[], unwrap_or, option_map, refl, sym, ap, ◌∙◌}
-use Rattle.vcd_model.specs.Declarations.{IdCode}
-use Rattle.vcd_view.proofs.RowLemmas.{code_of_shown, none_of_shown, read_there}
+use Rattle.vcd_view.proofs.Cited.{[], unwrap_or, option_map, refl, sym, ap, ◌∙◌, IdCode}
+use Rattle.vcd_view.proofs.Facts.{code_of_shown, none_of_shown, read_there}
 use Rattle.vcd_view.proofs.view.HeadView.code_text.Goals as goal
 
 pub returns-in-Some : goal.returns-in-Some

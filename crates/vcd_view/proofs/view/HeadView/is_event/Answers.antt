@@ -1,6 +1,5 @@
-use Rattle.std.proofs.Common.{false, unwrap_or, option_map, sym, ap, ◌∙◌}
-use Rattle.vcd_model.specs.Declarations.{IdCode}
-use Rattle.vcd_view.proofs.RowLemmas.{code_of_shown, none_of_shown}
+use Rattle.vcd_view.proofs.Cited.{false, unwrap_or, option_map, sym, ap, ◌∙◌, IdCode}
+use Rattle.vcd_view.proofs.Facts.{code_of_shown, none_of_shown}
 use Rattle.vcd_view.proofs.view.HeadView.is_event.Goals as goal
 
 pub returns-in-Some-clause-event : goal.returns-in-Some-clause-event

@@ -1,7 +1,5 @@
-use Rattle.std.proofs.Common.{◌≡◌, ◌+◌, Some, None, slice_get, ◌∙◌, arith, rules}
-use Rattle.std.proofs.lemmas.Option.{slice_get_within}
-use Rattle.vcd_view.specs.Shown.{parts}
-use Rattle.vcd_view.proofs.RowLemmas.{row_of, row_name, read_there, there}
+use Rattle.vcd_view.proofs.Cited.{◌≡◌, ◌+◌, Some, None, slice_get, ◌∙◌, arith, rules, slice_get_within, parts}
+use Rattle.vcd_view.proofs.Facts.{row_of, row_name, read_there, there}
 use Rattle.vcd_view.proofs.view.HeadView.name_of.Goals as goal
 
 pub returns-in-Some : goal.returns-in-Some

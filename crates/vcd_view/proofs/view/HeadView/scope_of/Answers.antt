@@ -1,7 +1,5 @@
-use Rattle.std.proofs.Common.{◌≡◌, suc, ◌<◌, Some, None, slice_get, sym, ◌∙◌, rules}
-use Rattle.vcd_view.specs.Shown.{parts}
-use Rattle.vcd_view.proofs.RowLemmas.{there}
-use Rattle.vcd_view.proofs.ParentLemmas.{says_none, says_some, parent_before}
+use Rattle.vcd_view.proofs.Cited.{◌≡◌, suc, ◌<◌, Some, None, slice_get, sym, ◌∙◌, rules, parts}
+use Rattle.vcd_view.proofs.Facts.{there, says_none, says_some, parent_before}
 use Rattle.vcd_view.proofs.view.HeadView.scope_of.Goals as goal
 
 pub returns-in_err-row_at-clause-scope : goal.returns-in_err-row_at-clause-scope

@@ -1,8 +1,5 @@
-use Rattle.std.proofs.Common.{rules, ◌≡◌, ◌||◌, ◌&&◌, ap, sym, ◌∙◌, refl}
-use borrow.Author.Tests.{tests}
-use Rattle.std.specs.Prelude.{is_some}
-use Rattle.vcd_head.specs.Moments.{asked}
-use Rattle.vcd_words.proofs.TimesLemmas.{is_above, order_push}
+use Rattle.vcd_words.proofs.Cited.{rules, ◌≡◌, ◌||◌, ◌&&◌, ap, sym, ◌∙◌, refl, tests, is_some, asked}
+use Rattle.vcd_words.proofs.Facts.{is_above, order_push}
 use Rattle.vcd_words.proofs.moment_word.TimesOrder.with.Goals as goal
 use Rattle.vcd_words.proofs.moment_word.TimesOrder.with.Goals.{then-self, else-self}
 

@@ -1,4 +1,4 @@
-use Rattle.std.specs.Io.KnownBytes.{Keeps}
+use Rattle.vcdkit.proofs.Cited.{Keeps}
 use Rattle.vcdkit.proofs.again.AgainWrite.write.Given as goal
 
 abbrev pub invariant-loop : goal.invariant-loop

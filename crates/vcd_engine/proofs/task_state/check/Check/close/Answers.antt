@@ -1,7 +1,5 @@
-use Rattle.std.proofs.Common.{subst, ap, codes, ◌++◌, ◌∙◌, length}
-use Rattle.vcd_model.specs.CheckAndList.{count_line, number_or_dash}
-use Rattle.vcd_text.specs.Device.{Takes}
-use Rattle.vcd_engine.proofs.CheckLemmas.{report_is, six_lines}
+use Rattle.vcd_engine.proofs.Cited.{subst, ap, codes, ◌++◌, ◌∙◌, length, count_line, number_or_dash, Takes}
+use Rattle.vcd_engine.proofs.Facts.{report_is, six_lines}
 use Rattle.vcd_engine.proofs.task_state.check.Check.close.Goals as goal
 
 pub returns-clause-takes : goal.returns-clause-takes

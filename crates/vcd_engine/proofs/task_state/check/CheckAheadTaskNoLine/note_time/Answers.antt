@@ -1,5 +1,5 @@
-use Rattle.std.proofs.Common.{◌≡◌, ◌+◌, ◌%◌, ◌^◌, refl, arith}
-use Rattle.vcd_engine.proofs.CheckLemmas.{are_few, counted_time}
+use Rattle.vcd_engine.proofs.Cited.{◌≡◌, ◌+◌, ◌%◌, ◌^◌, refl, arith}
+use Rattle.vcd_engine.proofs.Facts.{are_few, counted_time}
 use Rattle.vcd_engine.proofs.task_state.check.CheckAheadTaskNoLine.note_time.Goals as goal
 
 pub returns-clause-takes : goal.returns-clause-takes

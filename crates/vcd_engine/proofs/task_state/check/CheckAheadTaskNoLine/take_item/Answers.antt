@@ -1,11 +1,5 @@
-use Rattle.std.proofs.Common.{◌≡◌, ◌+◌, ◌%◌, ◌^◌, [], refl, subst, arith}
-use Rattle.vcd_model.specs.Items.{BodyItem}
-use Rattle.vcd_body.specs.Given.{IsItem}
-use Rattle.vcd_body.specs.Items.{model_section}
-use Rattle.vcd_body.specs.declared.item.Item.{Item}
-use Rattle.vcd_engine.specs.Cut.{IsNoTimestamp}
-use Rattle.vcd_engine.proofs.CheckLemmas.{are_few, counted_begin, counted_end, counted_change}
-use Rattle.vcd_engine.proofs.PieceLemmas.{none_on}
+use Rattle.vcd_engine.proofs.Cited.{◌≡◌, ◌+◌, ◌%◌, ◌^◌, [], refl, subst, arith, BodyItem, IsItem, model_section, Item, IsNoTimestamp}
+use Rattle.vcd_engine.proofs.Facts.{are_few, counted_begin, counted_end, counted_change, none_on}
 use Rattle.vcd_engine.proofs.task_state.check.CheckAheadTaskNoLine.take_item.Goals as goal
 
 pub returns-in-Begin-clause-takes : goal.returns-in-Begin-clause-takes

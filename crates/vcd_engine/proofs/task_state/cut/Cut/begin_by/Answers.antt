@@ -1,4 +1,4 @@
-use Rattle.std.proofs.Common.{◌≡◌, Err, inl, refl, arith, rules}
+use Rattle.vcd_engine.proofs.Cited.{◌≡◌, Err, inl, refl, arith, rules}
 use Rattle.vcd_engine.proofs.task_state.cut.Cut.begin_by.Goals as goal
 
 pub returns-in_err-put_section-clause-begins : goal.returns-in_err-put_section-clause-begins

@@ -1,10 +1,5 @@
-use Rattle.std.proofs.Common.{◌≡◌, [], ◌∷◌, ◌∙◌, sym, subst}
-use Rattle.vcd_model.specs.Cut.{cut_close}
-use Rattle.vcd_model.specs.ItemText.{closing}
-use Rattle.vcd_engine.specs.ItemText.{times_with}
-use Rattle.vcd_text.specs.Device.{Takes}
-use Rattle.vcd_engine.specs.Cut.{kept_from}
-use Rattle.vcd_engine.proofs.CutLemmas.{close_tells, closes_started, closes_unstarted, values_due}
+use Rattle.vcd_engine.proofs.Cited.{◌≡◌, [], ◌∷◌, ◌∙◌, sym, subst, cut_close, closing, times_with, Takes, kept_from}
+use Rattle.vcd_engine.proofs.Facts.{close_tells, closes_started, closes_unstarted, values_due}
 use Rattle.vcd_engine.proofs.task_state.cut.Cut.close.Goals as goal
 
 pub returns-then-not-self-clause-takes : goal.returns-then-not-self-clause-takes

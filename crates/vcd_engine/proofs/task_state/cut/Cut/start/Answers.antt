@@ -1,12 +1,5 @@
-use Rattle.std.proofs.Common.{◌≡◌, ℕ, ◌+◌, ◌<◌, ◌⊎◌, inl, inr, true, false, [], Err, refl, ap, ◌∙◌, arith, rules}
-use Rattle.vcd_model.specs.HeadText.{head_for}
-use Rattle.vcd_model.specs.Cut.{start_section}
-use Rattle.vcd_text.proofs.Writes.{appends-some, appends-twice}
-use Rattle.vcd_model.specs.Outcome.{Request}
-use Rattle.vcd_engine.specs.Engine.{CanRun}
-use Rattle.vcd_body.specs.declared.answer.Stop.TheVariants.{Write}
-use Rattle.vcd_engine.proofs.CutLemmas.{begun_at, open_begun, open_plain, open_some, plain_at, starts_begun, starts_plain, values_none}
-use Rattle.vcd_body.proofs.CurrentLemmas.{new_holds, room_enough}
+use Rattle.vcd_engine.proofs.Cited.{◌≡◌, ℕ, ◌+◌, ◌<◌, ◌⊎◌, inl, inr, true, false, [], Err, refl, ap, ◌∙◌, arith, rules, head_for, start_section, appends-some, appends-twice, Request, CanRun, Write, new_holds, room_enough}
+use Rattle.vcd_engine.proofs.Facts.{begun_at, open_begun, open_plain, open_some, plain_at, starts_begun, starts_plain, values_none}
 use Rattle.vcd_engine.proofs.task_state.cut.Cut.start.Goals as goal
 
 -- nothing has begun, so its time is later

@@ -1,9 +1,5 @@
-use Rattle.std.proofs.Common.{◌≡◌, ℕ, ◌≤◌, ◌<◌, Bool, Result, Ok, Err, true, false, Some, refl, sym, ◌∙◌, subst, arith, rules}
-use Rattle.vcd_model.specs.ItemText.{closing}
-use Rattle.vcd_text.specs.Device.{Takes}
-use Rattle.vcd_text.specs.declared.device.WriteFailed.{WriteFailed}
-use Rattle.vcd_engine.specs.ItemText.{LastTells, times_with}
-use Rattle.vcd_engine.proofs.CutLemmas.{above_is, begun_some, mark_ends, mark_goes, values_due}
+use Rattle.vcd_engine.proofs.Cited.{◌≡◌, ℕ, ◌≤◌, ◌<◌, Bool, Result, Ok, Err, true, false, Some, refl, sym, ◌∙◌, subst, arith, rules, closing, Takes, WriteFailed, LastTells, times_with}
+use Rattle.vcd_engine.proofs.Facts.{above_is, begun_some, mark_ends, mark_goes, values_due}
 use Rattle.vcd_engine.proofs.task_state.cut.Cut.take_time.Goals as goal
 
 pub returns-in_err-begin_by-clause-takes : goal.returns-in_err-begin_by-clause-takes

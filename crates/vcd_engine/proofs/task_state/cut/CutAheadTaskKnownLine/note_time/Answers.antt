@@ -1,4 +1,4 @@
-use Rattle.vcd_engine.proofs.CutLemmas.{mark_within}
+use Rattle.vcd_engine.proofs.Facts.{mark_within}
 use Rattle.vcd_engine.proofs.task_state.cut.CutAheadTaskKnownLine.note_time.Goals as goal
 
 pub returns-clause-takes : goal.returns-clause-takes

@@ -1,12 +1,6 @@
-use Rattle.std.proofs.Common.{◌≡◌, true, false, [], ◌∷◌, subst, sym, ap, ◌∙◌}
-use Rattle.vcd_model.specs.Items.{entry_after}
-use Rattle.vcd_body.specs.Items.{regs_after}
-use Rattle.vcd_body.specs.declared.item.Regs.{Regs}
-use Rattle.vcd_body.proofs.Results.{if_ok_more}
-use Rattle.vcd_engine.specs.ItemText.{LastTells, may_be_kept, times_with}
-use Rattle.vcd_engine.specs.Cut.{kept_from}
-use Rattle.vcd_engine.proofs.CutLemmas.{due_item, none_due, item_kept, item_passed, item_tells, item_time, kept_is}
-use Rattle.vcd_engine.proofs.PieceLemmas.{none_on}
+use Rattle.vcd_engine.proofs.Cited.{◌≡◌, true, false, [], ◌∷◌, subst, sym, ap, ◌∙◌, entry_after, regs_after, Regs, if_ok_more, LastTells, may_be_kept, times_with, kept_from}
+use Rattle.vcd_engine.proofs.Facts.{due_item, item_kept, item_passed, item_tells, item_time, kept_is, none_on}
+use Rattle.vcd_engine.proofs.CutLemmas.{none_due}
 use Rattle.vcd_engine.proofs.task_state.cut.CutAheadTaskKnownLine.take_item.Goals as goal
 
 pub returns-then-not-may_keep-clause-takes : goal.returns-then-not-may_keep-clause-takes

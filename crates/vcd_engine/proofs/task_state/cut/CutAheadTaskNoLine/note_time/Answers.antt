@@ -1,4 +1,4 @@
-use Rattle.vcd_engine.proofs.CutLemmas.{mark_before}
+use Rattle.vcd_engine.proofs.Facts.{mark_before}
 use Rattle.vcd_engine.proofs.task_state.cut.CutAheadTaskNoLine.note_time.Goals as goal
 
 pub returns-clause-takes : goal.returns-clause-takes

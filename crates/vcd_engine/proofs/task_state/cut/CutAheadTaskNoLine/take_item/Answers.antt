@@ -1,8 +1,6 @@
-use Rattle.std.proofs.Common.{[]}
-use Rattle.vcd_engine.proofs.CutLemmas.{item_held, none_before}
-use Rattle.vcd_engine.proofs.PieceLemmas.{none_on}
+use Rattle.vcd_engine.proofs.Cited.{[], off}
+use Rattle.vcd_engine.proofs.Facts.{item_held, none_before, none_on}
 use Rattle.vcd_engine.proofs.task_state.cut.CutAheadTaskNoLine.take_item.Goals as goal
-use Rattle.vcd_body.proofs.OtherBytes.{off}
 
 pub returns-clause-takes : goal.returns-clause-takes
 returns-clause-takes g c = λ h items past x views known re read few is.

@@ -1,7 +1,5 @@
-use Rattle.std.proofs.Common.{List, ℕ, subst}
-use Rattle.vcd_text.specs.Device.{Takes}
-use Rattle.vcd_engine.specs.Edges.{names_counted}
-use Rattle.vcd_engine.proofs.TallyLines.{rows_are}
+use Rattle.vcd_engine.proofs.Cited.{List, ℕ, subst, Takes, names_counted}
+use Rattle.vcd_engine.proofs.Facts.{rows_are}
 use Rattle.vcd_engine.proofs.task_state.edges.Edges.close.Goals as goal
 
 pub returns-clause-takes : goal.returns-clause-takes

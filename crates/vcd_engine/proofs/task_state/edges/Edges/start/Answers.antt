@@ -1,7 +1,5 @@
-use Rattle.std.proofs.Common.{refl}
-use Rattle.vcd_text.proofs.Writes.{appends-none}
-use Rattle.vcd_engine.proofs.TallyLemmas.{new_tallied}
-use Rattle.vcd_body.proofs.CurrentLemmas.{room_enough}
+use Rattle.vcd_engine.proofs.Cited.{refl, appends-none, room_enough}
+use Rattle.vcd_engine.proofs.Facts.{new_tallied}
 use Rattle.vcd_engine.proofs.task_state.edges.Edges.start.Goals as goal
 
 pub returns-clause-starts : goal.returns-clause-starts

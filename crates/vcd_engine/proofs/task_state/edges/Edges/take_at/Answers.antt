@@ -1,12 +1,6 @@
-use Rattle.std.specs.Prelude.{get_or}
-use Rattle.std.proofs.Common.{◌≡◌, List, Some, ap, false, refl, sym, ◌∙◌, slice_get}
-use Rattle.std.proofs.lemmas.Option.{slice_get-get_or, slice_get_within}
+use Rattle.vcd_engine.proofs.Cited.{get_or, ◌≡◌, List, Some, ap, false, refl, sym, ◌∙◌, slice_get, slice_get-get_or, slice_get_within, Code, IsText, model_form, good_text}
+use Rattle.vcd_engine.proofs.Facts.{shown_there}
 use Rattle.vcd_model.specs.Items.{Change}
-use Rattle.vcd_view.specs.declared.view.Code.{Code}
-use Rattle.vcd_body.specs.Given.{IsText}
-use Rattle.vcd_body.specs.Items.{model_form}
-use Rattle.vcd_engine.proofs.TallyLemmas.{shown_there}
-use Rattle.vcd_body.proofs.CurrentLemmas.{good_text}
 use Rattle.vcd_engine.proofs.task_state.edges.Edges.take_at.Goals as goal
 
 -- what is read if there is no code

@@ -1,6 +1,5 @@
-use Rattle.std.proofs.Common.{refl}
-use Rattle.vcd_model.specs.Items.{BodyItem}
-use Rattle.vcd_engine.proofs.TallyLemmas.{still_tallied}
+use Rattle.vcd_engine.proofs.Cited.{refl, BodyItem}
+use Rattle.vcd_engine.proofs.Facts.{still_tallied}
 use Rattle.vcd_engine.proofs.task_state.edges.EdgesAheadTaskNoLine.note_time.Goals as goal
 
 pub returns-clause-takes : goal.returns-clause-takes

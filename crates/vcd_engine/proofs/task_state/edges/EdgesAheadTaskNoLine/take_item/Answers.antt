@@ -1,16 +1,5 @@
-use Rattle.std.proofs.Common.{◌≡◌, [], ◌∷◌, ◌++◌, Some, is_some, refl, sym, ap, subst, ◌∙◌, slice_get}
-use Rattle.vcd_model.specs.Items.{BodyItem, leaves_open}
-use Rattle.vcd_view.specs.declared.view.Code.{Code}
-use Rattle.vcd_body.specs.Ahead.{HasBits, IsSizedItem}
-use Rattle.vcd_body.specs.Given.{HasGoodText, IsItem, IsText}
-use Rattle.vcd_body.specs.Items.{regs_after}
-use Rattle.vcd_body.specs.declared.item.Item.{Item}
-use Rattle.vcd_body.specs.declared.item.Regs.{Regs}
-use Rattle.vcd_engine.specs.Edges.{AreEdges, AreTallied}
-use Rattle.vcd_engine.proofs.ItemTextLemmas.{section_is}
-use Rattle.vcd_engine.proofs.PieceLemmas.{none_on}
-use Rattle.vcd_engine.proofs.TallyLemmas.{sized_there, still_tallied}
-use Rattle.vcd_body.proofs.CurrentLemmas.{good_text, other_gives}
+use Rattle.vcd_engine.proofs.Cited.{◌≡◌, [], ◌∷◌, ◌++◌, Some, is_some, refl, sym, ap, subst, ◌∙◌, slice_get, BodyItem, leaves_open, Code, HasBits, IsSizedItem, HasGoodText, IsItem, IsText, regs_after, Item, Regs, AreEdges, AreTallied, good_text, other_gives}
+use Rattle.vcd_engine.proofs.Facts.{section_is, none_on, sized_there, still_tallied}
 use Rattle.vcd_engine.proofs.task_state.edges.EdgesAheadTaskNoLine.take_item.Goals as goal
 
 pub returns-in_default-clause-takes : goal.returns-in_default-clause-takes

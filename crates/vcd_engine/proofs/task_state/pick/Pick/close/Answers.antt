@@ -1,7 +1,6 @@
-use Rattle.std.proofs.Common.{[], ◌∙◌, sym, subst}
-use Rattle.vcd_text.specs.Device.{Takes}
-use Rattle.vcd_engine.specs.Pick.{names_in}
-use Rattle.vcd_engine.proofs.PickLemmas.{closes, last_tells, last_time}
+use Rattle.vcd_engine.proofs.Cited.{[], ◌∙◌, sym, subst, Takes, names_in}
+use Rattle.vcd_engine.proofs.Facts.{last_tells, last_time}
+use Rattle.vcd_engine.proofs.PickLemmas.{closes}
 use Rattle.vcd_engine.proofs.task_state.pick.Pick.close.Goals as goal
 
 pub returns-clause-takes : goal.returns-clause-takes

@@ -1,10 +1,5 @@
-use Rattle.std.proofs.Common.{◌≡◌, map, string_bytes, Err, refl, sym, subst, rules}
-use Rattle.std.specs.Io.KnownBytes.{Appends}
-use Rattle.vcd_model.specs.Outcome.{Request}
-use Rattle.vcd_model.proofs.KeptLines.{pick_open_none}
-use Rattle.vcd_text.proofs.Writes.{AppendsSome}
-use Rattle.vcd_body.specs.declared.answer.Stop.TheVariants.{Write}
-use Rattle.vcd_engine.proofs.EngineLemmas.{stops_unmatched}
+use Rattle.vcd_engine.proofs.Cited.{◌≡◌, map, string_bytes, Err, refl, sym, subst, rules, Appends, Request, pick_open_none, AppendsSome, Write}
+use Rattle.vcd_engine.proofs.Facts.{stops_unmatched}
 use Rattle.vcd_engine.proofs.task_state.pick.Pick.start.Goals as goal
 
 pub returns-in_err-select_codes-clause-starts : goal.returns-in_err-select_codes-clause-starts

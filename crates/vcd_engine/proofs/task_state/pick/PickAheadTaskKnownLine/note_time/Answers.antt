@@ -1,7 +1,5 @@
-use Rattle.std.proofs.Common.{refl}
-use Rattle.vcd_model.specs.Items.{BodyItem}
-use Rattle.vcd_engine.specs.Pick.{names_in}
-use Rattle.vcd_engine.proofs.PickLemmas.{none_due, picks_still}
+use Rattle.vcd_engine.proofs.Cited.{refl, BodyItem, names_in}
+use Rattle.vcd_engine.proofs.Facts.{none_due, picks_still}
 use Rattle.vcd_engine.proofs.task_state.pick.PickAheadTaskKnownLine.note_time.Goals as goal
 
 pub returns-clause-takes : goal.returns-clause-takes

@@ -1,12 +1,6 @@
-use Rattle.std.proofs.Common.{◌≡◌, true, false, [], sym, ap, ◌∙◌}
-use Rattle.vcd_model.specs.Items.{entry_after}
-use Rattle.vcd_model.specs.Pick.{pick_kept}
-use Rattle.vcd_body.specs.Items.{regs_after}
-use Rattle.vcd_body.specs.declared.item.Regs.{Regs}
-use Rattle.vcd_body.proofs.Results.{if_ok_more}
-use Rattle.vcd_engine.specs.Pick.{is_kept, names_in}
-use Rattle.vcd_engine.proofs.PickLemmas.{kept_is, kept_time, due_one, none_due, last_tells, picks_on, picks_still}
-use Rattle.vcd_engine.proofs.PieceLemmas.{none_on}
+use Rattle.vcd_engine.proofs.Cited.{◌≡◌, true, false, [], sym, ap, ◌∙◌, entry_after, pick_kept, regs_after, Regs, if_ok_more, is_kept, names_in}
+use Rattle.vcd_engine.proofs.Facts.{kept_time, due_one, none_due, last_tells, picks_on, picks_still, none_on}
+use Rattle.vcd_engine.proofs.PickLemmas.{kept_is}
 use Rattle.vcd_engine.proofs.task_state.pick.PickAheadTaskKnownLine.take_item.Goals as goal
 
 pub returns-then-not-keeps-clause-takes : goal.returns-then-not-keeps-clause-takes

@@ -1,7 +1,6 @@
-use Rattle.std.proofs.Common.{sym, subst}
-use Rattle.vcd_text.specs.Device.{Takes}
+use Rattle.vcd_engine.proofs.Cited.{sym, subst, Takes}
+use Rattle.vcd_engine.proofs.Facts.{closes}
 use Rattle.vcd_engine.specs.Sample.{names_in}
-use Rattle.vcd_engine.proofs.SampleLemmas.{closes}
 use Rattle.vcd_engine.proofs.task_state.sample.Sample.close.Goals as goal
 
 pub returns-clause-takes : goal.returns-clause-takes

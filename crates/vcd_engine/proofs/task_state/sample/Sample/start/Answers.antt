@@ -1,6 +1,4 @@
-use Rattle.std.proofs.Common.{[], length, map, string_bytes, refl}
-use Rattle.vcd_model.proofs.SampleSteps.{none_settled}
-use Rattle.vcd_body.proofs.CurrentLemmas.{new_holds, room_enough}
+use Rattle.vcd_engine.proofs.Cited.{[], length, map, string_bytes, refl, none_settled, new_holds, room_enough}
 use Rattle.vcd_engine.proofs.task_state.sample.Sample.start.Goals as goal
 
 pub returns-clause-starts : goal.returns-clause-starts

@@ -1,9 +1,6 @@
-use Rattle.std.proofs.Common.{◌≡◌, Ok, Err, false, take, drop, sym, ap, subst, ◌∙◌, arith, rules}
-use Rattle.std.specs.List.{AllByRecursion}
-use Rattle.vcd_model.specs.Sample.{is_settled}
-use Rattle.vcd_text.specs.declared.device.WriteFailed.{WriteFailed}
+use Rattle.vcd_engine.proofs.Cited.{◌≡◌, Ok, Err, false, take, drop, sym, ap, subst, ◌∙◌, arith, rules, AllByRecursion, is_settled, WriteFailed}
+use Rattle.vcd_engine.proofs.Facts.{due_unsettled, ends_is, place_within, samples_behind, some_left, takes_due}
 use Rattle.vcd_engine.specs.Sample.{names_in}
-use Rattle.vcd_engine.proofs.SampleLemmas.{due_unsettled, ends_is, place_within, samples_behind, some_left, takes_due}
 use Rattle.vcd_engine.proofs.task_state.sample.Sample.take_time.Goals as goal
 
 pub split_at-requires : goal.split_at-requires

@@ -1,4 +1,4 @@
-use Rattle.vcd_engine.proofs.SampleLemmas.{quiet_mark}
+use Rattle.vcd_engine.proofs.Facts.{quiet_mark}
 use Rattle.vcd_engine.proofs.task_state.sample.SampleAheadTaskNoLine.note_time.Goals as goal
 
 pub returns-clause-takes : goal.returns-clause-takes

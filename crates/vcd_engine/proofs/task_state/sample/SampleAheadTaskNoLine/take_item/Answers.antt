@@ -1,6 +1,5 @@
-use Rattle.std.proofs.Common.{[]}
-use Rattle.vcd_engine.proofs.PieceLemmas.{none_on}
-use Rattle.vcd_engine.proofs.SampleLemmas.{quiet_item}
+use Rattle.vcd_engine.proofs.Cited.{[]}
+use Rattle.vcd_engine.proofs.Facts.{none_on, quiet_item}
 use Rattle.vcd_engine.proofs.task_state.sample.SampleAheadTaskNoLine.take_item.Goals as goal
 
 pub returns-clause-takes : goal.returns-clause-takes

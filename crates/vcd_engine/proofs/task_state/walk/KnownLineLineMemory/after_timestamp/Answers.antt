@@ -1,4 +1,4 @@
-use Rattle.std.proofs.Common.{◌+◌, ◌-◌, ◌≤◌, arith, refl}
+use Rattle.vcd_engine.proofs.Cited.{◌+◌, ◌-◌, ◌≤◌, arith, refl}
 use Rattle.vcd_engine.proofs.task_state.walk.KnownLineLineMemory.after_timestamp.Goals as goal
 
 pub returns-then-is_timestamp_line : goal.returns-then-is_timestamp_line

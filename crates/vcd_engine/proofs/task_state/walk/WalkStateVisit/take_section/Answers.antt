@@ -1,14 +1,5 @@
-use Rattle.std.proofs.Common.{◌≡◌, List, ℕ, [], ◌∷◌, ◌++◌, ap, sym, subst, ◌∙◌, refl}
-use Rattle.std.specs.Prelude.{IfOk}
-use Rattle.vcd_model.specs.Outcome.{open_text}
-use Rattle.vcd_body.specs.Device.{DueBy}
-use Rattle.vcd_body.specs.declared.item.Regs.{Regs}
-use Rattle.vcd_body.proofs.Results.{if_ok_more}
-use Rattle.vcd_body.proofs.SectionLemmas.{section_time}
-use Rattle.vcd_engine.specs.Engine.{request_in}
-use Rattle.vcd_engine.specs.PendingCopy.{IsPart, PutsOn, pending_in}
-use Rattle.vcd_engine.proofs.NextLemmas.{goes_on_item}
-use Rattle.vcd_engine.proofs.PieceLemmas.{next_line_is, no_timestamp_at, section_next}
+use Rattle.vcd_engine.proofs.Cited.{◌≡◌, List, ℕ, [], ◌∷◌, ◌++◌, ap, sym, subst, ◌∙◌, refl, IfOk, open_text, DueBy, Regs, if_ok_more, section_time, request_in, IsPart, PutsOn, pending_in}
+use Rattle.vcd_engine.proofs.Facts.{goes_on_item, next_line_is, no_timestamp_at, section_next}
 use Rattle.vcd_engine.proofs.task_state.walk.WalkStateVisit.take_section.Goals as goal
 
 pub take_item-requires-clause-next : goal.take_item-requires-clause-next

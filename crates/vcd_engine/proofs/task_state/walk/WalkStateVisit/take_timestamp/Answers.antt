@@ -1,12 +1,5 @@
-use Rattle.std.proofs.Common.{◌≡◌, ◌∙◌, ap, refl, subst, sym}
-use Rattle.vcd_model.specs.Items.{BodyItem}
-use Rattle.vcd_body.specs.Given.{IsItem}
-use Rattle.vcd_body.specs.Items.{regs_after}
-use Rattle.vcd_body.specs.Spelled.{IsSpelledAs}
-use Rattle.vcd_body.specs.declared.item.Item.{Item}
-use Rattle.vcd_engine.specs.PendingCopy.{IsPart}
-use Rattle.vcd_engine.proofs.NextLemmas.{more_quietly}
-use Rattle.vcd_engine.proofs.PieceLemmas.{next_line_is}
+use Rattle.vcd_engine.proofs.Cited.{◌≡◌, ◌∙◌, ap, refl, subst, sym, BodyItem, IsItem, regs_after, IsSpelledAs, Item, IsPart}
+use Rattle.vcd_engine.proofs.Facts.{more_quietly, next_line_is}
 use Rattle.vcd_engine.proofs.task_state.walk.WalkStateVisit.take_timestamp.Goals as goal
 
 pub after_timestamp-self-requires : goal.after_timestamp-self-requires

@@ -1,0 +1,1 @@
+-- The lemmas of this crate that its answers cite, under one path.
