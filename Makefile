@@ -64,18 +64,18 @@ all: vcdkit vcdkit-compare
 # prove.py starts a new log and shows the progress. If nothing changed, the program is only run.
 vcdkit: toolchain
 	@rm -f make.log
-	packaging/prove.py vcdkit_main run $(addprefix --cpu=,$(CPU)) -- check < $(sample)
+	tools/prove.py vcdkit_main run $(addprefix --cpu=,$(CPU)) -- check < $(sample)
 	cp crates/vcdkit_main/out/vcdkit_main $@
 
 # It comes after vcdkit, so that no crate is proved twice.
 vcdkit-compare: vcdkit
-	packaging/prove.py vcdkit_compare_main run $(addprefix --cpu=,$(CPU)) -- count0=lowest \
+	tools/prove.py vcdkit_compare_main run $(addprefix --cpu=,$(CPU)) -- count0=lowest \
 	    < $(sample)
 	cp crates/vcdkit_compare_main/out/vcdkit_compare_main $@
 
 trial: toolchain
-	packaging/unproved.py
-	packaging/unproved.py . vcdkit_compare_main
+	tools/unproved.py
+	tools/unproved.py . vcdkit_compare_main
 
 test: toolchain
 	.ci/run
@@ -94,9 +94,9 @@ hostile: vcdkit vcdkit-compare
 
 # It uses the ./vcdkit that is there, and builds nothing.
 docs-check:
-	docs/check.py
-	test ! -d crates || docs/check.py docs/PROOFS.md
-	packaging/links.py .
+	tools/check.py
+	test ! -d crates || tools/check.py docs/PROOFS.md
+	tools/links.py .
 
 # These two link and pack what `make` built. They prove nothing.
 static: sources
@@ -108,7 +108,7 @@ dist: static
 
 # A static library for C, which is proved like the program, and a shared one of the same code.
 library: toolchain
-	packaging/prove.py vcdkit_c lib
+	tools/prove.py vcdkit_c lib
 	PREFIX="$(PREFIX)" packaging/library.sh crates/vcdkit_c/out/libvcdkit_c.a .
 
 dist-check:

@@ -1,6 +1,6 @@
 """Small dumps, each with a command. Together they use every part of the programs."""
-import comparison
-import evaluator
+from reference import comparison
+from reference import evaluator
 
 A = (b"$timescale 1ns $end\n$scope module tb $end\n$var wire 1 ! clk $end\n"
      b"$var reg 4 \" q [3:0] $end\n$upscope $end\n$enddefinitions $end\n")

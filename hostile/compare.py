@@ -25,13 +25,13 @@ from concurrent.futures import ProcessPoolExecutor
 from functools import partial
 
 import compared_rows
-import evaluator
+from reference import evaluator
 import hostile
 import machine
 import random_pairs
 import streams
 from cases import COMPARISONS, Comparison
-from comparison import ALWAYS, EACH_PAIR, FIRST, Asked
+from reference.comparison import ALWAYS, EACH_PAIR, FIRST, Asked
 from random_pairs import Trials, law
 from trials import Program, compare, outcome_of
 

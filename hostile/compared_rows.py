@@ -6,8 +6,8 @@ from the definitions (CompareRows.antt and WithinRows.antt of vcd_laws). It read
 stands there, with the names that the file defines."""
 import os, re, sys
 
-import comparison
-import evaluator
+from reference import comparison
+from reference import evaluator
 
 TOP = os.path.join(os.path.dirname(os.path.abspath(__file__)), "..")
 FILES = [os.path.join(TOP, "crates", "vcd_laws", "proofs", name)

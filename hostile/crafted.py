@@ -7,7 +7,7 @@ memory."""
 import os, random, subprocess, sys, tempfile
 from concurrent.futures import ProcessPoolExecutor
 
-import evaluator
+from reference import evaluator
 
 CHUNK = 65_536
 SHARES = 16

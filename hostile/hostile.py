@@ -27,7 +27,7 @@ import os, select, subprocess, sys, tempfile, time
 from concurrent.futures import ThreadPoolExecutor
 from itertools import zip_longest
 
-import evaluator
+from reference import evaluator
 from cases import CASES, COMPARISONS, LARGE, LARGE_COMPARISONS
 
 LITTLE = [1, 2, 3, 5, 7]

@@ -7,7 +7,7 @@ and compares them with those that the evaluator reads."""
 import argparse, ctypes, os, random, subprocess, sys, tempfile
 from concurrent.futures import ThreadPoolExecutor
 
-import evaluator
+from reference import evaluator
 from random_runs import COMMANDS, case
 
 LIMIT = 65_536

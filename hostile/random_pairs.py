@@ -7,10 +7,10 @@ be those that the definition of two dumps gives, up to the end of the shorter on
 import argparse, os, subprocess, sys, tempfile
 from concurrent.futures import ProcessPoolExecutor
 
-import comparison
-import evaluator
+from reference import comparison
+from reference import evaluator
 from cases import Comparison
-from comparison import ALWAYS, EACH_PAIR, FIRST, Asked
+from reference.comparison import ALWAYS, EACH_PAIR, FIRST, Asked
 from pairs import Pairs
 
 LAST = 2**64 - 1

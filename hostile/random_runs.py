@@ -8,7 +8,7 @@ import argparse, os, random, subprocess, sys, tempfile
 from concurrent.futures import ThreadPoolExecutor
 
 from dumps import Dumps
-import evaluator
+from reference import evaluator
 
 COMMANDS = ["check", "list", "pick", "cut", "sample", "edges", "merge"]
 

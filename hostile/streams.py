@@ -22,7 +22,7 @@ from contextlib import contextmanager
 from functools import partial
 from itertools import combinations, product
 
-import evaluator
+from reference import evaluator
 from cases import A, CASES, CLOCK, ON_A, ON_B, ON_D, Case
 from hostile import wanted
 from trials import MEMORY, TOP, Program, compare, outcome_of

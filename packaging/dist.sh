@@ -52,9 +52,9 @@ licences() {
 name=vcdkit-$version-x86_64-linux
 mkdir "$folder/$name"
 cp -r Makefile man completions samples extras packaging python "$folder/$name"
-mkdir "$folder/$name/docs" "$folder/$name/hostile"
-cp docs/check.py "$folder/$name/docs"
-cp hostile/{evaluator,comparison}.py "$folder/$name/hostile"
+mkdir "$folder/$name"/{hostile,tools}
+cp tools/{check,links}.py "$folder/$name/tools"
+cp -r hostile/reference "$folder/$name/hostile"
 packaging/pages.sh "$folder/$name"
 find "$folder/$name" -name __pycache__ -exec rm -rf {} +
 install -m 755 "$program" "$folder/$name/vcdkit"

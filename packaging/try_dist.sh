@@ -46,10 +46,10 @@ tries 'a script of the tarball uses the program above it' without_kit bash -c \
     'cd / && "$1/extras/vcdkit-find" "$1/samples/counter.vcd" | grep -q count0' - "$unpacked"
 tries 'make says what to do' bash -c '! make static > "$1" 2>&1 && grep -q "make install" "$1"' - \
     "$folder/static"
-tries 'links of the pages' without_kit packaging/links.py .
+tries 'links of the pages' without_kit tools/links.py .
 tries 'make install' without_kit make -s install DESTDIR="$folder/local"
 tries 'links of the installed pages' \
-    without_kit packaging/links.py "$folder/local/usr/local/share/doc/vcdkit"
+    without_kit tools/links.py "$folder/local/usr/local/share/doc/vcdkit"
 tries 'make uninstall' without_kit make -s uninstall DESTDIR="$folder/local"
 tries 'uninstall leaves no file' bash -c '! find "$1" ! -type d | grep .' - "$folder/local"
 
@@ -87,7 +87,7 @@ if [[ -n $package ]]; then
             tries "lintian on ${one##*/}" \
                 bash -c '! lintian "$1" | grep -E "^E: |manual-page"' - "$one"
     done
-    tries 'links of its pages' without_kit packaging/links.py "$folder/deb/usr/share/doc/vcdkit"
+    tries 'links of its pages' without_kit tools/links.py "$folder/deb/usr/share/doc/vcdkit"
     for page in "$folder"/deb/usr/share/man/man1/*; do
         tries "${page##*/}" bash -c 'gzip -dc "$1" | groff -man -ww -z 2>&1 | { ! grep .; }' - \
             "$page"

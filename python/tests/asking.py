@@ -16,7 +16,7 @@ sys.path[:0] = [HERE, os.path.dirname(HERE), os.path.join(TOP, "hostile")]
 os.environ.setdefault("VCDKIT", os.path.join(TOP, "vcdkit"))
 
 import answers as by_definition
-import evaluator  # type: ignore[import]
+from reference import evaluator  # type: ignore[import]
 from answers import Change, Part, Tree, Variable
 from vcdkit import Dump, DumpFault, Value, VcdkitError
 from vcdkit.questions import condition, dump

@@ -4,7 +4,7 @@ answers.py, answers_of_jobs.py and answers_of_pictures.py, which define the answ
 
 The bodies are all of up to four lines of an alphabet, over each of some declarations; nothing comes
 after a fault. Each question has a grid of options: windows that begin before, at, between and after
-the timestamps, a time twice, both edges, names with a range and without. hostile/evaluator.py plays
+the timestamps, a time twice, both edges, names with a range and without. hostile/reference plays
 the program's part in this process. Every hundredth question is asked again over the program that
 VCDKIT names, and over the library if VCDKIT_LIBRARY names one.
 

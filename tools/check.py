@@ -71,7 +71,7 @@ def printed_by(command, folder):
 def main(documents):
     for name in ("vcdkit", "vcdkit-compare"):
         if not os.access(os.path.join(TOP, name), os.X_OK):
-            print("docs/check.py: there is no ./%s: run make" % name, file=sys.stderr)
+            print("tools/check.py: there is no ./%s: run make" % name, file=sys.stderr)
             return 2
     run, differ, missing = 0, 0, set()
     for document in documents or DOCUMENTS:

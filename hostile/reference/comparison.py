@@ -5,7 +5,7 @@ lists, and shares nothing with the program.
 within(asked, names, name, text) is the outcome of two parts of one dump, and
 compared(asked, names, texts) that of two dumps: output, message and status. A text is the bytes of
 an input, and its name is for messages."""
-from evaluator import (MOST_DECLARATIONS, Fault, Tokens, marks, placed, read_head, read_items,
+from .evaluator import (MOST_DECLARATIONS, Fault, Tokens, marks, placed, read_head, read_items,
                        read_items_of, scale_text, selects, told, value_of)
 
 FIRST, EACH_PAIR, ALWAYS = "first", "each pair", "always"
