@@ -1,6 +1,6 @@
 -- Binary digits as a number.
 use Rattle.vcd_body.proofs.Cited.{◌≡◌, ℕ, zero, suc, ◌+◌, ◌-◌, ◌/◌, ◌%◌, ◌^◌, ◌<◌, ◌≤◌, ◌==◌, ◌&&◌, nat_lt, Bool, true, false, cond, length, slice_get, Some, None, refl, ap, ◌∙◌, arith, binary_digits, count_in, is_proper, number_in, some_by}
-use Rattle.vcd_body.specs.declared.slot.State.TheVariants as state
+use Rattle.vcd_body.specs.declared.values.slot.State.TheVariants as state
 
 pub length_binary : (l n : ℕ) → length (binary_digits l n) ≡ l
 length_binary zero n = refl

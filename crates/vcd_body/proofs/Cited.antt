@@ -55,10 +55,10 @@ pub use Rattle.vcd_body.specs.Values.{form_in, with_value, with_value_change}
 pub use Rattle.vcd_body.specs.Walk.{Further, HasCome, Past, Stage, TakesOne, Trail, Walks, as_done, stage_at}
 pub use Rattle.vcd_body.specs.Whole.{AreWhole, HoldsItem, IsAlone}
 pub use Rattle.vcd_body.specs.Words.{Begins, BeginsOther, InClear, IsScalar, StandsFor, command_is, is_comment, is_either, is_of_header}
-pub use Rattle.vcd_body.specs.contracts.slot.State.{the_type}
+pub use Rattle.vcd_body.specs.contracts.values.slot.State.{the_type}
 pub use Rattle.vcd_body.specs.declared.ahead.Opening.{Opening}
 pub use Rattle.vcd_body.specs.declared.ahead.ScannedItem.{ScannedItem}
-pub use Rattle.vcd_body.specs.declared.bits.Bits.{Bits}
+pub use Rattle.vcd_body.specs.declared.values.bits.Bits.{Bits}
 pub use Rattle.vcd_body.specs.declared.fault.BodyFault.{BodyFault}
 pub use Rattle.vcd_body.specs.declared.item.Form.{Form}
 pub use Rattle.vcd_body.specs.declared.item.Form.TheVariants.{RealText, Vector}
@@ -66,14 +66,14 @@ pub use Rattle.vcd_body.specs.declared.item.Item.{Item}
 pub use Rattle.vcd_body.specs.declared.item.Item.TheVariants.{Begin, Change, End, Finish, Time}
 pub use Rattle.vcd_body.specs.declared.item.Regs.{Regs}
 pub use Rattle.vcd_body.specs.declared.item.Section.{Section}
-pub use Rattle.vcd_body.specs.declared.packed.TheConstants.{TWO_BITS}
-pub use Rattle.vcd_body.specs.declared.slot.Holding.{Holding}
-pub use Rattle.vcd_body.specs.declared.slot.Share.{Share}
-pub use Rattle.vcd_body.specs.declared.slot.Slot.{Slot}
-pub use Rattle.vcd_body.specs.declared.slot.State.{State}
-pub use Rattle.vcd_body.specs.declared.slot.TheConstants.{NUMBERS}
-pub use Rattle.vcd_body.specs.declared.step.Step.{Step}
-pub use Rattle.vcd_body.specs.declared.table.Table.{Table}
+pub use Rattle.vcd_body.specs.declared.values.packed.TheConstants.{TWO_BITS}
+pub use Rattle.vcd_body.specs.declared.values.slot.Holding.{Holding}
+pub use Rattle.vcd_body.specs.declared.values.slot.Share.{Share}
+pub use Rattle.vcd_body.specs.declared.values.slot.Slot.{Slot}
+pub use Rattle.vcd_body.specs.declared.values.slot.State.{State}
+pub use Rattle.vcd_body.specs.declared.values.slot.TheConstants.{NUMBERS}
+pub use Rattle.vcd_body.specs.declared.values.step.Step.{Step}
+pub use Rattle.vcd_body.specs.declared.values.table.Table.{Table}
 pub use Rattle.vcd_body.specs.declared.words.PhraseKind.{PhraseKind}
 pub use Rattle.vcd_body.specs.declared.words.PhraseKind.TheVariants.{Bit, Other, Real, Scalar, Timestamp}
 pub use Rattle.vcd_model.proofs.BodyGrammar.{any_of, start_of-digit, start_of-digits, start_of-keyword, start_of-mark, start_of-number}

@@ -1,6 +1,6 @@
 -- Digits that extend to one value, or to several.
 use Rattle.vcd_body.proofs.Cited.{◌≡◌, ◌≢◌, ℕ, zero, suc, ◌+◌, ◌-◌, max, ◌≤◌, ◌<◌, Bool, true, false, not, List, [], ◌∷◌, ◌++◌, length, replicate, drop, get_or, Option, Some, None, slice_get, refl, sym, ap, subst, ◌∙◌, arith, ◌⊎◌, inl, inr, Decides, last_or, to_ascii_lowercase, bytes_eq, str_to_ascii_lowercase, cases_lt, same_from_decides, length-append, length-replicate, bytes_eq-Decides, Value, extend, extension, last_digit_in, value_at_size, binary_digits, count_in, number_in, digits_in, held_by, one_digit, some_by, State}
-use Rattle.vcd_body.specs.declared.slot.State.TheVariants as state
+use Rattle.vcd_body.specs.declared.values.slot.State.TheVariants as state
 use Rattle.vcd_body.proofs.BinaryLemmas.{length_binary}
 use Rattle.vcd_body.proofs.HeldLemmas.{digit_behind}
 use Rattle.vcd_body.proofs.PackedLemmas.{length_digits}

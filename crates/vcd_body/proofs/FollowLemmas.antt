@@ -1,9 +1,9 @@
 -- What a table keeps of a code whose value was set and whose step was counted.
 use Rattle.vcd_body.proofs.Cited.{◌≡◌, ◌≢◌, ◌⊎◌, inl, inr, ℕ, ◌+◌, ◌<◌, ◌≤◌, ◌==◌, ◌||◌, ◌%◌, ◌^◌, max, not, Bool, true, false, cond, List, [], ◌∷◌, length, map, take, drop, slice_get, Option, Some, None, refl, subst, sym, ap, ◌∙◌, arith, option_map, unwrap_or, to_ascii_lowercase, option_eq, agree_below_at, eq-eqb, eqb-true, lt-ltb, ne_eqb, nat_tests, Value, value_with, Code, ChangesCode, GivesValue, IsLaidOut, KeepsTable, SetsCode, held_at, kept_at, IsText, binary_digits, count_in, is_proper, number_in, model_form, Held, IsStep, Kept, differs, fits, goes_from, last_digit_in, value_at_size, with_change, with_counted, with_held, with_number, with_number_change, with_step, with_text, held_digit, AreLaidOut, ChangesAt, Whole, end_at, held_by, held_of, kept_in, kept_with, len_in, number_of, one_digit, share_of, some_by, state_in, used_by, whole, Form, Share, Slot, State, Step, Table, form_in, with_value, with_value_change}
 use Rattle.vcd_body.specs.declared.item.Form.TheVariants as form
-use Rattle.vcd_body.specs.declared.slot.State.TheVariants as state
-use Rattle.vcd_body.specs.declared.value.Value.{Value as Given}
-use Rattle.vcd_body.specs.declared.value.Value.TheVariants as given
+use Rattle.vcd_body.specs.declared.values.slot.State.TheVariants as state
+use Rattle.vcd_body.specs.declared.values.value.Value.{Value as Given}
+use Rattle.vcd_body.specs.declared.values.value.Value.TheVariants as given
 use Rattle.vcd_body.specs.Values.{text_in}
 use Rattle.vcd_body.proofs.BinaryLemmas.{length_binary, proper, proper_count}
 use Rattle.vcd_body.proofs.NumberLemmas.{number_is_text, number_step, proper_number}

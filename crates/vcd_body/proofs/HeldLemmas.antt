@@ -1,6 +1,6 @@
 -- The value that a slot holds, digit by digit.
 use Rattle.vcd_body.proofs.Cited.{◌≡◌, ℕ, zero, suc, ◌-◌, ◌<◌, ◌≤◌, List, [], ◌∷◌, ◌++◌, length, replicate, slice_get, Some, None, refl, sym, ap, ◌∙◌, arith, extend, extension, Held, digit_in, value_at_size, binary_digits, count_in, number_in, digits_in, digits_held, held_by, some_by, State}
-use Rattle.vcd_body.specs.declared.slot.State.TheVariants as state
+use Rattle.vcd_body.specs.declared.values.slot.State.TheVariants as state
 use Rattle.vcd_body.proofs.BinaryLemmas.{some_binary}
 use Rattle.vcd_body.proofs.PackedLemmas.{length_digits}
 

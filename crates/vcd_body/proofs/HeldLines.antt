@@ -1,6 +1,6 @@
 -- The text of a value, by the digits that are held.
 use Rattle.vcd_body.proofs.Cited.{◌≡◌, ◌≢◌, ℕ, ◌<◌, ◌≤◌, ◌==◌, Bool, true, false, List, [], ◌∷◌, length, refl, sym, ap, ◌∙◌, append_assoc, arith, eqb-true, line_if_set, shown, extend, short, Held, value_at_size, digits_held, held_by, held_line, some_by, State}
-use Rattle.vcd_body.specs.declared.slot.State.TheVariants as state
+use Rattle.vcd_body.specs.declared.values.slot.State.TheVariants as state
 use Rattle.vcd_body.proofs.BinaryLemmas.{some_binary}
 use Rattle.vcd_body.proofs.PackedLemmas.{length_digits}
 use Rattle.vcd_body.proofs.Shortest.{extend_wide}

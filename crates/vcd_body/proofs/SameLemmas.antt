@@ -1,6 +1,6 @@
 -- What the slots of two codes tell of their values.
 use Rattle.vcd_body.proofs.Cited.{◌≡◌, ◌≢◌, ℕ, zero, suc, ◌+◌, ◌-◌, ◌*◌, ◌/◌, ◌%◌, ◌<◌, ◌≤◌, ◌==◌, max, min, cond, true, List, take, drop, slice_get, Option, Some, None, refl, sym, ap, subst, ◌∙◌, arith, Decides, eq-eqb, eqb-true, le-leb, bytes_eq-Decides, Value, extend, binary_digits, count_in, is_proper, number_in, IsLaidOut, held_at, Held, last_digit_in, value_at_size, held_by, holding_of, len_in, one_digit, some_by, state_in, used, Slot, State, Table}
-use Rattle.vcd_body.specs.declared.slot.State.TheVariants as state
+use Rattle.vcd_body.specs.declared.values.slot.State.TheVariants as state
 use Rattle.vcd_body.proofs.BinaryLemmas.{proper, proper_count}
 use Rattle.vcd_body.proofs.CompareLemmas.{last_of_state}
 use Rattle.vcd_body.proofs.NumberLemmas.{numbers_differ, proper_number}

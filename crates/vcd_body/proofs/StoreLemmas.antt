@@ -3,7 +3,7 @@
 use Rattle.vcd_body.proofs.Cited.{◌≡◌, ◌≢◌, ℕ, zero, suc, ◌+◌, ◌-◌, ◌*◌, ◌/◌, ◌%◌, ◌<◌, ◌≤◌, ◌==◌, nat_lt, nat_le, Bool, true, false, cond, List, [], ◌∷◌, length, take, drop, map, slice_get, slice_set, Option, Some, None, refl, sym, subst, ap, ◌∙◌, arith, ◌⊎◌, inl, inr, get_or, option_and_then, option_map, and_right, cases_lt, eq-eqb, ne_eqb, le-leb, lt-leb, lt-ltb, drop-take, get_or-take, length-append, length-drop, length-take, byte, slice_get_past, slice_get_within, take-put_mid_below, drop-put_mid, between-put_mid, put_mid, Held, Kept, bytes_for, counts_if, counts_with, fits, held_as, one_more, room_for, with_held, with_step, with_text, digits_in, held_digit, quarter_of, counts_after, with_steps, AreLaidOut, ChangesAt, IsHeldAs, IsLaid, Whole, text_bytes, end_at, held_by, held_of, holding_of, kept_in, kept_with, len_in, number_of, one_digit, set_whole, some_by, start_or, state_in, used, used_by, whole, whole_at, Form, Share, Slot, State, there}
 use Rattle.std.proofs.Math.Seq.{take-take}
 use Rattle.vcd_body.specs.declared.item.Form.TheVariants as form
-use Rattle.vcd_body.specs.declared.slot.State.TheVariants as state
+use Rattle.vcd_body.specs.declared.values.slot.State.TheVariants as state
 use Rattle.vcd_body.proofs.PackedLemmas.{digits_of_first}
 
 -- ---- elements

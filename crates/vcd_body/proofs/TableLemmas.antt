@@ -1,8 +1,8 @@
 -- The value of a code of a view, as the table has it.
 use Rattle.vcd_body.proofs.Cited.{take_all, take, drop, ◌-◌, ◌≡◌, ◌≢◌, [], ◌≤◌, Bool, true, cond, ℕ, ◌+◌, arith, List, slice_get, Option, Some, min, refl, subst, sym, ap, ap₂, ◌∙◌, option_map, option_and_then, unwrap_or, length, map, slice_range, ◌∷◌, sum_by, AllZip, sum_by-cons, slice_get-map, value_room, line_if_set, IdCode, Header, text_in, IsCode, IsViewOf, Code, HeadView, IsLaidOut, KeepsTable, codes_shown, held_at, line_of, shown_as, shown_code, value_in, Held, Kept, value_at_size, AreLaidOut, Whole, end_at, held_by, held_from, holding_of, kept_with, len_of, room_of, share_of, some_by, used, sameb, the_type, Holding, Share, Slot, State, Table, le-leb}
 use Rattle.std.proofs.Common.{length-drop}
-use Rattle.vcd_body.specs.declared.slot.Shown.TheVariants as shown
-use Rattle.vcd_body.specs.declared.slot.State.TheVariants as state
+use Rattle.vcd_body.specs.declared.values.slot.Shown.TheVariants as shown
+use Rattle.vcd_body.specs.declared.values.slot.State.TheVariants as state
 use Rattle.vcd_body.proofs.StoreLemmas.{fits_in, some_in, whole_is}
 
 pub held_here : (t : Table) (code : ℕ) (s : Slot) (h : Share) → slice_get t.slots.now code ≡ Some s → slice_get t.shares.now code ≡ Some h → held_at t code ≡ held_from t.values.now h.start (holding_of s h)

@@ -12,13 +12,13 @@ use Rattle.vcd_body.specs.Items.{model_form}
 use Rattle.vcd_body.specs.Kept.{Held, Kept, unset, value_at_size, with_number, with_text}
 use Rattle.vcd_body.specs.Values.{form_in, text_in as text_of_value}
 use Rattle.vcd_body.specs.Stored.{AreLaidOut, ChangesAt, kept_in, room_of, share_of, start_of}
-use Rattle.vcd_body.specs.declared.bits.Bits.{Bits}
+use Rattle.vcd_body.specs.declared.values.bits.Bits.{Bits}
 use Rattle.vcd_body.specs.declared.item.Form.{Form}
 use Rattle.vcd_body.specs.declared.item.Form.TheVariants as form
-use Rattle.vcd_body.specs.declared.slot.Shown.{Shown}
-use Rattle.vcd_body.specs.declared.slot.Shown.TheVariants as shown
-use Rattle.vcd_body.specs.declared.table.Table.{Table}
-use Rattle.vcd_body.specs.declared.value.Value.{Value as ChangeValue}
+use Rattle.vcd_body.specs.declared.values.slot.Shown.{Shown}
+use Rattle.vcd_body.specs.declared.values.slot.Shown.TheVariants as shown
+use Rattle.vcd_body.specs.declared.values.table.Table.{Table}
+use Rattle.vcd_body.specs.declared.values.value.Value.{Value as ChangeValue}
 
 -- how many codes it has slots for
 abbrev pub codes_in : Table → ℕ

@@ -10,7 +10,7 @@ use Rattle.vcd_view.specs.declared.view.HeadView.{HeadView}
 use Rattle.vcd_body.specs.Contents.{IsLaidOut, held_at, kept_at}
 use Rattle.vcd_body.specs.Kept.{Kept, value_at_size}
 use Rattle.vcd_body.specs.Stored.{share_of}
-use Rattle.vcd_body.specs.declared.table.Table.{Table}
+use Rattle.vcd_body.specs.declared.values.table.Table.{Table}
 
 -- how many bytes the values of the codes of a header take at most
 abbrev pub table_bytes : HeadView → ℕ

@@ -2,7 +2,7 @@
 use Rattle.std.specs.Prelude.{◌≡◌, ℕ, List, Option, Some, None}
 use Rattle.vcd_body.specs.Kept.{Held}
 use Rattle.vcd_body.specs.Stored.{digits_with, held_with}
-use Rattle.vcd_body.specs.declared.slot.HeldValue.{HeldValue}
+use Rattle.vcd_body.specs.declared.values.slot.HeldValue.{HeldValue}
 
 -- the value that is held, and its digits, of which there may be none
 abbrev pub held_in : HeldValue → Held

@@ -8,7 +8,7 @@ use Rattle.vcd_body.specs.Items.{model_form}
 use Rattle.vcd_body.specs.Packed.{held_digit, quarter_of}
 use Rattle.vcd_body.specs.declared.item.Form.{Form}
 use Rattle.vcd_body.specs.declared.item.Form.TheVariants as form
-use Rattle.vcd_body.specs.declared.step.Step.{Step}
+use Rattle.vcd_body.specs.declared.values.step.Step.{Step}
 
 -- the value of a code: none, digits that extend to it, or the text of a real number
 pub data Held : Type 0 where

@@ -5,13 +5,13 @@ use Rattle.vcd_body.specs.Contents.{ChangesCode, IsLaidOut, kept_at}
 use Rattle.vcd_body.specs.Items.{model_form}
 use Rattle.vcd_body.specs.Kept.{Held, IsStep, Kept, value_at_size, with_change, with_number_change}
 use Rattle.vcd_body.specs.Stored.{AreLaidOut, ChangesAt, ChangesSlot}
-use Rattle.vcd_body.specs.declared.bits.Bits.{Bits}
+use Rattle.vcd_body.specs.declared.values.bits.Bits.{Bits}
 use Rattle.vcd_body.specs.declared.item.Form.{Form}
 use Rattle.vcd_body.specs.declared.item.Form.TheVariants as form
-use Rattle.vcd_body.specs.declared.slot.Share.{Share}
-use Rattle.vcd_body.specs.declared.slot.Slot.{Slot}
-use Rattle.vcd_body.specs.declared.step.Step.{Step}
-use Rattle.vcd_body.specs.declared.table.Table.{Table}
+use Rattle.vcd_body.specs.declared.values.slot.Share.{Share}
+use Rattle.vcd_body.specs.declared.values.slot.Slot.{Slot}
+use Rattle.vcd_body.specs.declared.values.step.Step.{Step}
+use Rattle.vcd_body.specs.declared.values.table.Table.{Table}
 
 -- this is the step from what is held to the digits of a text, at each size
 abbrev pub TellsStep : Held → List ℕ → Option Step → Type 0

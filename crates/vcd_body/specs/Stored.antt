@@ -10,11 +10,11 @@ pub use Rattle.vcd_body.specs.Binary.{binary_digits, count_in, is_proper, number
 pub use Rattle.vcd_body.specs.Packed.{digits_in, held_digit}
 use Rattle.vcd_body.specs.declared.item.Form.{Form}
 use Rattle.vcd_body.specs.declared.item.Form.TheVariants as form
-use Rattle.vcd_body.specs.declared.slot.Holding.{Holding}
-use Rattle.vcd_body.specs.declared.slot.Share.{Share}
-use Rattle.vcd_body.specs.declared.slot.Slot.{Slot}
-pub use Rattle.vcd_body.specs.declared.slot.State.{State}
-use Rattle.vcd_body.specs.declared.slot.State.TheVariants as state
+use Rattle.vcd_body.specs.declared.values.slot.Holding.{Holding}
+use Rattle.vcd_body.specs.declared.values.slot.Share.{Share}
+use Rattle.vcd_body.specs.declared.values.slot.Slot.{Slot}
+pub use Rattle.vcd_body.specs.declared.values.slot.State.{State}
+use Rattle.vcd_body.specs.declared.values.slot.State.TheVariants as state
 
 -- the digit of a state that holds one
 abbrev pub one_digit : State → Option ℕ

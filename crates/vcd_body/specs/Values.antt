@@ -4,8 +4,8 @@ use Rattle.vcd_body.specs.Binary.{binary_digits}
 use Rattle.vcd_body.specs.Kept.{Kept, with_change, with_number, with_number_change, with_text}
 use Rattle.vcd_body.specs.declared.item.Form.{Form}
 use Rattle.vcd_body.specs.declared.item.Form.TheVariants as form
-use Rattle.vcd_body.specs.declared.value.Value.{Value}
-use Rattle.vcd_body.specs.declared.value.Value.TheVariants.{Digits, Real, Bits}
+use Rattle.vcd_body.specs.declared.values.value.Value.{Value}
+use Rattle.vcd_body.specs.declared.values.value.Value.TheVariants.{Digits, Real, Bits}
 
 -- the form of a value, and its text in that form
 abbrev pub form_in : Value → Form

@@ -5,7 +5,7 @@ ghost use Rattle.vcd_body.specs.declared.item.Form.TheVariants as form;
 ghost use Rattle.vcd_body.specs.declared.item.Item.TheVariants as item;
 ghost use Rattle.vcd_body.specs.declared.words.PhraseKind.TheVariants as kind;
 
-use crate::bits::Bits;
+use crate::values::bits::Bits;
 use crate::item::{Form, Item, Regs};
 use crate::phrases::{has_room, real_text, scalar_code, vector_text};
 use crate::words::{

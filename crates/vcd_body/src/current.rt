@@ -2,10 +2,10 @@
 ghost use Rattle.std.specs.Prelude.{◌∷◌, ◌++◌, [], List};
 ghost use Rattle.vcd_body.specs.Names.{AreHeld, BodyItem, HasBits, HasGoodText, Header, HeadView, IsItem, IsViewOf, KeepsTable};
 
-use crate::bits::Bits;
+use crate::values::bits::Bits;
 use crate::item::Item;
-use crate::table::Table;
-use crate::value::Value;
+use crate::values::table::Table;
+use crate::values::value::Value;
 
 /// Sets the value of a change's code in the table: to `bits`, the digits of the text as a number,
 /// or to the text if `bits` is `None`. Any other item changes nothing.

@@ -56,24 +56,14 @@
 //! - `words`: what a token is, by its first byte, and which bytes are digits
 //! - `item`, `fault`: `Item`, `Form`, `Section`, `Regs`; `BodyFault`
 //!
-//! The table keeps values:
-//!
-//! - `table`: `Table`; `value`: `Value`, the value of a change; `current`: `set_item`, the values
-//!   of codes with one more item
-//! - `slot`: `Slot`, `Share`, `Shown`; `store`: how slots and shares are set; `counters`: the
-//!   counters of a code, which are in parts in its slot and its share
-//! - `bits`: `Bits`, up to 32 binary digits as a number, and how a slot holds them; `packed`:
-//!   digits in a share, four to a byte
-//! - `held`: the digits of a held value; `compare`: whether that of a change differs; `several`:
-//!   several digits that are set over several others; `step`: `Step`, what became of a value;
-//!   `same`: whether two codes hold the same
+//! `values` has the table, which keeps values; `current`: `set_item`, the values of codes with one
+//! more item.
 //!
 //! Lines are written:
 //!
 //! - `id`: `put_change`, under an `Id`; `put_line`: the line of a change from its form and text;
 //!   `change`: its digits, and a code's own bytes at its end; `renamed`: a new code at its end
 //! - `lines`: `left_out`: how the bytes of a change are its line; `time_line`: `put_time`
-//! - `table_text`, `held_text`: `put_short`, `put_full`: a held value
 //!
 //! A run ends:
 //!
@@ -97,39 +87,25 @@
 
 mod ahead;
 mod answer;
-mod bits;
 mod change;
-mod compare;
-mod counters;
 mod current;
 mod fault;
-mod held;
-mod held_text;
 mod id;
 mod item;
 pub mod laws;
 mod lines;
-mod packed;
 mod phrases;
 mod put_line;
 mod read;
 mod renamed;
-mod same;
-mod several;
-mod slot;
-mod step;
-mod store;
-mod table;
-mod table_text;
 mod time_line;
 mod tokens;
-mod value;
+mod values;
 mod walk;
 mod words;
 
 pub use ahead::{ScannedItem, item_comes, pass_items, pass_on_before_read};
 pub use answer::{Done, More, Stop};
-pub use bits::Bits;
 pub use current::set_item;
 pub use fault::BodyFault;
 pub use id::{Id, put_change};
@@ -137,10 +113,11 @@ pub use item::{Form, Item, Regs, Section};
 pub use lines::{is_timestamp_line, left_out};
 pub use read::{change_text, next_item};
 pub use renamed::{only_digit, put_code_line, put_renamed, put_renamed_ahead};
-pub use slot::{Share, Shown, Slot};
-pub use step::Step;
-pub use table::Table;
-pub use table_text::{put_full, put_short};
 pub use time_line::{put_time, put_time_unless};
-pub use value::Value;
+pub use values::bits::Bits;
+pub use values::slot::{Share, Shown, Slot};
+pub use values::step::Step;
+pub use values::table::Table;
+pub use values::table_text::{put_full, put_short};
+pub use values::value::Value;
 pub use walk::{Visit, Walked, walk_ahead};

@@ -1,6 +1,6 @@
 -- What the current states say of the definitions' states.
 use Rattle.vcd_compare.proofs.Cited.{zero, ◌≡◌, ◌≢◌, inl, inr, ℕ, ◌<◌, ◌≤◌, Bool, true, false, not, cond, ◌&&◌, List, [], ◌∷◌, ◌++◌, suc, ◌+◌, ◌-◌, max, min, replicate, drop, length, codes, slice_get, Option, Some, None, refl, sym, ap, ap₂, subst, ◌∙◌, arith, ◌⊎◌, bytes_eq, option_and_then, Decides, and_left, and_right, cases_lt, same_Some, or_self, IdCode, Header, final_value, BodyItem, time_after, Rule, all_match, digits_match, exactly, is_triggered, match, state_at, Value, extend, extension, IsViewOf, HeadView, codes_shown, held_at, shown_as, value_in, Held, real_text, value_at_size, Shown, digits_held, Table, length_extended, shown_are, rule_of, AreCurrent, differ_from, is_last, codes_differ, Current}
-use Rattle.vcd_body.specs.declared.slot.Shown.TheVariants as shown
+use Rattle.vcd_body.specs.declared.values.slot.Shown.TheVariants as shown
 use Rattle.vcd_compare.specs.declared.asked.Asked.{Asked}
 use Rattle.vcd_compare.proofs.FlagLemmas.{value_final}
 use Rattle.vcd_compare.proofs.MatchLemmas.{match_other, match_self}

@@ -61,8 +61,8 @@ pub use Rattle.vcd_body.specs.declared.item.Form.TheVariants.{RealText, Scalar, 
 pub use Rattle.vcd_body.specs.declared.item.Item.{Item}
 pub use Rattle.vcd_body.specs.declared.item.Item.TheVariants.{Begin, Change, End, Finish, Time}
 pub use Rattle.vcd_body.specs.declared.item.Regs.{Regs}
-pub use Rattle.vcd_body.specs.declared.step.Step.{Step}
-pub use Rattle.vcd_body.specs.declared.table.Table.{Table}
+pub use Rattle.vcd_body.specs.declared.values.step.Step.{Step}
+pub use Rattle.vcd_body.specs.declared.values.table.Table.{Table}
 pub use Rattle.vcd_engine.specs.Ahead.{EndsAhead, RunsAhead, RunsOver, StandsAhead}
 pub use Rattle.vcd_engine.specs.Check.{AreCounted}
 pub use Rattle.vcd_engine.specs.Choice.{is_chosen}

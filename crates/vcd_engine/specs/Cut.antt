@@ -18,7 +18,7 @@ use Rattle.vcd_engine.specs.ItemText.{HasWritten}
 use Rattle.vcd_body.specs.Current.{AreHeld, HasValues}
 use Rattle.vcd_engine.specs.declared.task_state.cut.Cut.{Cut}
 use Rattle.vcd_view.specs.Views.{IsViewOf}
-use Rattle.vcd_body.specs.declared.table.Table.{Table}
+use Rattle.vcd_body.specs.declared.values.table.Table.{Table}
 
 -- the lines of the values of these codes before a time
 abbrev pub values_text : List IdCode → List BodyItem → ℕ → List ℕ

@@ -7,7 +7,7 @@ use Rattle.vcd_model.specs.Header.{Header}
 use Rattle.vcd_model.specs.Items.{BodyItem}
 use Rattle.vcd_head.specs.Marks.{marks_of}
 use Rattle.vcd_body.specs.Contents.{bytes_in, codes_in, counts_at}
-use Rattle.vcd_body.specs.declared.table.Table.{Table}
+use Rattle.vcd_body.specs.declared.values.table.Table.{Table}
 use Rattle.vcd_body.specs.Current.{AreHeld}
 use Rattle.vcd_engine.specs.declared.task_state.edges.Edges.{Edges}
 use Rattle.vcd_body.specs.Items.{model_form}

@@ -8,7 +8,7 @@ use Rattle.vcd_model.specs.Header.{Header}
 use Rattle.vcd_view.specs.Views.{IsViewOf}
 use Rattle.vcd_view.specs.declared.view.HeadView.{HeadView}
 use Rattle.vcd_head.specs.Marks.{is_marked, marks_of}
-use Rattle.vcd_body.specs.declared.table.Table.{Table}
+use Rattle.vcd_body.specs.declared.values.table.Table.{Table}
 use Rattle.vcd_body.specs.Current.{AreHeld}
 
 -- this many declarations from an index on have no line, whatever the items and the time
