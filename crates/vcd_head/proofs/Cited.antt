@@ -113,7 +113,7 @@ pub use Rattle.vcd_text.specs.Device.{Puts, Takes}
 pub use Rattle.vcd_text.specs.Feed.{HasGiven, limit_of, seen, token_of, value_of}
 pub use Rattle.vcd_text.specs.declared.device.Source.{Ghosts}
 pub use Rattle.vcd_text.specs.declared.feed.Feed.{Feed}
-pub use Rattle.vcd_view.proofs.EntryLemmas.{all_replicated, all_written}
+pub use Rattle.vcd_view.proofs.EntryLemmas.{all_replicated}
 pub use Rattle.vcd_view.proofs.KeyLemmas.{same_key}
 pub use Rattle.vcd_view.proofs.KeywordLemmas.{no_ends_more, not_until, until}
 pub use Rattle.vcd_view.proofs.ListLemmas.{all_push, all_weaker, all_zip_push, bytes_flip, same_bytes, slice_get-front, slice_get-seam, there, to_all}

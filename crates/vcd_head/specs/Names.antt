@@ -19,7 +19,7 @@ pub use Rattle.vcd_model.specs.Ticks.{moment_ticks, ticks}
 pub use Rattle.vcd_text.specs.Advances.{CallEnd}
 pub use Rattle.vcd_text.specs.Device.{Counts, Puts, PutsTo, PutsWhere, TakenBy, Takes}
 pub use Rattle.vcd_text.specs.Feed.{seen, source_of, token_of, value_of}
-pub use Rattle.vcd_view.specs.Entries.{KeepsRight, are_right, is_right, text_in}
+pub use Rattle.vcd_view.specs.Entries.{are_right}
 pub use Rattle.vcd_view.specs.Finds.{Finds}
 pub use Rattle.vcd_view.specs.Keys.{key_in}
 pub use Rattle.vcd_view.specs.Over.{AnyDeclared, AnyHeader, AnyHeld, AnyRow, AnyVariable}

@@ -1,14 +1,14 @@
 // How a draft becomes a head.
-ghost use Rattle.std.specs.Prelude.{◌≡◌, ℕ, List, IfOk, IfErr};
-ghost use Rattle.vcd_head.specs.Names.{HeaderPhrase, IsDraftOf, Views, header_of, shown};
+ghost use Rattle.std.specs.Prelude.{◌≡◌, ◌*◌, ◌≤◌, ℕ, List, true, length, IfOk, IfErr};
+ghost use Rattle.vcd_head.specs.Names.{HeaderPhrase, IsDraftOf, Views, are_right, header_of, shown};
 
 use crate::codes::Codes;
 use crate::draft::Draft;
-use crate::entries::entries_of;
 use crate::fault::HeadFault;
 use crate::head::Head;
 use crate::index::index_of;
-use std::alloc::Global;
+use std::alloc::{AllocError, Global};
+use vcd_view::{Code, CodeSeed, Entry, entries_needed, fill_entries};
 
 /// Returns the header that a draft has once all phrases were read into it, with the tables for
 /// look-ups of codes. Fails only with `OutOfMemory`.
@@ -48,4 +48,24 @@ pub(crate) fn finish(alloc: Global, draft: Draft) -> Result<Head, HeadFault>
         version,
         scale,
     })
+}
+
+/// Returns the table of entries by which these codes are looked up. The bytes of the codes lie in
+/// `text`, `seed` hashes them, and `in_order` says that they are in the order of their numbers.
+/// Fails if there is no memory.
+fn entries_of(
+    alloc: Global,
+    text: &[u8],
+    codes: &[Code],
+    in_order: bool,
+    seed: CodeSeed,
+) -> Result<Vec<Entry>, AllocError>
+    ensures right { IfOk result (λ entries. are_right text.now codes.now entries.items ≡ true) }
+    ensures few { IfOk result (λ entries. length entries.items ≤ 3 * length codes.now) }
+{
+    let empty = Entry::default();
+    let count = entries_needed(text, codes, in_order);
+    let mut entries = vec![in alloc; empty; count]?;
+    fill_entries(&mut entries, text, codes, seed);
+    Ok(entries)
 }

@@ -35,8 +35,7 @@
 //!   it becomes; `head` and `fault`, the results
 //! - Codes of the draft: `codes`, the list; `rising` and `code_key`, the numbers and the keys by
 //!   which they are found; `code_place`, the index of a variable's code
-//! - Look-up in the head: `entries`, how the entries are filled; `index`, the order of the codes by
-//!   their bytes
+//! - Look-up in the head: `index`, the order of the codes by their bytes; `vcd_view` has the rest
 //! - Scopes around a declaration: `enclosing`, outermost first; `path`, the path of a variable
 //! - Selection: `selection`, which variables names select; `inside`, the names that continue inside
 //!   open scopes; `names`, names in the order of their bytes
@@ -81,7 +80,6 @@ mod codes;
 mod rising;
 
 // Look-up in the head.
-mod entries;
 mod index;
 
 // Scopes around a declaration.

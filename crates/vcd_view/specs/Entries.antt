@@ -1,5 +1,5 @@
 -- The entries by which codes are looked up.
-use Rattle.std.specs.Prelude.{◌≡◌, ℕ, ◌+◌, ◌-◌, ◌*◌, ◌/◌, ◌%◌, ◌^◌, ◌==◌, ◌&&◌, ◌||◌, nat_le, bit_and, bit_or, cond, Bool, true, false, List, [], ◌∷◌, length, slice_get, slice_range, Some, option_map, unwrap_or}
+use Rattle.std.specs.Prelude.{◌≡◌, ◌≤◌, ◌⊎◌, ℕ, ◌+◌, ◌-◌, ◌*◌, ◌/◌, ◌%◌, ◌^◌, ◌==◌, ◌&&◌, ◌||◌, nat_le, bit_and, bit_or, cond, Bool, true, false, List, [], ◌∷◌, length, slice_get, slice_range, Some, option_map, unwrap_or}
 use Rattle.std.specs.List.{list_all}
 use Rattle.vcd_view.specs.declared.view.Code.{Code}
 use Rattle.vcd_view.specs.declared.view.Entry.{Entry}
@@ -22,6 +22,10 @@ is_entry_of text e c = (e.key == key_in (text_in text c.start c.len)) && (e.size
 -- or that of the code at its index
 abbrev pub is_right : List ℕ → List Code → Entry → Bool
 is_right text codes e = (e.key == 0) || (nat_le (2 ^ 63) e.key || unwrap_or (option_map (is_entry_of text e) (slice_get codes e.position)) false)
+
+-- the entry of a code with these bytes may have this key: its own, or one of a long code
+abbrev pub MayHaveKey : List ℕ → ℕ → Type 0
+MayHaveKey bytes key = (key ≡ key_in bytes) ⊎ (2 ^ 63 ≤ key)
 
 -- each entry is right
 abbrev pub are_right : List ℕ → List Code → List Entry → Bool

@@ -19,7 +19,7 @@ use std::cmp::Ordering;
 // It reads one entry of 16 bytes. A binary search takes some 340 ns for each change of 27,505
 // codes. In base 94, `check` of 300 codes `aaaaa`.. takes twice as many instructions.
 #[inline(always)]
-pub fn entry_of(code: &[u8], entries: usize) -> usize
+pub(crate) fn entry_of(code: &[u8], entries: usize) -> usize
     ensures { result ≡ entry_in code.now entries }
 {
     entry_for(code_number(code), entries)
@@ -29,7 +29,7 @@ pub fn entry_of(code: &[u8], entries: usize) -> usize
 /// The number comes from a code (`code_number`) or from a hash. If `entries` is 0, the result is
 /// the number itself.
 #[inline(always)]
-pub fn entry_for(number: usize, entries: usize) -> usize
+fn entry_for(number: usize, entries: usize) -> usize
     ensures { result ≡ bit_and number ((entries + (2 ^ 64 - 1)) % 2 ^ 64) }
 {
     number & entries.wrapping_sub(1)
@@ -38,7 +38,7 @@ pub fn entry_for(number: usize, entries: usize) -> usize
 /// Returns the number whose digits in base 99 are the bytes of a code, each less 32, the first byte
 /// as the lowest digit. It wraps at 2^64, so long codes may have the same number.
 #[inline(always)]
-pub fn code_number(code: &[u8]) -> usize
+pub(crate) fn code_number(code: &[u8]) -> usize
     ensures { result ≡ number_in code.now }
 {
     match code {
@@ -82,7 +82,7 @@ fn number_of(code: &[u8]) -> usize
 const LONG: u64 = 1 << 63;
 
 /// How many of the entries to which the hash of a code leads a look-up looks at, at most.
-pub const MAX_LOOKS: usize = 64;
+pub(crate) const MAX_LOOKS: usize = 64;
 
 /// Returns the index of the entry that a look-up by `hash` looks at after it has looked at `looks`
 /// others, in a table of `entries` entries, a power of two.
@@ -90,7 +90,7 @@ pub const MAX_LOOKS: usize = 64;
 /// The lower half of the hash says where the first of these entries is, and the upper half how far
 /// one is from the next, so that the second look already leaves a crowded part of the table.
 #[inline(always)]
-pub fn entry_after(hash: u64, looks: usize, entries: usize) -> usize
+pub(crate) fn entry_after(hash: u64, looks: usize, entries: usize) -> usize
     ensures { result ≡ entry_after hash looks entries }
 {
     let step = (hash >> 32) as usize | 1;
@@ -103,7 +103,7 @@ pub fn entry_after(hash: u64, looks: usize, entries: usize) -> usize
 /// Returns the key of the entry of a code of 8 bytes or more, which has this hash: its highest bit
 /// is set. No shorter code has such a key.
 #[inline(always)]
-pub fn long_key(hash: u64) -> u64
+pub(crate) fn long_key(hash: u64) -> u64
     ensures key { result ≡ hash % 2 ^ 63 + 2 ^ 63 }
     ensures long { 2 ^ 63 ≤ result }
 {
@@ -204,7 +204,7 @@ fn index_of_long(
 
 /// Returns the size of a code: how many binary digits a change of it may have. It is 0 if its
 /// variables are events, or if the size does not fit into 32 bits.
-pub fn size_or_zero_of(code: Code) -> u32
+pub(crate) fn size_or_zero_of(code: Code) -> u32
     ensures { result ≡ size_or_zero_of code }
 {
     if code.event {

@@ -20,13 +20,14 @@
 //! - `look_up`, `probes`: a look at one entry and at the one beside it, then a look by the hash,
 //!   then a binary search; comparisons, counted
 //! - `entries`, `key`: where a code's entry is, and what it holds; codes as numbers
+//! - `fill`: how many entries codes need, and how they are filled
 //! - `code_hash`: codes hashed by numbers that nobody knows
 //! - `room`: `need`, the room that an engine over a header needs
 //! - `keyword`: the keywords of a dump, and the words up to an `$end`
 //! - `new_code`: the codes that a merge assigns
 //!
 //! In `specs/` callers read `Views` and `Shown`, `Over`, `Finds`, `Needs`, `Keywords` and
-//! `NewCode`; whoever fills entries reads `Entries` and `Keys` too. `Names` collects what the
+//! `NewCode`; whoever makes a view reads `Entries` and `Keys` too. `Names` collects what the
 //! contracts cite under one path.
 //!
 //! Not promised: the result of a call over a view that is of no header.
@@ -34,6 +35,7 @@
 
 mod code_hash;
 mod entries;
+mod fill;
 mod key;
 mod keyword;
 mod look_up;
@@ -43,9 +45,7 @@ mod room;
 mod view;
 
 pub use code_hash::{CodeHasher, CodeSeed};
-pub use entries::{
-    MAX_LOOKS, code_number, entry_after, entry_for, entry_of, long_key, size_or_zero_of,
-};
+pub use fill::{entries_needed, fill_entries};
 pub use key::key_of;
 pub use keyword::{Keyword, is, keyword_of, pass_words};
 pub use look_up::{Found, find, find_counted, find_in_entry, find_sized};

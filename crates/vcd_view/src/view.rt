@@ -50,7 +50,7 @@ pub struct Code {
 
 /// The entry of a code in the table of a look-up, or an empty one, with key 0.
 // It has the size because a change would otherwise read 32 bytes of `codes`, which are far away.
-#[derive(Clone, Copy, PartialEq, Eq, Debug)]
+#[derive(Clone, Copy, Default, PartialEq, Eq, Debug)]
 pub struct Entry {
     /// The code as a number; of a code that has none, its hash with the highest bit set.
     pub key: u64,
