@@ -45,7 +45,7 @@ pub use Rattle.vcd_head.specs.Declares.{IsBarred, MayStart, keyword_for}
 pub use Rattle.vcd_head.specs.Draft.{AtFirstToken, AtKeyword, AtOther, CodeHeld, Declares, DraftsAll, DraftsUpTo, HasCodes, IsDraftOf, IsEntered, IsNew}
 pub use Rattle.vcd_head.specs.Entered.{AddsKey, EntersKey, HasKey, code_with}
 pub use Rattle.vcd_head.specs.Fault.{fault_number}
-pub use Rattle.vcd_head.specs.Fronts.{AreRanks, AreShort, bytes_at, place_in_rank, prefix_in, rank_in, rank_of}
+pub use Rattle.vcd_head.specs.Fronts.{AreRanks, AreShort, place_in_rank, prefix_in, rank_in, rank_of}
 pub use Rattle.vcd_head.specs.Inside.{AreOpen, Enters, HasEntered, front}
 pub use Rattle.vcd_head.specs.Keys.{AreKeysOf, is_key, same_shape, shape_in, shape_of}
 pub use Rattle.vcd_head.specs.Marks.{AllMarked, AreClosed, Marked, is_marked}
@@ -120,8 +120,8 @@ pub use Rattle.vcd_view.proofs.ListLemmas.{all_push, all_weaker, all_zip_push, b
 pub use Rattle.vcd_view.proofs.LookUpLemmas.{codes_len, place_is, texts_range}
 pub use Rattle.vcd_view.proofs.ParentLemmas.{around_none, around_some, parent_before, parent_of_row, scopes_around, take-take, with_scopes}
 pub use Rattle.vcd_view.proofs.RoomLemmas.{codes_few}
-pub use Rattle.vcd_view.proofs.RowLemmas.{code_of_shown, read_row, row_at, row_of, row_of_variable, rows_len, text_within}
-pub use Rattle.vcd_view.specs.Entries.{are_right, is_right, text_in}
+pub use Rattle.vcd_view.proofs.RowLemmas.{bytes_are, code_of_shown, read_row, row_at, row_of, row_of_variable, rows_len, text_within}
+pub use Rattle.vcd_view.specs.Entries.{are_right, code_bytes, is_right}
 pub use Rattle.vcd_view.specs.Finds.{Finds}
 pub use Rattle.vcd_view.specs.Keys.{AreBytes, key_in}
 pub use Rattle.vcd_view.specs.Keywords.{NoEnds, model_keyword}

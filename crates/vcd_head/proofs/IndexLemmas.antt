@@ -1,7 +1,6 @@
 -- The order of codes by their bytes.
-use Rattle.vcd_head.proofs.Cited.{◌≡◌, ◌⊎◌, inl, inr, ℕ, zero, suc, ◌+◌, ◌*◌, ◌^◌, ◌<◌, ◌≤◌, Bool, true, false, List, [], ◌∷◌, ◌++◌, length, map, get_or, bytes_eq, option_map, unwrap_or, refl, sym, ap, subst, ◌∙◌, arith, IsPermutation, IsStrictWeakOrder, nat_cmp_is, AllByRecursion, All, IsDistinct, range_with_len, IsSortedBy, nat_cmp, is_eq, is_lt, ordering_reverse, Ordering, Less, Equal, Greater, slice_cmp, cases_lt, nat_list_cmp_total, pow-le-pow_right, get_or-map, length-map, get_or-range_with_len, length-range_with_len, ranks_by, All-permutation, IsPermutation-map, sorted_far, IsDistinct-IsPermutation, apart_from_distinct, is_eq-slice_cmp, slice_get-get_or, IdCode, Code, AreHeld, IsIndex, code_text, text_in, bytes_at, prefix_in, AreBytes, bytes_flip, codes_len, texts_range, text_within, code_of_shown}
+use Rattle.vcd_head.proofs.Cited.{◌≡◌, ◌⊎◌, inl, inr, ℕ, zero, suc, ◌+◌, ◌*◌, ◌^◌, ◌<◌, ◌≤◌, Bool, true, false, List, [], ◌∷◌, ◌++◌, length, map, get_or, bytes_eq, option_map, unwrap_or, refl, sym, ap, subst, ◌∙◌, arith, IsPermutation, IsStrictWeakOrder, nat_cmp_is, AllByRecursion, All, IsDistinct, range_with_len, IsSortedBy, nat_cmp, is_eq, is_lt, ordering_reverse, Ordering, Less, Equal, Greater, slice_cmp, cases_lt, nat_list_cmp_total, pow-le-pow_right, get_or-map, length-map, get_or-range_with_len, length-range_with_len, ranks_by, All-permutation, IsPermutation-map, sorted_far, IsDistinct-IsPermutation, apart_from_distinct, is_eq-slice_cmp, slice_get-get_or, IdCode, Code, AreHeld, IsIndex, code_text, code_bytes, prefix_in, AreBytes, bytes_flip, codes_len, texts_range, text_within, bytes_are}
 use Rattle.std.specs.List.Sorted.{IsStrictlySortedBy}
-use Rattle.vcd_view.proofs.LookUpLemmas.{text_at}
 
 -- ---- prefixes
 
@@ -65,10 +64,10 @@ range_push a (suc n) = ap (λ l. a ∷ l) (range_push (a + 1) n ∙ ap (λ k. ra
     one_more a n = omega arith
 
 abbrev pub before : List ℕ → List Code → ℕ → ℕ → Bool
-before text codes a b = is_lt (slice_cmp nat_cmp (bytes_at text codes a) (bytes_at text codes b))
+before text codes a b = is_lt (slice_cmp nat_cmp (code_bytes text codes a) (code_bytes text codes b))
 
 pub before_weak : (text : List ℕ) (codes : List Code) → IsStrictWeakOrder (before text codes)
-before_weak text codes = ranks_by nat_list_cmp_total (bytes_at text codes)
+before_weak text codes = ranks_by nat_list_cmp_total (code_bytes text codes)
 
 -- a text that is not after another one, and differs from it, comes first
 rises : (x y : List ℕ) → is_lt (slice_cmp nat_cmp y x) ≡ false → bytes_eq x y ≡ false → slice_cmp nat_cmp x y ≡ Less
@@ -80,17 +79,6 @@ rises x y not_after apart = by_text (slice_cmp nat_cmp x y) refl
     by_text Greater q = let e : slice_cmp nat_cmp y x ≡ Less = nat_list_cmp_total.antisymm y x ∙ ap ordering_reverse q in let z = ap is_lt e in cc
 
 -- ---- the index
-
--- the bytes of a code are the header's
-pub bytes_are : (text : List ℕ) (list : List Code) (cs : List IdCode) (p : ℕ) → AreHeld text list cs → p < length cs → bytes_at text list p ≡ code_text cs p
-bytes_are text list cs p h l =
-    let n = codes_len text list cs h.stand in
-    let at = slice_get-get_or list p none (omega arith) in
-    let k = code_of_shown text list cs p _ h.stand at in
-    ap (λ o. unwrap_or (option_map (λ (c : Code). text_in text c.start c.len) o) []) at ∙ text_within text _ _ k.2.within ∙ k.2.text_is ∙ sym (text_at cs p k.0 k.1)
-  where
-    none : Code
-    none = record { start = 0; len = 0; size = 0; event = false }
 
 pub texts_are : (cs : List IdCode) (p : ℕ) → AllByRecursion (λ (c : IdCode). AreBytes c.text) cs → AreBytes (code_text cs p)
 texts_are [] p h = tt
@@ -128,8 +116,8 @@ index_made text list cs new h moved sorted =
           let len = length-map new (code_text cs) in
           let differ0 = apart_from_distinct bytes_eq ordered i j [] apart a (omega arith) in
           let differ : bytes_eq (code_text cs x) (code_text cs y) ≡ false = rw (sym (get_or-map (code_text cs) new i d [] il), sym (get_or-map (code_text cs) new j d [] b)) differ0 in
-          let bx = bytes_are text list cs x h (within i d il) in
-          let by = bytes_are text list cs y h (within j d b) in
+          let bx = bytes_are text list cs x h.stand in
+          let by = bytes_are text list cs y h.stand in
           rises (code_text cs x) (code_text cs y) (rw (bx, by) at (sorted_far (before text list) (before_weak text list) new sorted i j d (omega arith) b)) differ);
     }
   where

@@ -1,6 +1,6 @@
 -- The order of short codes by their ranks.
-use Rattle.vcd_head.proofs.Cited.{◌≡◌, ◌⊎◌, inl, inr, ℕ, zero, suc, ◌+◌, ◌*◌, ◌<◌, ◌≤◌, true, false, List, [], ◌∷◌, ◌++◌, length, map, set, take, drop, get_or, bytes_eq, refl, sym, ap, subst, ◌∙◌, arith, zero-add, add-one, IsPermutation, IsStrictWeakOrder, nat_cmp_is, AllByRecursion, All, IsDistinct, range_with_len, IsSorted, IsStrictlySortedBy, nat_cmp, is_lt, Less, Equal, slice_cmp, cases_lt, nat_cmp_total, mod-mul-add, get_or-map, length-map, map-append, ranks_by, All-permutation, IsPermutation-map, sorted_far, IsDistinct-IsPermutation, apart_from_distinct, bytes_eq-Decides, IdCode, Code, AreHeld, IsIndex, code_text, AreShort, bytes_at, prefix_in, place_in_rank, rank_in, rank_of, AreBytes, bytes_flip, to_all, codes_len, texts_range}
-use Rattle.vcd_head.proofs.IndexLemmas.{bytes_are, front_less, map_map, range_push, same_front, sorted_from, texts_are}
+use Rattle.vcd_head.proofs.Cited.{◌≡◌, ◌⊎◌, inl, inr, ℕ, zero, suc, ◌+◌, ◌*◌, ◌<◌, ◌≤◌, true, false, List, [], ◌∷◌, ◌++◌, length, map, set, take, drop, get_or, bytes_eq, refl, sym, ap, subst, ◌∙◌, arith, zero-add, add-one, IsPermutation, IsStrictWeakOrder, nat_cmp_is, AllByRecursion, All, IsDistinct, range_with_len, IsSorted, IsStrictlySortedBy, nat_cmp, is_lt, Less, Equal, slice_cmp, cases_lt, nat_cmp_total, mod-mul-add, get_or-map, length-map, map-append, ranks_by, All-permutation, IsPermutation-map, sorted_far, IsDistinct-IsPermutation, apart_from_distinct, bytes_eq-Decides, IdCode, Code, AreHeld, IsIndex, code_text, AreShort, code_bytes, prefix_in, place_in_rank, rank_in, rank_of, AreBytes, bytes_flip, to_all, codes_len, texts_range, bytes_are}
+use Rattle.vcd_head.proofs.IndexLemmas.{front_less, map_map, range_push, same_front, sorted_from, texts_are}
 
 -- ---- ranks
 
@@ -41,7 +41,7 @@ rank_place bs p l = mod-mul-add (prefix_in 4 bs * 8 + length bs) 16777216 p l
 places_back : (text : List ℕ) (list : List Code) (a n : ℕ) → a + n ≤ 16777216 → map (λ p. place_in_rank (rank_in text list p)) (range_with_len a n) ≡ range_with_len a n
 places_back text list a zero l = refl
 places_back text list a (suc n) l =
-    ap (λ p. p ∷ map (λ q. place_in_rank (rank_in text list q)) (range_with_len (a + 1) n)) (rank_place (bytes_at text list a) a (omega (arith, l)))
+    ap (λ p. p ∷ map (λ q. place_in_rank (rank_in text list q)) (range_with_len (a + 1) n)) (rank_place (code_bytes text list a) a (omega (arith, l)))
     ∙ ap (λ ps. a ∷ ps) (places_back text list (a + 1) n (omega (arith, l)))
 
 -- what a rank tells of itself
@@ -54,7 +54,7 @@ ranks_tell text list a zero l few = tt
 ranks_tell text list a (suc n) l few = (told, ranks_tell text list (a + 1) n (omega (arith, l)) few)
   where
     position : place_in_rank (rank_in text list a) ≡ a
-    position = rank_place (bytes_at text list a) a (omega (arith, l, few))
+    position = rank_place (code_bytes text list a) a (omega (arith, l, few))
 
     told : IsRank text list (rank_in text list a)
     told = record { within = omega (arith, l, position); own = ap (rank_in text list) position }
@@ -104,14 +104,14 @@ ranks_made text list cs old new h few short are moved sorted =
           let q = told j d b in
           let pw = p.within in
           let qw = q.within in
-          let bx = bytes_are text list cs (place_in_rank x) h (omega (arith, pw, n)) in
-          let by = bytes_are text list cs (place_in_rank y) h (omega (arith, qw, n)) in
+          let bx = bytes_are text list cs (place_in_rank x) h.stand in
+          let by = bytes_are text list cs (place_in_rank y) h.stand in
           let len = length-map new (λ (r : ℕ). code_text cs (place_in_rank r)) in
           let differ0 = apart_from_distinct bytes_eq (map (λ (r : ℕ). code_text cs (place_in_rank r)) new) i j [] (subst (IsDistinct bytes_eq) (map_map place_in_rank (code_text cs) new) apart) a (omega (arith, len, b)) in
           let differ : bytes_eq (code_text cs (place_in_rank x)) (code_text cs (place_in_rank y)) ≡ false = rw (sym (get_or-map (λ (r : ℕ). code_text cs (place_in_rank r)) new i d [] il), sym (get_or-map (λ (r : ℕ). code_text cs (place_in_rank r)) new j d [] b)) differ0 in
           let rises : x ≤ y = not_before x y (sorted_far (λ (a b : ℕ). is_lt (nat_cmp a b)) number_weak new sorted i j d (omega (arith, a)) b) in
           let ranks : rank_in text list (place_in_rank x) ≤ rank_in text list (place_in_rank y) = omega (arith, rises, p.own, q.own) in
-          rw (sym bx, sym by) (rank_rises (bytes_at text list (place_in_rank x)) (bytes_at text list (place_in_rank y)) (place_in_rank x) (place_in_rank y)
+          rw (sym bx, sym by) (rank_rises (code_bytes text list (place_in_rank x)) (code_bytes text list (place_in_rank y)) (place_in_rank x) (place_in_rank y)
           (subst AreBytes (sym bx) (texts_are cs (place_in_rank x) h.texts)) (subst AreBytes (sym by) (texts_are cs (place_in_rank y) h.texts)) (short (place_in_rank x) pw) (short (place_in_rank y) qw)
           (omega (arith, pw, few)) (omega (arith, qw, few)) ranks (rw (bx, by) differ))));
     }

@@ -1,12 +1,8 @@
 -- The order of codes by their bytes, and the numbers that decide most of it.
-use Rattle.std.specs.Prelude.{◌≡◌, ℕ, zero, suc, ◌+◌, ◌*◌, ◌%◌, ◌<◌, ◌≤◌, List, [], length, get_or, map, slice_get, option_map, unwrap_or}
+use Rattle.std.specs.Prelude.{◌≡◌, ℕ, zero, suc, ◌+◌, ◌*◌, ◌%◌, ◌<◌, ◌≤◌, List, length, get_or, map}
 use Rattle.std.specs.List.{range_with_len}
 use Rattle.vcd_view.specs.declared.view.Code.{Code}
-use Rattle.vcd_view.specs.Entries.{text_in}
-
--- the bytes of the code at an index
-abbrev pub bytes_at : List ℕ → List Code → ℕ → List ℕ
-bytes_at text codes p = unwrap_or (option_map (λ (c : Code). text_in text c.start c.len) (slice_get codes p)) []
+use Rattle.vcd_view.specs.Entries.{code_bytes}
 
 -- this many first bytes as the digits of a number, the first one highest, with zeros after them
 abbrev pub prefix_in : ℕ → List ℕ → ℕ
@@ -15,7 +11,7 @@ prefix_in (suc n) bs = prefix_in n bs * 256 + get_or bs n 0
 
 -- the codes have at most four bytes
 abbrev pub AreShort : List ℕ → List Code → Type 0
-AreShort text codes = (p : ℕ) → p < length codes → length (bytes_at text codes p) ≤ 4
+AreShort text codes = (p : ℕ) → p < length codes → length (code_bytes text codes p) ≤ 4
 
 -- at most four bytes, their number and an index as one number
 abbrev pub rank_of : List ℕ → ℕ → ℕ
@@ -23,7 +19,7 @@ rank_of bs p = (prefix_in 4 bs * 8 + length bs) * 16777216 + p
 
 -- the rank of the code at an index
 abbrev pub rank_in : List ℕ → List Code → ℕ → ℕ
-rank_in text codes p = rank_of (bytes_at text codes p) p
+rank_in text codes p = rank_of (code_bytes text codes p) p
 
 -- a rank for each code, in order, which has all of its bytes and its index
 pub record AreRanks (text : List ℕ) (codes : List Code) (ranks : List ℕ) : Type 0 where

@@ -1,9 +1,9 @@
 // The order of codes by their bytes.
 ghost use Rattle.std.specs.Prelude.{◌≡◌, ◌^◌, ◌<◌, ◌≤◌, List, length, map, get_or, IfOk, IfSome};
-ghost use Rattle.vcd_head.specs.Names.{AnyHeld, AreRanks, IsIndex, bytes_at, prefix_in, place_in_rank, range_with_len, rank_of};
+ghost use Rattle.vcd_head.specs.Names.{AnyHeld, AreRanks, IsIndex, prefix_in, place_in_rank, range_with_len, rank_of};
 
 use std::alloc::{AllocError, Global};
-use vcd_view::{Code, code_in, text_in};
+use vcd_view::{Code, code_bytes};
 
 // How many bytes of a code a rank has at most.
 const RANK_BYTES: usize = 4;
@@ -53,7 +53,7 @@ fn ranks_of(alloc: Global, text: &[u8], codes: &[Code]) -> Result<Option<Vec<usi
     }
     let mut ranks = Vec::with_capacity(alloc, codes.len())?;
     for position in 0..codes.len() {
-        let bytes = bytes_at(text, codes, position);
+        let bytes = code_bytes(text, codes, position);
         if bytes.len() > RANK_BYTES {
             return Ok(None);
         }
@@ -90,7 +90,7 @@ fn index_by_bytes(alloc: Global, text: &[u8], codes: &[Code]) -> Result<Vec<usiz
     ensures { AnyHeld text.now codes.now (λ cs. IfOk result (λ index. IsIndex cs index.items)) }
 {
     let mut index = positions_below(alloc, codes.len())?;
-    index.sort_unstable_by(|a, b| bytes_at(text, codes, *a).cmp(bytes_at(text, codes, *b)));
+    index.sort_unstable_by(|a, b| code_bytes(text, codes, *a).cmp(code_bytes(text, codes, *b)));
     Ok(index)
 }
 
@@ -103,17 +103,6 @@ fn positions_below(alloc: Global, count: usize) -> Result<Vec<usize>, AllocError
         positions.push(position)?;
     }
     Ok(positions)
-}
-
-/// Returns the bytes of the code at index `position` of `codes`, which lie in `text`; no bytes if
-/// there is no such code.
-fn bytes_at<'a>(text: &'a [u8], codes: &[Code], position: usize) -> &'a [u8]
-    ensures { result.now ≡ bytes_at text.now codes.now position }
-{
-    match code_in(codes, position) {
-        Some(code) => text_in(text, code.start, code.len as usize),
-        None => &[],
-    }
 }
 
 /// Returns the first `count` bytes (at most 8) as a number, the first byte as the highest. Missing

@@ -43,7 +43,7 @@ pub use Rattle.vcd_text.specs.Ahead.{TakesToken, bytes_of, lines_of, longest_of,
 pub use Rattle.vcd_text.specs.Passed.{Passed, line_ahead}
 pub use Rattle.vcd_text.specs.declared.ahead.Ahead.{Ahead}
 pub use Rattle.vcd_view.specs.CodeHash.{hashed, mixed}
-pub use Rattle.vcd_view.specs.Entries.{HasEntry, IsAt, MayHaveKey, above, are_right, is_entry_of, is_right, number_in, size_or_zero_of, text_in}
+pub use Rattle.vcd_view.specs.Entries.{HasEntry, IsAt, MayHaveKey, above, are_right, code_bytes, is_entry_of, is_right, number_in, size_or_zero_of, text_in}
 pub use Rattle.vcd_view.specs.Finds.{Finds}
 pub use Rattle.vcd_view.specs.Keys.{AreBytes, key_in, packed}
 pub use Rattle.vcd_view.specs.Keywords.{AreWords, NoEnds, texts_of}

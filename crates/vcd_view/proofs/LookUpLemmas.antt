@@ -10,13 +10,6 @@ use Rattle.vcd_view.proofs.ListLemmas.{slice_get-seam, bytes_flip, to_all}
 abbrev pub blank : Code
 blank = record { start = 0; len = 0; size = 0; event = false }
 
--- a code of a view is the header's at its index
-pub code_at : (text : List ℕ) (cs : List Code) (ks : List IdCode) (p : ℕ) → AllZip (IsCode text) cs ks → p < length cs → (k : IdCode) × (slice_get ks p ≡ Some k) × IsCode text (get_or cs p blank) k
-code_at text [] ks p h l = absurd (omega arith)
-code_at text (c ∷ cs) [] p h l = absurd h
-code_at text (c ∷ cs) (k ∷ ks) zero h l = (k, refl, h.0)
-code_at text (c ∷ cs) (k ∷ ks) (suc p) h l = code_at text cs ks p h.1 (omega arith)
-
 pub codes_len : (text : List ℕ) (cs : List Code) (ks : List IdCode) → AllZip (IsCode text) cs ks → length cs ≡ length ks
 codes_len text [] [] h = refl
 codes_len text [] (k ∷ ks) h = absurd h

@@ -1,5 +1,5 @@
 -- The row at an index, and the declaration there.
-use Rattle.vcd_view.proofs.Cited.{◌≡◌, ℕ, zero, suc, ◌+◌, ◌<◌, ◌≤◌, List, [], ◌∷◌, ◌++◌, length, take, slice_range, slice_get, get_or, Some, None, refl, sym, ap, subst, ◌∙◌, arith, le-leb, append_assoc, append-nil, slice_get-get_or, Declaration, Variable, IdCode, code_of, name_of, Header, AllZip, Row, Code, HeadShown, HasTexts, IsCode, IsRow, AreRows, Views, reference_of, type_of}
+use Rattle.vcd_view.proofs.Cited.{◌≡◌, ℕ, zero, suc, ◌+◌, ◌<◌, ◌≤◌, List, [], ◌∷◌, ◌++◌, length, take, slice_range, slice_get, get_or, Some, None, refl, sym, ap, subst, ◌∙◌, arith, le-leb, append_assoc, append-nil, slice_get-get_or, Declaration, Variable, IdCode, code_of, name_of, Header, AllZip, Row, Code, HeadShown, HasTexts, IsCode, IsRow, AreRows, Views, code_bytes, code_text, reference_of, type_of}
 use Rattle.vcd_view.specs.declared.view.Kind.TheVariants as kind
 use Rattle.vcd_view.specs.Shown.{text_in}
 
@@ -109,6 +109,14 @@ none_of_shown t [] (k ∷ ks) p h at = absurd h
 none_of_shown t (x ∷ cs) [] p h at = absurd h
 none_of_shown t (x ∷ cs) (k ∷ ks) zero h at = cc
 none_of_shown t (x ∷ cs) (k ∷ ks) (suc p) h at = none_of_shown t cs ks p h.1 at
+
+-- the bytes that are read of a code are the header's
+pub bytes_are : (text : List ℕ) (list : List Code) (cs : List IdCode) (p : ℕ) → AllZip (IsCode text) list cs → code_bytes text list p ≡ code_text cs p
+bytes_are text [] [] p h = refl
+bytes_are text [] (k ∷ cs) p h = absurd h
+bytes_are text (c ∷ list) [] p h = absurd h
+bytes_are text (c ∷ list) (k ∷ cs) zero h = text_within text c.start c.len h.0.within ∙ h.0.text_is
+bytes_are text (c ∷ list) (k ∷ cs) (suc p) h = bytes_are text list cs p h.1
 
 -- the row of a variable
 pub row_of_variable : (s : HeadShown) (h : Header) (i : ℕ) (r : Row) (v : Variable) → Views s h → slice_get s.rows i ≡ Some r → slice_get h.declarations i ≡ Some (Declaration.Var v) → IsVariableRow s h i r v

@@ -9,6 +9,10 @@ use Rattle.vcd_view.specs.Keys.{key_in}
 abbrev pub text_in : List ℕ → ℕ → ℕ → List ℕ
 text_in text start len = cond (nat_le (start + len) (length text)) (slice_range text start (start + len)) []
 
+-- the bytes of the code at an index, none if there is no such code
+abbrev pub code_bytes : List ℕ → List Code → ℕ → List ℕ
+code_bytes text codes p = unwrap_or (option_map (λ (c : Code). text_in text c.start c.len) (slice_get codes p)) []
+
 -- the size of a code, or 0 for an event or if the size does not fit into 32 bits: a change of the
 -- code may have this many digits in any case
 abbrev pub size_or_zero_of : Code → ℕ

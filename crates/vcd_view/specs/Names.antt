@@ -12,7 +12,7 @@ pub use Rattle.vcd_text.specs.Advances.{Advances, CallEnd}
 pub use Rattle.vcd_text.specs.Ahead.{TakesToken, passed_of}
 pub use Rattle.vcd_text.specs.Device.{Puts}
 pub use Rattle.vcd_text.specs.Feed.{seen}
-pub use Rattle.vcd_view.specs.Entries.{HasEntry, IsAt, KeepsRight, MayHaveKey, above, are_right, entry_after, entry_in, is_right, number_in, size_or_zero_of, text_in}
+pub use Rattle.vcd_view.specs.Entries.{HasEntry, IsAt, KeepsRight, MayHaveKey, above, are_right, code_bytes, entry_after, entry_in, is_right, number_in, size_or_zero_of, text_in}
 pub use Rattle.vcd_view.specs.Finds.{AreFew, Finds, IsSized, bits_of}
 pub use Rattle.vcd_view.specs.Keys.{AreBytes, key_in}
 pub use Rattle.vcd_view.specs.Keywords.{PassesWords, PassesWordsTo, model_keyword}

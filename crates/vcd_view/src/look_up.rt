@@ -1,12 +1,12 @@
 // Codes that are looked up.
 ghost use Rattle.std.specs.Prelude.{List, true, ◌≡◌, ◌+◌, ◌≤◌, ◌<◌, length, option_map, IfNone, IfSome, Some};
-ghost use Rattle.vcd_view.specs.Names.{AllByRecursion, AnyCodes, AnyHeader, AreBytes, AreFew, Finds, Header, IdCode, IsIndex, IsSized, IsViewOf, are_right, bits_of, code_text, key_in};
+ghost use Rattle.vcd_view.specs.Names.{AllByRecursion, AnyCodes, AnyHeader, AreBytes, AreFew, Finds, Header, IdCode, IsIndex, IsSized, IsViewOf, are_right, bits_of, key_in};
 
 use crate::code_hash::CodeSeed;
 use crate::entries::{entry_of, index_by_hash, size_or_zero_of};
 use crate::key::key_of;
 use crate::probes::Probes;
-use crate::view::{Code, Entry, HeadView, code_in, text_in};
+use crate::view::{Code, Entry, HeadView, code_bytes, code_in};
 use std::cmp::Ordering;
 
 /// A code that was looked up.
@@ -194,22 +194,11 @@ fn search(
     while low < high {
         let middle = low + (high - low) / 2;
         let position = index[middle];
-        match probes.probe(text_of_code(text, codes, position), code) {
+        match probes.probe(code_bytes(text, codes, position), code) {
             Ordering::Less => low = middle + 1,
             Ordering::Greater => high = middle,
             Ordering::Equal => return (position < codes.len()).then_some(position),
         }
     }
     None
-}
-
-/// Returns the bytes of the code at index `position` of `codes`; no bytes if there is no such code.
-/// The bytes lie in `text`.
-fn text_of_code<'a>(text: &'a [u8], codes: &[Code], position: usize) -> &'a [u8]
-    ensures { AnyCodes text.now codes.now (λ ks. position < length ks → result.now ≡ code_text ks position) }
-{
-    match code_in(codes, position) {
-        Some(code) => text_in(text, code.start, code.len as usize),
-        None => &[],
-    }
 }

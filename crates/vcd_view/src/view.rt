@@ -1,6 +1,6 @@
 // A header as slices and numbers.
 ghost use Rattle.std.specs.Prelude.{◌≡◌, ◌<◌, true, false, length, take, Some, slice_get, option_map, unwrap_or, IfSome};
-ghost use Rattle.vcd_view.specs.Entries.{text_in, are_right};
+ghost use Rattle.vcd_view.specs.Entries.{are_right, code_bytes, text_in};
 
 use crate::code_hash::CodeSeed;
 
@@ -180,10 +180,7 @@ impl<'a> HeadView<'a> {
     pub fn code_text(self, code: usize) -> &'a [u8]
         ensures { (h : Header) → IsViewOf self.entry h → result.now ≡ code_text h.codes code }
     {
-        match self.code_at(code) {
-            Some(code) => self.text_at(code.start, code.len as usize),
-            None => &[],
-        }
+        code_bytes(self.text, self.codes, code)
     }
 
     /// Returns the power of ten of the header's time scale, in seconds, such as -9 for 1 ns. It is
@@ -221,9 +218,21 @@ pub fn code_in(codes: &[Code], position: usize) -> Option<Code>
     codes.get(position).copied()
 }
 
+/// Returns the bytes of the code at index `position` of `codes`, which lie in `text`; no bytes if
+/// there is no such index.
+#[inline(always)]
+pub fn code_bytes<'a>(text: &'a [u8], codes: &[Code], position: usize) -> &'a [u8]
+    ensures { result.now ≡ code_bytes text.now codes.now position }
+{
+    match code_in(codes, position) {
+        Some(code) => text_in(text, code.start, code.len as usize),
+        None => &[],
+    }
+}
+
 /// Returns `len` bytes of `text` from offset `start` on; no bytes if the text has fewer.
 #[inline(always)]
-pub fn text_in(text: &[u8], start: usize, len: usize) -> &[u8]
+pub(crate) fn text_in(text: &[u8], start: usize, len: usize) -> &[u8]
     ensures { result.now ≡ text_in text.now start len }
 {
     text.get(start..start.saturating_add(len)).unwrap_or(&[])

@@ -1,5 +1,5 @@
 use Rattle.vcd_view.proofs.Cited.{◌≡◌, ◌+◌, ◌-◌, ◌/◌, ◌<◌, length, get_or, Some, rules, sym, ap, subst, ◌∙◌, arith, digits_of, nat_cmp, slice_cmp}
-use Rattle.vcd_view.proofs.Facts.{codes_len, index_len, place_below, between_all, between_above, between_below, none_between, found_equal, bits_of_half, IsBetween}
+use Rattle.vcd_view.proofs.Facts.{bytes_are, codes_len, index_len, place_below, between_all, between_above, between_below, none_between, found_equal, bits_of_half, IsBetween}
 use Rattle.vcd_view.proofs.look_up.search.Goals as goal
 
 pub loop-low-init : goal.loop-low-init
@@ -22,7 +22,7 @@ loop-low-preserved-in-Less c =
       within = omega arith;
       end = c.loop-low.invariant.end;
       between = λ ks a x. between_above ks c.args.index.now c.args.code.now low high middle x (c.loop-low.invariant.between ks a x) inside
-          (ap (λ t. slice_cmp nat_cmp t c.args.code.now) (sym (c.text_of_code.ensures ks a (place_below ks c.args.index.now middle x inside))) ∙ sym c.in-Less.ensures.order);
+          (ap (λ t. slice_cmp nat_cmp t c.args.code.now) (sym (c.code_bytes.ensures ∙ bytes_are _ _ ks (get_or c.args.index.now middle 0) a)) ∙ sym c.in-Less.ensures.order);
       grown = omega (arith, c.loop-low.invariant.grown);
       counted = λ l. omega (arith, c.loop-low.invariant.grown);
       few = omega (arith, c.loop-low.invariant.few);
@@ -38,7 +38,7 @@ loop-low-preserved c =
       within = omega arith;
       end = omega (arith, c.loop-low.invariant.end);
       between = λ ks a x. between_below ks c.args.index.now c.args.code.now low high middle x (c.loop-low.invariant.between ks a x)
-          (ap (λ t. slice_cmp nat_cmp t c.args.code.now) (sym (c.text_of_code.ensures ks a (place_below ks c.args.index.now middle x inside))) ∙ sym c.in-Greater.ensures.order);
+          (ap (λ t. slice_cmp nat_cmp t c.args.code.now) (sym (c.code_bytes.ensures ∙ bytes_are _ _ ks (get_or c.args.index.now middle 0) a)) ∙ sym c.in-Greater.ensures.order);
       grown = omega (arith, c.loop-low.invariant.grown);
       counted = λ l. omega (arith, c.loop-low.invariant.grown);
       few = omega (arith, c.loop-low.invariant.few);
@@ -54,7 +54,7 @@ returns-in-Equal-clause-found c = λ ks a x.
     let is : c.then_some.result ≡ Some (get_or index middle 0) = search rules in
     rw is
     (found_equal ks index c.args.code.now middle x inside
-    (ap (λ t. slice_cmp nat_cmp t c.args.code.now) (sym (c.text_of_code.ensures ks a below)) ∙ sym c.in-Equal.ensures.order))
+    (ap (λ t. slice_cmp nat_cmp t c.args.code.now) (sym (c.code_bytes.ensures ∙ bytes_are _ _ ks (get_or index middle 0) a)) ∙ sym c.in-Equal.ensures.order))
 
 pub returns-in-Equal-clause-few : goal.returns-in-Equal-clause-few
 returns-in-Equal-clause-few c = λ ks x.
