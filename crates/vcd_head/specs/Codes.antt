@@ -16,16 +16,16 @@ pub record HasNone (c : Codes) : Type 0 where
   pub no_numbers : c.rising.items ≡ []
   pub no_keys : c.keys.keys ≡ []
 
--- each number is above the one before it, and the first above this one
+-- each key is above the one before it, and the first above this one
 abbrev pub RisesFrom : ℕ → List ℕ → Type 0
 RisesFrom n [] = Unit {0}
 RisesFrom n (x ∷ xs) = (n < x) × RisesFrom x xs
 
--- each number is above the one before it, and above 0
+-- each key is above the one before it, and above 0
 abbrev pub Rises : List ℕ → Type 0
 Rises xs = RisesFrom 0 xs
 
--- the keys of codes, if those of the first ones are these numbers
+-- the keys of codes, if those of the first ones are these
 abbrev pub keys_behind : List ℕ → List CodeKey → List CodeKey
 keys_behind rising keys = map (λ n. key.Short n) rising ++ keys
 

@@ -9,12 +9,12 @@ use Rattle.vcd_view.specs.Keys.{key_in}
 use Rattle.vcd_head.specs.declared.code_key.CodeKey.{CodeKey}
 use Rattle.vcd_head.specs.declared.code_key.CodeKey.TheVariants as key
 
--- what tells a key from others: its number, or two zeros and its bytes
+-- what tells a key from others: that of a short code, or two zeros and a long code's bytes
 abbrev pub shape_of : CodeKey → List ℕ
 shape_of (key.Short n) = n ∷ []
 shape_of (key.Long v) = 0 ∷ 0 ∷ v.items
 
--- the shape of the key of a code with these bytes: its number, or its bytes if it has none
+-- the shape of the key of a code with these bytes
 abbrev pub shape_in : List ℕ → List ℕ
 shape_in t = cond (key_in t == 0) (0 ∷ 0 ∷ t) (key_in t ∷ [])
 
@@ -30,7 +30,7 @@ AreKeysOf keys cs = map shape_of keys ≡ map (λ (c : IdCode). shape_in c.text)
 abbrev pub same_shape : CodeKey → CodeKey → Bool
 same_shape a b = bytes_eq (shape_of a) (shape_of b)
 
--- what is hashed of a key with this shape: its number or its bytes
+-- what is hashed of a key with this shape: a short code's key, or a long code's bytes
 abbrev pub writes_in : List ℕ → HashWrites
 writes_in [] = []
 writes_in (n ∷ []) = fed.u64 n

@@ -6,7 +6,7 @@ use std::alloc::{AllocError, Global};
 use std::hash::{Hash, Hasher};
 use vcd_view::key_of;
 
-// A code as the set has it: a short one as its number, a longer one as its bytes.
+// A code as the set has it: a short one as its key (`key_of`), a longer one as its bytes.
 #[derive(Drop)]
 pub(crate) enum CodeKey {
     Short(u64),
@@ -31,10 +31,10 @@ impl CodeKey {
     pub(crate) fn is_of(&self, bytes: &[u8]) -> bool
         ensures { result ≡ bytes_eq (shape_in bytes.now) (shape_of self.now) }
     {
-        let number = key_of(bytes);
+        let key = key_of(bytes);
         match self {
-            CodeKey::Short(own) => number != 0 && number == *own,
-            CodeKey::Long(own) => number == 0 && bytes == own.as_slice(),
+            CodeKey::Short(own) => key != 0 && key == *own,
+            CodeKey::Long(own) => key == 0 && bytes == own.as_slice(),
         }
     }
 }
@@ -64,11 +64,11 @@ impl Hash for CodeKey {
 
     ghost respects_eq = { same_writes };
 
-    /// Feeds the key to the hasher `state`: the number of a short code, or the bytes of a long one.
+    /// Feeds a short code's key, or the bytes of a long one, to the hasher `state`.
     #[inline(always)]
     fn hash<H: Hasher>(&self, state: &mut H) {
         match self {
-            CodeKey::Short(number) => state.write_u64(*number),
+            CodeKey::Short(key) => state.write_u64(*key),
             CodeKey::Long(bytes) => state.write(bytes),
         }
     }

@@ -55,13 +55,13 @@ fn enter_key(alloc: Global, known: &mut Codes, bytes: &[u8]) -> Result<(usize, b
     ensures refused { Rises known.old.rising.items
         → IfErr result (λ _. IsNewCode known.old bytes.now) }
 {
-    let number = key_of(bytes);
-    if known.keys.is_empty() && number > last_rising(&known.rising) {
+    let key = key_of(bytes);
+    if known.keys.is_empty() && key > last_rising(&known.rising) {
         let position = known.rising.len();
-        append(&mut known.rising, number)?;
+        append(&mut known.rising, key)?;
         return Ok((position, true));
     }
-    if let Some(position) = index_in_rising(&known.rising, number) {
+    if let Some(position) = index_in_rising(&known.rising, key) {
         return Ok((position, false));
     }
     enter_in_set(alloc, known, bytes)

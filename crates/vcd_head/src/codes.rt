@@ -11,7 +11,7 @@ use vcd_view::{Code, CodeSeed};
 #[derive(Drop)]
 pub(crate) struct Codes {
     pub(crate) list: Vec<Code>,
-    // The numbers of the first codes in the list, each above the one before it. Simulators number
+    // The keys of the first codes in the list, each above the one before it. Simulators number
     // codes in the order of declaration, so most headers have no other codes.
     pub(crate) rising: Vec<u64>,
     // The key of each code after the first ones.

@@ -33,8 +33,8 @@
 //!   `scale`, `scopes` and `variable`, what a phrase says; `declarations` and `rows`, what may be
 //!   declared and what is kept of it; `draft`, a header while it is read; `finish`, the head that
 //!   it becomes; `head` and `fault`, the results
-//! - Codes of the draft: `codes`, the list; `rising` and `code_key`, the numbers and the keys by
-//!   which they are found; `code_place`, the index of a variable's code
+//! - Codes of the draft: `codes`, the list; `rising` and `code_key`, the keys by which they are
+//!   found; `code_place`, the index of a variable's code
 //! - Look-up in the head: `index`, the order of the codes by their bytes; `vcd_view` has the rest
 //! - Scopes around a declaration: `enclosing`, outermost first; `path`, the path of a variable
 //! - Selection: `selection`, which variables names select; `inside`, the names that continue inside

@@ -1,4 +1,4 @@
--- The numbers that short codes are compared by.
+-- The keys that short codes are compared by.
 use Rattle.std.specs.Prelude.{ℕ, ◌<◌, ◌+◌, ◌*◌, nat_le, cond, List, [], ◌∷◌, length}
 use Rattle.std.specs.List.{AllByRecursion}
 
@@ -12,6 +12,6 @@ abbrev pub packed : List ℕ → ℕ
 packed [] = 32
 packed (b ∷ bs) = packed bs * 256 + b
 
--- the number of a code of at most 7 bytes, 0 for a longer one
+-- the key of a code of at most 7 bytes, 0 for a longer one
 abbrev pub key_in : List ℕ → ℕ
 key_in code = cond (nat_le (length code) 7) (packed code) 0

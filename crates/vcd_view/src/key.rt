@@ -1,4 +1,4 @@
-// Short codes as numbers.
+// Short codes as keys.
 ghost use Rattle.std.specs.Prelude.{◌≡◌, ◌+◌, ◌*◌, ◌^◌, ◌≤◌, ◌<◌, length};
 ghost use Rattle.vcd_view.specs.Keys.{key_in, packed};
 
@@ -11,7 +11,7 @@ const BLANK: u64 = b' ' as u64;
 /// Returns a key for a code of at most 7 bytes, which no other code has, and 0 for a longer code.
 /// Its lowest byte is the first byte of the code.
 // One to four bytes are read without a loop. To compare bytes instead is a call and two reads far
-// apart: with this number `check` of scalars takes 17 % less.
+// apart: with the key `check` of scalars takes 17 % less.
 #[inline(always)]
 pub fn key_of(code: &[u8]) -> u64
     ensures { result ≡ key_in code.now }

@@ -19,7 +19,7 @@
 //! - `view`: `HeadView` with its rows and codes, and `Need`
 //! - `look_up`, `probes`: a look at one entry and at the one beside it, then a look by the hash,
 //!   then a binary search; comparisons, counted
-//! - `entries`, `key`: where a code's entry is, and what it holds; codes as numbers
+//! - `entries`, `key`: where a code's entry is, and what it holds; short codes as keys
 //! - `fill`: how many entries codes need, and how they are filled
 //! - `code_hash`: codes hashed by numbers that nobody knows
 //! - `room`: `need`, the room that an engine over a header needs

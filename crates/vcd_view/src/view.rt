@@ -52,7 +52,8 @@ pub struct Code {
 // It has the size because a change would otherwise read 32 bytes of `codes`, which are far away.
 #[derive(Clone, Copy, Default, PartialEq, Eq, Debug)]
 pub struct Entry {
-    /// The code as a number; of a code that has none, its hash with the highest bit set.
+    /// The key of the code (`key_of`); of a code of 8 bytes or more, its hash with the highest bit
+    /// set.
     pub key: u64,
     /// The index of the code in `codes`.
     pub position: u32,
