@@ -29,7 +29,7 @@ pub use Rattle.std.specs.Option.{option_eq}
 pub use Rattle.std.specs.Prelude.{IsTrue, MatchBool, bit_and, option_and_then, option_map, slice_index, slice_range, sum_by, unwrap_or}
 pub use Rattle.std.specs.Result.{result_and, result_ok}
 pub use Rattle.std.specs.Str.{byte, bytes_eq, str_to_ascii_lowercase}
-pub use Rattle.vcd_body.specs.Ahead.{EndsAhead, GaveAhead, GaveLast, HasBits, IsPlain, IsSizedItem, LooksOver, PassBoth, PassesNoItem, ReadsOn}
+pub use Rattle.vcd_body.specs.Ahead.{AreWords, EndsAhead, GaveAhead, GaveLast, HasBits, IsPlain, IsSizedItem, LooksOver, PassBoth, PassesNoItem, PassesWords, ReadsOn, texts_of}
 pub use Rattle.vcd_body.specs.Asked.{HaveJust}
 pub use Rattle.vcd_body.specs.Binary.{binary_digits, bit_of, count_in, is_proper, number_in}
 pub use Rattle.vcd_body.specs.Calls.{NeedsOneToken}
@@ -100,7 +100,7 @@ pub use Rattle.vcd_model.specs.Items.{BodyItem, ChangeForm, SectionKind, is_begi
 pub use Rattle.vcd_model.specs.Keywords.{Keyword, is_end, keyword_of, keyword_text}
 pub use Rattle.vcd_model.specs.Laws.{IsPrefixOf}
 pub use Rattle.vcd_model.specs.Outcome.{Request, ends_early}
-pub use Rattle.vcd_model.specs.Reading.{Placed, phrases_of, reading_of}
+pub use Rattle.vcd_model.specs.Reading.{Grammar, Placed, phrases_of, reading_of}
 pub use Rattle.vcd_model.specs.Sample.{shown}
 pub use Rattle.vcd_model.specs.Settled.{header_settles, is_settled_behind}
 pub use Rattle.vcd_model.specs.SoFar.{IsSoFar}
@@ -128,12 +128,12 @@ pub use Rattle.vcd_text.specs.declared.ahead.Ahead.{Ahead}
 pub use Rattle.vcd_text.specs.declared.device.Source.{Ghosts}
 pub use Rattle.vcd_text.specs.declared.device.WriteFailed.{WriteFailed}
 pub use Rattle.vcd_text.specs.declared.feed.Feed.{Feed}
-pub use Rattle.vcd_view.proofs.KeywordLemmas.{no_ends_more, not_until, passed_on, until, words_more, words_on}
+pub use Rattle.vcd_view.proofs.KeywordLemmas.{no_ends_more, not_until, until}
 pub use Rattle.vcd_view.proofs.ListLemmas.{there}
 pub use Rattle.vcd_view.proofs.RoomLemmas.{same_sum, sum_fits}
 pub use Rattle.vcd_view.specs.Entries.{size_or_zero_of}
 pub use Rattle.vcd_view.specs.Finds.{Finds, IsSized}
-pub use Rattle.vcd_view.specs.Keywords.{AreWords, NoEnds, PassesWords, model_keyword, texts_of}
+pub use Rattle.vcd_view.specs.Keywords.{NoEnds, model_keyword}
 pub use Rattle.vcd_view.specs.Shown.{HeadShown, parts, text_in}
 pub use Rattle.vcd_view.specs.Views.{IsCode, IsViewOf, Views}
 pub use Rattle.vcd_view.specs.declared.look_up.Found.{Found}

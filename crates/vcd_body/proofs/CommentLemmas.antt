@@ -1,7 +1,34 @@
 -- A comment that lies ahead.
-use Rattle.vcd_body.proofs.Cited.{◌≡◌, ℕ, ◌<◌, ◌≤◌, ◌∙◌, true, false, List, [], ◌∷◌, ◌++◌, append-nil, append_assoc, length, refl, sym, subst, arith, bytes_eq-Decides, BodyPhrase, body_grammar, IdCode, BodyItem, Keyword, is_end, keyword_text, Placed, phrases_of, IsSoFar, Token, so_far-phrase, so_far-token, TakesToken, bytes_of, longest_of, passed_of, start_of, Passed, line_ahead, Ahead, AreWords, texts_of, passed_on, words_more, words_on, GaveAhead, PassesNoItem, is_comment}
+use Rattle.vcd_body.proofs.Cited.{◌≡◌, ℕ, ◌<◌, ◌≤◌, ◌∙◌, true, false, List, [], ◌∷◌, ◌++◌, None, ap, append-nil, append_assoc, length, refl, sym, subst, arith, bytes_eq-Decides, BodyPhrase, body_grammar, IdCode, BodyItem, Keyword, is_end, keyword_text, Grammar, Placed, phrases_of, IsSoFar, Token, so_far-phrase, so_far-token, TakesToken, bytes_of, longest_of, passed_of, start_of, Passed, line_ahead, Ahead, AreWords, NoEnds, no_ends_more, texts_of, GaveAhead, PassesNoItem, is_comment}
 use Rattle.vcd_body.proofs.AheadLemmas.{GoesOn, passed_over}
 use Rattle.vcd_body.proofs.PhraseLemmas.{comment_begins, comment_goes_on, comment_open, comment_whole}
+
+-- ---- words
+
+pub words_more : (ts : List Token) (t : Token) → AreWords ts → is_end t.bytes ≡ false → AreWords (ts ++ t ∷ [])
+words_more [] t h e = (e, tt)
+words_more (u ∷ ts) t h e = (h.0, words_more ts t h.1 e)
+
+-- a phrase in which any tokens may come up to `$end` continues after such tokens
+pub words_on : {P : Type 0} (g : Grammar P) (placed : List (Placed P)) (before : List (List ℕ)) →
+    ((inner : List (List ℕ)) (t : List ℕ) → NoEnds inner → (g.fault (phrases_of placed) (before ++ inner) t ≡ None) × (is_end t ≡ false → g.phrase (before ++ inner ++ t ∷ []) ≡ None))
+    → (given more : List Token) (inner : List (List ℕ)) → NoEnds inner → AreWords more → IsSoFar g given placed (before ++ inner) → NoEnds (inner ++ texts_of more) × IsSoFar g (given ++ more) placed (before ++ (inner ++ texts_of more))
+words_on g placed before runs given [] inner none words h = rw (append-nil inner, append-nil given) (none, h)
+words_on g placed before runs given (t ∷ more) inner none words h =
+    let step = runs inner t.bytes none in
+    let one = so_far-token g given placed (before ++ inner) t h step.0 (step.1 words.0) in
+    rw (sym (append_assoc given (t ∷ []) more), sym (append_assoc inner (t.bytes ∷ []) (texts_of more)))
+    (words_on g placed before runs (given ++ t ∷ []) more (inner ++ t.bytes ∷ []) (no_ends_more inner t.bytes none words.0) words.1 (subst (IsSoFar g (given ++ t ∷ []) placed) (append_assoc before inner (t.bytes ∷ [])) one))
+
+-- a token is passed after those before, over the bytes at the first of them
+pub passed_on : (limit lines : ℕ) (bytes : List ℕ) (a b : Ahead) (token : List ℕ) → longest_of a ≡ limit → bytes_of a ≡ bytes → (ts : List Token) → TakesToken a b token → Passed limit lines bytes (passed_of a) ts
+    → Passed limit lines bytes (passed_of b) (ts ++ record { bytes = token; line = line_ahead lines (bytes_of a) (start_of b token) } ∷ [])
+passed_on limit lines bytes a b token l e ts takes p =
+    let from = subst (λ x. Passed (longest_of a) lines x (passed_of a) ts) (sym e) (subst (λ x. Passed x lines bytes (passed_of a) ts) (sym l) p) in
+    let t : Token = record { bytes = token; line = line_ahead lines (bytes_of a) (start_of b token) } in
+    subst (λ x. Passed x lines bytes (passed_of b) (ts ++ t ∷ [])) l (subst (λ x. Passed (longest_of a) lines x (passed_of b) (ts ++ t ∷ [])) e (takes.gives lines ts from))
+
+-- ---- comments
 
 -- the keyword of a comment
 abbrev keyword : ℕ → Token

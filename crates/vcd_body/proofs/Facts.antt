@@ -4,7 +4,7 @@ pub use Rattle.vcd_body.proofs.BinaryLemmas.{binary_at, binary_past, length_bina
 pub use Rattle.vcd_body.proofs.CallerLemmas.{gave_none_ahead}
 pub use Rattle.vcd_body.proofs.ChangeLine.{all_line, bit_line, vector_line}
 pub use Rattle.vcd_body.proofs.CodeLanes.{codes_of_lanes, four_lanes, four_long, places_of_lanes}
-pub use Rattle.vcd_body.proofs.CommentLemmas.{OpensComment, comment_passes, passes_both, same_place, word_passes}
+pub use Rattle.vcd_body.proofs.CommentLemmas.{OpensComment, comment_passes, passed_on, passes_both, same_place, word_passes, words_more, words_on}
 pub use Rattle.vcd_body.proofs.CompareLemmas.{SameFrom, differ_at_longest, differ_for, differ_where_as_many, last_number, last_of_state, last_packed}
 pub use Rattle.vcd_body.proofs.CurrentLemmas.{bits_hold, good_text, held_still, other_gives, set_holds}
 pub use Rattle.vcd_body.proofs.EndLemmas.{end_digit, ends_same}

@@ -1,5 +1,5 @@
 -- Items that are taken ahead of the feed, and what they leave once it has passed them.
-use Rattle.std.specs.Prelude.{◌≡◌, ℕ, ◌<◌, ◌≤◌, drop, slice_get, List, [], ◌∷◌, ◌++◌, length, Option, Some, None, IfSome}
+use Rattle.std.specs.Prelude.{◌≡◌, ℕ, ◌<◌, ◌≤◌, drop, slice_get, List, [], ◌∷◌, ◌++◌, length, map, Option, Some, None, IfSome}
 use Rattle.vcd_model.specs.Input.{Input}
 use Rattle.vcd_model.specs.Tokens.{Token}
 use Rattle.vcd_model.specs.Declarations.{IdCode}
@@ -12,11 +12,12 @@ use Rattle.vcd_model.specs.SoFar.{IsSoFar}
 use Rattle.vcd_text.specs.Ahead.{ahead_of, bytes_of, lines_of, longest_of, passed_of}
 use Rattle.vcd_text.specs.Passed.{Passed}
 use Rattle.vcd_text.specs.declared.ahead.Ahead.{Ahead}
-use Rattle.vcd_text.specs.Feed.{HasReadTo, limit_of}
+use Rattle.vcd_text.specs.Feed.{HasGiven, HasReadTo, limit_of}
 use Rattle.vcd_text.specs.declared.device.Source.{Ghosts}
 use Rattle.vcd_text.specs.declared.feed.Feed.{Feed}
 use Rattle.vcd_view.specs.declared.view.Code.{Code}
 use Rattle.vcd_view.specs.Finds.{IsSized}
+use Rattle.vcd_view.specs.Keywords.{NoEnds}
 use Rattle.vcd_view.specs.declared.look_up.Found.{Found}
 use Rattle.vcd_body.specs.declared.values.bits.Bits.{Bits}
 use Rattle.vcd_body.specs.declared.item.Form.TheVariants as form
@@ -123,3 +124,21 @@ GivesToLast n old new = (codes : List IdCode) (i : Input) (front : List Token) (
 -- Comments were given, and no item.
 abbrev pub GivesNoItem : {X : Type 0} {g : Ghosts X} → (old new : Feed X g) → Type 0
 GivesNoItem old new = (codes : List IdCode) (i : Input) (front : List Token) (items : List BodyItem) (r : Regs) → GaveItems codes i front items old r → GaveItems codes i front items new r
+
+-- ---- words up to an `$end`
+
+-- the bytes of these tokens
+abbrev pub texts_of : List Token → List (List ℕ)
+texts_of ts = map (λ (t : Token). t.bytes) ts
+
+-- tokens of which none is `$end`
+abbrev pub AreWords : List Token → Type 0
+AreWords ts = NoEnds (texts_of ts)
+
+-- the first n bytes ahead are exactly some tokens, of which none is `$end`
+abbrev pub PassesWordsTo : Ahead → ℕ → Type 0
+PassesWordsTo a n = (lines : ℕ) → (ts : List Token) × AreWords ts × Passed (longest_of a) lines (bytes_of a) n ts
+
+-- if some tokens were given, some more were given too, of which none is `$end`
+abbrev pub PassesWords : {X : Type 0} {g : Ghosts X} → (old new : Feed X g) → Type 0
+PassesWords old new = (ts : List Token) × AreWords ts × ((i : Input) (given : List Token) → HasGiven i given old → HasGiven i (given ++ ts) new)

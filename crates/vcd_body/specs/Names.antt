@@ -21,7 +21,7 @@ pub use Rattle.vcd_model.specs.Sample.{shown}
 pub use Rattle.vcd_model.specs.Tokens.{Token}
 pub use Rattle.vcd_model.specs.Values.{Value, extend, extension, short, value_with}
 pub use Rattle.vcd_text.specs.Advances.{Advances, CallEnd, GoesFurther}
-pub use Rattle.vcd_text.specs.Ahead.{ahead_of, bytes_of, lines_of, longest_of, passed_of}
+pub use Rattle.vcd_text.specs.Ahead.{TakesToken as MovesPast, ahead_of, bytes_of, lines_of, longest_of, passed_of}
 pub use Rattle.vcd_text.specs.Device.{Counts, Puts, PutsTo, PutsWhere, Takes}
 pub use Rattle.vcd_text.specs.Feed.{limit_of, seen, source_of, token_of, value_of}
 pub use Rattle.vcd_text.specs.Passed.{AreWhite, IsRun, Passed}
@@ -29,7 +29,7 @@ pub use Rattle.vcd_view.specs.Finds.{IsSized}
 pub use Rattle.vcd_view.specs.Views.{IsViewOf}
 pub use Rattle.vcd_view.specs.declared.view.Code.{Code}
 pub use Rattle.vcd_view.specs.declared.view.HeadView.{HeadView}
-pub use Rattle.vcd_body.specs.Ahead.{GivesAhead, GivesNoItem, GivesToLast, HasBits, IsSizedItem, PassesNoItem}
+pub use Rattle.vcd_body.specs.Ahead.{GivesAhead, GivesNoItem, GivesToLast, HasBits, IsSizedItem, PassesNoItem, PassesWords, PassesWordsTo}
 pub use Rattle.vcd_body.specs.Answer.{stop_of_body}
 pub use Rattle.vcd_body.specs.Binary.{binary_digits, bit_of, is_proper}
 pub use Rattle.vcd_body.specs.Calls.{EndsUnread, HasGoodValue, NeedsOneToken, OpensOrRefuses, ReadsCode, ReadsCommand, ReadsComment, ReadsInner, ReadsItem, ReadsTimestamp, ReadsOne, ReadsRest, ReadsToken, RefusesIn, TakesToken}

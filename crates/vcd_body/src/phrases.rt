@@ -1,13 +1,13 @@
 // The phrases of a body, by what they begin with.
-ghost use Rattle.std.specs.Prelude.{◌≡◌, ◌≢◌, true, ◌-◌, ◌^◌, ◌<◌, ◌≤◌, length, take, drop, Some, None, slice_get, OnOk, IfOk, IfErr, ◌||◌, nat_le};
-ghost use Rattle.vcd_body.specs.Names.{Advances, AreBinaryIf, AreRegsWith, Begins, ChangeForm, Code, PhraseKind, Form, GoesFurther, HasGoodValue, IsFoundScalar, IsScalar, IsSized, Item, NeedsOneToken, OpensOrRefuses, ReadsCode, ReadsComment, ReadsTimestamp, ReadsRest, RefusesIn, call_end, is_value_digit, list_all, mark_time, seen, source_of, token_of, value_of};
+ghost use Rattle.std.specs.Prelude.{◌≡◌, ◌≢◌, true, false, ◌-◌, ◌^◌, ◌<◌, ◌≤◌, length, take, drop, Some, None, slice_get, OnOk, IfOk, IfErr, IfSome, ◌||◌, nat_le};
+ghost use Rattle.vcd_body.specs.Names.{Advances, AreBinaryIf, AreRegsWith, Begins, CallEnd, ChangeForm, Code, PhraseKind, Form, GoesFurther, HasGoodValue, IsFoundScalar, IsScalar, IsSized, Item, MovesPast, NeedsOneToken, OpensOrRefuses, PassesWords, PassesWordsTo, ReadsCode, ReadsComment, ReadsTimestamp, ReadsRest, RefusesIn, call_end, is_end as ends, is_value_digit, list_all, mark_time, passed_of, seen, source_of, token_of, value_of};
 
 use crate::fault::BodyFault;
 use crate::item::Regs;
 use crate::tokens::next_inner;
 use crate::words::{after_first, are_binary, are_digits_or_binary, is_end, rest_of};
-use vcd_text::{Feed, Source, decimal_of};
-use vcd_view::{Code, Found, HeadView, find_sized, pass_words};
+use vcd_text::{Ahead, Feed, Source, decimal_of};
+use vcd_view::{Code, Found, HeadView, find_sized};
 
 /// Returns the time that the token of a timestamp spells. `None` if it has other bytes than digits
 /// after the `#`, or none, or if the time is 2^64 or more.
@@ -93,6 +93,47 @@ pub(crate) fn real_text(token: &[u8]) -> Result<&[u8], BodyFault>
         return Err(BodyFault::RealTooLong);
     }
     Ok(text)
+}
+
+/// Returns the next token and moves past it. `None` if it is `$end`, or if `Ahead::next` returns
+/// `None`; then nothing has changed.
+#[inline(always)]
+fn word_ahead<'a>(ahead: &mut Ahead<'a>) -> Option<&'a [u8]>
+    ensures takes { IfSome result (λ token. MovesPast ahead.old ahead.new token.now) }
+    ensures word { IfSome result (λ token. ends token.now ≡ false) }
+    ensures none { result ≡ None → ahead.new ≡ ahead.old }
+{
+    let mut next = *ahead;
+    let token = next.next()?;
+    if is_end(token) {
+        return None;
+    }
+    *ahead = next;
+    Some(token)
+}
+
+/// Returns how many bytes ahead the tokens before the next `$end` take, with the white space before
+/// each and one white byte after the last. It counts no further than to a token that does not lie
+/// completely in the chunk, where `Ahead::next` returns `None`. `ahead` must be at its first byte.
+fn words_len(ahead: Ahead<'_>) -> usize
+    requires { passed_of ahead ≡ 0 }
+    ensures { PassesWordsTo ahead.entry result }
+{
+    let mut next = ahead;
+    'words: while let Some(_) = word_ahead(&mut next) {}
+    next.passed()
+}
+
+/// Moves the feed past the tokens that come next and lie completely in its chunk, up to the first
+/// `$end`, but not past that. It reads nothing from the source. After it the feed's `token` may be
+/// empty.
+fn pass_words<S: Source>(feed: &mut Feed<'_, '_, '_, '_, S>)
+    ensures passes { PassesWords feed.old feed.new }
+    ensures advances { Advances S.failures feed.old feed.new CallEnd.GoesOn }
+    ensures bounded { seen feed.new < 2 ^ 63 }
+{
+    let len = words_len(feed.ahead());
+    feed.pass(len);
 }
 
 /// Reads the rest of a comment, up to its `$end`, and ignores it. Fails if a token cannot be read,

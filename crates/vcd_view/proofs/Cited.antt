@@ -13,7 +13,7 @@ pub use Rattle.std.proofs.lemmas.List.Sorted.{All-permutation, Contains-permutat
 pub use Rattle.std.proofs.lemmas.List.Sums.{sum_by-cons, sum_by_more}
 pub use Rattle.std.proofs.lemmas.Map.Keys.{IsDistinct-IsPermutation, IsDistinct-from_sorted}
 pub use Rattle.std.proofs.lemmas.Map.Text.{is_eq-slice_cmp}
-pub use Rattle.std.proofs.lemmas.Option.{IfSome_then, get_or_from_slice_get, none-some, same_Some, slice_get-get_or, slice_get_within}
+pub use Rattle.std.proofs.lemmas.Option.{IfSome_then, none-some, same_Some, slice_get-get_or, slice_get_within}
 pub use Rattle.std.proofs.lemmas.Slice.Eq.{bytes_eq-Decides}
 pub use Rattle.std.specs.Cmp.Lexicographic.{slice_cmp}
 pub use Rattle.std.specs.Int.{div_ceil, from_le_bytes, w64}
@@ -26,9 +26,8 @@ pub use Rattle.std.specs.declared.cmp.Ordering.{Ordering}
 pub use Rattle.std.specs.declared.cmp.Ordering.TheVariants.{Equal, Greater, Less}
 pub use Rattle.vcd_model.proofs.BoundLemmas.{room_fits}
 pub use Rattle.vcd_model.proofs.CodeLemmas.{same_room}
-pub use Rattle.vcd_model.proofs.HeaderGrammar.{keyword_is, keyword_of-text}
+pub use Rattle.vcd_model.proofs.HeaderGrammar.{keyword_of-text}
 pub use Rattle.vcd_model.proofs.ScopeLemmas.{innermost}
-pub use Rattle.vcd_model.proofs.SoFarLemmas.{so_far-token}
 pub use Rattle.vcd_model.specs.Backward.{each, each_after}
 pub use Rattle.vcd_model.specs.Bound.{AreWindows, FitsInput, IsView, RoomSize, WindowSize, room_of, value_room}
 pub use Rattle.vcd_model.specs.Declarations.{Declaration, IdCode, Variable, code_of, enclosing, has_text, name_of, parent, variable_of, variables_of}
@@ -36,17 +35,11 @@ pub use Rattle.vcd_model.specs.HeadText.{base94}
 pub use Rattle.vcd_model.specs.Header.{Header}
 pub use Rattle.vcd_model.specs.HeaderPhrases.{until_end}
 pub use Rattle.vcd_model.specs.Keywords.{Keyword, is_end, keyword_of, keyword_text}
-pub use Rattle.vcd_model.specs.Reading.{Grammar, Placed, phrases_of}
-pub use Rattle.vcd_model.specs.SoFar.{IsSoFar}
-pub use Rattle.vcd_model.specs.Tokens.{Token}
-pub use Rattle.vcd_text.specs.Ahead.{TakesToken, bytes_of, lines_of, longest_of, passed_of, start_of}
-pub use Rattle.vcd_text.specs.Passed.{Passed, line_ahead}
-pub use Rattle.vcd_text.specs.declared.ahead.Ahead.{Ahead}
 pub use Rattle.vcd_view.specs.CodeHash.{hashed, mixed}
 pub use Rattle.vcd_view.specs.Entries.{HasEntry, IsAt, MayHaveKey, above, are_right, code_bytes, is_entry_of, is_right, number_in, size_or_zero_of, text_in}
 pub use Rattle.vcd_view.specs.Finds.{Finds}
 pub use Rattle.vcd_view.specs.Keys.{AreBytes, key_in, packed}
-pub use Rattle.vcd_view.specs.Keywords.{AreWords, NoEnds, texts_of}
+pub use Rattle.vcd_view.specs.Keywords.{NoEnds}
 pub use Rattle.vcd_view.specs.Needs.{value_bytes, view_size}
 pub use Rattle.vcd_view.specs.Shown.{HeadShown, parts}
 pub use Rattle.vcd_view.specs.Views.{AreHeld, AreRows, HasTexts, IsCode, IsIndex, IsRow, IsSize, Views, code_text, counted_from_one, reference_of, type_of}

@@ -1,16 +1,8 @@
 -- Keywords as the definitions have them.
-use Rattle.std.specs.Prelude.{◌≡◌, ℕ, false, List, ◌++◌, map}
+use Rattle.std.specs.Prelude.{◌≡◌, ℕ, false, List}
 use Rattle.std.specs.List.{AllByRecursion}
-use Rattle.vcd_model.specs.Input.{Input}
 use Rattle.vcd_model.specs.Keywords as model
 use Rattle.vcd_model.specs.Keywords.{is_end}
-use Rattle.vcd_model.specs.Tokens.{Token}
-use Rattle.vcd_text.specs.Ahead.{bytes_of, longest_of}
-use Rattle.vcd_text.specs.Feed.{HasGiven}
-use Rattle.vcd_text.specs.Passed.{Passed}
-use Rattle.vcd_text.specs.declared.ahead.Ahead.{Ahead}
-use Rattle.vcd_text.specs.declared.device.Source.{Ghosts}
-use Rattle.vcd_text.specs.declared.feed.Feed.{Feed}
 use Rattle.vcd_view.specs.declared.keyword.Keyword.{Keyword}
 use Rattle.vcd_view.specs.declared.keyword.Keyword.TheVariants.{Comment, Date, EndDefinitions, Scope, Timescale, Upscope, Var, Version, DumpAll, DumpOff, DumpOn, DumpVars, End}
 
@@ -33,19 +25,3 @@ model_keyword End = model.Keyword.End
 -- texts of which none is `$end`
 abbrev pub NoEnds : List (List ℕ) → Type 0
 NoEnds ts = AllByRecursion (λ t. is_end t ≡ false) ts
-
--- the bytes of these tokens
-abbrev pub texts_of : List Token → List (List ℕ)
-texts_of ts = map (λ (t : Token). t.bytes) ts
-
--- tokens of which none is `$end`
-abbrev pub AreWords : List Token → Type 0
-AreWords ts = NoEnds (texts_of ts)
-
--- the first n bytes ahead are exactly some tokens, of which none is `$end`
-abbrev pub PassesWordsTo : Ahead → ℕ → Type 0
-PassesWordsTo a n = (lines : ℕ) → (ts : List Token) × AreWords ts × Passed (longest_of a) lines (bytes_of a) n ts
-
--- if some tokens were given, some more were given too, of which none is `$end`
-abbrev pub PassesWords : {X : Type 0} {g : Ghosts X} → (old new : Feed X g) → Type 0
-PassesWords old new = (ts : List Token) × AreWords ts × ((i : Input) (given : List Token) → HasGiven i given old → HasGiven i (given ++ ts) new)

@@ -1,8 +1,6 @@
-// The keywords of a dump, and the words of its texts: the tokens up to `$end`.
-ghost use Rattle.std.specs.Prelude.{◌≡◌, ◌^◌, ◌<◌, ℕ, false, None, IfSome, bytes_eq, codes, option_map};
-ghost use Rattle.vcd_view.specs.Names.{Advances, CallEnd, PassesWords, PassesWordsTo, TakesToken, is_end as ends, keyword_of as keyword_is, model_keyword, passed_of, seen};
-
-use vcd_text::{Ahead, Feed, Source};
+// The keywords of a dump.
+ghost use Rattle.std.specs.Prelude.{◌≡◌, false, bytes_eq, codes, option_map};
+ghost use Rattle.vcd_view.specs.Names.{keyword_of as keyword_is, model_keyword};
 
 /// A keyword (clause 18, keyword commands).
 #[derive(Clone, Copy, PartialEq, Eq, Debug)]
@@ -85,45 +83,4 @@ fn rarer_keyword_of(token: &[u8]) -> Option<Keyword>
     } else {
         None
     }
-}
-
-/// Returns the next token and moves past it. `None` if it is `$end`, or if `Ahead::next` returns
-/// `None`; then nothing has changed.
-#[inline(always)]
-fn word_ahead<'a>(ahead: &mut Ahead<'a>) -> Option<&'a [u8]>
-    ensures takes { IfSome result (λ token. TakesToken ahead.old ahead.new token.now) }
-    ensures word { IfSome result (λ token. ends token.now ≡ false) }
-    ensures none { result ≡ None → ahead.new ≡ ahead.old }
-{
-    let mut next = *ahead;
-    let token = next.next()?;
-    if is(token, b"$end") {
-        return None;
-    }
-    *ahead = next;
-    Some(token)
-}
-
-/// Returns how many bytes ahead the tokens before the next `$end` take, with the white space before
-/// each and one white byte after the last. It counts no further than to a token that does not lie
-/// completely in the chunk, where `Ahead::next` returns `None`. `ahead` must be at its first byte.
-fn words_len(ahead: Ahead<'_>) -> usize
-    requires { passed_of ahead ≡ 0 }
-    ensures { PassesWordsTo ahead.entry result }
-{
-    let mut next = ahead;
-    'words: while let Some(_) = word_ahead(&mut next) {}
-    next.passed()
-}
-
-/// Moves the feed past the tokens that come next and lie completely in its chunk, up to the first
-/// `$end`, but not past that. It reads nothing from the source. After it the feed's `token` may be
-/// empty.
-pub fn pass_words<S: Source>(feed: &mut Feed<'_, '_, '_, '_, S>)
-    ensures passes { PassesWords feed.old feed.new }
-    ensures advances { Advances S.failures feed.old feed.new CallEnd.GoesOn }
-    ensures bounded { seen feed.new < 2 ^ 63 }
-{
-    let len = words_len(feed.ahead());
-    feed.pass(len);
 }

@@ -23,7 +23,7 @@
 //! - `fill`: how many entries codes need, and how they are filled
 //! - `code_hash`: codes hashed by numbers that nobody knows
 //! - `room`: `need`, the room that an engine over a header needs
-//! - `keyword`: the keywords of a dump, and the words up to an `$end`
+//! - `keyword`: the keywords of a dump
 //! - `new_code`: the codes that a merge assigns
 //!
 //! In `specs/` callers read `Views` and `Shown`, `Over`, `Finds`, `Needs`, `Keywords` and
@@ -47,7 +47,7 @@ mod view;
 pub use code_hash::{CodeHasher, CodeSeed};
 pub use fill::{entries_needed, fill_entries};
 pub use key::key_of;
-pub use keyword::{Keyword, is, keyword_of, pass_words};
+pub use keyword::{Keyword, is, keyword_of};
 pub use look_up::{Found, find, find_counted, find_in_entry, find_sized};
 pub use new_code::{NewCode, put_code};
 pub use probes::Probes;

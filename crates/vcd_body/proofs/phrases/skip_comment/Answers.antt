@@ -1,5 +1,5 @@
-use Rattle.vcd_body.proofs.Cited.{advances_on, advances_nowhere, ◌≡◌, ℕ, List, ◌∷◌, [], ◌++◌, true, false, refl, sym, ap, subst, ◌∙◌, arith, err_from_is_err_and, Keyword, keyword_text, is_end, BodyPhrase, body_grammar, IdCode, Input, Placed, phrases_of, Token, HasGiven, token_of, Ghosts, Feed, NoEnds, PassesWords, texts_of, no_ends_more, words_on, Reads}
-use Rattle.vcd_body.proofs.Facts.{taken, taken_phrase, comment_goes_on, comment_open, comment_whole}
+use Rattle.vcd_body.proofs.Cited.{advances_on, advances_nowhere, ◌≡◌, ℕ, List, ◌∷◌, [], ◌++◌, true, false, refl, sym, ap, subst, ◌∙◌, arith, err_from_is_err_and, Keyword, keyword_text, is_end, BodyPhrase, body_grammar, IdCode, Input, Placed, phrases_of, Token, HasGiven, token_of, Ghosts, Feed, NoEnds, PassesWords, texts_of, no_ends_more, Reads}
+use Rattle.vcd_body.proofs.Facts.{taken, taken_phrase, comment_goes_on, comment_open, comment_whole, words_on}
 use Rattle.std.proofs.lemmas.List.{append_assoc}
 use Rattle.vcd_body.proofs.phrases.skip_comment.Goals as goal
 

@@ -1,6 +1,6 @@
-use Rattle.vcd_view.proofs.Cited.{[], ◌∷◌, ◌++◌, refl, ap, subst, sym, ◌∙◌, Token, bytes_of, longest_of, passed_of, start_of, Passed, line_ahead}
-use Rattle.vcd_view.proofs.Facts.{passed_on, words_more}
-use Rattle.vcd_view.proofs.keyword.words_len.Goals as goal
+use Rattle.vcd_body.proofs.Cited.{[], ◌∷◌, ◌++◌, refl, ap, subst, sym, ◌∙◌, Token, bytes_of, longest_of, passed_of, start_of, Passed, line_ahead}
+use Rattle.vcd_body.proofs.Facts.{passed_on, words_more}
+use Rattle.vcd_body.proofs.phrases.words_len.Goals as goal
 
 pub words-init : goal.words-init
 words-init c = (refl, refl, λ lines. ([], tt, c.requires))

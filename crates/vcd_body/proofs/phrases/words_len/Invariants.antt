@@ -1,5 +1,5 @@
-use Rattle.vcd_view.proofs.Cited.{◌≡◌, ℕ, ◌-◌, List, length, Token, bytes_of, longest_of, passed_of, Passed, AreWords}
-use Rattle.vcd_view.proofs.keyword.words_len.Given as goal
+use Rattle.vcd_body.proofs.Cited.{◌≡◌, ℕ, ◌-◌, List, length, Token, bytes_of, longest_of, passed_of, Passed, AreWords}
+use Rattle.vcd_body.proofs.phrases.words_len.Given as goal
 
 abbrev pub invariant-words : goal.invariant-words
 invariant-words l = (bytes_of l.next ≡ bytes_of l.fn.ahead) × (longest_of l.next ≡ longest_of l.fn.ahead)
