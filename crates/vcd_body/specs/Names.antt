@@ -48,7 +48,7 @@ pub use Rattle.vcd_body.specs.Packed.{ArePacked, HasFour, two_bits_at, two_bits_
 pub use Rattle.vcd_body.specs.Reads.{AsksForCode, Begun, Fails, FailsAfter, GaveItems, Looks, OpensPhrase, Passes, PassesScalar, Reads, ReadsAll, ReadsChange, ReadsPhrase, Refuses}
 pub use Rattle.vcd_body.specs.Spelled.{HasChange, HasTimestamp, HasPlaces, IsSpelled, IsSpelledAs, Names, StandsAt, bytes_without, line_without}
 pub use Rattle.vcd_body.specs.Steps.{ChangesRoomy, LeavesNumber, LeavesSteps, LeavesFlip, StepsTo, TellsStep, FlipsTo, counts_after, counts_plus, counts_plus_if, with_steps}
-pub use Rattle.vcd_body.specs.Stored.{AreLaidOut, ChangesAt, ChangesSlot, IsHeldAs, IsUnset, SlotsKeepLaid, digits_held, end_at, held_from, held_line, text_bytes, len_of, one_digit, room_of, set_whole, share_from, share_of, some_by, start_of, state_in, used, whole}
+pub use Rattle.vcd_body.specs.Stored.{AreLaidOut, ChangesAt, ChangesSlot, IsHeldAs, IsUnset, SlotsKeepLaid, digits_held, end_at, held_from, held_line, text_bytes, len_of, one_digit, room_of, set_whole, share_from, some_by, start_of, state_in, used, whole}
 pub use Rattle.vcd_body.specs.Taken.{HasTime, IsChangeBy, IsFound, IsFoundScalar, IsSection, LeavesRegs, Opens, OpensVector, TakesItem, TakesOpened, TakesOpenedAfter}
 pub use Rattle.vcd_body.specs.Values.{by_text, form_in, text_in, with_value, with_value_change}
 pub use Rattle.vcd_body.specs.Whole.{HoldsItem, IsPrompt}

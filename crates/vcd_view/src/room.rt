@@ -16,7 +16,7 @@ pub fn need(view: HeadView<'_>) -> Need
 {
     let mut values = 0;
     for code in view.codes {
-        values = usize::saturating_add(values, code.size.div_ceil(4).max(64));
+        values = usize::saturating_add(values, code.value_bytes());
     }
     Need {
         values,

@@ -48,6 +48,22 @@ pub struct Code {
     pub event: bool,
 }
 
+// How many bytes of the values a code gets at least: as many as the text of a real number may have.
+const LEAST_BYTES: usize = 64;
+
+impl Code {
+    ghost use Rattle.vcd_view.specs.Needs.{value_bytes};
+
+    /// Returns how many bytes of the values the code gets: enough for its longest value with four
+    /// digits to a byte, and for any real number.
+    #[inline(always)]
+    pub fn value_bytes(self) -> usize
+        ensures { result ≡ value_bytes self }
+    {
+        self.size.div_ceil(4).max(LEAST_BYTES)
+    }
+}
+
 /// The entry of a code in the table of a look-up, or an empty one, with key 0.
 // It has the size because a change would otherwise read 32 bytes of `codes`, which are far away.
 #[derive(Clone, Copy, Default, PartialEq, Eq, Debug)]
@@ -242,8 +258,7 @@ pub(crate) fn text_in(text: &[u8], start: usize, len: usize) -> &[u8]
 /// The lengths of the slices that an engine over a header works in.
 #[derive(Clone, Copy, PartialEq, Eq, Debug)]
 pub struct Need {
-    /// Bytes for the current values: for each code a quarter of its size, rounded up, and at least
-    /// the 64 of a real text.
+    /// Bytes for the current values: for each code `value_bytes`.
     pub values: usize,
     /// Slots, and shares: one of each for each code.
     pub slots: usize,

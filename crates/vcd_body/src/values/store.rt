@@ -1,6 +1,6 @@
 // What is kept of each code, in lent slices: a slot, and a share of the values.
 ghost use Rattle.std.specs.Prelude.{◌≡◌, ◌≢◌, ◌==◌, ℕ, max, ◌+◌, ◌-◌, ◌*◌, ◌<◌, ◌≤◌, ◌∷◌, [], true, false, length, take, None, Some, slice_get, Bool};
-ghost use Rattle.vcd_body.specs.Names.{ChangesCode, ChangesSlot, Code, Held, IsHeldAs, IsLaidOut, IsUnset, KeepsTable, LeavesNumber, LeavesSteps, LeavesFlip, SetsCode, SlotsKeepLaid, StepsTo, FlipsTo, bytes_in, codes_in, end_at, held_at, held_or, is_proper, text_bytes, len_of, one_digit, set_whole, share_from, share_of, some_by, start_of, state_in, used, whole, with_held, with_number, with_step, with_steps, with_text};
+ghost use Rattle.vcd_body.specs.Names.{ChangesCode, ChangesSlot, Code, Held, IsHeldAs, IsLaidOut, IsUnset, KeepsTable, LeavesNumber, LeavesSteps, LeavesFlip, SetsCode, SlotsKeepLaid, StepsTo, FlipsTo, bytes_in, codes_in, end_at, held_at, held_or, is_proper, text_bytes, len_of, one_digit, set_whole, share_from, some_by, start_of, state_in, used, whole, with_held, with_number, with_step, with_steps, with_text};
 
 use crate::values::bits::{Bits, held_bits, is_number_step, is_proper};
 use crate::values::counters::{count_step, count_steps};
@@ -313,18 +313,6 @@ pub(crate) fn step_at(slots: &mut [Slot], code: usize, size: usize, bits: Bits) 
     }
 }
 
-// How many bytes the share of a code has at least: as many as the text of a real number may have.
-const LEAST_SHARE: usize = 64;
-
-/// Returns how many bytes of the values a code of this size gets: enough for its longest value with
-/// four digits to a byte, and for any real number.
-#[inline(always)]
-fn share_of(size: usize) -> usize
-    ensures { result ≡ share_of size }
-{
-    size.div_ceil(4).max(LEAST_SHARE)
-}
-
 /// Sets the slot and the share of each code to no value and no counts, and gives each code its part
 /// of `values` bytes, one after the other. If there are too few bytes, the last codes get fewer or
 /// none. Returns where the last part ends. There is a slot and a share for each code.
@@ -345,7 +333,7 @@ pub(crate) fn lay_out(
     for index in 0..slots.len() {
         slots[index] = Slot::new();
         shares[index] = Share::at(at);
-        at = at.saturating_add(share_of(codes[index].size)).min(values);
+        at = at.saturating_add(codes[index].value_bytes()).min(values);
     }
     at
 }
