@@ -40,7 +40,7 @@ pub use Rattle.std.specs.Prelude.{IsPermutation, fold, int_le, nat_le, nat_lt, o
 pub use Rattle.std.specs.declared.cmp.Ordering.{Ordering}
 pub use Rattle.std.specs.declared.cmp.Ordering.TheVariants.{Equal, Greater, Less}
 pub use Rattle.vcd_head.specs.Calls.{ReadsEnd}
-pub use Rattle.vcd_head.specs.Codes.{HasNone, Rises, RisesFrom, is_of, keys_behind, keys_of}
+pub use Rattle.vcd_head.specs.Codes.{HasNone, Rises, RisesFrom, is_declared_as, is_of, keys_behind, keys_of}
 pub use Rattle.vcd_head.specs.Declares.{IsBarred, MayStart, keyword_for}
 pub use Rattle.vcd_head.specs.Draft.{AtFirstToken, AtKeyword, AtOther, CodeHeld, Declares, DraftsAll, DraftsUpTo, HasCodes, IsDraftOf, IsEntered, IsNew}
 pub use Rattle.vcd_head.specs.Entered.{AddsKey, EntersKey, HasKey, code_with}

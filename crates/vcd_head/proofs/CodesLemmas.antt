@@ -7,14 +7,6 @@ use Rattle.std.specs.List.{IsDistinct}
 pub find_more : (cs : List IdCode) (t : List ℕ) (c : IdCode) → find (has_text t) (cs ++ c ∷ []) ≡ option_or (find (has_text t) cs) (cond (has_text t c) (Some c) None)
 find_more cs t c = find-append (has_text t) cs (c ∷ [])
 
--- what is found is in the list
-pub listed : (text : List ℕ) (list : List Code) (cs : List IdCode) (position : ℕ) (k : IdCode) → AllZip (IsCode text) list cs → slice_get cs position ≡ Some k → slice_get list position ≡ None → ⊥
-listed text [] [] position k h e n = none-some k e
-listed text [] (x ∷ cs) position k h e n = absurd h
-listed text (c ∷ list) [] position k h e n = absurd h
-listed text (c ∷ list) (x ∷ cs) zero k h e n = none-some c (sym n)
-listed text (c ∷ list) (x ∷ cs) (suc position) k h e n = listed text list cs position k h.1 e n
-
 -- ---- codes that are held
 
 distinct_more : (cs : List IdCode) (k : IdCode) → IsDistinct bytes_eq (map (λ (c : IdCode). c.text) cs) → find (has_text k.text) cs ≡ None → IsDistinct bytes_eq (map (λ (c : IdCode). c.text) (cs ++ k ∷ []))

@@ -1,7 +1,8 @@
 -- The code of a variable, whose key is inserted.
-use Rattle.vcd_head.proofs.Cited.{◌≡◌, ℕ, Bool, true, false, List, [], ◌∷◌, ◌++◌, length, find, None, Some, slice_get, refl, sym, ap, subst, ◌∙◌, Declaration, IdCode, Variable, code_of, codes_of, has_text, Finds, Code, AreBytes, AreHeld, IsSize, Codes, Rises, is_of, keys_of, HasCodes, IsEntered, AddsKey, HasKey, AreKeysOf}
+use Rattle.vcd_head.proofs.Cited.{◌≡◌, ℕ, Bool, true, false, List, [], ◌∷◌, ◌++◌, length, find, None, Option, Some, option_map, unwrap_or, slice_get, refl, sym, ap, subst, ◌∙◌, Declaration, IdCode, Variable, code_of, codes_of, has_text, Finds, Code, AreBytes, AreHeld, IsSize, Codes, Rises, is_declared_as, is_of, keys_of, HasCodes, IsEntered, AddsKey, HasKey, AreKeysOf}
 use Rattle.vcd_head.proofs.CodeKeys.{finds_entered, len_of, none_entered}
-use Rattle.vcd_head.proofs.CodesLemmas.{listed}
+use Rattle.vcd_model.specs.HeaderChecks.{agrees as agrees_with}
+use Rattle.vcd_view.proofs.RowLemmas.{code_at}
 use Rattle.vcd_head.proofs.DraftCodes.{agrees_at, agrees_new, found_is, held_alias, held_new}
 
 module _ (text : List ℕ) (before after : Codes) (ds : List Declaration) (v : Variable) (bytes : List ℕ) (size : ℕ) (event : Bool) (position : ℕ) (h : HasCodes text before ds) (is : code_of v ≡ record { text = bytes; size = size; event = event })
@@ -34,17 +35,23 @@ module _ (text : List ℕ) (before after : Codes) (ds : List Declaration) (v : V
     finds = subst (λ t. Finds (codes_of ds) t (Some position)) (ap (λ (k : IdCode). k.text) (sym is)) (finds_entered bytes are (keys_of before) (codes_of ds) position h.held.texts h.keys has.at has.within)
 
     -- one that is there is listed
-    pub entered_listed : slice_get before.list.items position ≡ None → ⊥
-    entered_listed none = let f = finds in listed text before.list.items (codes_of ds) position f.0 h.held.stand f.1 none
+    there : (code : Code) × (slice_get before.list.items position ≡ Some code)
+    there = let f = finds in let c = code_at text before.list.items (codes_of ds) position f.0 h.held.stand f.1 in (c.0, c.1)
 
-    module _ (code : Code) (there : slice_get before.list.items position ≡ Some code) where
-      -- and is the variable's
-      pub entered_known : is_of code size event ≡ true → IsEntered text text after ds v (Some position)
-      entered_known e =
-          let f = finds in
-          let k = ap Some (found_is text before ds v bytes size event position code h is f there e) in
-          (agrees_at text before ds v bytes size event position code h is f there ∙ e, held_alias text after ds v position still (f.1 ∙ k) (f.2 ∙ k))
+    -- with what it was declared as
+    declared_as : is_of there.0 size event ≡ is_declared_as before.list.items position size event
+    declared_as = sym (ap (λ (o : Option Code). unwrap_or (option_map (λ (c : Code). is_of c size event) o) false) there.1)
 
-      -- or differs from it
-      pub entered_other : is_of code size event ≡ false → IsEntered text text after ds v None
-      entered_other e = (agrees_at text before ds v bytes size event position code h is finds there ∙ e, refl, still)
+    agrees : agrees_with ds v ≡ is_declared_as before.list.items position size event
+    agrees = agrees_at text before ds v bytes size event position there.0 h is finds there.1 ∙ declared_as
+
+    -- and is the variable's
+    pub entered_known : is_declared_as before.list.items position size event ≡ true → IsEntered text text after ds v (Some position)
+    entered_known e =
+        let f = finds in
+        let k = ap Some (found_is text before ds v bytes size event position there.0 h is f there.1 (declared_as ∙ e)) in
+        (agrees ∙ e, held_alias text after ds v position still (f.1 ∙ k) (f.2 ∙ k))
+
+    -- or differs from it
+    pub entered_other : is_declared_as before.list.items position size event ≡ false → IsEntered text text after ds v None
+    entered_other e = (agrees ∙ e, refl, still)

@@ -1,5 +1,5 @@
 -- What is kept of the distinct codes while a header is read.
-use Rattle.std.specs.Prelude.{◌≡◌, ℕ, ◌==◌, ◌&&◌, ◌<◌, Bool, List, [], ◌∷◌, ◌++◌, map}
+use Rattle.std.specs.Prelude.{◌≡◌, ℕ, ◌==◌, ◌&&◌, ◌<◌, Bool, false, List, [], ◌∷◌, ◌++◌, map, slice_get, option_map, unwrap_or}
 use Rattle.vcd_model.specs.HeaderChecks.{same_flag}
 use Rattle.vcd_view.specs.declared.view.Code.{Code}
 use Rattle.vcd_head.specs.declared.code_key.CodeKey.{CodeKey}
@@ -9,6 +9,10 @@ use Rattle.vcd_head.specs.declared.codes.Codes.{Codes}
 -- the code has this size, and is an event or none
 abbrev pub is_of : Code → ℕ → Bool → Bool
 is_of c size event = (c.size == size) && same_flag c.event event
+
+-- the code at an index has this size, and is an event or none; false if there is no such code
+abbrev pub is_declared_as : List Code → ℕ → ℕ → Bool → Bool
+is_declared_as codes p size event = unwrap_or (option_map (λ (c : Code). is_of c size event) (slice_get codes p)) false
 
 -- there is no code yet
 pub record HasNone (c : Codes) : Type 0 where

@@ -28,7 +28,7 @@ pub use Rattle.vcd_view.specs.Views.{AreHeld, IsIndex, IsSize, IsViewOf, Views, 
 pub use Rattle.vcd_view.specs.declared.view.Code.{Code}
 pub use Rattle.vcd_view.specs.declared.view.Scale.{Scale}
 pub use Rattle.vcd_head.specs.Calls.{MovesFurther, MovesOn, OrFails, ReadsAll, ReadsAny, ReadsEnd, ReadsNext, ReadsOther, ReadsPhrase, ReadsRest, ReadsText, ReadsToEnd, ReadsWord}
-pub use Rattle.vcd_head.specs.Codes.{HasNone, Rises, is_of, keys_of}
+pub use Rattle.vcd_head.specs.Codes.{HasNone, Rises, is_declared_as, keys_of}
 pub use Rattle.vcd_head.specs.Declares.{IsBarred, MayStart, Takes as TakesPhrase}
 pub use Rattle.vcd_head.specs.Draft.{IsDraftOf, IsNew, goes_on}
 pub use Rattle.vcd_head.specs.Entered.{Enters, EntersKey, IsNewCode, code_with}

@@ -8,7 +8,7 @@ use crate::fault::HeadFault;
 use crate::rising::{index_in_rising, last_rising};
 use crate::rows::{append, token_len};
 use std::alloc::Global;
-use vcd_view::{Code, code_in, key_of};
+use vcd_view::{Code, key_of};
 
 /// Returns the index in `known` of the code of a variable with this size, which is an event if
 /// `event` is true. A new code is added to `known`, and its bytes at the end of `text`. `None` if
@@ -35,10 +35,7 @@ pub(crate) fn enter_code(
         add(text, &mut known.list, bytes, size, event)?;
         return Ok(Some(position));
     }
-    let Some(code) = code_in(&known.list, position) else {
-        return Ok(None);
-    };
-    if !is_declared_as(code, size, event) {
+    if !is_declared_as(&known.list, position, size, event) {
         return Ok(None);
     }
     Ok(Some(position))

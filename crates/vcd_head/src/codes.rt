@@ -1,6 +1,6 @@
 // The distinct codes of a header while it is read.
 ghost use Rattle.std.specs.Prelude.{◌≡◌, position};
-ghost use Rattle.vcd_head.specs.Names.{HasNone, is_key, is_of};
+ghost use Rattle.vcd_head.specs.Names.{HasNone, is_declared_as, is_key};
 
 use crate::code_key::CodeKey;
 use indexmap::IndexSet;
@@ -31,13 +31,16 @@ impl Codes {
     }
 }
 
-/// Returns whether a code was declared with this size, and as the code of an event exactly if
-/// `event` is true.
+/// Returns whether the code at index `position` of `list` was declared with this size, and as the
+/// code of an event exactly if `event` is true; false if there is no such index.
 #[inline(always)]
-pub(crate) fn is_declared_as(code: Code, size: usize, event: bool) -> bool
-    ensures { result ≡ is_of code size event }
+pub(crate) fn is_declared_as(list: &[Code], position: usize, size: usize, event: bool) -> bool
+    ensures { result ≡ is_declared_as list.now position size event }
 {
-    code.size == size && code.event == event
+    match list.get(position) {
+        Some(code) => code.size == size && code.event == event,
+        None => false,
+    }
 }
 
 /// Returns the index in `keys` of the key of the code with these bytes, by a look at each key.

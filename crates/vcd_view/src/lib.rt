@@ -52,4 +52,4 @@ pub use look_up::{Found, find, find_counted, find_in_entry, find_sized};
 pub use new_code::{NewCode, put_code};
 pub use probes::Probes;
 pub use room::need;
-pub use view::{Code, Entry, HeadView, Kind, Need, Row, Scale, code_bytes, code_in};
+pub use view::{Code, Entry, HeadView, Kind, Need, Row, Scale, code_bytes};

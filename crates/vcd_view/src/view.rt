@@ -229,7 +229,7 @@ impl<'a> HeadView<'a> {
 
 /// Returns the code at index `position` of `codes`; `None` if there is no such index.
 #[inline(always)]
-pub fn code_in(codes: &[Code], position: usize) -> Option<Code>
+pub(crate) fn code_in(codes: &[Code], position: usize) -> Option<Code>
     ensures { result ≡ slice_get codes.now position }
 {
     codes.get(position).copied()

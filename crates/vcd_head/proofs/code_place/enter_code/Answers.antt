@@ -1,5 +1,5 @@
-use Rattle.vcd_head.proofs.Cited.{◌≡◌, true, false, None, Some, slice_get, sym, ap, subst, ◌∙◌, [], ◌∷◌, ◌++◌, EntersKey, code_with, length}
-use Rattle.vcd_head.proofs.Facts.{all_bytes, entered_known, entered_listed, entered_new, entered_other}
+use Rattle.vcd_head.proofs.Cited.{true, false, sym, ap, subst, ◌∙◌, [], ◌∷◌, ◌++◌, EntersKey, code_with, is_declared_as, length}
+use Rattle.vcd_head.proofs.Facts.{all_bytes, entered_known, entered_new, entered_other}
 use Rattle.vcd_head.proofs.code_place.enter_code.Goals as goal
 
 pub returns-then-new-clause-codes : goal.returns-then-new-clause-codes
@@ -11,23 +11,14 @@ returns-then-new-clause-codes c = λ ds v h is is_size.
     entered_new c.args.text.now.items before _ ds v bytes c.args.size c.args.event position h is (all_bytes bytes c.type_inv.bytes)
     c.add.new.text.items is_size e.rises e.entered c.in_ok-add.ensures.text (c.in_ok-add.ensures.listed ∙ ap (λ l. l ++ code_with (length c.args.text.now.items) bytes c.args.size c.args.event ∷ []) e.list)
 
-pub returns-in_default-clause-codes : goal.returns-in_default-clause-codes
-returns-in_default-clause-codes c = λ ds v h is is_size.
-    let bytes = c.args.bytes.now in
-    let before = c.args.known.now in
-    let position = c.in_ok-position.position in
-    let e : EntersKey bytes before c.enter_key.new.known position false = subst (EntersKey bytes before c.enter_key.new.known position) c.if-new.false (c.in_ok-position.ensures.enters h.rises) in
-    let none : slice_get before.list.items position ≡ None = ap (λ l. slice_get l position) (sym e.list ∙ sym c.deref.ensures.value) ∙ sym c.code_in.ensures ∙ c.in_default.is in
-    absurd (entered_listed c.args.text.now.items before c.enter_key.new.known ds v bytes c.args.size c.args.event position h is (all_bytes bytes c.type_inv.bytes) e.rises e.entered e.list none)
-
 pub returns-then-not-is_declared_as-clause-codes : goal.returns-then-not-is_declared_as-clause-codes
 returns-then-not-is_declared_as-clause-codes c = λ ds v h is is_size.
     let bytes = c.args.bytes.now in
     let before = c.args.known.now in
     let position = c.in_ok-position.position in
     let e : EntersKey bytes before c.enter_key.new.known position false = subst (EntersKey bytes before c.enter_key.new.known position) c.if-new.false (c.in_ok-position.ensures.enters h.rises) in
-    let there : slice_get before.list.items position ≡ Some c.in-Some.code = ap (λ l. slice_get l position) (sym e.list ∙ sym c.deref.ensures.value) ∙ sym c.code_in.ensures ∙ c.in-Some.is in
-    entered_other c.args.text.now.items before c.enter_key.new.known ds v bytes c.args.size c.args.event position h is (all_bytes bytes c.type_inv.bytes) e.rises e.entered e.list c.in-Some.code there (sym c.is_declared_as.ensures ∙ c.if-not-is_declared_as.true)
+    let told = ap (λ l. is_declared_as l position c.args.size c.args.event) (sym e.list ∙ sym c.deref.ensures.value) ∙ sym c.is_declared_as.ensures in
+    entered_other c.args.text.now.items before c.enter_key.new.known ds v bytes c.args.size c.args.event position h is (all_bytes bytes c.type_inv.bytes) e.rises e.entered e.list (told ∙ c.if-not-is_declared_as.true)
 
 pub returns-clause-codes : goal.returns-clause-codes
 returns-clause-codes c = λ ds v h is is_size.
@@ -35,5 +26,5 @@ returns-clause-codes c = λ ds v h is is_size.
     let before = c.args.known.now in
     let position = c.in_ok-position.position in
     let e : EntersKey bytes before c.enter_key.new.known position false = subst (EntersKey bytes before c.enter_key.new.known position) c.if-new.false (c.in_ok-position.ensures.enters h.rises) in
-    let there : slice_get before.list.items position ≡ Some c.in-Some.code = ap (λ l. slice_get l position) (sym e.list ∙ sym c.deref.ensures.value) ∙ sym c.code_in.ensures ∙ c.in-Some.is in
-    entered_known c.args.text.now.items before c.enter_key.new.known ds v bytes c.args.size c.args.event position h is (all_bytes bytes c.type_inv.bytes) e.rises e.entered e.list c.in-Some.code there (sym c.is_declared_as.ensures ∙ c.if-not-is_declared_as.false)
+    let told = ap (λ l. is_declared_as l position c.args.size c.args.event) (sym e.list ∙ sym c.deref.ensures.value) ∙ sym c.is_declared_as.ensures in
+    entered_known c.args.text.now.items before c.enter_key.new.known ds v bytes c.args.size c.args.event position h is (all_bytes bytes c.type_inv.bytes) e.rises e.entered e.list (told ∙ c.if-not-is_declared_as.false)
