@@ -1,5 +1,5 @@
 -- A comment that lies ahead.
-use Rattle.vcd_body.proofs.Cited.{◌≡◌, ℕ, ◌<◌, ◌≤◌, ◌∙◌, true, false, List, [], ◌∷◌, ◌++◌, None, ap, append-nil, append_assoc, length, refl, sym, subst, arith, bytes_eq-Decides, BodyPhrase, body_grammar, IdCode, BodyItem, Keyword, is_end, keyword_text, Grammar, Placed, phrases_of, IsSoFar, Token, so_far-phrase, so_far-token, TakesToken, bytes_of, longest_of, passed_of, start_of, Passed, line_ahead, Ahead, AreWords, NoEnds, no_ends_more, texts_of, GaveAhead, PassesNoItem, is_comment}
+use Rattle.vcd_body.proofs.Cited.{◌≡◌, ℕ, ◌<◌, ◌≤◌, ◌∙◌, true, false, List, [], ◌∷◌, ◌++◌, None, append-nil, append_assoc, length, refl, sym, subst, arith, bytes_eq-Decides, BodyPhrase, body_grammar, IdCode, BodyItem, Keyword, is_end, keyword_text, Grammar, Placed, phrases_of, IsSoFar, Token, so_far-phrase, so_far-token, TakesToken, bytes_of, longest_of, passed_of, start_of, Passed, line_ahead, Ahead, AreWords, NoEnds, no_ends_more, texts_of, GaveAhead, PassesNoItem, is_comment}
 use Rattle.vcd_body.proofs.AheadLemmas.{GoesOn, passed_over}
 use Rattle.vcd_body.proofs.PhraseLemmas.{comment_begins, comment_goes_on, comment_open, comment_whole}
 

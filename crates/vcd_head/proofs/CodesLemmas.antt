@@ -1,5 +1,5 @@
 -- The distinct codes while a header is read.
-use Rattle.vcd_head.proofs.Cited.{◌≡◌, ℕ, zero, suc, Bool, true, false, cond, List, [], ◌∷◌, ◌++◌, map, find, bytes_eq, slice_get, Some, None, refl, sym, ◌∙◌, AllByRecursion, AllZip, option_or, find-append, none-some, IdCode, has_text, Code, AreHeld, IsCode, AreBytes, all_push, all_zip_push, bytes_flip}
+use Rattle.vcd_head.proofs.Cited.{◌≡◌, ℕ, Bool, true, false, cond, List, [], ◌∷◌, ◌++◌, map, find, bytes_eq, Some, None, refl, sym, ◌∙◌, AllByRecursion, option_or, find-append, none-some, IdCode, has_text, Code, AreHeld, IsCode, AreBytes, all_push, all_zip_push, bytes_flip}
 use Rattle.std.specs.List.{IsDistinct}
 
 -- ---- what is found

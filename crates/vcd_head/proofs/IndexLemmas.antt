@@ -1,5 +1,5 @@
 -- The order of codes by their bytes.
-use Rattle.vcd_head.proofs.Cited.{◌≡◌, ◌⊎◌, inl, inr, ℕ, zero, suc, ◌+◌, ◌*◌, ◌^◌, ◌<◌, ◌≤◌, Bool, true, false, List, [], ◌∷◌, ◌++◌, length, map, get_or, bytes_eq, option_map, unwrap_or, refl, sym, ap, subst, ◌∙◌, arith, IsPermutation, IsStrictWeakOrder, nat_cmp_is, AllByRecursion, All, IsDistinct, range_with_len, IsSortedBy, nat_cmp, is_eq, is_lt, ordering_reverse, Ordering, Less, Equal, Greater, slice_cmp, cases_lt, nat_list_cmp_total, pow-le-pow_right, get_or-map, length-map, get_or-range_with_len, length-range_with_len, ranks_by, All-permutation, IsPermutation-map, sorted_far, IsDistinct-IsPermutation, apart_from_distinct, is_eq-slice_cmp, slice_get-get_or, IdCode, Code, AreHeld, IsIndex, code_text, code_bytes, prefix_in, AreBytes, bytes_flip, codes_len, texts_range, text_within, bytes_are}
+use Rattle.vcd_head.proofs.Cited.{◌≡◌, ◌⊎◌, inl, inr, ℕ, zero, suc, ◌+◌, ◌*◌, ◌^◌, ◌<◌, ◌≤◌, Bool, true, false, List, [], ◌∷◌, ◌++◌, length, map, get_or, bytes_eq, refl, sym, ap, subst, ◌∙◌, arith, IsPermutation, IsStrictWeakOrder, nat_cmp_is, AllByRecursion, All, IsDistinct, range_with_len, IsSortedBy, nat_cmp, is_eq, is_lt, ordering_reverse, Ordering, Less, Equal, Greater, slice_cmp, cases_lt, nat_list_cmp_total, pow-le-pow_right, get_or-map, length-map, get_or-range_with_len, length-range_with_len, ranks_by, All-permutation, IsPermutation-map, sorted_far, IsDistinct-IsPermutation, apart_from_distinct, is_eq-slice_cmp, IdCode, Code, AreHeld, IsIndex, code_text, code_bytes, prefix_in, AreBytes, bytes_flip, codes_len, texts_range, bytes_are}
 use Rattle.std.specs.List.Sorted.{IsStrictlySortedBy}
 
 -- ---- prefixes

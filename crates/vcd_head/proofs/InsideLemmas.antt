@@ -1,5 +1,5 @@
 -- The names that continue inside open scopes.
-use Rattle.vcd_head.proofs.Cited.{◌≡◌, ◌≢◌, ◌⊎◌, ℕ, zero, suc, ◌+◌, ◌-◌, ◌<◌, ◌≤◌, Bool, true, false, ◌||◌, ◌==◌, List, [], ◌∷◌, ◌++◌, length, map, take, drop, get_or, set, slice_range, reverse, slice_get, Option, Some, None, option_map, inl, inr, refl, sym, ap, subst, ◌∙◌, arith, AllByRecursion, list_any, ne_eqb, flat_map-append, append_assoc, append-nil, reverse-append, length-drop, length-take, length-take-le, take-append-drop, take-append-add, filter_map-append, none-some, same_Some, slice_get_within, is_empty, Declaration, IdCode, Variable, enclosing, name_of, names_at, parent, Header, is_selected, is_variable, selects_path, enclosing_below, slice_get-take, Inside, Open, NameRun, AreOpen, HasEntered, front, GivesNext, LeavesScopes, Enclosing, Matched, Matches, AreSame, Notes, SelectsAll, text_at, names_text, Follows, IsDecided, Row, HeadShown, IsRow, Views, counted_from_one, row_of, rows_len, all_push, all_weaker, there, around_none, around_some, parent_before}
+use Rattle.vcd_head.proofs.Cited.{◌≡◌, ◌≢◌, ◌⊎◌, ℕ, zero, suc, ◌+◌, ◌-◌, ◌<◌, ◌≤◌, Bool, true, false, ◌||◌, ◌==◌, List, [], ◌∷◌, ◌++◌, length, map, take, drop, get_or, set, slice_range, reverse, slice_get, Option, Some, None, option_map, inl, inr, refl, sym, ap, subst, ◌∙◌, arith, AllByRecursion, ne_eqb, flat_map-append, append_assoc, append-nil, reverse-append, length-drop, length-take, length-take-le, take-append-drop, take-append-add, filter_map-append, none-some, same_Some, slice_get_within, is_empty, Declaration, IdCode, Variable, enclosing, name_of, names_at, parent, Header, is_selected, is_variable, selects_path, enclosing_below, slice_get-take, Inside, Open, NameRun, AreOpen, HasEntered, front, GivesNext, LeavesScopes, Enclosing, Matched, Matches, AreSame, Notes, SelectsAll, text_at, names_text, Follows, IsDecided, Row, HeadShown, IsRow, Views, counted_from_one, row_of, rows_len, all_push, all_weaker, there, around_none, around_some, parent_before}
 use Rattle.vcd_head.proofs.RunSteps.{notes_behind, notes_both}
 use Rattle.vcd_head.specs.Paths.{scopes_text}
 use Rattle.vcd_view.specs.declared.view.Kind.TheVariants as kind

@@ -1,5 +1,5 @@
 -- The entries by which codes are looked up.
-use Rattle.vcd_view.proofs.Cited.{◌≡◌, ◌≢◌, ℕ, zero, suc, ◌<◌, ◌^◌, nat_le, ◌==◌, ◌&&◌, ◌||◌, Bool, true, false, List, [], ◌∷◌, length, set, replicate, Option, Some, None, option_map, unwrap_or, refl, sym, ap, subst, ◌∙◌, arith, slice_get, list_all, and_parts, eqb-true, ne_eqb, eq-eqb, false≢true, lt-leb, none-some, same_Some, slice_get_within, Code, Entry, Finds, AreBytes, key_in, IdCode, AreHeld, HasEntry, IsAt, are_right, is_right, is_entry_of, size_or_zero_of, text_in}
+use Rattle.vcd_view.proofs.Cited.{◌≡◌, ◌≢◌, ℕ, zero, suc, ◌<◌, ◌^◌, nat_le, ◌==◌, ◌&&◌, ◌||◌, Bool, true, false, List, [], ◌∷◌, length, set, replicate, Option, Some, None, option_map, unwrap_or, refl, sym, ap, subst, ◌∙◌, arith, slice_get, list_all, and_parts, eqb-true, ne_eqb, false≢true, lt-leb, none-some, same_Some, slice_get_within, Code, Entry, Finds, AreBytes, key_in, IdCode, AreHeld, HasEntry, IsAt, are_right, is_right, is_entry_of, size_or_zero_of, text_in}
 use Rattle.vcd_view.proofs.KeyLemmas.{bytes_at_place, key_below, same_key}
 use Rattle.vcd_view.proofs.LookUpLemmas.{first_with}
 use Rattle.vcd_view.proofs.RowLemmas.{text_within, code_of_shown}
