@@ -1,6 +1,7 @@
 -- The entries by which codes are looked up.
-use Rattle.vcd_view.proofs.Cited.{◌≡◌, ◌≢◌, ℕ, zero, suc, ◌<◌, ◌^◌, nat_le, ◌==◌, ◌&&◌, ◌||◌, Bool, true, false, List, [], ◌∷◌, length, set, replicate, Option, Some, None, option_map, unwrap_or, refl, sym, ap, subst, ◌∙◌, arith, slice_get, list_all, and_parts, eqb-true, ne_eqb, false≢true, lt-leb, none-some, same_Some, slice_get_within, Code, Entry, Finds, AreBytes, key_in, IdCode, AreHeld, HasEntry, IsAt, are_right, is_right, is_entry_of, size_or_zero_of, text_in}
-use Rattle.vcd_view.proofs.KeyLemmas.{bytes_at_place, key_below, same_key}
+use Rattle.vcd_view.proofs.Cited.{◌≡◌, ◌≢◌, ℕ, zero, suc, ◌+◌, ◌<◌, ◌^◌, nat_le, cond, slice_range, All-drop, All-take, ◌==◌, ◌&&◌, ◌||◌, Bool, true, false, List, [], ◌∷◌, length, set, replicate, Option, Some, None, option_map, unwrap_or, refl, sym, ap, subst, ◌∙◌, arith, slice_get, list_all, and_parts, eqb-true, ne_eqb, false≢true, lt-leb, none-some, same_Some, slice_get_within, Code, Entry, Finds, AreBytes, key_in, IdCode, AreHeld, HasEntry, IsAt, are_right, is_right, is_entry_of, size_or_zero_of, text_in}
+use Rattle.vcd_view.proofs.KeyLemmas.{key_below, same_key}
+use Rattle.vcd_view.proofs.ListLemmas.{from_all, to_all}
 use Rattle.vcd_view.proofs.LookUpLemmas.{first_with}
 use Rattle.vcd_view.proofs.RowLemmas.{text_within, code_of_shown}
 
@@ -55,30 +56,22 @@ entry_found text codes es i e key h s n l k =
     let told = entry_tells text codes e (one_of_all (is_right text codes) es i e h s) (λ z. n (sym k ∙ z)) (omega (arith, k, l)) in
     (told.0, told.1, sym k ∙ told.2, told.3)
 
--- ---- what entries give that are right
+-- ---- the code at an index
 
--- an entry that is right gives the index of its code
-gives : (text : List ℕ) (codes : List Code) (cs : List IdCode) (es : List Entry) (i : ℕ) (e : Entry) (t : List ℕ) → AreHeld text codes cs → are_right text codes es ≡ true → slice_get es i ≡ Some e → AreBytes t → e.key ≡ key_in t → e.key ≢ 0 → Finds cs t (Some e.position)
-gives text codes cs es i e t h right there a q n =
-    let told = entry_tells text codes e (one_of_all (is_right text codes) es i e right there) n (omega (arith, q, key_below t a)) in
-    let k = code_of_shown text codes cs e.position told.0 h.stand told.1 in
-    let read = text_within text told.0.start told.0.len k.2.within ∙ k.2.text_is in
-    let equal : key_in t ≡ key_in k.0.text = sym q ∙ told.2 ∙ ap key_in read in
-    let own : AreBytes k.0.text = bytes_at_place cs e.position k.0 h.texts k.1 in
-    let some : 0 < key_in t = omega (arith, n, q) in
-    (k.0, k.1, first_with cs t e.position k.0 h.distinct k.1 (same_key t k.0.text a own equal some))
+-- what is read of bytes are bytes
+text_bytes : (text : List ℕ) (start len : ℕ) → AreBytes text → AreBytes (text_in text start len)
+text_bytes text start len h = by_range (nat_le (start + len) (length text))
+  where
+    by_range : (q : Bool) → AreBytes (cond q (slice_range text start (start + len)) [])
+    by_range true = from_all (λ b. b < 256) _ (All-take (λ b. b < 256) _ _ (All-drop (λ b. b < 256) start text (to_all (λ b. b < 256) text h)))
+    by_range false = tt
 
--- ---- what a look beside a code's own entry, or by its hash, leads to
-
--- an entry with the key of a short code gives its index
-pub entry_finds : (text : List ℕ) (codes : List Code) (cs : List IdCode) (es : List Entry) (t : List ℕ) (p : ℕ) → AreHeld text codes cs → are_right text codes es ≡ true → AreBytes t → key_in t ≢ 0 → HasEntry es (key_in t) p → Finds cs t (Some p)
-entry_finds text codes cs es t p h right a n has =
-    subst (λ x. Finds cs t (Some x)) has.4 (gives text codes cs es has.0 has.1 t h right has.2 a has.3 (λ z. n (sym has.3 ∙ z)))
-
-pub entry_within : (text : List ℕ) (codes : List Code) (es : List Entry) (t : List ℕ) (p : ℕ) → are_right text codes es ≡ true → AreBytes t → key_in t ≢ 0 → HasEntry es (key_in t) p → p < length codes
-entry_within text codes es t p right a n has =
+-- the code that an entry with the key of a short code gives has its bytes
+pub entry_at : (text : List ℕ) (codes : List Code) (es : List Entry) (t : List ℕ) (p : ℕ) → are_right text codes es ≡ true → AreBytes text → AreBytes t → key_in t ≢ 0 → HasEntry es (key_in t) p → IsAt text codes t p
+entry_at text codes es t p right bytes a n has =
     let told = entry_found text codes es has.0 has.1 (key_in t) right has.2 n (key_below t a) has.3 in
-    subst (λ x. x < length codes) has.4 (slice_get_within codes has.1.position told.0 told.1)
+    let same = same_key t (text_in text told.0.start told.0.len) a (text_bytes text told.0.start told.0.len bytes) told.2 (omega (arith, n)) in
+    (told.0, subst (λ x. slice_get codes x ≡ Some told.0) has.4 told.1, sym same)
 
 -- the index of a code with these bytes
 pub at_finds : (text : List ℕ) (codes : List Code) (cs : List IdCode) (t : List ℕ) (p : ℕ) → AreHeld text codes cs → IsAt text codes t p → Finds cs t (Some p)

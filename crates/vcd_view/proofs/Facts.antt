@@ -1,5 +1,5 @@
 -- The lemmas of this crate that its answers cite, under one path.
-pub use Rattle.vcd_view.proofs.EntryLemmas.{all_written, at_finds, at_within, entry_finds, entry_found, entry_within}
+pub use Rattle.vcd_view.proofs.EntryLemmas.{all_written, at_finds, at_within, entry_at, entry_found}
 pub use Rattle.vcd_view.proofs.HashLemmas.{word_alone, word_first}
 pub use Rattle.vcd_view.proofs.KeyLemmas.{are_bytes, bytes_at_place, grown, key_below, same_key}
 pub use Rattle.vcd_view.proofs.KeywordLemmas.{keyword_found}

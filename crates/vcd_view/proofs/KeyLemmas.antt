@@ -1,4 +1,4 @@
--- Short codes as numbers.
+-- Short codes as keys.
 use Rattle.vcd_view.proofs.Cited.{◌≡◌, ℕ, zero, suc, ◌+◌, ◌*◌, ◌^◌, ◌<◌, ◌≤◌, nat_le, cond, Bool, true, false, List, [], ◌∷◌, Some, subst, length, get_or, refl, ap, ◌∙◌, arith, add-one, pow-suc, pow-le-pow_right, leb-true, none-some, same_Some, slice_get, AllByRecursion, IdCode, AreBytes, packed, key_in}
 
 -- a byte more

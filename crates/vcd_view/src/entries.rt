@@ -1,8 +1,8 @@
 // The entries by which codes are looked up: where the entry of a code is, and what it keeps. Any
 // code may have any entry, and two codes may have the same one. Where an entry is decides only how
 // fast a look-up is.
-ghost use Rattle.std.specs.Prelude.{◌≡◌, ◌+◌, ◌-◌, ◌%◌, ◌^◌, ◌<◌, ◌≤◌, true, bit_and, length, Some, IfSome};
-ghost use Rattle.vcd_view.specs.Names.{AnyHeld, Finds, HasEntry, IsAt, above, are_right, entry_after, entry_in, key_in, size_or_zero_of, number_in};
+ghost use Rattle.std.specs.Prelude.{◌≡◌, ◌+◌, ◌-◌, ◌%◌, ◌^◌, ◌<◌, ◌≤◌, true, bit_and, length, IfSome};
+ghost use Rattle.vcd_view.specs.Names.{HasEntry, IsAt, above, are_right, entry_after, entry_in, key_in, size_or_zero_of, number_in};
 
 use crate::code_hash::CodeSeed;
 use crate::key::key_of;
@@ -125,9 +125,7 @@ pub(crate) fn index_by_hash(
     probes: &mut Probes,
 ) -> Option<usize>
     requires right { are_right text.now codes.now entries.now ≡ true }
-    ensures found { AnyHeld text.now codes.now (λ cs.
-        IfSome result (λ position. Finds cs code.now (Some position))) }
-    ensures within { IfSome result (λ position. position < length codes.now) }
+    ensures found { IfSome result (λ position. IsAt text.now codes.now code.now position) }
     ensures never_falls { probes.old.count ≤ probes.new.count }
     ensures once { probes.new.count ≤ probes.old.count + 1 }
     ensures long { key_in code.now ≡ 0 → IfSome result (λ _. probes.old.count < probes.new.count) }
