@@ -2,8 +2,6 @@
 ghost use Rattle.std.specs.Prelude.{◌≡◌, codes, bytes_eq, option_map, pos, ◌≤ℤ◌, ◌+ℤ◌};
 ghost use Rattle.vcd_head.specs.Names.{begins_change as changes, exponent_of as exponent_is, is_code_byte, is_command as commands, is_end as ends, list_all, power_in, size_in, unit_in};
 
-use vcd_view::is;
-
 /// Returns whether the token is `$end`.
 #[inline(always)]
 pub(crate) fn is_end(token: &[u8]) -> bool
@@ -42,14 +40,11 @@ pub(crate) fn is_command(token: &[u8]) -> bool
 pub(crate) fn power_of(number: &[u8]) -> Option<i8>
     ensures { result ≡ power_in number.now }
 {
-    if is(number, b"1") {
-        Some(0)
-    } else if is(number, b"10") {
-        Some(1)
-    } else if is(number, b"100") {
-        Some(2)
-    } else {
-        None
+    match number {
+        [b'1'] => Some(0),
+        [b'1', b'0'] => Some(1),
+        [b'1', b'0', b'0'] => Some(2),
+        _ => None,
     }
 }
 
@@ -58,20 +53,14 @@ pub(crate) fn power_of(number: &[u8]) -> Option<i8>
 pub(crate) fn unit_of(unit: &[u8]) -> Option<i8>
     ensures { result ≡ unit_in unit.now }
 {
-    if is(unit, b"s") {
-        Some(0)
-    } else if is(unit, b"ms") {
-        Some(-3)
-    } else if is(unit, b"us") {
-        Some(-6)
-    } else if is(unit, b"ns") {
-        Some(-9)
-    } else if is(unit, b"ps") {
-        Some(-12)
-    } else if is(unit, b"fs") {
-        Some(-15)
-    } else {
-        None
+    match unit {
+        [b's'] => Some(0),
+        [b'm', b's'] => Some(-3),
+        [b'u', b's'] => Some(-6),
+        [b'n', b's'] => Some(-9),
+        [b'p', b's'] => Some(-12),
+        [b'f', b's'] => Some(-15),
+        _ => None,
     }
 }
 

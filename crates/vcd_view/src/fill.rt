@@ -9,12 +9,12 @@ use crate::key::key_of;
 use crate::view::{Code, Entry, text_in};
 
 /// Returns how many entries the table for these codes needs: a power of two, at most three for each
-/// code, or none if there is no code. The bytes of the codes lie in `text`. `in_order` says that the
-/// codes are in the order of their numbers (`code_number`).
+/// code, or none if there is no code. The bytes of the codes lie in `text`. `in_order` says that
+/// the codes are in the order of their numbers (`code_number`).
 ///
-/// It is the least power of two that has one entry for each code, or twice as many if three for each
-/// code allow that. If the codes are in order and the number of the last is less than that power,
-/// each code has an entry of its own, and no more are needed.
+/// It is the least power of two that has one entry for each code, or twice as many if three for
+/// each code allow that. If the codes are in order and the number of the last is less than that
+/// power, each code has an entry of its own, and no more are needed.
 // With 1.5 to 3 entries for each code, the header of 184,002 codes in order takes 1 % more
 // instructions, and 14 % more page faults.
 pub fn entries_needed(text: &[u8], codes: &[Code], in_order: bool) -> usize
@@ -49,8 +49,8 @@ pub fn fill_entries(entries: &mut [Entry], text: &[u8], codes: &[Code], seed: Co
 }
 
 /// Returns the key of the entry of a code with these bytes, and the index of the entry that it gets
-/// in the table `entries`: the one that its number leads to, one of the three beside it, or one that
-/// its hash by `seed` leads to, whichever of these is free first. `None` if none is free.
+/// in the table `entries`: the one that its number leads to, one of the three beside it, or one
+/// that its hash by `seed` leads to, whichever of these is free first. `None` if none is free.
 #[inline(always)]
 fn place_for(entries: &[Entry], bytes: &[u8], seed: CodeSeed) -> (u64, Option<usize>)
     ensures key { MayHaveKey bytes.now result.0 }
@@ -81,8 +81,8 @@ fn free_near(entries: &[Entry], own: usize) -> Option<usize>
     None
 }
 
-/// Returns the index of the first free entry of the table `entries` that `hash` leads to, in at most
-/// `MAX_LOOKS` looks. `None` if all of these are taken.
+/// Returns the index of the first free entry of the table `entries` that `hash` leads to, in at
+/// most `MAX_LOOKS` looks. `None` if all of these are taken.
 fn free_by(entries: &[Entry], hash: u64) -> Option<usize>
     ensures { IfSome result (λ at. at < length entries.now) }
 {

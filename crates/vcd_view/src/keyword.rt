@@ -22,7 +22,7 @@ pub enum Keyword {
 
 /// Returns whether the token has exactly the bytes of `word`.
 #[inline(always)]
-pub fn is(token: &[u8], word: &[u8]) -> bool
+fn is(token: &[u8], word: &[u8]) -> bool
     ensures { result ≡ bytes_eq word.now token.now }
 {
     word == token

@@ -55,8 +55,8 @@ pub fn find_sized(view: HeadView<'_>, code: &[u8]) -> Option<Found>
 /// it. `probes` counts how often the bytes of two codes are compared.
 ///
 /// A code of at most 7 bytes has a key, which entries keep. The code is compared with others only
-/// if no entry that is looked at has its key. The count grows by at most one more than the
-/// binary digits of the number of codes.
+/// if no entry that is looked at has its key. The count grows by at most one more than the binary
+/// digits of the number of codes.
 #[inline(always)]
 pub fn find_counted(view: HeadView<'_>, code: &[u8], probes: &mut Probes) -> Option<usize>
     ensures found { (h : Header) → IsViewOf view.entry h → Finds h.codes code.now result }

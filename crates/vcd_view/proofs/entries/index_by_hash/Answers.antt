@@ -1,4 +1,4 @@
-use Rattle.vcd_view.proofs.Cited.{◌≢◌, subst, ◌∙◌, arith, get_or_default_zero, IfSome_then, IfSome, List, ℕ, HasEntry, AreBytes, key_in}
+use Rattle.vcd_view.proofs.Cited.{◌≢◌, subst, ◌∙◌, arith, get_or_default_zero, IfSome_then, IfSome, HasEntry, AreBytes, key_in}
 use Rattle.vcd_view.proofs.Facts.{entry_at, are_bytes}
 use Rattle.vcd_view.proofs.entries.index_by_hash.Goals as goal
 
