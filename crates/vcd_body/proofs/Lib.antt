@@ -38,6 +38,7 @@ pub mod SectionLemmas
 pub mod CommentLemmas
 pub mod MarkLine
 pub mod AskedLemmas
+pub mod PaceLemmas
 pub mod Results
 pub mod OtherBytes
 pub mod Cited

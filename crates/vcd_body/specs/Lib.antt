@@ -27,3 +27,4 @@ pub mod Answer
 pub mod Device
 pub mod Walk
 pub mod Prompt
+pub mod Pace
