@@ -104,7 +104,8 @@ module _ (v : HeadView) (a a' : Ahead) (run run' : Run) (out out' : Device) (end
   come_ahead f f' limit bytes gives differs q exceptions h ns i front begin items out views come =
       let all = taken.0 in
       let t = all.takes h exceptions ns (lines_of f) items views come.gave.known come.stands.compares in
-      let gave = subst (λ (bs : List ℕ). GaveAhead h.codes (limit_of f) (lines_of f) bs (passed_of a') items t.more) bytes (subst (λ (n : ℕ). GaveAhead h.codes n (lines_of f) (bytes_of a) (passed_of a') items t.more) limit t.gave) in (
+      let gave = subst (λ (bs : List ℕ). GaveAhead h.codes (limit_of f) (lines_of f) bs (passed_of a') items t.more) bytes (subst (λ (n : ℕ). GaveAhead h.codes n (lines_of f) (bytes_of a) (passed_of a') items t.more) limit t.gave) in
+      let still = subst (λ (x : ModelAsked). within_open x h ns (items ++ t.more) ≡ within_open x h ns items) come.asked t.same_open in (
         items ++ t.more,
         record {
           asked = ap (λ (x : Asked). model_asked x exceptions) all.same.asked ∙ come.asked;
@@ -113,6 +114,7 @@ module _ (v : HeadView) (a a' : Ahead) (run run' : Run) (out out' : Device) (end
             compares = t.compares;
             differs = differs ∙ come.stands.differs ∙ ap (λ l. not (is_empty l)) (sym t.same_open) ∙ ap (λ (x : Asked). not (is_empty (within_open (model_asked x exceptions) h ns (items ++ t.more)))) (sym all.same.asked);
           };
-          written = subst (Writes begin out) (sym (subst (λ (x : ModelAsked). within_open x h ns (items ++ t.more) ≡ within_open x h ns items) come.asked t.same_open)) come.written;
+          written = subst (Writes begin out) (sym still) come.written;
         },
+        still,
       )

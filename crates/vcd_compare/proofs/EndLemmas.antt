@@ -136,7 +136,7 @@ module _ (v : HeadView) (c : Current) (n at : ℕ) (old : List ℕ) (h : Header)
     pair : (p : Pair) × (is_fit p ≡ true) × IsClassOf h ends class p
     pair = pair_of_class ps h q ns class g.pairs below
 
-    -- what is told of the two of a class is told of its pair
+    -- what the codes of two ends say of a change, the codes of their pair say too
     abbrev TellsOf : IdCode → Type 0
     TellsOf b = (p : Pair) → IsClassOf h ends class p
         → (differ_from (i % 2 == 0) (rule_of c.asked) (items ++ x ∷ []) a b at ≡ codes_differ (rule_of c.asked) (items ++ x ∷ []) (code_of p.one) (code_of p.other) at) × ((gives_to (code_of p.one) x ≡ true) ⊎ (gives_to (code_of p.other) x ≡ true))

@@ -26,6 +26,7 @@ pub mod RunEnds
 pub mod TimeSteps
 pub mod AheadSteps
 pub mod RunSteps
+pub mod NeededLemmas
 pub mod StartLemmas
 pub mod Cited
 pub mod Facts

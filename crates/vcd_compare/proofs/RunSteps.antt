@@ -2,6 +2,7 @@
 use Rattle.vcd_compare.proofs.Cited.{◌≡◌, inl, inr, ℕ, ◌≤◌, max, Bool, true, false, not, List, [], ◌∷◌, ◌++◌, Ok, Err, refl, sym, ap, subst, ◌∙◌, append-nil, append_assoc, arith, is_empty, body_items, read_body, IdCode, Header, Input, BodyItem, time_after, Token, Names, ends_run, within_close, within_open, items_begin, Device, Writes, WritesSome, HasGiven, limit_of, seen, token_of, Ghosts, Feed, both-written, some-behind, stop_of_body, GivesItem, IsItem, AreRegsAfter, model_form, model_section, regs_after, Fails, GaveAll, GaveItem, GaveItems, IsSection, Early, Whole, Write, BodyFault, ReadFailed, Form, Item, Regs, model_asked, Compares, BodyBegins, BodyGives, HasCome, StepGives, TellsEnd, settled_by, Comparison, Watched, Run}
 use Rattle.vcd_model.specs.Compare.{Asked as ModelAsked}
 use Rattle.vcd_body.specs.Given.{text_of}
+use Rattle.vcd_body.specs.declared.answer.More.TheVariants.{Again}
 use Rattle.vcd_body.specs.declared.item.Item.TheVariants as item
 use Rattle.vcd_compare.specs.declared.asked.Asked.{Asked}
 use Rattle.vcd_compare.proofs.CompareSteps.{compares_still, open_same, section_quiet, time_more}
@@ -48,8 +49,8 @@ begins_none h i front f given = record {
 
 module _ {X : Type 0} {g : Ghosts X} (q : ModelAsked) (exceptions : List (List ℕ)) (h : Header) (ns : List Names) (i : Input) (front : List Token) (begin : Device) (items : List BodyItem) (run : Run) (f : Feed X g) (out : Device) (come : HasCome q exceptions h ns i front begin items run f out) where
   -- nothing has ended it
-  on : ends_run q h ns items ≡ false
-  on = subst (λ (x : ModelAsked). ends_run x h ns items ≡ false) come.asked (not_ended h exceptions ns items run.comparison run.watched come.stands.compares)
+  pub not_over : ends_run q h ns items ≡ false
+  not_over = subst (λ (x : ModelAsked). ends_run x h ns items ≡ false) come.asked (not_ended h exceptions ns items run.comparison run.watched come.stands.compares)
 
   -- nothing was written since
   pub come_passed : (out' : Device) → Writes out out' [] → HasCome q exceptions h ns i front begin items run f out'
@@ -62,9 +63,9 @@ module _ {X : Type 0} {g : Ghosts X} (q : ModelAsked) (exceptions : List (List �
 
   module _ (run' : Run) (f' : Feed X g) where
     -- a fault
-    pub stopped : (fault : BodyFault) (line : ℕ) → line ≡ (token_of f').line → Fails h.codes i front items fault f' → StepGives q exceptions h ns i front begin run' f' out (Err (stop_of_body fault 0 line))
-    stopped ReadFailed line is fails = (items, (token_of f').line, refl, fails.0.0, on, come.written)
-    stopped fault line is fails = (items, refl, rw is fails.0, on, come.written)
+    pub stopped : (fault : BodyFault) (line : ℕ) → line ≡ (token_of f').line → Fails h.codes i front items fault f' → StepGives q exceptions h ns i front begin (within_open q h ns items) run' f' out (Err (stop_of_body fault 0 line))
+    stopped ReadFailed line is fails = (items, (token_of f').line, refl, fails.0.0, not_over, come.written)
+    stopped fault line is fails = (items, refl, rw is fails.0, not_over, come.written)
 
     -- a write failed before a read
     pub pass_fails : (out' : Device) → WritesSome out out' [] → BodyGives q h ns i front (limit_of f) (seen f') begin out' (Err Write)
@@ -75,28 +76,31 @@ module _ {X : Type 0} {g : Ghosts X} (q : ModelAsked) (exceptions : List (List �
     -- an item with which nothing is due
     pub goes_quiet : (x : BodyItem) → run'.comparison.current.asked ≡ run.comparison.current.asked → Compares h exceptions ns (items ++ x ∷ []) run'.comparison run'.watched
         → within_open (model_asked run.comparison.current.asked exceptions) h ns (items ++ x ∷ []) ≡ within_open (model_asked run.comparison.current.asked exceptions) h ns items
-        → run'.differs ≡ run.differs → GaveItems h.codes i front (items ++ x ∷ []) f' run'.regs → HasCome q exceptions h ns i front begin (items ++ x ∷ []) run' f' out
-    goes_quiet x same compares same_open differs gave = record {
-      asked = ap (λ (a : Asked). model_asked a exceptions) same ∙ come.asked;
-      gave = gave;
-      stands = record {
-        compares = compares;
-        differs = differs ∙ come.stands.differs ∙ ap (λ l. not (is_empty l)) (sym same_open) ∙ ap (λ (a : Asked). not (is_empty (within_open (model_asked a exceptions) h ns (items ++ x ∷ [])))) (sym same);
-      };
-      written = subst (Writes begin out) (sym (subst (λ (r : ModelAsked). within_open r h ns (items ++ x ∷ []) ≡ within_open r h ns items) come.asked same_open)) come.written;
-    }
+        → run'.differs ≡ run.differs → GaveItems h.codes i front (items ++ x ∷ []) f' run'.regs → StepGives q exceptions h ns i front begin (within_open q h ns items) run' f' out (Ok Again)
+    goes_quiet x same compares same_open differs gave =
+        let still = subst (λ (r : ModelAsked). within_open r h ns (items ++ x ∷ []) ≡ within_open r h ns items) come.asked same_open in (
+          items ++ x ∷ [],
+          record {
+            asked = ap (λ (a : Asked). model_asked a exceptions) same ∙ come.asked;
+            gave = gave;
+            stands = record {
+              compares = compares;
+              differs = differs ∙ come.stands.differs ∙ ap (λ l. not (is_empty l)) (sym same_open) ∙ ap (λ (a : Asked). not (is_empty (within_open (model_asked a exceptions) h ns (items ++ x ∷ [])))) (sym same);
+            };
+            written = subst (Writes begin out) (sym still) come.written;
+          },
+          ([], still ∙ sym (append-nil (within_open q h ns items))),
+        )
 
     -- the begin or the end of a section
-    pub section_come : (x : Item) → IsSection x → (r : Regs) → GivesItem h.codes i front items f' r x → run'.regs ≡ r → run'.comparison ≡ run.comparison → run'.watched ≡ run.watched → run'.differs ≡ run.differs → (more : List BodyItem) × HasCome q exceptions h ns i front begin more run' f' out
+    pub section_come : (x : Item) → IsSection x → (r : Regs) → GivesItem h.codes i front items f' r x → run'.regs ≡ r → run'.comparison ≡ run.comparison → run'.watched ≡ run.watched → run'.differs ≡ run.differs → StepGives q exceptions h ns i front begin (within_open q h ns items) run' f' out (Ok Again)
     section_come x section r gives regs comparison watched differs =
         let y = section_given h.codes i front items f' r x section gives in
         let quiet = section_quiet h.codes [] x y.0 section y.1 in
-        let stands = compares_still h exceptions ns items y.0 run.comparison run.watched come.stands.compares quiet.0 quiet.1 in (
-          items ++ y.0 ∷ [],
-          goes_quiet y.0 (ap (λ (c : Comparison). c.current.asked) comparison)
-              (subst (λ (w : Watched). Compares h exceptions ns (items ++ y.0 ∷ []) run'.comparison w) (sym watched) (subst (λ (c : Comparison). Compares h exceptions ns (items ++ y.0 ∷ []) c run.watched) (sym comparison) stands))
-              (open_same h exceptions ns items y.0 run.comparison run.watched come.stands.compares quiet.0) differs (subst (GaveItems h.codes i front (items ++ y.0 ∷ []) f') (sym regs) y.2.gave),
-        )
+        let stands = compares_still h exceptions ns items y.0 run.comparison run.watched come.stands.compares quiet.0 quiet.1 in
+        goes_quiet y.0 (ap (λ (c : Comparison). c.current.asked) comparison)
+            (subst (λ (w : Watched). Compares h exceptions ns (items ++ y.0 ∷ []) run'.comparison w) (sym watched) (subst (λ (c : Comparison). Compares h exceptions ns (items ++ y.0 ∷ []) c run.watched) (sym comparison) stands))
+            (open_same h exceptions ns items y.0 run.comparison run.watched come.stands.compares quiet.0) differs (subst (GaveItems h.codes i front (items ++ y.0 ∷ []) f') (sym regs) y.2.gave)
 
     -- a timestamp
     module _ (t : ℕ) (forth : time_after items ≤ t) (gave : GaveItems h.codes i front (items ++ BodyItem.Time t ∷ []) f' run'.regs) (out' : Device) where
@@ -112,13 +116,17 @@ module _ {X : Type 0} {g : Ghosts X} (q : ModelAsked) (exceptions : List (List �
       all_written : Writes out out' (settled_by own h ns items t) → Writes begin out' (within_open q h ns after)
       all_written writes = subst (Writes begin out') (sym open_is) (both-written begin out out' (within_open q h ns items) (settled_by own h ns items t) come.written writes)
 
-      pub time_on : (ended : Bool) → ended ≡ false → run'.comparison.current.asked ≡ run.comparison.current.asked → Writes out out' (settled_by own h ns items t) → TellsEnd own h exceptions ns after run' ended → HasCome q exceptions h ns i front begin after run' f' out'
-      time_on ended goes same writes tells = record {
-        asked = ap (λ (a : Asked). model_asked a exceptions) same ∙ come.asked;
-        gave = gave;
-        stands = tells.stands goes;
-        written = all_written writes;
-      }
+      pub time_on : (ended : Bool) → ended ≡ false → run'.comparison.current.asked ≡ run.comparison.current.asked → Writes out out' (settled_by own h ns items t) → TellsEnd own h exceptions ns after run' ended → StepGives q exceptions h ns i front begin (within_open q h ns items) run' f' out' (Ok Again)
+      time_on ended goes same writes tells = (
+        after,
+        record {
+          asked = ap (λ (a : Asked). model_asked a exceptions) same ∙ come.asked;
+          gave = gave;
+          stands = tells.stands goes;
+          written = all_written writes;
+        },
+        (settled_by own h ns items t, open_is),
+      )
 
       pub time_ends : (ended : Bool) → ended ≡ true → Writes out out' (settled_by own h ns items t) → TellsEnd own h exceptions ns after run' ended → BodyGives q h ns i front (limit_of f') (seen f') begin out' (Ok (record { differs = run'.differs; done = Early }))
       time_ends ended stops writes tells = (
@@ -145,7 +153,7 @@ module _ {X : Type 0} {g : Ghosts X} (q : ModelAsked) (exceptions : List (List �
         items,
         (
           all.has,
-          on,
+          not_over,
           both-written begin out out' (within_open q h ns items) (within_close q h ns items) come.written (subst (λ (r : ModelAsked). Writes out out' (within_close r h ns items)) come.asked writes),
           subst (λ (r : ModelAsked). run'.differs ≡ not (is_empty (within_open r h ns items ++ within_close r h ns items))) come.asked differs,
         ),
@@ -153,4 +161,4 @@ module _ {X : Type 0} {g : Ghosts X} (q : ModelAsked) (exceptions : List (List �
 
       pub close_fails : WritesSome out out' (within_close its h ns items) → BodyGives q h ns i front (limit_of f') (seen f') begin out' (Err Write)
       close_fails some =
-          inr (items, all.has, on, some-behind begin out out' (within_open q h ns items) (within_close q h ns items) come.written (subst (λ (x : ModelAsked). WritesSome out out' (within_close x h ns items)) come.asked some))
+          inr (items, all.has, not_over, some-behind begin out out' (within_open q h ns items) (within_close q h ns items) come.written (subst (λ (x : ModelAsked). WritesSome out out' (within_close x h ns items)) come.asked some))

@@ -29,7 +29,8 @@ events_match true false = refl
 events_match false true = refl
 events_match false false = refl
 
--- where it is told whether two values are the same, and no rule is asked for or they are the same
+-- if it is known whether two values are the same, and they are, or no rule is asked for, their
+-- states match just then
 pub told_same : (k : Asked) (items : List BodyItem) (a b : IdCode) (t : ℕ) → time_after items ≤ t → a.event ≡ b.event → b.event ≡ false → (same : Bool) → Decides same (final_value items a ≡ final_value items b)
     → (same ≡ true) ⊎ ((k.x_of_one ≡ false) × (k.x_of_other ≡ false)) → (is_first : Bool) → not same ≡ differ_from is_first (rule_of k) items a b t
 told_same k items a b t le alike event same told either is_first = by_order is_first

@@ -98,7 +98,7 @@ module _ (h : Header) (exceptions : List (List ℕ)) (ns : List Names) (items : 
   abbrev to : ℕ
   to = run.comparison.current.asked.to
 
-  -- whether it is after the last time tells whether the run ends
+  -- the run ends if and only if the timestamp is after the last time
   tells_past : (run' : Run) → run'.comparison.current.asked ≡ run.comparison.current.asked → (nat_lt to t ≡ false → Compares h exceptions ns after run'.comparison run'.watched) → run'.differs ≡ not (is_empty open_after)
       → TellsEnd request h exceptions ns after run' (nat_lt to t)
   tells_past run' same compares differs = by_test (nat_lt to t) refl

@@ -89,7 +89,7 @@ pub record AreCodes (h : Header) (one other : ℕ) (a b : IdCode) : Type 0 where
   pub other_is : slice_get h.codes other ≡ Some b
   pub same : a.event ≡ b.event
 
--- if it is told whether the values of two codes are the same, it is so, and they are no events
+-- an answer says whether the values of two codes are the same, and then they are not events
 abbrev pub TellsSame : List BodyItem → IdCode → IdCode → Option Bool → Type 0
 TellsSame items a b o = IfSome o (λ same. (b.event ≡ false) × Decides same (final_value items a ≡ final_value items b))
 

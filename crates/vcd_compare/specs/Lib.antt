@@ -12,3 +12,4 @@ pub mod Kinds
 pub mod Classes
 pub mod HasPairs
 pub mod Outcomes
+pub mod Needed

@@ -29,15 +29,15 @@ HasCodes h codes p = (slice_get h.codes codes.0 ≡ Some (code_of p.one)) × (sl
 abbrev pub states_of : List BodyItem → Pair → ℕ → List ℕ
 states_of items p t = words (shown (state_at 1 items (code_of p.one) t) ∷ shown (state_at 1 items (code_of p.other) t) ∷ [])
 
--- it holds of the pair of this class
+-- it holds for the pair of this class
 abbrev pub AtClass : HeadView → Current → (class time : ℕ) → (List BodyItem → Pair → Type 0) → Type 0
 AtClass v current class time holds = (h : Header) (items : List BodyItem) (p : Pair) → IsViewOf v h → AreCurrent current h items → IsClassOf h current.pairs.now.ends.items class p → time_after items ≤ time → holds items p
 
--- it holds of the pair that this row stands for
+-- it holds for the pair of this row
 abbrev pub AtPair : HeadView → Current → PairRow → ℕ → (List BodyItem → Pair → Type 0) → Type 0
 AtPair v current row time holds = (h : Header) (items : List BodyItem) (p : Pair) → IsViewOf v h → AreCurrent current h items → IsPairAt h current.pairs.now.ends.items row p → time_after items ≤ time → holds items p
 
--- it holds of the variable that this row is of
+-- it holds for the variable of this row
 abbrev pub AtAlone : HeadView → ℕ → (Named → Type 0) → Type 0
 AtAlone v row holds = (h : Header) (n : Named) → IsViewOf v h → IsNamedAt h row n → holds n
 

@@ -31,7 +31,7 @@ Belongs q h ns o name out out' (Err Write) = WritesSome out out' o.output
 Belongs q h ns o name out out' (Err (Unmatched index)) = ⊥
 
 -- what is left of an input: all of it, or what was read before a failed read
-abbrev pub left_of : Input → ℕ → Result Answer Stop → Input
+abbrev pub left_of : {A : Type 0} → Input → ℕ → Result A Stop → Input
 left_of i read (Err (Read input)) = failed_after read i
 left_of i read result = i
 

@@ -62,7 +62,7 @@ PutsDue v run out out' result = (h : Header) (exceptions : List (List ℕ)) (ns 
 abbrev pub settled_by : ModelAsked → Header → List Names → List BodyItem → ℕ → List ℕ
 settled_by q h ns items t = cond (nat_lt (time_compared q items) t) (lines_due q h ns items) []
 
--- it is told whether these items end the run; if they do not, the run stands after them
+-- the answer says whether these items end the run; if they do not, the run stands after them
 pub record TellsEnd (q : ModelAsked) (h : Header) (exceptions : List (List ℕ)) (ns : List Names) (items : List BodyItem) (run : Run) (tells : Bool) : Type 0 where
   pub ended : tells ≡ ends_run q h ns items
   pub stands : tells ≡ false → RunStands h exceptions ns items run
@@ -115,21 +115,21 @@ module _ {X : Type 0} {g : Ghosts X} (q : ModelAsked) (exceptions : List (List �
     pub stands : RunStands h exceptions ns items run
     pub written : Writes begin out (within_open q h ns items)
 
-  -- after one more step it has come further, or it has ended
-  abbrev pub StepGives : Run → Feed X g → Device → Result More Stop → Type 0
-  StepGives run f out (Ok Again) = (items : List BodyItem) × HasCome items run f out
-  StepGives run f out (Ok (Ended done)) = BodyGives q h ns i front (limit_of f) (seen f) begin out (Ok (record { differs = run.differs; done = done }))
-  StepGives run f out (Err stop) = BodyGives q h ns i front (limit_of f) (seen f) begin out (Err stop)
+  -- after one more step it has come further, with this text and maybe more written; or it has ended
+  abbrev pub StepGives : List ℕ → Run → Feed X g → Device → Result More Stop → Type 0
+  StepGives text run f out (Ok Again) = (items : List BodyItem) × HasCome items run f out × IsPrefixOf text (within_open q h ns items)
+  StepGives text run f out (Ok (Ended done)) = BodyGives q h ns i front (limit_of f) (seen f) begin out (Ok (record { differs = run.differs; done = done }))
+  StepGives text run f out (Err stop) = BodyGives q h ns i front (limit_of f) (seen f) begin out (Err stop)
 
 -- the same after any items of any body
 abbrev pub Steps : {X : Type 0} {g : Ghosts X} → HeadView → (run run' : Run) → (f f' : Feed X g) → (out out' : Device) → Result More Stop → Type 0
 Steps v run run' f f' out out' result = (q : ModelAsked) (exceptions : List (List ℕ)) (h : Header) (ns : List Names) (i : Input) (front : List Token) (begin : Device) (items : List BodyItem) → IsViewOf v h → HasCome q exceptions h ns i front begin items run f out
-    → StepGives q exceptions h ns i front begin run' f' out' result
+    → StepGives q exceptions h ns i front begin (within_open q h ns items) run' f' out' result
 
 -- it has come further, and nothing is due with the items in between
 abbrev pub StepsAhead : {X : Type 0} {g : Ghosts X} → HeadView → (run run' : Run) → (f f' : Feed X g) → Type 0
 StepsAhead v run run' f f' = (q : ModelAsked) (exceptions : List (List ℕ)) (h : Header) (ns : List Names) (i : Input) (front : List Token) (begin : Device) (items : List BodyItem) (out : Device) → IsViewOf v h → HasCome q exceptions h ns i front begin items run f out
-    → (more : List BodyItem) × HasCome q exceptions h ns i front begin more run' f' out
+    → (more : List BodyItem) × HasCome q exceptions h ns i front begin more run' f' out × (within_open q h ns more ≡ within_open q h ns items)
 
 -- it was run to its end
 abbrev pub RunsOn : {X : Type 0} {g : Ghosts X} → HeadView → Run → (f f' : Feed X g) → (out out' : Device) → Result Answer Stop → Type 0

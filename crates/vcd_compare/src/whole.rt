@@ -11,10 +11,11 @@ ghost use Rattle.vcd_model.specs.Within.{Names};
 ghost use Rattle.vcd_text.specs.Advances.{Advances, CallEnd, HasNotFailed};
 ghost use Rattle.vcd_text.specs.Ahead.{ahead_of};
 ghost use Rattle.vcd_text.specs.Device.{Counts};
-ghost use Rattle.vcd_text.specs.Feed.{HasGiven, limit_of, seen, source_of};
+ghost use Rattle.vcd_text.specs.Feed.{HasGiven, chunk_len_of, limit_of, seen, source_of, supply_of};
 ghost use Rattle.vcd_view.specs.Views.{IsViewOf};
 ghost use Rattle.vcd_compare.specs.Asked.{model_asked, model_extent};
 ghost use Rattle.vcd_compare.specs.Comparing.{IsCounted};
+ghost use Rattle.vcd_compare.specs.Needed.{ReadsNeeded, ReadsOn, ReadsStep};
 ghost use Rattle.vcd_compare.specs.Pairs.{ArePairs};
 ghost use Rattle.vcd_compare.specs.Run.{BodyGives, Closes, PutsDue, RunStands, RunsOn, SameRun, Steps, StepsAhead, StepsOver, TakesTime, flag_after, is_due_now};
 
@@ -220,6 +221,7 @@ impl Run<'_, '_> {
         ensures steps { StepsAhead view.entry self.old self.new feed.old feed.new }
         ensures advances { Advances S.failures feed.old feed.new CallEnd.GoesOn }
         ensures bounded { seen feed.new < 2 ^ 63 }
+        ensures source { source_of feed.new ≡ source_of feed.old }
         ensures counted { IsCounted self.new.watched self.new.comparison }
     {
         let mut out = Watch::new(io::sink());
@@ -250,6 +252,8 @@ impl Run<'_, '_> {
         requires out_failures { (W.device out.old).failures < 2 ^ 64 - 1 }
         requires counted { IsCounted self.old.watched self.old.comparison }
         ensures steps { Steps view.entry self.old self.new feed.old feed.new
+            (W.device out.old) (W.device out.new) result }
+        ensures needed { ReadsStep view.entry self.old feed.old feed.new
             (W.device out.old) (W.device out.new) result }
         ensures over { StepsOver S.failures self.new feed.old feed.new
             (W.device out.old) (W.device out.new) result }
@@ -298,6 +302,8 @@ impl Run<'_, '_> {
         requires counted { IsCounted self.old.watched self.old.comparison }
         ensures runs { RunsOn view.entry self.old feed.old feed.new
             (W.device out.old) (W.device out.new) result }
+        ensures needed { ReadsOn view.entry self.old feed.old feed.new
+            (W.device out.old) (W.device out.new) }
         ensures passed_on { HasPassedOn (W.kept_back out.new) result }
         ensures writes { IfOk result
             (λ _. (W.device out.new).failures ≡ (W.device out.old).failures) }
@@ -346,6 +352,12 @@ pub fn compare<S: Source, W: Sink>(
         → ArePairs pairs.now h (model_asked asked exceptions) ns → HasGiven i front feed.old
         → BodyGives (model_asked asked exceptions) h ns i front (limit_of feed.old)
         (seen feed.new) (W.device out.old) (W.device out.new) result }
+    ensures needed { (h : Header) (exceptions : List (List ℕ)) (ns : List Names) (i : Input)
+        (front : List Token) → IsViewOf view.entry h
+        → ArePairs pairs.now h (model_asked asked exceptions) ns → HasGiven i front feed.old
+        → ReadsNeeded (model_asked asked exceptions) h ns (limit_of feed.old)
+        (chunk_len_of feed.old) i front (supply_of feed.old) (supply_of feed.new)
+        (W.device out.old) (W.device out.new) }
     ensures passed_on { HasPassedOn (W.kept_back out.new) result }
     ensures writes { IfOk result
         (λ _. (W.device out.new).failures ≡ (W.device out.old).failures) }

@@ -1,7 +1,7 @@
 use Rattle.vcd_compare.proofs.Cited.{◌≡◌, ℕ, Bool, false, Option, Some, None, sym, ap, ◌∙◌, IfSome, Decides, same_Some, final_value, Value, Code, code_at, held_at, value_at_size}
 use Rattle.vcd_compare.proofs.current.Current.are_same.Goals as goal
 
--- what is told at each size is told at one
+-- an answer that holds at each size holds at one
 told : (one other : Option Value) (same : Option Bool) (values : ℕ → Option Value) (others : ℕ → Option Value) (m : ℕ) → values m ≡ one → others m ≡ other → IfSome same (λ s. (size : ℕ) → Decides s (values size ≡ others size)) → IfSome same (λ s. Decides s (one ≡ other))
 told one other None values others m e f tells = tells
 told one other (Some s) values others m e f tells = rw (← e, ← f) (tells m)
