@@ -28,7 +28,7 @@ pub use Rattle.vcd_body.specs.Ahead.{GaveAhead, GivesAhead, LooksOver, PassesNoI
 pub use Rattle.vcd_body.specs.Answer.{stop_of_body}
 pub use Rattle.vcd_body.specs.Contents.{IsLaidOut, codes_shown, held_at, shown_as, shown_code, value_in}
 pub use Rattle.vcd_body.specs.Current.{AreHeld}
-pub use Rattle.vcd_body.specs.Given.{GivesItem, HasGoodText, IsItem}
+pub use Rattle.vcd_body.specs.Given.{GivesItem, HasGoodText, IsItem, text_of}
 pub use Rattle.vcd_body.specs.Items.{AreRegsAfter, model_form, model_section, regs_after}
 pub use Rattle.vcd_body.specs.Kept.{Held, digit_in, real_text, value_at_size}
 pub use Rattle.vcd_body.specs.Reads.{Fails, GaveAll, GaveItem, GaveItems}
@@ -38,6 +38,7 @@ pub use Rattle.vcd_body.specs.Walk.{Begins, Further, Past, Stage, Trail, Walks, 
 pub use Rattle.vcd_body.specs.declared.answer.Done.{Done}
 pub use Rattle.vcd_body.specs.declared.answer.Done.TheVariants.{Early, Whole}
 pub use Rattle.vcd_body.specs.declared.answer.More.{More}
+pub use Rattle.vcd_body.specs.declared.answer.More.TheVariants.{Again, Ended}
 pub use Rattle.vcd_body.specs.declared.answer.Stop.{Stop}
 pub use Rattle.vcd_body.specs.declared.answer.Stop.TheVariants.{Dump, Read, Unmatched, Write}
 pub use Rattle.vcd_body.specs.declared.fault.BodyFault.{BodyFault}
@@ -57,6 +58,7 @@ pub use Rattle.vcd_compare.specs.HasPairs.{AreNumbersOf, EntersNames, EntersText
 pub use Rattle.vcd_compare.specs.Kinds.{model_kind}
 pub use Rattle.vcd_compare.specs.LineTexts.{ArePairLines, states_of}
 pub use Rattle.vcd_compare.specs.Lines.{DoNotFall, IsQuiet, changed_at, codes_differ, flag_of, had_line, is_always, lines_due, time_compared}
+pub use Rattle.vcd_compare.specs.Needed.{StepReads, due_with, is_settled_with}
 pub use Rattle.vcd_compare.specs.Outcomes.{AnswersGiveOutcomes, Belongs, BodiesGiveOutcomes, left_of}
 pub use Rattle.vcd_compare.specs.Pairs.{AreLinked, ArePairs, HasEnd, HoldsPairs, IsClassOf, IsLastEnd, IsPairAt, IsUnlikeAt, names_in}
 pub use Rattle.vcd_compare.specs.Paths.{AreApart, AreTexts, EntersPath, EntersText, HasTexts, IsNumberOf, has_dot, joined, texts_in}
@@ -123,8 +125,8 @@ pub use Rattle.vcd_text.proofs.Writes.{AppendsSome, appends-first, appends-none,
 pub use Rattle.vcd_text.specs.Advances.{Advances, CallEnd}
 pub use Rattle.vcd_text.specs.Ahead.{ahead_of, bytes_of, lines_of, longest_of, passed_of}
 pub use Rattle.vcd_text.specs.Answer.{failed_after}
-pub use Rattle.vcd_text.specs.Device.{Device, Gains, Takes, Writes, WritesSome}
-pub use Rattle.vcd_text.specs.Feed.{HasGiven, limit_of, seen, token_of}
+pub use Rattle.vcd_text.specs.Device.{Device, Gains, Supply, Takes, Writes, WritesSome}
+pub use Rattle.vcd_text.specs.Feed.{HasGiven, chunk_len_of, limit_of, seen, supply_of, token_of}
 pub use Rattle.vcd_text.specs.Passed.{Passed}
 pub use Rattle.vcd_text.specs.declared.ahead.Ahead.{Ahead}
 pub use Rattle.vcd_text.specs.declared.device.Source.{Ghosts}

@@ -1,18 +1,15 @@
 -- How much a comparison has read, step by step.
-use Rattle.vcd_compare.proofs.Cited.{◌≡◌, ℕ, ◌+◌, inl, inr, false, List, [], ◌++◌, take, Result, Ok, Err, refl, sym, ap, subst, ◌∙◌, Header, Input, BodyItem, Token, Names, ends_run, within_open, IdCode, Appends, AppendsSome, Device, WritesSome, Writes, IsPrefixOf, seen, limit_of, Advances, CallEnd, Ghosts, Feed, GivesItem, GaveItem, Fails, BodyFault, ReadFailed, stop_of_body, model_form, model_section, Item, Regs, More, Stop, Dump, Read, Write, Unmatched, step_end, left_of, failed_after}
+use Rattle.vcd_compare.proofs.Cited.{◌≡◌, ℕ, ◌+◌, inl, inr, false, List, [], take, Result, Ok, Err, refl, sym, ap, subst, ◌∙◌, Header, Input, BodyItem, Token, Names, ends_run, within_open, IdCode, Appends, AppendsSome, Device, WritesSome, Writes, IsPrefixOf, seen, limit_of, Advances, Ghosts, Feed, GivesItem, Fails, BodyFault, ReadFailed, stop_of_body, model_form, model_section, Item, Regs, More, Stop, Dump, Read, Write, Unmatched, step_end, left_of, failed_after, Supply, chunk_len_of, supply_of, text_of, Again, Ended, StepReads, due_with, is_settled_with}
 use Rattle.vcd_model.specs.Compare.{Asked as ModelAsked}
 use Rattle.vcd_text.specs.Advances.{HasNotFailed}
-use Rattle.vcd_text.specs.Device.{Supply}
-use Rattle.vcd_text.specs.Feed.{chunk_len_of, source_of, supply_of}
+use Rattle.vcd_text.specs.Feed.{source_of}
 use Rattle.vcd_body.specs.Answer.{IsLeft}
 use Rattle.vcd_body.specs.Asked.{HaveJust}
-use Rattle.vcd_body.specs.Given.{text_of}
 use Rattle.vcd_body.specs.Pace.{ReadsPast}
-use Rattle.vcd_body.specs.declared.answer.More.TheVariants.{Again, Ended}
 use Rattle.vcd_body.specs.declared.item.Item.TheVariants as item
 use Rattle.vcd_body.proofs.CallerLemmas.{last_given}
 use Rattle.vcd_body.proofs.PaceLemmas.{HasReadFor, keeping_up, past_end, past_item, past_stop, read_past, read_still}
-use Rattle.vcd_compare.specs.Needed.{KeepsRest, ReadsNeeded, StepReads, due_with, is_settled_with}
+use Rattle.vcd_compare.specs.Needed.{KeepsRest, ReadsNeeded}
 
 -- ---- one step
 

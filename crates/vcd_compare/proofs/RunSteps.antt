@@ -1,8 +1,6 @@
 -- What a step leaves: with a timestamp, with any other item, at the end of a body, and at a fault.
-use Rattle.vcd_compare.proofs.Cited.{◌≡◌, inl, inr, ℕ, ◌≤◌, max, Bool, true, false, not, List, [], ◌∷◌, ◌++◌, Ok, Err, refl, sym, ap, subst, ◌∙◌, append-nil, append_assoc, arith, is_empty, body_items, read_body, IdCode, Header, Input, BodyItem, time_after, Token, Names, ends_run, within_close, within_open, items_begin, Device, Writes, WritesSome, HasGiven, limit_of, seen, token_of, Ghosts, Feed, both-written, some-behind, stop_of_body, GivesItem, IsItem, AreRegsAfter, model_form, model_section, regs_after, Fails, GaveAll, GaveItem, GaveItems, IsSection, Early, Whole, Write, BodyFault, ReadFailed, Form, Item, Regs, model_asked, Compares, BodyBegins, BodyGives, HasCome, StepGives, TellsEnd, settled_by, Comparison, Watched, Run}
+use Rattle.vcd_compare.proofs.Cited.{◌≡◌, inl, inr, ℕ, ◌≤◌, max, Bool, true, false, not, List, [], ◌∷◌, ◌++◌, Ok, Err, refl, sym, ap, subst, ◌∙◌, append-nil, append_assoc, arith, is_empty, body_items, read_body, IdCode, Header, Input, BodyItem, time_after, Token, Names, ends_run, within_close, within_open, items_begin, Device, Writes, WritesSome, HasGiven, limit_of, seen, token_of, Ghosts, Feed, both-written, some-behind, stop_of_body, GivesItem, Again, text_of, IsItem, AreRegsAfter, model_form, model_section, regs_after, Fails, GaveAll, GaveItem, GaveItems, IsSection, Early, Whole, Write, BodyFault, ReadFailed, Form, Item, Regs, model_asked, Compares, BodyBegins, BodyGives, HasCome, StepGives, TellsEnd, settled_by, Comparison, Watched, Run}
 use Rattle.vcd_model.specs.Compare.{Asked as ModelAsked}
-use Rattle.vcd_body.specs.Given.{text_of}
-use Rattle.vcd_body.specs.declared.answer.More.TheVariants.{Again}
 use Rattle.vcd_body.specs.declared.item.Item.TheVariants as item
 use Rattle.vcd_compare.specs.declared.asked.Asked.{Asked}
 use Rattle.vcd_compare.proofs.CompareSteps.{compares_still, open_same, section_quiet, time_more}

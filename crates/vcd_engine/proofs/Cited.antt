@@ -43,6 +43,7 @@ pub use Rattle.vcd_body.specs.Device.{DueBy, Grows, GrowsSome, TakesDue}
 pub use Rattle.vcd_body.specs.Given.{GivesItem, HasGoodText, IsItem, IsText, item_text, text_of}
 pub use Rattle.vcd_body.specs.Items.{AreRegsAfter, model_form, model_section, regs_after}
 pub use Rattle.vcd_body.specs.Kept.{Held, IsStep, Kept, differs, goes_from, is_digit, last_digit_in, one_more, value_at_size, with_change, with_counted, with_step, with_text}
+pub use Rattle.vcd_body.specs.Pace.{KeepsUp, is_more_due}
 pub use Rattle.vcd_body.specs.Reads.{BodyHas, Fails, GaveAll, GaveItem, GaveItems, StopsAt}
 pub use Rattle.vcd_body.specs.Spelled.{IsSpelledAs, bytes_without, line_without}
 pub use Rattle.vcd_body.specs.Taken.{IsSection, TakesItem}
@@ -81,7 +82,7 @@ pub use Rattle.vcd_engine.specs.Sample.{AreSampled, asked_in, is_due}
 pub use Rattle.vcd_engine.specs.Selection.{IsFirstUnmatched}
 pub use Rattle.vcd_engine.specs.Several.{TakesSeveral}
 pub use Rattle.vcd_engine.specs.Step.{LastGives, StepGives, StepsGive, step_end}
-pub use Rattle.vcd_engine.specs.TaskRun.{Belongs, Follows, IsRefused, KeepsUp, is_early, is_more_due}
+pub use Rattle.vcd_engine.specs.TaskRun.{Belongs, Follows, IsRefused, is_early}
 pub use Rattle.vcd_engine.specs.Waits.{StepsOrStops, StopsOn}
 pub use Rattle.vcd_engine.specs.Walks.{CanTake, HasWalked, TakesByTask, walk_of}
 pub use Rattle.vcd_engine.specs.declared.engine.Engine.{Engine}

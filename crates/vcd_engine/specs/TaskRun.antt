@@ -1,7 +1,6 @@
 -- What a run over a body leaves: what is left of the input, how much of it was read, and what is on
 -- the output.
-use Rattle.std.specs.Prelude.{◌≡◌, ℕ, ◌+◌, ◌<◌, ◌-◌, ◌^◌, nat_lt, List, ◌++◌, length, Result, IfOk, IfErr, ◌==◌, Bool, true, false, Some, Ok, Err, []}
-use Rattle.std.specs.Io.KnownBytes.{Appends}
+use Rattle.std.specs.Prelude.{◌≡◌, ℕ, ◌+◌, ◌<◌, ◌-◌, ◌^◌, List, ◌++◌, Result, IfOk, IfErr, ◌==◌, Bool, true, false, Some, Ok, Err, []}
 use Rattle.std.specs.List.{list_any}
 use Rattle.vcd_model.specs.BodyReading.{read_body, body_items}
 use Rattle.vcd_model.specs.Bound.{RoomSize}
@@ -21,6 +20,7 @@ use Rattle.vcd_text.specs.declared.feed.Feed.{Feed}
 use Rattle.vcd_view.specs.Views.{IsViewOf}
 use Rattle.vcd_view.specs.declared.view.HeadView.{HeadView}
 use Rattle.vcd_body.specs.Answer.{EndsAtRead, IsLeft, reads_failed}
+use Rattle.vcd_body.specs.Pace.{KeepsUp}
 use Rattle.vcd_body.specs.declared.answer.Stop.{Stop}
 use Rattle.vcd_body.specs.declared.answer.Stop.TheVariants.{Dump, Read, Write, Unmatched}
 use Rattle.vcd_body.specs.declared.answer.Done.{Done}
@@ -47,15 +47,6 @@ is_early Early = true
 abbrev pub IsRefused : Request → Header → Stop → Type 0
 IsRefused task h (Unmatched index) = first_unmatched (names_of task) h.declarations ≡ Some index
 IsRefused task h stop = Unit {0}
-
--- more is due with these first tokens than this many bytes
-abbrev pub is_more_due : (due : List Token → List ℕ) → ℕ → List Token → Bool
-is_more_due due written ts = nat_lt written (length (due ts))
-
--- The output keeps up with the reads: at most a chunk was read past the token with which more is
--- due than was written.
-abbrev pub KeepsUp : (due : List Token → List ℕ) → (limit chunk : ℕ) → Input → List Token → (old new : Supply) → (out out' : Device) → Type 0
-KeepsUp due limit chunk i front old new out out' = (written : List ℕ) × Appends out.held out'.held written × ReadsAsNeeded limit chunk old new i front (is_more_due due (length written))
 
 -- after these tokens, which are those of this header, a run does this task
 pub record Follows (task : Request) (limit chunk : ℕ) (i : Input) (front : List Token) (h : Header) (name : List ℕ) (old new : Supply) (out out' : Device) (result : Result Done Stop) : Type 0 where

@@ -15,7 +15,7 @@ use Rattle.vcd_text.specs.ReadAhead.{ReadsAsNeeded}
 use Rattle.vcd_text.specs.declared.device.Sink.{Ghosts as Sinks}
 use Rattle.vcd_text.specs.declared.device.Watch.{Watch}
 use Rattle.vcd_body.specs.Answer.{IsLeft}
-use Rattle.vcd_engine.specs.TaskRun.{KeepsUp}
+use Rattle.vcd_body.specs.Pace.{KeepsUp}
 use Rattle.vcd_merge.specs.MergeRun.{AreReadOnTurn}
 use Rattle.vcd_merge.specs.Seat.{Lane}
 use Rattle.vcdkit.specs.Inputs.{headers_in}

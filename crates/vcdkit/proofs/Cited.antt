@@ -15,11 +15,12 @@ pub use Rattle.std.specs.Prelude.{All, IfErr, IfOk, IfSome, MatchResult, option_
 pub use Rattle.vcd_body.proofs.StoreLemmas.{get_other, get_set}
 pub use Rattle.vcd_body.specs.Answer.{IsLeft, NamesInput, reads_failed, writes_failed}
 pub use Rattle.vcd_body.specs.Items.{AreRegsAfter}
+pub use Rattle.vcd_body.specs.Pace.{KeepsUp, is_more_due}
 pub use Rattle.vcd_body.specs.declared.answer.Done.{Done}
 pub use Rattle.vcd_body.specs.declared.answer.Stop.{Stop}
 pub use Rattle.vcd_body.specs.declared.answer.Stop.TheVariants.{Dump, Read, Unmatched, Write}
 pub use Rattle.vcd_engine.proofs.RoomLemmas.{no_room_in_each, no_room_within, still_within}
-pub use Rattle.vcd_engine.specs.TaskRun.{Belongs, Follows, IsRefused, KeepsUp, is_early, is_more_due}
+pub use Rattle.vcd_engine.specs.TaskRun.{Belongs, Follows, IsRefused, is_early}
 pub use Rattle.vcd_engine.specs.declared.task.Task.{Task}
 pub use Rattle.vcd_head.proofs.IndexLemmas.{map_map}
 pub use Rattle.vcd_head.specs.Moments.{asked}

@@ -13,8 +13,9 @@ use Rattle.vcd_model.specs.SettledMerge.{Seen, is_settled_merge}
 use Rattle.vcd_text.specs.Answer.{whole}
 use Rattle.vcd_text.specs.Device.{Device, Supply, Writes, WritesSome}
 use Rattle.vcd_text.specs.ReadAhead.{ReadsAsNeeded}
-use Rattle.vcd_engine.specs.TaskRun.{Belongs, KeepsUp}
+use Rattle.vcd_engine.specs.TaskRun.{Belongs}
 use Rattle.vcd_body.specs.Answer.{IsLeft}
+use Rattle.vcd_body.specs.Pace.{KeepsUp}
 use Rattle.vcd_body.specs.declared.answer.Done.{Done}
 use Rattle.vcd_body.specs.declared.answer.Stop.TheVariants.{Dump, Read, Write, Unmatched}
 use Rattle.vcd_merge.specs.MergeRun.{AreReadOnTurn}

@@ -1,7 +1,6 @@
 use Rattle.vcd_compare.proofs.Cited.{◌≡◌, [], ℕ, Err, IfOk, inl, refl, sym, ap, subst, rules, take, Device, WritesSome, within_head, within_open, Write, model_asked}
-use Rattle.vcd_compare.proofs.Facts.{begins_none, open_first}
+use Rattle.vcd_compare.proofs.Facts.{begins_none, come_first, open_first}
 use Rattle.vcd_text.specs.ReadAhead.ReadsAsNeeded.{Nothing}
-use Rattle.vcd_compare.proofs.StartLemmas.{come_first}
 use Rattle.vcd_compare.proofs.whole.compare.Goals as goal
 
 pub returns-in_err-put_header_lines-clause-gives : goal.returns-in_err-put_header_lines-clause-gives

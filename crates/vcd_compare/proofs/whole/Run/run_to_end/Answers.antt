@@ -1,11 +1,7 @@
-use Rattle.vcd_compare.proofs.Cited.{◌≡◌, ◌∙◌, ◌+◌, ℕ, Result, Ok, Err, inl, inr, refl, sym, ap, subst, rules, arith, Advances, CallEnd, Device, limit_of, seen, within_open, advances_nowhere, advances_on, More, Stop, Read, Write, BodyGives, StepGives, step_end}
-use Rattle.vcd_compare.proofs.Facts.{come_passed, pass_fails}
+use Rattle.vcd_compare.proofs.Cited.{◌≡◌, ◌∙◌, ◌+◌, ℕ, Result, Ok, Err, inl, inr, refl, sym, ap, subst, rules, arith, Advances, CallEnd, Device, chunk_len_of, limit_of, seen, supply_of, StepReads, due_with, is_settled_with, within_open, advances_nowhere, advances_on, More, Stop, Read, Write, BodyGives, StepGives, step_end}
+use Rattle.vcd_compare.proofs.Facts.{come_passed, needed_before, needed_last, not_over, pass_fails, read_more, read_same, read_step}
 use Rattle.vcd_text.specs.Device.{supply}
-use Rattle.vcd_text.specs.Feed.{chunk_len_of, supply_of}
 use Rattle.vcd_body.proofs.PaceLemmas.{read_nothing}
-use Rattle.vcd_compare.specs.Needed.{StepReads, due_with, is_settled_with}
-use Rattle.vcd_compare.proofs.NeededLemmas.{needed_before, needed_last, read_more, read_same, read_step}
-use Rattle.vcd_compare.proofs.RunSteps.{not_over}
 use Rattle.vcd_compare.proofs.whole.Run.run_to_end.Goals as goal
 
 not_one_more : (n : ℕ) → n ≡ n + 1 → ⊥

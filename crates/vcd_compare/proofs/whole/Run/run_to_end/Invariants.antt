@@ -1,7 +1,6 @@
-use Rattle.vcd_compare.proofs.Cited.{◌≡◌, ◌-◌, ◌^◌, ℕ, List, Header, Input, BodyItem, Token, Names, Advances, CallEnd, Device, seen, IsViewOf, IsCounted, HasCome}
+use Rattle.vcd_compare.proofs.Cited.{◌≡◌, ◌-◌, ◌^◌, ℕ, List, Header, Input, BodyItem, Token, Names, Advances, CallEnd, Device, chunk_len_of, limit_of, seen, supply_of, IsViewOf, IsCounted, HasCome}
 use Rattle.vcd_model.specs.Compare.{Asked as ModelAsked}
-use Rattle.vcd_text.specs.Feed.{chunk_len_of, limit_of, supply_of}
-use Rattle.vcd_compare.proofs.NeededLemmas.{HasRead}
+use Rattle.vcd_compare.proofs.Facts.{HasRead}
 use Rattle.vcd_compare.proofs.whole.Run.run_to_end.Given as goal
 
 -- the run has come past some more items, read no more than needed, and nothing failed

@@ -1,7 +1,5 @@
-use Rattle.vcd_compare.proofs.Cited.{◌≡◌, ◌∙◌, ◌++◌, ◌∷◌, [], Err, refl, sym, ap, subst, rules, BodyItem, Device, Early, Whole, appends-none, model_asked, settled_by, within_close, GivesItem, AreRegsAfter, regs_after, GaveItems, IsSection, Write, Regs, Run}
-use Rattle.vcd_compare.proofs.Facts.{change_given, close_fails, ends_whole, goes_quiet, section_come, stopped, time_ends, time_fails, time_forth, time_on}
-use Rattle.vcd_body.specs.declared.answer.More.TheVariants.{Again, Ended}
-use Rattle.vcd_compare.proofs.NeededLemmas.{given_past, step_goes, step_refused, step_unwritten}
+use Rattle.vcd_compare.proofs.Cited.{◌≡◌, ◌∙◌, ◌++◌, ◌∷◌, [], Err, refl, sym, ap, subst, rules, BodyItem, Device, Again, Ended, Early, Whole, appends-none, model_asked, settled_by, within_close, GivesItem, AreRegsAfter, regs_after, GaveItems, IsSection, Write, Regs, Run}
+use Rattle.vcd_compare.proofs.Facts.{change_given, close_fails, ends_whole, given_past, goes_quiet, section_come, step_goes, step_refused, step_unwritten, stopped, time_ends, time_fails, time_forth, time_on}
 use Rattle.vcd_compare.proofs.whole.Run.step.Goals as goal
 
 pub returns-in-Err-clause-steps : goal.returns-in-Err-clause-steps
