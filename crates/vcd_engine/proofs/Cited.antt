@@ -3,7 +3,6 @@ pub use Rattle.std.proofs.Common.{Bool, Err, List, None, Ok, Option, Result, Som
 pub use Rattle.std.proofs.Math.Bool.{and-false, or-false}
 pub use Rattle.std.proofs.Math.Seq.{drop-append-add, take-length}
 pub use Rattle.std.proofs.lemmas.Bool.{cases_eq, eq-eqb, eqb-false, eqb-true, le-leb, le-ltb, leb-false, leb-true, lt-leb, lt-ltb, ltb-false, ne_eqb, or_parts}
-pub use Rattle.std.proofs.lemmas.Bool.Decides.{nat_tests}
 pub use Rattle.std.proofs.lemmas.Grind.{flat_map-append}
 pub use Rattle.std.proofs.lemmas.Iterator.{YieldsList-from_slice}
 pub use Rattle.std.proofs.lemmas.Iterator.Search.{position_from_yields_List}
@@ -22,7 +21,7 @@ pub use Rattle.std.specs.List.{AllByRecursion, last_or, list_any, position_or_le
 pub use Rattle.std.specs.List.Sorted.{IsStrictlyIncreasing}
 pub use Rattle.std.specs.Prelude.{IfErr, IfOk, IsErr, MatchBool, option_and_then, option_map, slice_index, unwrap_or}
 pub use Rattle.std.specs.Slice.Iter.{iter_rest}
-pub use Rattle.vcd_body.proofs.AskedLemmas.{asked_to_end, asked_to_item, asked_to_stop, unsettled}
+pub use Rattle.vcd_body.proofs.AskedLemmas.{unsettled}
 pub use Rattle.vcd_body.proofs.CallerLemmas.{gave_none_ahead, last_given}
 pub use Rattle.vcd_body.proofs.CurrentLemmas.{IsNew, SetsValue, change_holds, good_text, held_still, new_holds, other_gives, room_enough}
 pub use Rattle.vcd_body.proofs.FollowLemmas.{text_followed, text_gives}
@@ -43,7 +42,7 @@ pub use Rattle.vcd_body.specs.Device.{DueBy, Grows, GrowsSome, TakesDue}
 pub use Rattle.vcd_body.specs.Given.{GivesItem, HasGoodText, IsItem, IsText, item_text, text_of}
 pub use Rattle.vcd_body.specs.Items.{AreRegsAfter, model_form, model_section, regs_after}
 pub use Rattle.vcd_body.specs.Kept.{Held, IsStep, Kept, differs, goes_from, is_digit, last_digit_in, one_more, value_at_size, with_change, with_counted, with_step, with_text}
-pub use Rattle.vcd_body.specs.Pace.{KeepsUp, is_more_due}
+pub use Rattle.vcd_body.specs.Pace.{KeepsUp}
 pub use Rattle.vcd_body.specs.Reads.{BodyHas, Fails, GaveAll, GaveItem, GaveItems, StopsAt}
 pub use Rattle.vcd_body.specs.Spelled.{IsSpelledAs, bytes_without, line_without}
 pub use Rattle.vcd_body.specs.Taken.{IsSection, TakesItem}

@@ -1,5 +1,5 @@
 -- How much of a body was read, and what is on the output by then.
-use Rattle.vcd_engine.proofs.Cited.{◌≡◌, ℕ, ◌≤◌, ◌∙◌, Bool, false, refl, nat_lt, List, [], ◌++◌, append-nil, length, ap, arith, sym, subst, Appends, list_any, nat_tests, length-append, up_to_first, body_items, read_body, due_after, due_of_body, Input, Token, Header, BodyItem, Request, ends_early, open_text, is_settled_behind, goes_on, Device, Supply, Writes, chunk_len_of, limit_of, supply_of, ReadsAsNeeded, Ghosts, Feed, appends-twice, GaveLast, HaveJust, GaveAll, StopsAt, Regs, asked_to_end, asked_to_item, asked_to_stop, unsettled, CanRun, KeepsUp, is_more_due}
+use Rattle.vcd_engine.proofs.Cited.{◌≡◌, ℕ, ◌∙◌, Bool, false, refl, List, [], append-nil, ap, sym, Appends, list_any, up_to_first, body_items, read_body, due_after, due_of_body, Input, Token, Header, BodyItem, Request, ends_early, open_text, is_settled_behind, goes_on, Device, Supply, Writes, chunk_len_of, limit_of, supply_of, Ghosts, Feed, GaveLast, HaveJust, GaveAll, StopsAt, Regs, unsettled, CanRun, KeepsUp}
 use Rattle.vcd_body.specs.Pace.{ReadsPast}
 use Rattle.vcd_body.proofs.PaceLemmas.{HasReadFor as ReadsFor, keeping_up as kept_up, past_end, past_item, past_stop, read_past}
 use Rattle.vcd_engine.proofs.BodyOutcomes.{goes_behind}
