@@ -83,5 +83,7 @@ pub mod CutTwice
 pub mod EdgesOfCut
 pub mod SampleOfCut
 pub mod KeepsAll
+pub mod MergedPairs
+pub mod CompareOfMerge
 pub mod Cited
 pub mod Facts

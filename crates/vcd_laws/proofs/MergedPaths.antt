@@ -86,7 +86,7 @@ decimals_apart m n h g apart e =
     apart (sym a.value ∙ ap decimal_value e ∙ b.value)
 
 -- a name under the scope of one input selects nothing of another
-other_input : (m n : ℕ) (path name : List ℕ) → m < 2 ^ 64 → n < 2 ^ 64 → (m ≡ n → ⊥)
+pub other_input : (m n : ℕ) (path name : List ℕ) → m < 2 ^ 64 → n < 2 ^ 64 → (m ≡ n → ⊥)
     → selects_path (under_input m path) (under_input n name) ≡ false
 other_input m n path name h g apart =
     let a = spells m h in
@@ -96,7 +96,7 @@ other_input m n path name h g apart =
     (decimals_apart m n h g apart)
 
 -- nor does its scope
-other_scope : (m n : ℕ) (path : List ℕ) → m < 2 ^ 64 → n < 2 ^ 64 → (m ≡ n → ⊥)
+pub other_scope : (m n : ℕ) (path : List ℕ) → m < 2 ^ 64 → n < 2 ^ 64 → (m ≡ n → ⊥)
     → selects_path (under_input m path) (input_scope n) ≡ false
 other_scope m n path h g apart =
     let a = spells m h in
@@ -105,7 +105,7 @@ other_scope m n path h g apart =
     ∙ ended_front (decimal m) (decimal n) path a.digits b.digits (decimals_apart m n h g apart)
 
 -- the scope of an input selects all of it
-own_scope : (n : ℕ) (path : List ℕ) → selects_path (under_input n path) (input_scope n) ≡ true
+pub own_scope : (n : ℕ) (path : List ℕ) → selects_path (under_input n path) (input_scope n) ≡ true
 own_scope n path =
     ap (selects_path (under_input n path)) (sym (append-nil (input_scope n)))
     ∙ same_front (input_scope n) (46 ∷ path) []
@@ -121,7 +121,7 @@ own_input n path name =
 
 -- ---- names of one input
 
-any_own : (n : ℕ) (path : List ℕ) (wanted : List (List ℕ))
+pub any_own : (n : ℕ) (path : List ℕ) (wanted : List (List ℕ))
     → list_any (selects_path (under_input n path)) (map (under_input n) wanted)
     ≡ list_any (selects_path path) wanted
 any_own n path [] = refl
@@ -129,7 +129,7 @@ any_own n path (w ∷ wanted) =
     ap (λ b. b || list_any (selects_path (under_input n path)) (map (under_input n) wanted))
     (own_input n path w) ∙ ap (λ b. selects_path path w || b) (any_own n path wanted)
 
-any_other : (m n : ℕ) (path : List ℕ) (wanted : List (List ℕ)) → m < 2 ^ 64 → n < 2 ^ 64
+pub any_other : (m n : ℕ) (path : List ℕ) (wanted : List (List ℕ)) → m < 2 ^ 64 → n < 2 ^ 64
     → (m ≡ n → ⊥) → list_any (selects_path (under_input m path)) (map (under_input n) wanted)
     ≡ false
 any_other m n path [] h g apart = refl

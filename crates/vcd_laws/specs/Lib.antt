@@ -10,3 +10,4 @@ pub mod Counted
 pub mod Checked
 pub mod Final
 pub mod Due
+pub mod CompareMerged

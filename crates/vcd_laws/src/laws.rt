@@ -11,6 +11,7 @@ ghost use Rattle.vcd_laws.specs.Whole.{PickKeepsAll, CutKeepsAll};
 ghost use Rattle.vcd_laws.specs.OverPick.{ListOfPick, SampleOfPick, EdgesOfPick, SampleOfAllPicked, EdgesOfAllPicked, SampleOfSomePicked, EdgesOfSomePicked, PickTwice, PickOfPick};
 ghost use Rattle.vcd_laws.specs.OverCut.{ListOfCut, SampleOfCut, SampleOfCutAnywhere, EdgesOfCut, CutTwice, CutPastEnd, CutOfCut, CutOfPick, PickOfCut};
 ghost use Rattle.vcd_laws.specs.OverMerge.{ListOfMerge, SampleOfMerge, EdgesOfMerge, SampleOfOneMerged, SampleOfAllMerged, EdgesOfOneMerged, EdgesOfAllMerged, SampleOfAnyMerged, EdgesOfAnyMerged};
+ghost use Rattle.vcd_laws.specs.CompareMerged.{CompareOfMerge};
 ghost use Rattle.vcd_laws.specs.Counted.{CheckOfPick, CheckOfCut, CheckOfMerge};
 ghost use Rattle.vcd_laws.specs.Checked.{CheckedIsSafe, CheckNamesTheFault, CleanIsChecked, CheckedMergeIsSafe, MergeNamesTheFault};
 ghost use Rattle.vcd_laws.specs.Final.{SettledIsFinal, SettledIsFinalInMerge, SettledMergeIsFinal, SettledAloneSettlesMerge, UnsettledIsOpen, UnsettledMergeIsOpen};
@@ -252,6 +253,12 @@ pub fn sample_of_any_merged()
 /// `edges` of what `merge` wrote prints the counts of variables of any inputs.
 pub fn edges_of_any_merged()
     ensures { EdgesOfAnyMerged }
+{}
+
+/// The two inputs in what `merge` wrote differ where the inputs themselves do, up to the end of the
+/// shorter one.
+pub fn compare_of_merge()
+    ensures { CompareOfMerge }
 {}
 
 /// `check` of what `pick` wrote counts the selected variables and what was kept of the body.
