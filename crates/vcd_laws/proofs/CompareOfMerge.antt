@@ -1,6 +1,6 @@
 -- The two inputs in what `merge` wrote compared, and the two inputs themselves.
 use Rattle.vcd_laws.specs.CompareMerged.{CompareOfMerge}
-use Rattle.vcd_laws.proofs.MergedPairs.{named_in_merge}
+use Rattle.vcd_laws.proofs.MergedPairs.{are_paired}
 
 pub compare_of_merge : CompareOfMerge
 compare_of_merge q limit name names inputs o p can scales all = ?

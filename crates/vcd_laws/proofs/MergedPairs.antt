@@ -3,8 +3,9 @@ use Rattle.vcd_laws.proofs.Cited.{◌≡◌, ℕ, suc, ◌+◌, ◌<◌, ◌^◌
 use Rattle.std.specs.Prelude.{nat_eq}
 use Rattle.std.specs.List.{starts_with}
 use Rattle.std.proofs.Math.Seq.{drop-append_seam}
-use Rattle.vcd_model.specs.Compare.{Asked, Named, Pair, all_named, alone, in_common, is_asked, is_fit, is_left_in, is_namesake, named, named_after, pair_of, pairs, partner, unlike}
+use Rattle.vcd_model.specs.Compare.{Asked, Named, Pair, Side, all_named, alone, in_common, is_asked, is_fit, is_left_in, is_namesake, named, named_after, pair_of, pairs, partner, unlike}
 use Rattle.vcd_model.specs.Within.{Names, alone_in, at_path, compared_in, pair_at, pairs_in, places_of, rest_of, turned, unlike_in}
+use Rattle.vcd_laws.specs.CompareMerged.{asked_of_merge, both_inputs}
 use Rattle.vcd_laws.proofs.MergedHead.{merged_selected}
 use Rattle.vcd_laws.proofs.MergedPaths.{any_own, any_other, own_scope, other_input, other_scope}
 
@@ -325,3 +326,94 @@ module _ (q asked : Asked) (k : Header) (front : List Header) (h : Header) (fron
           ≡ map pair (cons_option (option_map (λ w. record { path = v.path; one = v.variable; other = w.variable }) o) rest)
       by_partner None more = more
       by_partner (Some w) more = ap (λ l. pair (record { path = v.path; one = v.variable; other = w.variable }) ∷ l) more
+
+-- ---- both inputs
+
+-- what is left out of a merge
+asked_alike : (q : Asked) (path : List ℕ) → q.names ≡ [] → is_asked q path ≡ is_left_in q path
+asked_alike q path e = rw e refl
+
+left_of : (n : ℕ) (a b : Side) (q : Asked) (path : List ℕ) → q.names ≡ []
+    → list_any (selects_path (under_input n path)) (map (under_input 1) q.exceptions ++ map (under_input 2) q.exceptions)
+    ≡ list_any (selects_path path) q.exceptions
+    → is_left_in (asked_of_merge q a b) (under_input n path) ≡ is_asked q path
+left_of n a b q path e same = ap not same ∙ sym (asked_alike q path e)
+
+left_one : (a b : Side) (q : Asked) (path : List ℕ) → q.names ≡ []
+    → is_left_in (asked_of_merge q a b) (under_input 1 path) ≡ is_asked q path
+left_one a b q path e = left_of 1 a b q path e
+    (list_any-append (selects_path (under_input 1 path)) (map (under_input 1) q.exceptions) (map (under_input 2) q.exceptions)
+    ∙ ap (λ r. list_any (selects_path (under_input 1 path)) (map (under_input 1) q.exceptions) || r)
+    (any_other 1 2 path q.exceptions (omega arith) (omega arith) (λ f. omega arith))
+    ∙ or_none (list_any (selects_path (under_input 1 path)) (map (under_input 1) q.exceptions))
+    ∙ any_own 1 path q.exceptions)
+  where
+    or_none : (b : Bool) → (b || false) ≡ b
+    or_none true = refl
+    or_none false = refl
+
+left_other : (a b : Side) (q : Asked) (path : List ℕ) → q.names ≡ []
+    → is_left_in (asked_of_merge q a b) (under_input 2 path) ≡ is_asked q path
+left_other a b q path e = left_of 2 a b q path e
+    (list_any-append (selects_path (under_input 2 path)) (map (under_input 1) q.exceptions) (map (under_input 2) q.exceptions)
+    ∙ ap (λ r. r || list_any (selects_path (under_input 2 path)) (map (under_input 2) q.exceptions))
+    (any_other 2 1 path q.exceptions (omega arith) (omega arith) (λ f. omega arith))
+    ∙ any_own 2 path q.exceptions)
+
+-- a pair of two inputs as it is in their merge
+abbrev pub merged_pair : Header → Header → Pair → Pair
+merged_pair one other p = record {
+  path = under_input 1 p.path;
+  one = record p.one { code = renamed [] one p.one.code };
+  other = record p.other { code = renamed (one ∷ []) other p.other.code };
+}
+
+-- the two inputs in a merge have the pairs that they have
+pub record ArePaired (q asked : Asked) (k one other : Header) : Type 0 where
+  pub compared : compared_in asked k both_inputs ≡ map (merged_pair one other) (pairs q one other)
+  pub different : unlike_in asked k both_inputs ≡ map (merged_pair one other) (unlike q one other)
+  pub first : alone_in asked k (input_scope 1, input_scope 2) ≡ map (named_in [] one) (alone q one other)
+  pub second : alone_in asked k (input_scope 2, input_scope 1) ≡ map (named_in (one ∷ []) other) (alone q other one)
+
+pub are_paired : (q : Asked) (a b : Side) (k one other : Header) → q.names ≡ []
+    → selected [] k.declarations
+    ≡ flat_map (λ vs. vs) (each_after merged_selected [] (one ∷ other ∷ []))
+    → ArePaired q (asked_of_merge q a b) k one other
+unfolding pairs unlike alone
+are_paired q a b k one other e variables =
+    let asked = asked_of_merge q a b in
+    let named_k = named_in_merge one other k variables in
+    let firsts = map (named_in [] one) (all_named one) in
+    let seconds = map (named_in (one ∷ []) other) (all_named other) in
+    let in_second : (path : List ℕ) (nth : ℕ) → at_path k (under_input 2 path) nth
+    ≡ option_map (named_in (one ∷ []) other) (find (λ w. bytes_eq w.path path && w.nth == nth) (all_named other))
+    = λ path nth. ap (find (λ w. bytes_eq w.path (under_input 2 path) && w.nth == nth)) named_k
+    ∙ find_none (λ w. bytes_eq w.path (under_input 2 path) && w.nth == nth) firsts seconds
+    (at_other [] one 2 path nth (all_named one) (omega arith) (omega arith) (λ f. omega arith))
+    ∙ at_own (one ∷ []) other path nth (all_named other) in
+    let in_first : (path : List ℕ) (nth : ℕ) → at_path k (under_input 1 path) nth
+    ≡ option_map (named_in [] one) (find (λ w. bytes_eq w.path path && w.nth == nth) (all_named one))
+    = λ path nth. ap (find (λ w. bytes_eq w.path (under_input 1 path) && w.nth == nth)) named_k
+    ∙ find_first (λ w. bytes_eq w.path (under_input 1 path) && w.nth == nth) firsts seconds
+    (at_other (one ∷ []) other 1 path nth (all_named other) (omega arith) (omega arith) (λ f. omega arith))
+    ∙ at_own [] one path nth (all_named one) in
+    let places : places_of asked k (input_scope 1, input_scope 2)
+    ≡ map (place q asked k [] one (one ∷ []) other (λ v. left_one a b q v.path e) in_second (omega arith) (omega arith) (λ f. omega arith)) (named q one)
+    = places_first q asked k [] one (one ∷ []) other (λ v. left_one a b q v.path e) in_second (omega arith) (omega arith) (λ f. omega arith) named_k in
+    let backward : places_of asked k (input_scope 2, input_scope 1)
+    ≡ map (place q asked k (one ∷ []) other [] one (λ v. left_other a b q v.path e) in_first (omega arith) (omega arith) (λ f. omega arith)) (named q other)
+    = places_last q asked k (one ∷ []) other [] one (λ v. left_other a b q v.path e) in_first (omega arith) (omega arith) (λ f. omega arith) named_k in
+    let all : pairs_in asked k both_inputs ≡ map (merged_pair one other) (in_common q one other)
+    = append-nil (filter_map pair_at (places_of asked k (input_scope 1, input_scope 2)))
+    ∙ ap (filter_map pair_at) places
+    ∙ pairs_are q asked k [] one (one ∷ []) other (λ v. left_one a b q v.path e) in_second (omega arith) (omega arith) (λ f. omega arith) (named q one) in
+    record {
+      compared = ap (filter is_fit) all
+          ∙ filter_mapped (merged_pair one other) is_fit is_fit (in_common q one other) (λ p. refl);
+      different = ap (filter (λ p. not (is_fit p))) all
+          ∙ filter_mapped (merged_pair one other) (λ p. not (is_fit p)) (λ p. not (is_fit p)) (in_common q one other) (λ p. refl);
+      first = ap (filter_map (λ p. cond (is_none p.1) (Some p.0) None)) places
+          ∙ alone_are q asked k [] one (one ∷ []) other (λ v. left_one a b q v.path e) in_second (omega arith) (omega arith) (λ f. omega arith) (named q one);
+      second = ap (filter_map (λ p. cond (is_none p.1) (Some p.0) None)) backward
+          ∙ alone_are q asked k (one ∷ []) other [] one (λ v. left_other a b q v.path e) in_first (omega arith) (omega arith) (λ f. omega arith) (named q other);
+    }
