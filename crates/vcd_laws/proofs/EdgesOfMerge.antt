@@ -138,10 +138,10 @@ module _ (c : IdCode) (codes : List IdCode) (declared : declared_code codes c.te
 -- ---- timestamps of what is written
 
 -- all that is written are changes
-abbrev AllChanges : List Entry → Type 0
+abbrev pub AllChanges : List Entry → Type 0
 AllChanges es = AllByRecursion (λ e. is_change e.item ≡ true) es
 
-changes_only : (es : List Entry) → AllChanges (filter merges es)
+pub changes_only : (es : List Entry) → AllChanges (filter merges es)
 changes_only [] = tt
 changes_only (e ∷ es) = by_item e.item e.time e.inside (changes_only es)
   where

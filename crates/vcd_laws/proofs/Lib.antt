@@ -84,6 +84,7 @@ pub mod EdgesOfCut
 pub mod SampleOfCut
 pub mod KeepsAll
 pub mod MergedPairs
+pub mod MergedStates
 pub mod CompareOfMerge
 pub mod Cited
 pub mod Facts

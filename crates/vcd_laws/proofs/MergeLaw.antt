@@ -29,7 +29,7 @@ pow_positive : (k : ℕ) → 0 < 10 ^ k
 pow_positive zero = omega arith
 pow_positive (suc k) = let p = pow_positive k in rw pow-suc (omega arith)
 
-factor_positive : (hs : List Header) (h : Header) → 0 < factor hs h
+pub factor_positive : (hs : List Header) (h : Header) → 0 < factor hs h
 unfolding factor
 factor_positive hs h = pow_positive _
 
@@ -233,7 +233,7 @@ latest-map M test test' (e ∷ es) h =
     newer_same (test (M e)) (test' e) (value_in (M e)) (value_in e) (latest test (map M es)) (latest test' es) a.0 (λ q. a.1 (sym a.0 ∙ q)) (latest-map M test test' es h.1)
 
 -- a scaled time is at most a time if it is at most the floor of that time
-le_floor : (f u t : ℕ) → 0 < f → nat_le (f * u) t ≡ nat_le u (t / f)
+pub le_floor : (f u t : ℕ) → 0 < f → nat_le (f * u) t ≡ nat_le u (t / f)
 le_floor f u t p = by_order (cases_lt (t / f) u)
   where
     by_order : (t / f < u) ⊎ (u ≤ t / f) → nat_le (f * u) t ≡ nat_le u (t / f)
@@ -258,7 +258,7 @@ same_values earlier h c f t u o (BodyItem.Changes x ∷ items) d p fit =
     let g : IsGoodChange h.codes x = fit.0 in
     ((rw (renamed_same earlier h c.text x.code.text c x.code d g.declared, le_floor f u t p) refl, λ q. refl), same_values earlier h c f t u o items d p fit.1)
 
-all_pass : {X : Type 0} (P : X → Type 0) (xs : List X) → ((x : X) → P x) → AllByRecursion P xs
+pub all_pass : {X : Type 0} (P : X → Type 0) (xs : List X) → ((x : X) → P x) → AllByRecursion P xs
 all_pass P [] f = tt
 all_pass P (x ∷ xs) f = (f x, all_pass P xs f)
 
