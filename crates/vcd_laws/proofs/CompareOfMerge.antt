@@ -4,5 +4,7 @@ use Rattle.vcd_laws.proofs.MergedPairs.{are_paired}
 
 use Rattle.vcd_laws.proofs.MergedStates.{is_merged_code, states_alike}
 
+use Rattle.vcd_laws.proofs.SameTimes.{same_times}
+
 pub compare_of_merge : CompareOfMerge
 compare_of_merge q limit name names inputs o p can scales all = ?

@@ -85,6 +85,7 @@ pub mod SampleOfCut
 pub mod KeepsAll
 pub mod MergedPairs
 pub mod MergedStates
+pub mod SameTimes
 pub mod CompareOfMerge
 pub mod Cited
 pub mod Facts
