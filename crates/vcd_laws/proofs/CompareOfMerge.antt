@@ -6,5 +6,7 @@ use Rattle.vcd_laws.proofs.MergedStates.{is_merged_code, states_alike}
 
 use Rattle.vcd_laws.proofs.SameTimes.{same_times}
 
+use Rattle.vcd_laws.proofs.MergedTimes.{merged_marks, items_come}
+
 pub compare_of_merge : CompareOfMerge
 compare_of_merge q limit name names inputs o p can scales all = ?

@@ -86,6 +86,7 @@ pub mod KeepsAll
 pub mod MergedPairs
 pub mod MergedStates
 pub mod SameTimes
+pub mod MergedTimes
 pub mod CompareOfMerge
 pub mod Cited
 pub mod Facts
