@@ -87,6 +87,7 @@ pub mod MergedPairs
 pub mod MergedStates
 pub mod SameTimes
 pub mod MergedTimes
+pub mod QuietTimes
 pub mod CompareOfMerge
 pub mod Cited
 pub mod Facts

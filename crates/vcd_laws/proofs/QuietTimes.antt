@@ -1,0 +1,270 @@
+-- Two parts of one dump compared: times that no timestamp has add no lines.
+use Rattle.vcd_laws.proofs.Cited.{◌≡◌, ℕ, ◌*◌, ◌<◌, ◌≤◌, ◌==◌, max, Bool, true, false, cond, not, ◌&&◌, ◌||◌, nat_lt, nat_le, List, [], ◌∷◌, ◌++◌, filter, fold, flat_map, decimal, codes, Option, Some, None, ◌⊎◌, inl, inr, refl, sym, ap, ◌∙◌, subst, arith, AllByRecursion, list_any, eq-eqb, ne_eqb, ltb-true, lt-ltb, leb-true, le-leb, lt-leb, cases_lt, and_parts, and_right, or_cases, or_parts, greatest_from, IdCode, code_of, BodyItem, Entry, entries, gives_to, gives_at, last_value_is, latest_agree, Asked, Extent}
+use Rattle.std.proofs.Math.Nat.{one-mul}
+use Rattle.vcd_model.specs.Items.{marks}
+use Rattle.vcd_model.specs.History.{last_value}
+use Rattle.vcd_model.specs.Values.{Value}
+use Rattle.vcd_model.specs.Compare.{Pair, Side, changes_at, differs, is_due, is_triggered, lines_at, match, rule_for, state_at, value_line}
+use Rattle.vcd_model.specs.Compare.Extent.{First, EachPair, Always}
+use Rattle.vcd_model.specs.Within.{side}
+use Rattle.vcd_laws.proofs.WrittenCodes.{In, any_of, from_any, from_filter, to_filter}
+use Rattle.vcd_laws.proofs.MergedHead.{all_in}
+use Rattle.vcd_laws.proofs.SameTimes.{at_in, equal_apart, greatest_in, greatest_above}
+use Rattle.vcd_laws.proofs.MergedTimes.{IsTimeOf, items_come}
+
+-- ---- lists of lines
+
+pub flat_same : {X : Type 0} (f g : X → List ℕ) (xs : List X) → ((x : X) → In x xs → f x ≡ g x)
+    → flat_map f xs ≡ flat_map g xs
+flat_same f g [] same = refl
+flat_same f g (x ∷ xs) same = rw (same x (inl refl), flat_same f g xs (λ y i. same y (inr i))) refl
+
+pub flat_none : {X : Type 0} (f : X → List ℕ) (xs : List X) → ((x : X) → In x xs → f x ≡ [])
+    → flat_map f xs ≡ []
+flat_none f [] none = refl
+flat_none f (x ∷ xs) none = rw (none x (inl refl), flat_none f xs (λ y i. none y (inr i))) refl
+
+flat_kept : {X : Type 0} (f : X → List ℕ) (keep : X → Bool) (xs : List X)
+    → ((x : X) → In x xs → keep x ≡ false → f x ≡ []) → flat_map f xs ≡ flat_map f (filter keep xs)
+flat_kept f keep [] none = refl
+flat_kept f keep (x ∷ xs) none =
+    by_test (keep x) refl (none x (inl refl)) (flat_kept f keep xs (λ y i. none y (inr i)))
+  where
+    by_test : (b : Bool) → keep x ≡ b → (keep x ≡ false → f x ≡ []) → flat_map f xs ≡ flat_map f (filter keep xs)
+        → f x ++ flat_map f xs ≡ flat_map f (cond b (x ∷ filter keep xs) (filter keep xs))
+    by_test true e n more = ap (λ l. f x ++ l) more
+    by_test false e n more = rw (n e) more
+
+any_none : {X : Type 0} (test : X → Bool) (xs : List X) → AllByRecursion (λ x. test x ≡ false) xs
+    → list_any test xs ≡ false
+any_none test [] none = refl
+any_none test (x ∷ xs) none = rw (none.0, any_none test xs none.1) refl
+
+both_ways : (a b : Bool) → (a ≡ true → b ≡ true) → (b ≡ true → a ≡ true) → a ≡ b
+both_ways true b f g = sym (f refl)
+both_ways false true f g = g refl
+both_ways false false f g = refl
+
+-- ---- which lines are due, by what was found before
+
+abbrev chosen : Extent → Bool → Bool → Bool → Bool
+chosen e any own now = elim e [ | First ↦ not any | EachPair ↦ not own | Always ↦ now ]
+
+chosen_none : (e : Extent) (any own now : Bool) → any ≡ true → own ≡ true → now ≡ false
+    → chosen e any own now ≡ false
+chosen_none First any own now f g h = rw f refl
+chosen_none EachPair any own now f g h = rw g refl
+chosen_none Always any own now f g h = h
+
+-- a pair of events, or of variables that are none
+abbrev pub IsEven : Pair → Type 0
+IsEven p = (code_of p.one).event ≡ (code_of p.other).event
+
+module _ (q : Asked) (items : List BodyItem) (ps : List Pair) (ts : List ℕ) (to : ℕ) where
+  -- the first time, or one of a timestamp
+  abbrev pub is_marked : ℕ → Bool
+  is_marked t = list_any (λ u. t == u) (q.from ∷ marks items)
+
+  abbrev some : List ℕ
+  some = filter is_marked ts
+
+  -- all times of timestamps from the first time to the last, and others
+  pub record AreTimes : Type 0 where
+    pub inside : (t : ℕ) → In t ts → (q.from ≤ t) × (t ≤ to)
+    pub full : (t : ℕ) → is_marked t ≡ true → q.from ≤ t → t ≤ to → In t ts
+
+  module _ (are : AreTimes) (even : (p : Pair) → In p ps → IsEven p) where
+    -- ---- a time that no timestamp has
+
+    unmarked : (t : ℕ) → is_marked t ≡ false → In t (q.from ∷ marks items) → ⊥
+    unmarked t e i = let f = any_of (λ u. t == u) (q.from ∷ marks items) t i (eq-eqb t t refl) in cc
+
+    no_entry : (t : ℕ) → In t ts → is_marked t ≡ false → AllByRecursion (λ e. (1 * e.time == t) ≡ false) (entries items)
+    no_entry t i e = all_in (λ (x : Entry). (1 * x.time == t) ≡ false) (entries items)
+        (λ x j. ne_eqb (1 * x.time) t (λ f. apart x.time (at_in (λ (y : Entry). IsTimeOf (marks items) y.time) (entries items) x (items_come items) j)
+        (sym (one-mul x.time) ∙ f)))
+      where
+        apart : (u : ℕ) → IsTimeOf (marks items) u → u ≡ t → ⊥
+        apart u (inl z) f =
+            let l = (are.inside t i).0 in
+            let same : t ≡ q.from = omega arith in
+            unmarked t e (inl same)
+        apart u (inr j) f = unmarked t e (inr (subst (λ n. In n (marks items)) f j))
+
+    no_change : (c : IdCode) (t : ℕ) → In t ts → is_marked t ≡ false → changes_at (side items) c t ≡ false
+    no_change c t i e = any_none (λ x. gives_to c x.item && 1 * x.time == t) (entries items)
+        (all_in (λ (x : Entry). (gives_to c x.item && 1 * x.time == t) ≡ false) (entries items)
+        (λ x j. and_right (gives_to c x.item) (1 * x.time == t)
+        (at_in (λ (y : Entry). (1 * y.time == t) ≡ false) (entries items) x (no_entry t i e) j)))
+
+    no_trigger : (c : IdCode) (t : ℕ) → In t ts → is_marked t ≡ false → is_triggered 1 items c t ≡ false
+    no_trigger c t i e = any_none (λ x. gives_to c x.item && not x.inside && 1 * x.time == t) (entries items)
+        (all_in (λ (x : Entry). (gives_to c x.item && not x.inside && 1 * x.time == t) ≡ false) (entries items)
+        (λ x j. and_right (gives_to c x.item && not x.inside) (1 * x.time == t)
+        (at_in (λ (y : Entry). (1 * y.time == t) ≡ false) (entries items) x (no_entry t i e) j)))
+
+    -- the last of the other times before it
+    last_before : ℕ → ℕ
+    last_before t = fold max q.from (filter (λ v. nat_lt v t) (marks items))
+
+    last_in : (t : ℕ) → In t ts → is_marked t ≡ false → (last_before t < t) × In (last_before t) some
+    unfolding last_before
+    last_in t i e =
+        let w = last_before t in
+        let window = are.inside t i in
+        let g = greatest_in q.from (filter (λ v. nat_lt v t) (marks items)) in
+        let least : q.from ≤ w = greatest_from q.from (filter (λ v. nat_lt v t) (marks items)) in
+        let first : q.from < t = (let le = window.0 in let ne = λ (same : t ≡ q.from). unmarked t e (inl same) in omega (arith, ne)) in
+        let below : (w < t) × In w (q.from ∷ marks items) = by_place w g first in
+        let high = window.1 in
+        let low = below.0 in
+        let marked : is_marked w ≡ true = any_of (λ u. w == u) (q.from ∷ marks items) w below.1 (eq-eqb w w refl) in
+        (low, to_filter is_marked ts w (are.full w marked least (omega arith)) marked)
+      where
+        by_place : (w : ℕ) → In w (q.from ∷ filter (λ v. nat_lt v t) (marks items)) → q.from < t
+            → (w < t) × In w (q.from ∷ marks items)
+        by_place w (inl same) l = (omega arith, inl same)
+        by_place w (inr j) l = let f = from_filter (λ v. nat_lt v t) (marks items) w j in (ltb-true w t f.1, inr f.0)
+
+    same_side : (t u : ℕ) → In t ts → is_marked t ≡ false → IsTimeOf (marks items) u
+        → nat_le (1 * u) t ≡ nat_le (1 * u) (last_before t)
+    unfolding last_before
+    same_side t u i e comes =
+        let below = (last_in t i e).0 in
+        rw one-mul (by_order (cases_lt t u) below comes)
+      where
+        by_order : (t < u) ⊎ (u ≤ t) → last_before t < t → IsTimeOf (marks items) u → nat_le u t ≡ nat_le u (last_before t)
+        by_order (inl l) below comes = lt-leb u t l ∙ sym (lt-leb u (last_before t) (omega arith))
+        by_order (inr h) below (inl z) = le-leb u t h ∙ sym (le-leb u (last_before t) (omega arith))
+        by_order (inr h) below (inr j) =
+            let ne = λ (same : u ≡ t). unmarked t e (inr (subst (λ n. In n (marks items)) same j)) in
+            let less : u < t = omega (arith, ne) in
+            let g = greatest_above q.from u (filter (λ v. nat_lt v t) (marks items))
+            (to_filter (λ v. nat_lt v t) (marks items) u j (lt-ltb u t less)) in
+            le-leb u t h ∙ sym (le-leb u (last_before t) g)
+
+    value_before : (c : IdCode) (t : ℕ) → In t ts → is_marked t ≡ false
+        → last_value c (λ u. nat_le (1 * u) t) items ≡ last_value c (λ u. nat_le (1 * u) (last_before t)) items
+    value_before c t i e =
+        last_value_is c (λ u. nat_le (1 * u) t) items
+        ∙ latest_agree (gives_at c (λ u. nat_le (1 * u) t)) (gives_at c (λ u. nat_le (1 * u) (last_before t))) (entries items)
+        (all_in (λ (x : Entry). gives_at c (λ u. nat_le (1 * u) t) x ≡ gives_at c (λ u. nat_le (1 * u) (last_before t)) x) (entries items)
+        (λ x j. ap (λ b. gives_to c x.item && b)
+        (same_side t x.time i e (at_in (λ (y : Entry). IsTimeOf (marks items) y.time) (entries items) x (items_come items) j))))
+        ∙ sym (last_value_is c (λ u. nat_le (1 * u) (last_before t)) items)
+
+    abbrev differs_at : Pair → ℕ → Bool
+    differs_at p t = differs q.rule (side items) (side items) p t
+
+    same_state : (c : IdCode) (t : ℕ) → In t ts → is_marked t ≡ false → c.event ≡ false
+        → state_at 1 items c t ≡ state_at 1 items c (last_before t)
+    same_state c t i e quiet = rw (quiet, value_before c t i e) refl
+
+    no_state : (c : IdCode) (t : ℕ) → In t ts → is_marked t ≡ false → c.event ≡ true
+        → state_at 1 items c t ≡ None
+    no_state c t i e loud = rw (loud, no_trigger c t i e) refl
+
+    -- a pair that differs at such a time differed before
+    differed : (p : Pair) (t : ℕ) → In p ps → In t ts → is_marked t ≡ false → differs_at p t ≡ true
+        → differs_at p (last_before t) ≡ true
+    differed p t k i e d = by_event (code_of p.one).event refl
+      where
+        by_event : (b : Bool) → (code_of p.one).event ≡ b → differs_at p (last_before t) ≡ true
+        by_event true f =
+            let none = no_state (code_of p.one) t i e f in
+            let none' = no_state (code_of p.other) t i e (sym (even p k) ∙ f) in
+            let same : differs_at p t ≡ false = rw (none, none') refl in
+            cc
+        by_event false f =
+            ap (λ v. not (match (rule_for q.rule p.one) v (state_at 1 items (code_of p.other) (last_before t))))
+            (sym (same_state (code_of p.one) t i e f))
+            ∙ ap (λ v. not (match (rule_for q.rule p.one) (state_at 1 items (code_of p.one) t) v))
+            (sym (same_state (code_of p.other) t i e (sym (even p k) ∙ f)))
+            ∙ d
+
+    -- ---- the same was found before
+
+    -- what holds at such a time held at one of the others before it
+    abbrev HeldBefore : (ℕ → Bool) → Type 0
+    HeldBefore X = (t : ℕ) → In t ts → is_marked t ≡ false → X t ≡ true → X (last_before t) ≡ true
+
+    and_both : (a b : Bool) → a ≡ true → b ≡ true → (a && b) ≡ true
+    and_both a b f g = rw (f, g) refl
+
+    found_alike : (X : ℕ → Bool) (t : ℕ) → HeldBefore X
+        → list_any (λ u. nat_lt u t && X u) ts ≡ list_any (λ u. nat_lt u t && X u) some
+    found_alike X t held = both_ways (list_any (λ u. nat_lt u t && X u) ts) (list_any (λ u. nat_lt u t && X u) some)
+        (λ e. let f = from_any (λ u. nat_lt u t && X u) ts e in by_mark f.0 f.1 f.2 (is_marked f.0) refl)
+        (λ e. let f = from_any (λ u. nat_lt u t && X u) some e in
+        any_of (λ u. nat_lt u t && X u) ts f.0 (from_filter is_marked ts f.0 f.1).0 f.2)
+      where
+        by_mark : (u : ℕ) → In u ts → (nat_lt u t && X u) ≡ true → (b : Bool) → is_marked u ≡ b
+            → list_any (λ u. nat_lt u t && X u) some ≡ true
+        by_mark u i h true e = any_of (λ u. nat_lt u t && X u) some u (to_filter is_marked ts u i e) h
+        by_mark u i h false e =
+            let parts = and_parts (nat_lt u t) (X u) h in
+            let before = last_in u i e in
+            let low = before.0 in
+            let here = ltb-true u t parts.0 in
+            any_of (λ u. nat_lt u t && X u) some (last_before u) before.1
+            (and_both (nat_lt (last_before u) t) (X (last_before u)) (lt-ltb (last_before u) t (omega arith)) (held u i e parts.1))
+
+    found_some : (X : ℕ → Bool) (t : ℕ) → HeldBefore X → In t ts → is_marked t ≡ false → X t ≡ true
+        → list_any (λ u. nat_lt u t && X u) ts ≡ true
+    found_some X t held i e h =
+        let before = last_in t i e in
+        any_of (λ u. nat_lt u t && X u) ts (last_before t) (from_filter is_marked ts (last_before t) before.1).0
+        (and_both (nat_lt (last_before t) t) (X (last_before t)) (lt-ltb (last_before t) t before.0) (held t i e h))
+
+    abbrev any_at : ℕ → Bool
+    any_at u = list_any (λ o. differs_at o u) ps
+
+    any_held : HeldBefore any_at
+    any_held t i e h = let f = from_any (λ o. differs_at o t) ps h in
+        any_of (λ o. differs_at o (last_before t)) ps f.0 f.1 (differed f.0 t f.1 i e f.2)
+
+    -- ---- the lines
+
+    abbrev due : List ℕ → ℕ → Pair → Bool
+    due us t p = is_due q (side items) (side items) ps us t p
+
+    abbrev now : ℕ → Pair → Bool
+    now t p = t == 1 * q.from || changes_at (side items) (code_of p.one) t || changes_at (side items) (code_of p.other) t
+
+    due_alike : (t : ℕ) (p : Pair) → In p ps → due ts t p ≡ due some t p
+    due_alike t p k =
+        ap (λ b. differs_at p t && chosen q.extent b (list_any (λ u. nat_lt u t && differs_at p u) ts) (now t p))
+        (found_alike any_at t any_held)
+        ∙ ap (λ b. differs_at p t && chosen q.extent (list_any (λ u. nat_lt u t && any_at u) some) b (now t p))
+        (found_alike (differs_at p) t (λ u i e h. differed p u k i e h))
+
+    none_due : (t : ℕ) (p : Pair) → In p ps → In t ts → is_marked t ≡ false → due ts t p ≡ false
+    none_due t p k i e = by_test (differs_at p t) refl
+      where
+        first : (t == 1 * q.from) ≡ false
+        first = ne_eqb t (1 * q.from) (λ f. unmarked t e (inl (f ∙ one-mul q.from)))
+
+        by_test : (b : Bool) → differs_at p t ≡ b → due ts t p ≡ false
+        by_test false d = ap (λ b. b && chosen q.extent (list_any (λ u. nat_lt u t && any_at u) ts)
+            (list_any (λ u. nat_lt u t && differs_at p u) ts) (now t p)) d
+        by_test true d =
+            ap (λ b. b && chosen q.extent (list_any (λ u. nat_lt u t && any_at u) ts)
+            (list_any (λ u. nat_lt u t && differs_at p u) ts) (now t p)) d
+            ∙ chosen_none q.extent (list_any (λ u. nat_lt u t && any_at u) ts)
+            (list_any (λ u. nat_lt u t && differs_at p u) ts) (now t p)
+            (found_some any_at t any_held i e (any_of (λ o. differs_at o t) ps p k d))
+            (found_some (differs_at p) t (λ u j f h. differed p u k j f h) i e d)
+            (rw (first, no_change (code_of p.one) t i e, no_change (code_of p.other) t i e) refl)
+
+    abbrev line : ℕ → Pair → List ℕ
+    line t p = value_line (side items) (side items) p t
+
+    -- the times of timestamps alone have all lines
+    pub quiet_lines : flat_map (lines_at q ps (side items) (side items) ts) ts
+        ≡ flat_map (lines_at q ps (side items) (side items) some) some
+    quiet_lines =
+        flat_kept (lines_at q ps (side items) (side items) ts) is_marked ts
+        (λ t i e. flat_none (λ p. cond (due ts t p) (line t p) []) ps (λ p k. ap (λ b. cond b (line t p) []) (none_due t p k i e)))
+        ∙ flat_same (lines_at q ps (side items) (side items) ts) (lines_at q ps (side items) (side items) some) some
+        (λ t i. flat_same (λ p. cond (due ts t p) (line t p) []) (λ p. cond (due some t p) (line t p) []) ps
+        (λ p k. ap (λ b. cond b (line t p) []) (due_alike t p k)))
