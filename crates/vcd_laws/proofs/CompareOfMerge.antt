@@ -10,5 +10,7 @@ use Rattle.vcd_laws.proofs.MergedTimes.{merged_marks, items_come}
 
 use Rattle.vcd_laws.proofs.QuietTimes.{quiet_lines}
 
+use Rattle.vcd_laws.proofs.WholeWithin.{within_whole}
+
 pub compare_of_merge : CompareOfMerge
 compare_of_merge q limit name names inputs o p can scales all = ?

@@ -88,6 +88,7 @@ pub mod MergedStates
 pub mod SameTimes
 pub mod MergedTimes
 pub mod QuietTimes
+pub mod WholeWithin
 pub mod CompareOfMerge
 pub mod Cited
 pub mod Facts
