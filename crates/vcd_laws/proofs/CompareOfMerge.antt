@@ -12,5 +12,7 @@ use Rattle.vcd_laws.proofs.QuietTimes.{quiet_lines}
 
 use Rattle.vcd_laws.proofs.WholeWithin.{within_whole}
 
+use Rattle.vcd_laws.proofs.SameSides.{lines_alike}
+
 pub compare_of_merge : CompareOfMerge
 compare_of_merge q limit name names inputs o p can scales all = ?

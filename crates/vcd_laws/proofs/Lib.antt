@@ -89,6 +89,7 @@ pub mod SameTimes
 pub mod MergedTimes
 pub mod QuietTimes
 pub mod WholeWithin
+pub mod SameSides
 pub mod CompareOfMerge
 pub mod Cited
 pub mod Facts

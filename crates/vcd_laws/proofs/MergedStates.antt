@@ -15,7 +15,7 @@ use Rattle.vcd_laws.proofs.EdgesOfMerge.{AllChanges, changes_only}
 
 -- ---- whether some element passes
 
-any_agree : {X : Type 0} (test test' : X → Bool) (xs : List X)
+pub any_agree : {X : Type 0} (test test' : X → Bool) (xs : List X)
     → AllByRecursion (λ x. test x ≡ test' x) xs → list_any test xs ≡ list_any test' xs
 any_agree test test' [] same = refl
 any_agree test test' (x ∷ xs) same = rw (same.0, any_agree test test' xs same.1) refl
@@ -31,7 +31,7 @@ any_kept keep test (x ∷ xs) = by_test (keep x) (any_kept keep test xs)
     by_test true more = ap (λ r. test x || r) more
     by_test false more = more
 
-any_mapped : {X Y : Type 0} (f : X → Y) (test : Y → Bool) (xs : List X)
+pub any_mapped : {X Y : Type 0} (f : X → Y) (test : Y → Bool) (xs : List X)
     → list_any test (map f xs) ≡ list_any (λ x. test (f x)) xs
 any_mapped f test [] = refl
 any_mapped f test (x ∷ xs) = ap (λ r. test (f x) || r) (any_mapped f test xs)

@@ -47,7 +47,7 @@ both_ways false false f g = refl
 
 -- ---- which lines are due, by what was found before
 
-abbrev chosen : Extent → Bool → Bool → Bool → Bool
+abbrev pub chosen : Extent → Bool → Bool → Bool → Bool
 chosen e any own now = elim e [ | First ↦ not any | EachPair ↦ not own | Always ↦ now ]
 
 chosen_none : (e : Extent) (any own now : Bool) → any ≡ true → own ≡ true → now ≡ false
