@@ -26,7 +26,7 @@ under_other m n path other h g apart =
     (starts_with nat_eq (under_input m path) (under_input n other ++ 46 ∷ []))
     (other_input m n path other h g apart)).0
 
-bytes_turned : (a b : List ℕ) → bytes_eq a b ≡ bytes_eq b a
+pub bytes_turned : (a b : List ℕ) → bytes_eq a b ≡ bytes_eq b a
 bytes_turned a b = by_tests (bytes_eq a b) (bytes_eq b a) refl refl
   where
     by_tests : (p q : Bool) → bytes_eq a b ≡ p → bytes_eq b a ≡ q → bytes_eq a b ≡ bytes_eq b a
