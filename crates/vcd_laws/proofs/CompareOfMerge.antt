@@ -1,9 +1,10 @@
 -- The two inputs in what `merge` wrote compared, and the two inputs themselves.
-use Rattle.vcd_laws.proofs.Cited.{◌≡◌, ℕ, ◌*◌, ◌+◌, ◌<◌, ◌≤◌, ◌==◌, max, min, Bool, true, false, cond, ◌&&◌, ◌||◌, nat_lt, nat_le, List, [], ◌∷◌, ◌++◌, length, map, filter, filter_map, flat_map, fold, find, codes, bytes_eq, Option, Some, None, option_map, is_some, Result, Ok, Err, ◌⊎◌, inl, inr, refl, sym, ap, ◌∙◌, subst, arith, AllByRecursion, list_any, cons_option, append_assoc, append-nil, length-map, mul-le-mul_left, greatest_from, and_parts, leb-true, le-leb, lt-leb, ltb-true, cases_lt, or_cases, eqb-true, each_after, Input, code_of, Header, BodyItem, Entry, time_after, Keyed, Dump, factor, headers_of, merged_items, merge_kept, greatest_mark, first_fault, Opened, items_in, fault_in, body_of, dumps_of, Want, outcome, merged_codes, parts_items, input_of, AreReadable, OpenAll, input_scope, under_input, all_back, Asked, Extent, Fault}
+use Rattle.vcd_laws.proofs.Cited.{◌≡◌, ℕ, ◌*◌, ◌+◌, ◌<◌, ◌≤◌, ◌==◌, max, min, Bool, true, false, cond, ◌&&◌, ◌||◌, nat_lt, nat_le, List, [], ◌∷◌, ◌++◌, length, map, filter, filter_map, flat_map, fold, find, codes, bytes_eq, Option, Some, None, option_map, is_some, Result, Ok, Err, ◌⊎◌, inl, inr, refl, sym, ap, ◌∙◌, subst, arith, AllByRecursion, list_any, cons_option, append_assoc, append-nil, length-map, mul-le-mul_left, greatest_from, and_parts, leb-true, le-leb, lt-leb, ltb-true, cases_lt, or_cases, eq-eqb, eqb-true, each_after, Input, code_of, Header, BodyItem, Entry, time_after, Keyed, Dump, factor, headers_of, merged_items, merge_kept, greatest_mark, first_fault, Opened, items_in, fault_in, body_of, dumps_of, Want, outcome, merged_codes, parts_items, input_of, AreReadable, OpenAll, input_scope, under_input, all_back, Asked, Extent, Fault}
 use Rattle.vcd_model.specs.Items.{marks}
+use Rattle.vcd_model.specs.HeadText.{words}
 use Rattle.vcd_model.specs.Outcome.{open_from}
 use Rattle.vcd_model.specs.Selection.{selected}
-use Rattle.vcd_model.specs.Compare.{Kind, Named, Pair, Side, all_named, alone, alone_lines, answer, changes_at, compared, dump_in, ends_with, in_common, in_order, in_ticks, is_fit, is_past, kind_of, lines_at, marks_of, named, named_after, over_both, over_opened, pair_of, pairs, partner, same_kind, state_at, times, unlike, unlike_lines, up_to, value_lines, is_asked, is_namesake, head_lines, end_lines}
+use Rattle.vcd_model.specs.Compare.{Kind, Named, Pair, Side, all_named, alone, alone_lines, answer, changes_at, compared, dump_in, ends_with, in_common, in_order, in_ticks, is_fit, is_past, kind_of, lines_at, marks_of, named, named_after, over_both, over_opened, pair_of, pairs, partner, same_kind, state_at, times, unlike, unlike_lines, kind_shown, up_to, value_lines, is_asked, is_namesake, head_lines, end_lines}
 use Rattle.vcd_model.specs.Within.{alone_in, answer_in, compared_in, side, times_in, turned, unlike_in, within, within_head}
 use Rattle.vcd_laws.specs.CompareMerged.{AreComparedAlike, CompareOfMerge, alone_in_style, asked_of_merge, both_inputs, lines_in_style, merged_style, own_style, side_of, unlike_in_style, values_in_style, scale_line, line_of_ends, value_in_style}
 use Rattle.vcd_laws.proofs.MergeDumps.{headers_are}
@@ -17,7 +18,7 @@ use Rattle.vcd_laws.proofs.SampleOfMerge.{Among, among, code_in}
 use Rattle.vcd_laws.proofs.EdgesOfMerge.{changes_only}
 use Rattle.vcd_laws.proofs.MergedPairs.{ArePaired, are_paired, bytes_turned, merged_pair, named_in}
 use Rattle.vcd_laws.proofs.MergedStates.{IsMergedCode, any_mapped, changes_alike, is_merged_code, states_alike}
-use Rattle.vcd_laws.proofs.SameTimes.{in_either, greatest_above, le_min, same_times}
+use Rattle.vcd_laws.proofs.SameTimes.{in_either, greatest_above, le_min, same_times, to_order}
 use Rattle.vcd_laws.proofs.MergedTimes.{IsTimeOf, merged_marks}
 use Rattle.vcd_laws.proofs.QuietTimes.{AreTimes, IsEven, is_marked, quiet_lines}
 use Rattle.vcd_laws.proofs.WholeWithin.{within_whole}
@@ -143,5 +144,233 @@ module _ (q : Asked) (limit : ℕ) (names : List (List ℕ)) (inputs : List Inpu
             ∙ ap (λ (l : List Header). changes_at (side_of l p) (code_of x.other) t) headers;
       }
 
+  -- ---- the times
+
+  abbrev ms : List ℕ
+  ms = marks_of a ++ marks_of b
+
+  mark_known : (t : ℕ) → In t (marks items) → IsTimeOf ms t
+  mark_known t i = merged_marks ms (dumps_of os) (changes_only (map (λ (k : Keyed). k.entry) (merged_items (dumps_of os))))
+      (subst (AllByRecursion (λ (d : Dump). (u : ℕ) → In u (marks d.items) → In (factor (headers_of (dumps_of os)) d.header * u) ms))
+      (sym dumps) (
+        λ u j. subst (λ (l : List Header). In (factor l o.header * u) ms) (sym headers)
+            (in_left (marks_of a) (marks_of b) (a.scale * u) (in_map (λ n. a.scale * n) (marks (items_in o)) u j)),
+        (
+          λ u j. subst (λ (l : List Header). In (factor l p.header * u) ms) (sym headers)
+              (in_right (marks_of a) (marks_of b) (b.scale * u) (in_map (λ n. b.scale * n) (marks (items_in p)) u j)),
+          tt,
+        ),
+      )) t i
+
+  abbrev last : Side → ℕ
+  last s = s.scale * time_after s.items
+
+  -- a dump without a fault has come past each time up to its last one
+  past_is : (s : Side) (t : ℕ) → s.whole ≡ true → is_past s t ≡ nat_le t (last s)
+  past_is s t whole = rw whole (by_any (list_any (nat_lt t) (marks_of s)) refl)
+    where
+      by_any : (x : Bool) → list_any (nat_lt t) (marks_of s) ≡ x
+          → (list_any (nat_lt t) (marks_of s) || nat_le t (s.scale * time_after s.items)) ≡ nat_le t (s.scale * time_after s.items)
+      by_any true e =
+          let f = from_any (nat_lt t) (marks_of s) e in
+          let m = from_map (λ n. s.scale * n) (marks s.items) f.0 f.1 in
+          let above : m.0 ≤ time_after s.items = greatest_above 0 m.0 (marks s.items) m.1 in
+          let scaled : s.scale * m.0 ≤ s.scale * time_after s.items = mul-le-mul_left s.scale above in
+          let low = ltb-true t f.0 f.2 in
+          let same = m.2 in
+          let le : t ≤ s.scale * time_after s.items = omega arith in
+          rw (e, le-leb t (s.scale * time_after s.items) le) refl
+      by_any false e = rw e refl
+
+  abbrev in_window : ℕ → Bool
+  in_window t = nat_le asked.from t && nat_le t asked.to
+
+  window_is : (t : ℕ) → in_window t
+      ≡ (nat_le (a.scale * q.from) t && nat_le t (a.scale * q.to) && is_past a t && is_past b t)
+  window_is t =
+      ap (λ x. nat_le (a.scale * q.from) t && x) (le_min t (a.scale * q.to) (min (last a) (last b))
+      ∙ ap (λ x. nat_le t (a.scale * q.to) && x) (le_min t (last a) (last b)))
+      ∙ regroup (nat_le (a.scale * q.from) t) (nat_le t (a.scale * q.to)) (nat_le t (last a)) (nat_le t (last b))
+      ∙ ap (λ x. nat_le (a.scale * q.from) t && nat_le t (a.scale * q.to) && x && nat_le t (last b)) (sym (past_is a t refl))
+      ∙ ap (λ x. nat_le (a.scale * q.from) t && nat_le t (a.scale * q.to) && is_past a t && x) (sym (past_is b t refl))
+    where
+      regroup : (w x y z : Bool) → (w && (x && (y && z))) ≡ (w && x && y && z)
+      regroup true true y z = refl
+      regroup true false y z = refl
+      regroup false x y z = refl
+
+  abbrev ts : List ℕ
+  ts = times q a b
+
+  abbrev pairs_there : List Pair
+  pairs_there = map (merged_pair o.header p.header) ps
+
+  abbrev marked : ℕ → Bool
+  marked t = is_marked asked items pairs_there ts asked.to t
+
+  times_are : times_in asked items ≡ filter marked ts
+  unfolding times
+  times_are = same_times (asked.from ∷ marks items) (a.scale * q.from ∷ marks_of a ++ marks_of b) in_window
+      (λ t. nat_le (a.scale * q.from) t && nat_le t (a.scale * q.to) && is_past a t && is_past b t) marked window_is
+      (λ t i h. (by_place t i h, any_of (λ u. t == u) (asked.from ∷ marks items) t i (own t)))
+      (λ t e. let f = from_any (λ u. t == u) (asked.from ∷ marks items) e in
+      subst (λ n. In n (asked.from ∷ marks items)) (sym (eqb-true t f.0 f.2)) f.1)
+    where
+      own : (t : ℕ) → (t == t) ≡ true
+      own t = eq-eqb t t refl
+
+      by_place : (t : ℕ) → In t (asked.from ∷ marks items) → in_window t ≡ true
+          → In t (a.scale * q.from ∷ marks_of a ++ marks_of b)
+      by_place t (inl e) h = inl e
+      by_place t (inr j) h = elim (mark_known t j) [
+        | inl zero ↦ (let f = and_parts (nat_le asked.from t) (nat_le t asked.to) h in
+            let l = leb-true asked.from t f.0 in let same : t ≡ a.scale * q.from = omega arith in inl same)
+        | inr k ↦ inr k
+      ]
+
+  are_times : AreTimes asked items pairs_there ts asked.to
+  unfolding times
+  are_times = record {
+    inside = λ t i.
+        let f : in_window t ≡ true = inside t i in
+        let g = and_parts (nat_le asked.from t) (nat_le t asked.to) f in
+        (leb-true asked.from t g.0, leb-true t asked.to g.1);
+    full = λ t e low high. (from_filter marked ts t (subst (In t) times_are (there t e low high))).0;
+  }
+    where
+      there : (t : ℕ) → marked t ≡ true → asked.from ≤ t → t ≤ asked.to → In t (times_in asked items)
+      there t e low high = let f = from_any (λ u. t == u) (asked.from ∷ marks items) e in
+          to_filter in_window (in_order (asked.from ∷ marks items)) t
+          (to_order t (asked.from ∷ marks items) (subst (λ n. In n (asked.from ∷ marks items)) (sym (eqb-true t f.0 f.2)) f.1))
+          (rw (le-leb asked.from t low, le-leb t asked.to high) refl)
+
+      inside : (t : ℕ) → In t ts → in_window t ≡ true
+      inside t i = window_is t
+          ∙ (from_filter (λ t. nat_le (a.scale * q.from) t && nat_le t (a.scale * q.to) && is_past a t && is_past b t)
+          (in_order (a.scale * q.from ∷ marks_of a ++ marks_of b)) t i).1
+
+  -- ---- the lines of the merge
+
+  even_there : (x : Pair) → In x pairs_there → IsEven x
+  even_there x i = let f = from_map (merged_pair o.header p.header) ps x i in
+      subst IsEven (sym f.2) (alike f.0 f.1).even
+
+  value_lines_are : flat_map (lines_at asked pairs_there (side items) (side items) (times_in asked items)) (times_in asked items)
+      ≡ values_in_style merged_style q ps a b
+  value_lines_are =
+      ap (λ us. flat_map (lines_at asked pairs_there (side items) (side items) us) us) times_are
+      ∙ sym (quiet_lines asked items pairs_there ts asked.to are_times even_there)
+      ∙ lines_alike q a b o.header p.header items ps alike ts ts
+
+  head_are : (k : Header) → ArePaired q asked k o.header p.header
+      → within_head asked k both_inputs
+      ≡ alone_in_style merged_style (codes "A") 1 (alone q o.header p.header)
+      ++ alone_in_style merged_style (codes "B") 2 (alone q p.header o.header)
+      ++ unlike_in_style merged_style (unlike q o.header p.header)
+  unfolding within_head
+  head_are k paired =
+      let first : flat_map (λ n. alone_lines (codes "A") (alone_in asked k n)) both_inputs
+      ≡ alone_in_style merged_style (codes "A") 1 (alone q o.header p.header)
+      = append-nil (alone_lines (codes "A") (alone_in asked k (input_scope 1, input_scope 2)))
+      ∙ ap (alone_lines (codes "A")) paired.first
+      ∙ flat_mapped (named_in [] o.header) (λ v. words (codes "alone" ∷ codes "A" ∷ v.path ∷ [])) (alone q o.header p.header) in
+      let second : flat_map (λ n. alone_lines (codes "B") (alone_in asked k (turned n))) both_inputs
+      ≡ alone_in_style merged_style (codes "B") 2 (alone q p.header o.header)
+      = append-nil (alone_lines (codes "B") (alone_in asked k (input_scope 2, input_scope 1)))
+      ∙ ap (alone_lines (codes "B")) paired.second
+      ∙ flat_mapped (named_in (o.header ∷ []) p.header) (λ v. words (codes "alone" ∷ codes "B" ∷ v.path ∷ [])) (alone q p.header o.header) in
+      let third : unlike_lines (unlike_in asked k both_inputs) ≡ unlike_in_style merged_style (unlike q o.header p.header)
+      = ap unlike_lines paired.different
+      ∙ flat_mapped (merged_pair o.header p.header) (λ x. words (codes "size" ∷ x.path ∷ kind_shown (kind_of x.one) ∷ kind_shown (kind_of x.other) ∷ [])) (unlike q o.header p.header) in
+      cc
+
+  merged_is : (name : List ℕ) → within asked limit both_inputs name (input_of (outcome Want.Merge limit names inputs).output)
+      ≡ answer (length ps) (lines_in_style merged_style q o.header p.header a b)
+  merged_is name =
+      let m = merge_items limit names inputs os can in
+      let d = m.dump in
+      let k = d.dump in
+      let h = k.header in
+      let paired : ArePaired q asked h o.header p.header = are_paired q a b h o.header p.header all
+      (d.head.variables ∙ ap (λ (l : List Header). flat_map (λ vs. vs) (each_after merged_selected [] l)) headers) in
+      within_whole asked limit both_inputs name (input_of (outcome Want.Merge limit names inputs).output) k d.opens d.whole
+      ∙ ap (λ (l : List BodyItem). answer (length (compared_in asked h both_inputs)) (within_head asked h both_inputs
+      ++ flat_map (lines_at asked (compared_in asked h both_inputs) (side l) (side l) (times_in asked l)) (times_in asked l))) m.items
+      ∙ ap (λ (xs : List Pair). answer (length xs) (within_head asked h both_inputs
+      ++ flat_map (lines_at asked xs (side items) (side items) (times_in asked items)) (times_in asked items))) paired.compared
+      ∙ ap (λ n. answer n (within_head asked h both_inputs
+      ++ flat_map (lines_at asked pairs_there (side items) (side items) (times_in asked items)) (times_in asked items)))
+      (length-map ps (merged_pair o.header p.header))
+      ∙ ap (λ l. answer (length ps) (within_head asked h both_inputs ++ l)) value_lines_are
+      ∙ ap (λ l. answer (length ps) (l ++ values_in_style merged_style q ps a b)) (head_are h paired)
+
+  -- ---- the comparison of the inputs themselves
+
+  dump_one : dump_in hs o.header o ≡ whole_dump o
+  unfolding dumps_of
+  dump_one = let e = dumps in cc
+
+  dump_other : dump_in hs p.header p ≡ whole_dump p
+  unfolding dumps_of
+  dump_other = let e = dumps in cc
+
+  no_fault : first_fault (whole_dump o ∷ whole_dump p ∷ []) ≡ None
+  no_fault = ap first_fault (sym dumps) ∙ (merge_is_a_dump limit names inputs os can).0
+
+  abbrev front : List ℕ
+  front = head_lines q o.header p.header
+
+  abbrev values : List ℕ
+  values = value_lines q ps a b
+
+  over_whole : over_both q names o.header p.header (whole_dump o) (whole_dump p)
+      ≡ cond (ends_with q.extent values) (answer (length ps) (front ++ values))
+      (answer (length ps) (front ++ values ++ end_lines a b))
+  unfolding over_both
+  over_whole = rw (no_fault, over_both) refl
+
+  grouped : (s x y z v e : List ℕ) → (((s ++ x) ++ y) ++ z) ++ v ++ e ≡ s ++ (x ++ y ++ z ++ v) ++ e
+  grouped s x y z v e = simp append_assoc
+
+  grouped_first : (s x y z v : List ℕ) → (((s ++ x) ++ y) ++ z) ++ v ≡ s ++ (x ++ y ++ z ++ v) ++ []
+  grouped_first s x y z v = simp (append_assoc, append-nil)
+
+  both_lines : cond (ends_with q.extent values) (answer (length ps) (front ++ values))
+      (answer (length ps) (front ++ values ++ end_lines a b))
+      ≡ answer (length ps) (scale_line o.header p.header ++ lines_in_style (own_style a) q o.header p.header a b
+      ++ line_of_ends q o.header p.header a b)
+  unfolding head_lines value_lines
+  both_lines = by_end (ends_with q.extent (value_lines q (pairs q o.header p.header) a b))
+    where
+      by_end : (x : Bool) → cond x (answer (length (pairs q o.header p.header)) (head_lines q o.header p.header ++ value_lines q (pairs q o.header p.header) (side_of (o.header ∷ p.header ∷ []) o) (side_of (o.header ∷ p.header ∷ []) p)))
+          (answer (length (pairs q o.header p.header)) (head_lines q o.header p.header
+          ++ value_lines q (pairs q o.header p.header) (side_of (o.header ∷ p.header ∷ []) o) (side_of (o.header ∷ p.header ∷ []) p)
+          ++ end_lines (side_of (o.header ∷ p.header ∷ []) o) (side_of (o.header ∷ p.header ∷ []) p)))
+          ≡ answer (length (pairs q o.header p.header)) (scale_line o.header p.header
+          ++ lines_in_style (own_style (side_of (o.header ∷ p.header ∷ []) o)) q o.header p.header (side_of (o.header ∷ p.header ∷ []) o) (side_of (o.header ∷ p.header ∷ []) p)
+          ++ cond x [] (end_lines (side_of (o.header ∷ p.header ∷ []) o) (side_of (o.header ∷ p.header ∷ []) p)))
+      by_end true = ?
+      by_end false = ?
+
+  in_ticks_is : (h other : Header) → is_some h.scale ≡ is_some other.scale → in_ticks h other ≡ h
+  in_ticks_is h other e = by_scale (is_some other.scale) h.scale refl e
+    where
+      by_scale : (x : Bool) (scale : Option _) → h.scale ≡ scale → is_some h.scale ≡ x
+          → cond x h (record h { scale = None }) ≡ h
+      by_scale true scale f g = refl
+      by_scale false None f g = ap (λ z. record h { scale = z }) (sym f)
+      by_scale false (Some z) f g = let no : is_some h.scale ≡ true = rw f refl in cc
+
+  directly_is : is_some o.header.scale ≡ is_some p.header.scale
+      → compared q limit names inputs
+      ≡ answer (length ps) (scale_line o.header p.header ++ lines_in_style (own_style a) q o.header p.header a b
+      ++ line_of_ends q o.header p.header a b)
+  unfolding compared
+  directly_is scales =
+      rw (can.opens, compared) ?
+
 pub compare_of_merge : CompareOfMerge
-compare_of_merge q limit name names inputs o p can scales all = ?
+compare_of_merge q limit name names inputs o p can scales all = record {
+  directly = directly_is q limit names inputs o p can all scales;
+  merged = merged_is q limit names inputs o p can all name;
+}
