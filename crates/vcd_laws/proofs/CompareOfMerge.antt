@@ -22,6 +22,7 @@ use Rattle.vcd_laws.proofs.SameTimes.{in_either, greatest_above, le_min, same_ti
 use Rattle.vcd_laws.proofs.MergedTimes.{IsTimeOf, merged_marks}
 use Rattle.vcd_laws.proofs.QuietTimes.{AreTimes, IsEven, is_marked, quiet_lines}
 use Rattle.vcd_laws.proofs.WholeWithin.{within_whole}
+use Rattle.vcd_laws.proofs.CompareInputs.{directly_is}
 use Rattle.vcd_laws.proofs.SameSides.{IsAlike, flat_mapped, lines_alike}
 
 -- ---- the codes of a pair
@@ -304,73 +305,8 @@ module _ (q : Asked) (limit : ℕ) (names : List (List ℕ)) (inputs : List Inpu
       ∙ ap (λ l. answer (length ps) (within_head asked h both_inputs ++ l)) value_lines_are
       ∙ ap (λ l. answer (length ps) (l ++ values_in_style merged_style q ps a b)) (head_are h paired)
 
-  -- ---- the comparison of the inputs themselves
-
-  dump_one : dump_in hs o.header o ≡ whole_dump o
-  unfolding dumps_of
-  dump_one = let e = dumps in cc
-
-  dump_other : dump_in hs p.header p ≡ whole_dump p
-  unfolding dumps_of
-  dump_other = let e = dumps in cc
-
-  no_fault : first_fault (whole_dump o ∷ whole_dump p ∷ []) ≡ None
-  no_fault = ap first_fault (sym dumps) ∙ (merge_is_a_dump limit names inputs os can).0
-
-  abbrev front : List ℕ
-  front = head_lines q o.header p.header
-
-  abbrev values : List ℕ
-  values = value_lines q ps a b
-
-  over_whole : over_both q names o.header p.header (whole_dump o) (whole_dump p)
-      ≡ cond (ends_with q.extent values) (answer (length ps) (front ++ values))
-      (answer (length ps) (front ++ values ++ end_lines a b))
-  unfolding over_both
-  over_whole = rw (no_fault, over_both) refl
-
-  grouped : (s x y z v e : List ℕ) → (((s ++ x) ++ y) ++ z) ++ v ++ e ≡ s ++ (x ++ y ++ z ++ v) ++ e
-  grouped s x y z v e = simp append_assoc
-
-  grouped_first : (s x y z v : List ℕ) → (((s ++ x) ++ y) ++ z) ++ v ≡ s ++ (x ++ y ++ z ++ v) ++ []
-  grouped_first s x y z v = simp (append_assoc, append-nil)
-
-  both_lines : cond (ends_with q.extent values) (answer (length ps) (front ++ values))
-      (answer (length ps) (front ++ values ++ end_lines a b))
-      ≡ answer (length ps) (scale_line o.header p.header ++ lines_in_style (own_style a) q o.header p.header a b
-      ++ line_of_ends q o.header p.header a b)
-  unfolding head_lines value_lines
-  both_lines = by_end (ends_with q.extent (value_lines q (pairs q o.header p.header) a b))
-    where
-      by_end : (x : Bool) → cond x (answer (length (pairs q o.header p.header)) (head_lines q o.header p.header ++ value_lines q (pairs q o.header p.header) (side_of (o.header ∷ p.header ∷ []) o) (side_of (o.header ∷ p.header ∷ []) p)))
-          (answer (length (pairs q o.header p.header)) (head_lines q o.header p.header
-          ++ value_lines q (pairs q o.header p.header) (side_of (o.header ∷ p.header ∷ []) o) (side_of (o.header ∷ p.header ∷ []) p)
-          ++ end_lines (side_of (o.header ∷ p.header ∷ []) o) (side_of (o.header ∷ p.header ∷ []) p)))
-          ≡ answer (length (pairs q o.header p.header)) (scale_line o.header p.header
-          ++ lines_in_style (own_style (side_of (o.header ∷ p.header ∷ []) o)) q o.header p.header (side_of (o.header ∷ p.header ∷ []) o) (side_of (o.header ∷ p.header ∷ []) p)
-          ++ cond x [] (end_lines (side_of (o.header ∷ p.header ∷ []) o) (side_of (o.header ∷ p.header ∷ []) p)))
-      by_end true = ?
-      by_end false = ?
-
-  in_ticks_is : (h other : Header) → is_some h.scale ≡ is_some other.scale → in_ticks h other ≡ h
-  in_ticks_is h other e = by_scale (is_some other.scale) h.scale refl e
-    where
-      by_scale : (x : Bool) (scale : Option _) → h.scale ≡ scale → is_some h.scale ≡ x
-          → cond x h (record h { scale = None }) ≡ h
-      by_scale true scale f g = refl
-      by_scale false None f g = ap (λ z. record h { scale = z }) (sym f)
-      by_scale false (Some z) f g = let no : is_some h.scale ≡ true = rw f refl in cc
-
-  directly_is : is_some o.header.scale ≡ is_some p.header.scale
-      → compared q limit names inputs
-      ≡ answer (length ps) (scale_line o.header p.header ++ lines_in_style (own_style a) q o.header p.header a b
-      ++ line_of_ends q o.header p.header a b)
-  unfolding compared
-  directly_is scales =
-      rw (can.opens, compared) ?
-
 pub compare_of_merge : CompareOfMerge
 compare_of_merge q limit name names inputs o p can scales all = record {
-  directly = directly_is q limit names inputs o p can all scales;
+  directly = directly_is q limit names inputs o p can scales;
   merged = merged_is q limit names inputs o p can all name;
 }

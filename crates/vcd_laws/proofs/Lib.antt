@@ -90,6 +90,7 @@ pub mod MergedTimes
 pub mod QuietTimes
 pub mod WholeWithin
 pub mod SameSides
+pub mod CompareInputs
 pub mod CompareOfMerge
 pub mod Cited
 pub mod Facts
