@@ -1,12 +1,11 @@
 -- The two inputs in what `merge` wrote compared, and the two inputs themselves.
-use Rattle.vcd_laws.proofs.Cited.{◌≡◌, ℕ, ◌*◌, ◌+◌, ◌<◌, ◌≤◌, ◌==◌, max, min, Bool, true, false, cond, ◌&&◌, ◌||◌, nat_lt, nat_le, List, [], ◌∷◌, ◌++◌, length, map, filter, filter_map, flat_map, fold, find, codes, bytes_eq, Option, Some, None, option_map, is_some, Result, Ok, Err, ◌⊎◌, inl, inr, refl, sym, ap, ◌∙◌, subst, arith, AllByRecursion, list_any, cons_option, append_assoc, append-nil, length-map, mul-le-mul_left, greatest_from, and_parts, leb-true, le-leb, lt-leb, ltb-true, cases_lt, or_cases, eq-eqb, eqb-true, each_after, Input, code_of, Header, BodyItem, Entry, time_after, Keyed, Dump, factor, headers_of, merged_items, merge_kept, greatest_mark, first_fault, Opened, items_in, fault_in, body_of, dumps_of, Want, outcome, merged_codes, parts_items, input_of, AreReadable, OpenAll, input_scope, under_input, all_back, Asked, Extent, Fault}
+use Rattle.vcd_laws.proofs.Cited.{◌≡◌, ℕ, ◌*◌, ◌≤◌, ◌==◌, min, Bool, true, false, cond, ◌&&◌, ◌||◌, nat_lt, nat_le, List, [], ◌∷◌, ◌++◌, length, map, filter, filter_map, flat_map, codes, bytes_eq, Option, Some, None, option_map, inl, inr, refl, sym, ap, ◌∙◌, subst, arith, AllByRecursion, list_any, cons_option, append-nil, length-map, mul-le-mul_left, and_parts, leb-true, le-leb, ltb-true, eq-eqb, eqb-true, each_after, Input, code_of, Header, BodyItem, time_after, Keyed, Dump, factor, headers_of, merged_items, merge_kept, greatest_mark, Opened, items_in, dumps_of, Want, outcome, merged_codes, parts_items, input_of, AreReadable, input_scope, Asked}
 use Rattle.vcd_model.specs.Items.{marks}
 use Rattle.vcd_model.specs.HeadText.{words}
-use Rattle.vcd_model.specs.Outcome.{open_from}
 use Rattle.vcd_model.specs.Selection.{selected}
-use Rattle.vcd_model.specs.Compare.{Kind, Named, Pair, Side, all_named, alone, alone_lines, answer, changes_at, compared, dump_in, ends_with, in_common, in_order, in_ticks, is_fit, is_past, kind_of, lines_at, marks_of, named, named_after, over_both, over_opened, pair_of, pairs, partner, same_kind, state_at, times, unlike, unlike_lines, kind_shown, up_to, value_lines, is_asked, is_namesake, head_lines, end_lines}
-use Rattle.vcd_model.specs.Within.{alone_in, answer_in, compared_in, side, times_in, turned, unlike_in, within, within_head}
-use Rattle.vcd_laws.specs.CompareMerged.{AreComparedAlike, CompareOfMerge, alone_in_style, asked_of_merge, both_inputs, lines_in_style, merged_style, own_style, side_of, unlike_in_style, values_in_style, scale_line, line_of_ends, value_in_style}
+use Rattle.vcd_model.specs.Compare.{Kind, Named, Pair, Side, all_named, alone, alone_lines, answer, changes_at, in_common, in_order, is_fit, is_past, kind_of, lines_at, marks_of, named, named_after, pair_of, pairs, partner, same_kind, state_at, times, unlike, unlike_lines, kind_shown, is_asked, is_namesake}
+use Rattle.vcd_model.specs.Within.{alone_in, compared_in, side, times_in, turned, unlike_in, within, within_head}
+use Rattle.vcd_laws.specs.CompareMerged.{CompareOfMerge, alone_in_style, asked_of_merge, both_inputs, lines_in_style, merged_style, side_of, unlike_in_style, values_in_style}
 use Rattle.vcd_laws.proofs.MergeDumps.{headers_are}
 use Rattle.vcd_laws.proofs.DumpLaws.{merge_is_a_dump}
 use Rattle.vcd_laws.proofs.WrittenCodes.{In, any_of, from_any, from_filter, from_find, from_map, in_left, in_map, in_right, to_filter}
@@ -14,11 +13,11 @@ use Rattle.vcd_laws.proofs.MergedHead.{CanMerge, merged_selected}
 use Rattle.vcd_laws.proofs.MergedBack.{all_can}
 use Rattle.vcd_laws.proofs.CheckOfMerge.{merge_items}
 use Rattle.vcd_laws.proofs.WholeDumps.{whole_dump, dumps_whole}
-use Rattle.vcd_laws.proofs.SampleOfMerge.{Among, among, code_in}
+use Rattle.vcd_laws.proofs.SampleOfMerge.{among, code_in}
 use Rattle.vcd_laws.proofs.EdgesOfMerge.{changes_only}
 use Rattle.vcd_laws.proofs.MergedPairs.{ArePaired, are_paired, bytes_turned, merged_pair, named_in}
-use Rattle.vcd_laws.proofs.MergedStates.{IsMergedCode, any_mapped, changes_alike, is_merged_code, states_alike}
-use Rattle.vcd_laws.proofs.SameTimes.{in_either, greatest_above, le_min, same_times, to_order}
+use Rattle.vcd_laws.proofs.MergedStates.{IsMergedCode, changes_alike, is_merged_code, states_alike}
+use Rattle.vcd_laws.proofs.SameTimes.{greatest_above, le_min, same_times, to_order}
 use Rattle.vcd_laws.proofs.MergedTimes.{IsTimeOf, merged_marks}
 use Rattle.vcd_laws.proofs.QuietTimes.{AreTimes, IsEven, is_marked, quiet_lines}
 use Rattle.vcd_laws.proofs.WholeWithin.{within_whole}

@@ -12,7 +12,7 @@ use Rattle.vcd_laws.proofs.MergedHead.{CanMerge, all_rows, all_text, merged_sele
 
 -- ---- elements
 
-in_either : {X : Type 0} (xs ys : List X) (x : X) → In x (xs ++ ys) → In x xs ⊎ In x ys
+pub in_either : {X : Type 0} (xs ys : List X) (x : X) → In x (xs ++ ys) → In x xs ⊎ In x ys
 in_either [] ys x i = inr i
 in_either (y ∷ xs) ys x (inl e) = inl (inl e)
 in_either (y ∷ xs) ys x (inr i) = elim (in_either xs ys x i) [ inl j ↦ inl (inr j) | inr j ↦ inr j ]

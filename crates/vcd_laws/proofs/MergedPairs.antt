@@ -1,10 +1,10 @@
 -- The variables of two inputs in a merge, and their pairs: those of the two inputs, in order.
-use Rattle.vcd_laws.proofs.Cited.{◌≡◌, ℕ, suc, ◌+◌, ◌<◌, ◌^◌, ◌==◌, Bool, true, false, cond, not, ◌&&◌, ◌||◌, List, [], ◌∷◌, ◌++◌, length, drop, map, filter, filter_map, flat_map, find, count_by, bytes_eq, Option, Some, None, option_map, is_none, refl, sym, ap, ◌∙◌, subst, arith, list_any, cons_option, append-nil, append_assoc, map-append, filter-append, filter_map-append, list_any-append, sum_by-append, sum_by-cons, eq-eqb, eqb-true, bytes_eq-Decides, and_parts, or_parts, find-filter, each_after, each_after-append, Header, Selected, selects_path, selected, renamed, input_scope, under_input, merged_variable}
+use Rattle.vcd_laws.proofs.Cited.{◌≡◌, ℕ, ◌+◌, ◌<◌, ◌^◌, ◌==◌, Bool, true, false, cond, not, ◌&&◌, ◌||◌, List, [], ◌∷◌, ◌++◌, length, map, filter, filter_map, flat_map, find, count_by, bytes_eq, Option, Some, None, option_map, is_none, refl, sym, ap, ◌∙◌, arith, list_any, cons_option, append-nil, append_assoc, map-append, filter-append, filter_map-append, list_any-append, sum_by-append, sum_by-cons, eq-eqb, eqb-true, bytes_eq-Decides, and_parts, or_parts, each_after, each_after-append, Header, Selected, selects_path, selected, renamed, input_scope, under_input, merged_variable}
 use Rattle.std.specs.Prelude.{nat_eq}
 use Rattle.std.specs.List.{starts_with}
 use Rattle.std.proofs.Math.Seq.{drop-append_seam}
 use Rattle.vcd_model.specs.Compare.{Asked, Named, Pair, Side, all_named, alone, in_common, is_asked, is_fit, is_left_in, is_namesake, named, named_after, pair_of, pairs, partner, unlike}
-use Rattle.vcd_model.specs.Within.{Names, alone_in, at_path, compared_in, pair_at, pairs_in, places_of, rest_of, turned, unlike_in}
+use Rattle.vcd_model.specs.Within.{Names, alone_in, at_path, compared_in, pair_at, pairs_in, places_of, rest_of, unlike_in}
 use Rattle.vcd_laws.specs.CompareMerged.{asked_of_merge, both_inputs}
 use Rattle.vcd_laws.proofs.MergedHead.{merged_selected}
 use Rattle.vcd_laws.proofs.MergedPaths.{any_own, any_other, own_scope, other_input, other_scope}

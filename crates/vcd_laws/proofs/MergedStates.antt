@@ -1,13 +1,11 @@
 -- The states of a code in a merge: those that it has in its input, at each time of both.
-use Rattle.vcd_laws.proofs.Cited.{◌≡◌, ℕ, ◌*◌, ◌+◌, ◌/◌, ◌<◌, ◌≤◌, ◌==◌, Bool, true, false, cond, not, ◌&&◌, ◌||◌, nat_le, List, [], ◌∷◌, ◌++◌, map, filter, Option, Some, None, refl, sym, ap, ◌∙◌, subst, arith, AllByRecursion, list_any, append_assoc, IdCode, same_code, Header, BodyItem, Change, Entry, change_of, entries, gives_to, value_at, Keyed, renamed, factor, headers_of, is_change, may_keep, merged_items, merge_kept, greatest_mark, Opened, items_in, dumps_of, declared_code, renamed_code, merged_codes, merged_entry, changes_kept, AreReadable, IsGoodChange, next_open, AreFit, entries_from, at_start, entries_are, read_again, read_again_is, read_item, time_items, written_items, IsWritable, AreWritable, Stand, stand_more, at_most, Parts, parts_items, parts_fit, closing_items, all_front, all_back, AreCodes, inputs_good, same_declared, declared_in_merge, IsGoodDump, gives_at, last_value_is, latest, latest_agree}
+use Rattle.vcd_laws.proofs.Cited.{◌≡◌, ℕ, ◌*◌, ◌/◌, ◌<◌, ◌≤◌, ◌==◌, Bool, true, false, cond, not, ◌&&◌, ◌||◌, nat_le, List, [], ◌∷◌, ◌++◌, map, filter, Option, Some, None, refl, sym, ap, ◌∙◌, subst, arith, AllByRecursion, list_any, append_assoc, IdCode, same_code, Header, BodyItem, Change, Entry, entries, gives_to, value_at, Keyed, renamed, factor, headers_of, is_change, merged_items, merge_kept, greatest_mark, Opened, items_in, dumps_of, declared_code, renamed_code, merged_codes, merged_entry, changes_kept, AreReadable, IsGoodChange, next_open, AreFit, entries_from, at_start, entries_are, read_again, read_again_is, read_item, time_items, written_items, IsWritable, AreWritable, Stand, stand_more, at_most, Parts, parts_items, parts_fit, closing_items, all_back, inputs_good, same_declared, IsGoodDump, gives_at, last_value_is, latest_agree}
 use Rattle.std.proofs.Math.Nat.{one-mul}
 use Rattle.vcd_model.specs.History.{last_value}
-use Rattle.vcd_model.specs.Compare.{Side, is_triggered, state_at, changes_at}
+use Rattle.vcd_model.specs.Compare.{is_triggered, state_at}
 use Rattle.vcd_laws.proofs.MergeDumps.{dumps_good, kept_all}
 use Rattle.vcd_laws.proofs.MergeLaw.{merges, all_pass, le_floor, factor_positive, merge_values_at}
 use Rattle.vcd_laws.proofs.WrittenCodes.{In, to_contained, found_in}
-use Rattle.vcd_laws.proofs.MergedHead.{CanMerge}
-use Rattle.vcd_laws.proofs.MergedBack.{all_can}
 use Rattle.vcd_laws.proofs.CheckOfMerge.{merge_items}
 use Rattle.vcd_laws.proofs.WholeDumps.{whole_dump}
 use Rattle.vcd_laws.proofs.SampleOfMerge.{Among}
@@ -243,11 +241,6 @@ module _ (h : Header) (front : List Header) (scale : ℕ) (codes : List IdCode) 
       by_event false e = rw (e, values_alike e t) refl
 
 -- ---- the codes of an input of a merge
-
-all_found : (hs : List Header) → AllByRecursion CanMerge hs
-    → AllByRecursion (λ h. AreCodes h.codes) hs
-all_found [] can = tt
-all_found (h ∷ hs) can = let c = can.0 in (c.found, all_found hs can.1)
 
 pub is_merged_code : (limit : ℕ) (names : List (List ℕ)) (inputs : List _)
     (os earlier later : List Opened) (o : Opened) (can : AreReadable limit names inputs os)

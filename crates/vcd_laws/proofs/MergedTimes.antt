@@ -1,11 +1,11 @@
 -- The timestamps of a merge of two inputs are 0 or timestamps of theirs, and when items come.
-use Rattle.vcd_laws.proofs.Cited.{◌≡◌, ℕ, ◌*◌, ◌==◌, max, Bool, true, false, cond, List, [], ◌∷◌, ◌++◌, map, fold, flat_map, Option, Some, None, ◌⊎◌, inl, inr, ⊤, refl, sym, ap, ◌∙◌, subst, arith, AllByRecursion, list_any, reduce, append_assoc, append-nil, mul-zero, each_after, Header, BodyItem, Entry, entries, entry_after, time_after, Dump, Keyed, headers_of, factor, keyed_after, keyed_items, by_key, greatest_mark, is_change, scaled_item, merged_items, merge_kept, Opened, items_in, read_item, time_items, written_items, parts_items, closing_items, all_append, all_keyed, all_by_key, marks-append, filter_words}
+use Rattle.vcd_laws.proofs.Cited.{◌≡◌, ℕ, ◌*◌, ◌==◌, max, Bool, true, false, cond, List, [], ◌∷◌, ◌++◌, map, fold, flat_map, Option, Some, None, ◌⊎◌, inl, inr, ⊤, refl, sym, ap, ◌∙◌, subst, AllByRecursion, list_any, reduce, append_assoc, mul-zero, each_after, Header, BodyItem, Entry, entries, entry_after, time_after, Dump, Keyed, headers_of, factor, keyed_after, keyed_items, greatest_mark, is_change, scaled_item, merged_items, merge_kept, read_item, time_items, written_items, parts_items, closing_items, all_append, all_keyed, all_by_key, marks-append, filter_words}
 use Rattle.vcd_model.specs.Items.{marks}
 use Rattle.vcd_laws.proofs.MergeDumps.{merged_is}
 use Rattle.vcd_laws.proofs.MergeLaw.{merges}
-use Rattle.vcd_laws.proofs.WrittenCodes.{In, in_left, in_right, in_map, from_map}
-use Rattle.vcd_laws.proofs.WholeDumps.{whole_dump}
-use Rattle.vcd_laws.proofs.SameTimes.{in_either, at_in, greatest_in}
+use Rattle.vcd_laws.proofs.WrittenCodes.{In, in_left, in_right}
+use Rattle.vcd_laws.proofs.MergedBack.{in_either}
+use Rattle.vcd_laws.proofs.SameTimes.{greatest_in}
 
 -- 0, or one of these times
 abbrev pub IsTimeOf : List ℕ → ℕ → Type 0
@@ -28,9 +28,10 @@ after_first front back items e = by_time (after_some front)
 entries_come : (front back items : List BodyItem) → front ++ back ≡ items
     → AllByRecursion (λ e. IsTimeOf (marks items) e.time) (each_after entry_after front back)
 entries_come front [] items e = tt
-entries_come front (x ∷ back) items e =
-    (after_first front (x ∷ back) items e,
-    entries_come (front ++ x ∷ []) back items (append_assoc front (x ∷ []) back ∙ e))
+entries_come front (x ∷ back) items e = (
+  after_first front (x ∷ back) items e,
+  entries_come (front ++ x ∷ []) back items (append_assoc front (x ∷ []) back ∙ e),
+)
 
 -- each item of a dump comes at a timestamp or at 0
 pub items_come : (items : List BodyItem) → AllByRecursion (λ e. IsTimeOf (marks items) e.time) (entries items)
@@ -70,8 +71,10 @@ module _ (ms : List ℕ) (scale input : ℕ) (rename : List ℕ → List ℕ) (i
   keyed_come : (front back : List BodyItem) → front ++ back ≡ items
       → AllByRecursion (Comes ms) (each_after (keyed_after scale input rename) front back)
   keyed_come front [] e = tt
-  keyed_come front (x ∷ back) e = (item_comes front back x e,
-      keyed_come (front ++ x ∷ []) back (append_assoc front (x ∷ []) back ∙ e))
+  keyed_come front (x ∷ back) e = (
+    item_comes front back x e,
+    keyed_come (front ++ x ∷ []) back (append_assoc front (x ∷ []) back ∙ e),
+  )
 
 -- the items of all inputs
 all_come : (ms : List ℕ) (hs : List Header) (front ds : List Dump)

@@ -1,15 +1,14 @@
 -- Two parts of one dump compared: times that no timestamp has add no lines.
-use Rattle.vcd_laws.proofs.Cited.{◌≡◌, ℕ, ◌*◌, ◌<◌, ◌≤◌, ◌==◌, max, Bool, true, false, cond, not, ◌&&◌, ◌||◌, nat_lt, nat_le, List, [], ◌∷◌, ◌++◌, filter, fold, flat_map, decimal, codes, Option, Some, None, ◌⊎◌, inl, inr, refl, sym, ap, ◌∙◌, subst, arith, AllByRecursion, list_any, eq-eqb, ne_eqb, ltb-true, lt-ltb, leb-true, le-leb, lt-leb, cases_lt, and_parts, and_right, or_cases, or_parts, greatest_from, IdCode, code_of, BodyItem, Entry, entries, gives_to, gives_at, last_value_is, latest_agree, Asked, Extent}
+use Rattle.vcd_laws.proofs.Cited.{◌≡◌, ℕ, ◌*◌, ◌<◌, ◌≤◌, ◌==◌, max, Bool, true, false, cond, not, ◌&&◌, ◌||◌, nat_lt, nat_le, List, [], ◌∷◌, ◌++◌, filter, fold, flat_map, None, ◌⊎◌, inl, inr, refl, sym, ap, ◌∙◌, subst, arith, AllByRecursion, list_any, eq-eqb, ne_eqb, ltb-true, lt-ltb, le-leb, lt-leb, cases_lt, and_parts, and_right, greatest_from, IdCode, code_of, BodyItem, Entry, entries, gives_to, gives_at, last_value_is, latest_agree, Asked, Extent}
 use Rattle.std.proofs.Math.Nat.{one-mul}
 use Rattle.vcd_model.specs.Items.{marks}
 use Rattle.vcd_model.specs.History.{last_value}
-use Rattle.vcd_model.specs.Values.{Value}
-use Rattle.vcd_model.specs.Compare.{Pair, Side, changes_at, differs, is_due, is_triggered, lines_at, match, rule_for, state_at, value_line}
+use Rattle.vcd_model.specs.Compare.{Pair, changes_at, differs, is_due, is_triggered, lines_at, match, rule_for, state_at, value_line}
 use Rattle.vcd_model.specs.Compare.Extent.{First, EachPair, Always}
 use Rattle.vcd_model.specs.Within.{side}
 use Rattle.vcd_laws.proofs.WrittenCodes.{In, any_of, from_any, from_filter, to_filter}
 use Rattle.vcd_laws.proofs.MergedHead.{all_in}
-use Rattle.vcd_laws.proofs.SameTimes.{at_in, equal_apart, greatest_in, greatest_above}
+use Rattle.vcd_laws.proofs.SameTimes.{at_in, greatest_in, greatest_above}
 use Rattle.vcd_laws.proofs.MergedTimes.{IsTimeOf, items_come}
 
 -- ---- lists of lines
@@ -48,7 +47,7 @@ both_ways false false f g = refl
 -- ---- which lines are due, by what was found before
 
 abbrev pub chosen : Extent → Bool → Bool → Bool → Bool
-chosen e any own now = elim e [ | First ↦ not any | EachPair ↦ not own | Always ↦ now ]
+chosen e any own now = elim e [ First ↦ not any | EachPair ↦ not own | Always ↦ now ]
 
 chosen_none : (e : Extent) (any own now : Bool) → any ≡ true → own ≡ true → now ≡ false
     → chosen e any own now ≡ false

@@ -1,14 +1,9 @@
 -- Times in order: two lists of the same times are the same.
-use Rattle.vcd_laws.proofs.Cited.{◌≡◌, ℕ, ◌*◌, ◌<◌, ◌≤◌, ◌==◌, max, min, Bool, true, false, cond, ◌&&◌, ◌||◌, nat_lt, nat_le, List, [], ◌∷◌, ◌++◌, map, filter, fold, ◌⊎◌, inl, inr, ⊤, refl, sym, ap, ◌∙◌, subst, arith, AllByRecursion, list_any, eq-eqb, eqb-true, ne_eqb, ltb-true, ltb-false, leb-true, leb-false, le-leb, lt-leb, lt-ltb, le-ltb, cases_lt, or_cases, and_parts, mul-le-mul_left, greatest_from, filter_words}
+use Rattle.vcd_laws.proofs.Cited.{◌≡◌, ℕ, ◌<◌, ◌≤◌, ◌==◌, max, min, Bool, true, false, cond, ◌&&◌, nat_lt, nat_le, List, [], ◌∷◌, filter, fold, ◌⊎◌, inl, inr, ⊤, refl, sym, ap, ◌∙◌, subst, arith, AllByRecursion, eq-eqb, eqb-true, ltb-true, ltb-false, le-leb, lt-leb, cases_lt, greatest_from, filter_words}
 use Rattle.vcd_model.specs.Compare.{in_order, with_time}
-use Rattle.vcd_laws.proofs.WrittenCodes.{In, in_left, in_right, from_filter, to_filter}
+use Rattle.vcd_laws.proofs.WrittenCodes.{In, from_filter, to_filter}
 
 -- ---- elements
-
-pub in_either : {X : Type 0} (xs ys : List X) (x : X) → In x (xs ++ ys) → In x xs ⊎ In x ys
-in_either [] ys x i = inr i
-in_either (y ∷ xs) ys x (inl e) = inl (inl e)
-in_either (y ∷ xs) ys x (inr i) = elim (in_either xs ys x i) [ inl j ↦ inl (inr j) | inr j ↦ inr j ]
 
 pub at_in : {X : Type 0} (P : X → Type 0) (xs : List X) (x : X) → AllByRecursion P xs → In x xs → P x
 at_in P [] x all i = absurd i

@@ -1,12 +1,12 @@
 -- Two parts of a dump without a fault compared: the lines of all times, in order.
-use Rattle.vcd_laws.proofs.Cited.{◌≡◌, ℕ, ◌<◌, ◌≤◌, Bool, true, false, cond, not, ◌&&◌, ◌||◌, nat_lt, nat_le, List, [], ◌∷◌, ◌++◌, filter, flat_map, Option, None, ◌⊎◌, inl, inr, refl, sym, ap, ◌∙◌, subst, arith, AllByRecursion, list_any, append_assoc, append-nil, flat_map-append, le-leb, leb-true, lt-ltb, ltb-true, cases_lt, and_parts, or_cases, is_empty, settled_below, BodyItem, Header, is_mark_above, Input, Asked, Extent, Fault, Names, Opened, Outcome, items_in, fault_in}
+use Rattle.vcd_laws.proofs.Cited.{◌≡◌, ℕ, ◌<◌, ◌≤◌, Bool, true, false, cond, not, ◌&&◌, ◌||◌, nat_lt, nat_le, List, [], ◌∷◌, ◌++◌, filter, flat_map, None, ◌⊎◌, inl, inr, refl, sym, ap, ◌∙◌, subst, arith, AllByRecursion, list_any, append_assoc, append-nil, flat_map-append, leb-true, lt-ltb, cases_lt, and_parts, or_cases, is_empty, settled_below, BodyItem, Header, is_mark_above, Input, Asked, Extent, Names, Opened, items_in, fault_in}
 use Rattle.vcd_model.specs.Items.{marks}
 use Rattle.vcd_model.specs.Sample.{is_settled}
 use Rattle.vcd_model.specs.Compare.{Pair, differs, ends_with, in_order, is_due, lines_at, value_line}
 use Rattle.vcd_model.specs.Compare.Extent.{First, EachPair, Always}
 use Rattle.vcd_model.specs.Within.{answer_in, compared_in, ends_run, lines_where, side, times_in, within, within_close, within_dump, within_head, within_open}
 use Rattle.vcd_laws.specs.KeptValues.{Opens}
-use Rattle.vcd_laws.proofs.WrittenCodes.{In, any_of, from_any, from_filter, to_filter}
+use Rattle.vcd_laws.proofs.WrittenCodes.{In, any_of, from_any, from_filter}
 use Rattle.vcd_laws.proofs.SameTimes.{Rises, rises_in_order, rising_filter}
 use Rattle.vcd_laws.proofs.QuietTimes.{flat_none}
 
