@@ -1,5 +1,6 @@
 -- The two inputs in what `merge` wrote compared, and the two inputs themselves.
 use Rattle.vcd_laws.proofs.Cited.{◌≡◌, ℕ, ◌*◌, ◌≤◌, ◌==◌, min, Bool, true, false, cond, ◌&&◌, ◌||◌, nat_lt, nat_le, List, [], ◌∷◌, ◌++◌, length, map, filter, filter_map, flat_map, codes, bytes_eq, Option, Some, None, option_map, inl, inr, refl, sym, ap, ◌∙◌, subst, arith, AllByRecursion, list_any, cons_option, append-nil, length-map, mul-le-mul_left, and_parts, leb-true, le-leb, ltb-true, eq-eqb, eqb-true, each_after, Input, code_of, Header, BodyItem, time_after, Keyed, Dump, factor, headers_of, merged_items, merge_kept, greatest_mark, Opened, items_in, dumps_of, Want, outcome, merged_codes, parts_items, input_of, AreReadable, input_scope, Asked}
+use Rattle.std.proofs.lemmas.List.Folds.{flat_map-map}
 use Rattle.vcd_model.specs.Items.{marks}
 use Rattle.vcd_model.specs.HeadText.{words}
 use Rattle.vcd_model.specs.Selection.{selected}
@@ -22,7 +23,7 @@ use Rattle.vcd_laws.proofs.MergedTimes.{IsTimeOf, merged_marks}
 use Rattle.vcd_laws.proofs.QuietTimes.{AreTimes, IsEven, is_marked, quiet_lines}
 use Rattle.vcd_laws.proofs.WholeWithin.{within_whole}
 use Rattle.vcd_laws.proofs.CompareInputs.{directly_is}
-use Rattle.vcd_laws.proofs.SameSides.{IsAlike, flat_mapped, lines_alike}
+use Rattle.vcd_laws.proofs.SameSides.{IsAlike, lines_alike}
 
 -- ---- the codes of a pair
 
@@ -273,15 +274,15 @@ module _ (q : Asked) (limit : ℕ) (names : List (List ℕ)) (inputs : List Inpu
       ≡ alone_in_style merged_style (codes "A") 1 (alone q o.header p.header)
       = append-nil (alone_lines (codes "A") (alone_in asked k (input_scope 1, input_scope 2)))
       ∙ ap (alone_lines (codes "A")) paired.first
-      ∙ flat_mapped (named_in [] o.header) (λ v. words (codes "alone" ∷ codes "A" ∷ v.path ∷ [])) (alone q o.header p.header) in
+      ∙ flat_map-map (λ v. words (codes "alone" ∷ codes "A" ∷ v.path ∷ [])) (named_in [] o.header) (alone q o.header p.header) in
       let second : flat_map (λ n. alone_lines (codes "B") (alone_in asked k (turned n))) both_inputs
       ≡ alone_in_style merged_style (codes "B") 2 (alone q p.header o.header)
       = append-nil (alone_lines (codes "B") (alone_in asked k (input_scope 2, input_scope 1)))
       ∙ ap (alone_lines (codes "B")) paired.second
-      ∙ flat_mapped (named_in (o.header ∷ []) p.header) (λ v. words (codes "alone" ∷ codes "B" ∷ v.path ∷ [])) (alone q p.header o.header) in
+      ∙ flat_map-map (λ v. words (codes "alone" ∷ codes "B" ∷ v.path ∷ [])) (named_in (o.header ∷ []) p.header) (alone q p.header o.header) in
       let third : unlike_lines (unlike_in asked k both_inputs) ≡ unlike_in_style merged_style (unlike q o.header p.header)
       = ap unlike_lines paired.different
-      ∙ flat_mapped (merged_pair o.header p.header) (λ x. words (codes "size" ∷ x.path ∷ kind_shown (kind_of x.one) ∷ kind_shown (kind_of x.other) ∷ [])) (unlike q o.header p.header) in
+      ∙ flat_map-map (λ x. words (codes "size" ∷ x.path ∷ kind_shown (kind_of x.one) ∷ kind_shown (kind_of x.other) ∷ [])) (merged_pair o.header p.header) (unlike q o.header p.header) in
       cc
 
   merged_is : (name : List ℕ) → within asked limit both_inputs name (input_of (outcome Want.Merge limit names inputs).output)

@@ -1,5 +1,6 @@
 -- The lines of two dumps compared are those of the two inputs in their merge, at the same times.
 use Rattle.vcd_laws.proofs.Cited.{◌≡◌, ℕ, ◌*◌, ◌==◌, Bool, true, false, cond, not, ◌&&◌, ◌||◌, nat_lt, List, [], ◌∷◌, ◌++◌, map, flat_map, decimal, codes, None, refl, sym, ap, ◌∙◌, list_any, IdCode, code_of, Header, BodyItem, Entry, entries, gives_to, words, shown, Asked, under_input}
+use Rattle.std.proofs.lemmas.List.Folds.{flat_map-map}
 use Rattle.std.proofs.Math.Nat.{one-mul, div-one}
 use Rattle.vcd_model.specs.Compare.{Pair, Side, changes_at, differs, is_due, lines_at, match, rule_for, state_at, value_line}
 use Rattle.vcd_model.specs.Within.{side}
@@ -8,36 +9,9 @@ use Rattle.vcd_laws.proofs.WrittenCodes.{In, any_of, from_any}
 use Rattle.vcd_laws.proofs.MergedHead.{all_in}
 use Rattle.vcd_laws.proofs.MergedStates.{any_agree, any_mapped}
 use Rattle.vcd_laws.proofs.MergedPairs.{merged_pair}
-use Rattle.vcd_laws.proofs.QuietTimes.{IsEven, chosen, flat_same}
-
-pub flat_mapped : {X Y : Type 0} (f : X → Y) (g : Y → List ℕ) (xs : List X)
-    → flat_map g (map f xs) ≡ flat_map (λ x. g (f x)) xs
-flat_mapped f g [] = refl
-flat_mapped f g (x ∷ xs) = ap (λ l. g (f x) ++ l) (flat_mapped f g xs)
+use Rattle.vcd_laws.proofs.QuietTimes.{IsEven, chosen, flat_same, no_state}
 
 -- ---- an event that differs has a trigger, so a change
-
-trigger_changes : (k t : ℕ) (c : IdCode) (es : List Entry)
-    → list_any (λ e. gives_to c e.item && k * e.time == t) es ≡ false
-    → list_any (λ e. gives_to c e.item && not e.inside && k * e.time == t) es ≡ false
-trigger_changes k t c es none = by_test (list_any (λ e. gives_to c e.item && not e.inside && k * e.time == t) es) refl
-  where
-    and_both : (x y z : Bool) → (x && y && z) ≡ true → (x && z) ≡ true
-    and_both true true z f = f
-    and_both true false z f = cc
-    and_both false y z f = cc
-
-    by_test : (b : Bool) → list_any (λ e. gives_to c e.item && not e.inside && k * e.time == t) es ≡ b
-        → list_any (λ e. gives_to c e.item && not e.inside && k * e.time == t) es ≡ false
-    by_test true e =
-        let f = from_any (λ e. gives_to c e.item && not e.inside && k * e.time == t) es e in
-        let g = any_of (λ e. gives_to c e.item && k * e.time == t) es f.0 f.1
-        (and_both (gives_to c f.0.item) (not f.0.inside) (k * f.0.time == t) f.2) in cc
-    by_test false e = e
-
-quiet_event : (s : Side) (c : IdCode) (t : ℕ) → c.event ≡ true → changes_at s c t ≡ false
-    → state_at s.scale s.items c t ≡ None
-quiet_event s c t loud none = rw (loud, trigger_changes s.scale t c (entries s.items) none) refl
 
 event_changes : (q : Asked) (a b : Side) (p : Pair) (t : ℕ) → (code_of p.one).event ≡ true → IsEven p
     → differs q.rule a b p t ≡ true → (changes_at a (code_of p.one) t || changes_at b (code_of p.other) t) ≡ true
@@ -48,8 +22,8 @@ event_changes q a b p t loud even d =
     by_tests true y e f = refl
     by_tests false true e f = refl
     by_tests false false e f =
-        let none = quiet_event a (code_of p.one) t loud e in
-        let none' = quiet_event b (code_of p.other) t (sym even ∙ loud) f in
+        let none = no_state a (code_of p.one) t loud e in
+        let none' = no_state b (code_of p.other) t (sym even ∙ loud) f in
         let same : differs q.rule a b p t ≡ false = rw (none, none') refl in cc
 
 -- ---- pairs that have the same states
@@ -163,7 +137,7 @@ module _ (q : Asked) (a b : Side) (one other : Header) (items : List BodyItem) (
   lines_alike ts us =
       flat_same (lines_at asked (map P ps) (side items) (side items) ts)
       (λ t. flat_map (λ p. cond (is_due q a b ps ts t p) (value_in_style merged_style a b t p) []) ps) us
-      (λ t j. flat_mapped P (λ p. cond (is_due asked (side items) (side items) (map P ps) ts t p) (value_line (side items) (side items) p t) []) ps
+      (λ t j. flat_map-map (λ p. cond (is_due asked (side items) (side items) (map P ps) ts t p) (value_line (side items) (side items) p t) []) P ps
       ∙ flat_same (λ p. cond (is_due asked (side items) (side items) (map P ps) ts t (P p)) (value_line (side items) (side items) (P p) t) [])
       (λ p. cond (is_due q a b ps ts t p) (value_in_style merged_style a b t p) []) ps
       (λ p i. ap (λ d. cond d (value_line (side items) (side items) (P p) t) []) (due_alike ts t p i)
