@@ -20,8 +20,8 @@ use Rattle.vcd_laws.proofs.MergedPairs.{ArePaired, are_paired, bytes_turned, mer
 use Rattle.vcd_laws.proofs.MergedStates.{IsMergedCode, changes_alike, is_merged_code, states_alike}
 use Rattle.vcd_laws.proofs.SameTimes.{greatest_above, le_min, same_times, to_order}
 use Rattle.vcd_laws.proofs.MergedTimes.{IsTimeOf, merged_marks}
-use Rattle.vcd_laws.proofs.QuietTimes.{AreTimes, IsEven, is_marked, quiet_lines}
-use Rattle.vcd_laws.proofs.WholeWithin.{within_whole}
+use Rattle.vcd_laws.proofs.QuietTimes.{AreTimes, IsEven, is_marked, marked_in, quiet_lines}
+use Rattle.vcd_laws.proofs.WholeWithin.{whole_outcome, within_opened}
 use Rattle.vcd_laws.proofs.CompareInputs.{directly_is}
 use Rattle.vcd_laws.proofs.SameSides.{IsAlike, lines_alike}
 
@@ -65,7 +65,7 @@ even_kinds true false r false m n e = cc
 even_kinds false true true s m n e = cc
 even_kinds false true false s m n e = cc
 
-fit_even : (p : Pair) → is_fit p ≡ true → IsEven p
+pub fit_even : (p : Pair) → is_fit p ≡ true → IsEven p
 fit_even p e =
     bytes_turned (codes "event") p.one.type
     ∙ even_kinds (bytes_eq p.one.type (codes "event")) (bytes_eq p.other.type (codes "event")) _ _ p.one.size p.other.size e
@@ -236,15 +236,9 @@ module _ (q : Asked) (limit : ℕ) (names : List (List ℕ)) (inputs : List Inpu
         let f : in_window t ≡ true = inside t i in
         let g = and_parts (nat_le asked.from t) (nat_le t asked.to) f in
         (leb-true asked.from t g.0, leb-true t asked.to g.1);
-    full = λ t e low high. (from_filter marked ts t (subst (In t) times_are (there t e low high))).0;
+    full = λ t e low high. (from_filter marked ts t (subst (In t) times_are (marked_in asked items t e low high))).0;
   }
     where
-      there : (t : ℕ) → marked t ≡ true → asked.from ≤ t → t ≤ asked.to → In t (times_in asked items)
-      there t e low high = let f = from_any (λ u. t == u) (asked.from ∷ marks items) e in
-          to_filter in_window (in_order (asked.from ∷ marks items)) t
-          (to_order t (asked.from ∷ marks items) (subst (λ n. In n (asked.from ∷ marks items)) (sym (eqb-true t f.0 f.2)) f.1))
-          (rw (le-leb asked.from t low, le-leb t asked.to high) refl)
-
       inside : (t : ℕ) → In t ts → in_window t ≡ true
       inside t i = window_is t
           ∙ (from_filter (λ t. nat_le (a.scale * q.from) t && nat_le t (a.scale * q.to) && is_past a t && is_past b t)
@@ -294,7 +288,8 @@ module _ (q : Asked) (limit : ℕ) (names : List (List ℕ)) (inputs : List Inpu
       let h = k.header in
       let paired : ArePaired q asked h o.header p.header = are_paired q a b h o.header p.header all
       (d.head.variables ∙ ap (λ (l : List Header). flat_map (λ vs. vs) (each_after merged_selected [] l)) headers) in
-      within_whole asked limit both_inputs name (input_of (outcome Want.Merge limit names inputs).output) k d.opens d.whole
+      within_opened asked limit both_inputs name (input_of (outcome Want.Merge limit names inputs).output) k d.opens
+      ∙ whole_outcome asked both_inputs name k d.whole
       ∙ ap (λ (l : List BodyItem). answer (length (compared_in asked h both_inputs)) (within_head asked h both_inputs
       ++ flat_map (lines_at asked (compared_in asked h both_inputs) (side l) (side l) (times_in asked l)) (times_in asked l))) m.items
       ∙ ap (λ (xs : List Pair). answer (length xs) (within_head asked h both_inputs

@@ -92,5 +92,6 @@ pub mod WholeWithin
 pub mod SameSides
 pub mod CompareInputs
 pub mod CompareOfMerge
+pub mod SuccessMatches
 pub mod Cited
 pub mod Facts

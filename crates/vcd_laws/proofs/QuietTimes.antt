@@ -1,14 +1,14 @@
 -- Two parts of one dump compared: times that no timestamp has add no lines.
-use Rattle.vcd_laws.proofs.Cited.{◌≡◌, ℕ, ◌*◌, ◌<◌, ◌≤◌, ◌==◌, max, Bool, true, false, cond, not, ◌&&◌, ◌||◌, nat_lt, nat_le, List, [], ◌∷◌, ◌++◌, filter, fold, flat_map, None, ◌⊎◌, inl, inr, refl, sym, ap, ◌∙◌, subst, arith, AllByRecursion, list_any, eq-eqb, ne_eqb, ltb-true, lt-ltb, le-leb, lt-leb, cases_lt, and_parts, and_right, greatest_from, IdCode, code_of, BodyItem, Entry, entries, gives_to, gives_at, last_value_is, latest_agree, Asked, Extent}
+use Rattle.vcd_laws.proofs.Cited.{◌≡◌, ℕ, ◌*◌, ◌<◌, ◌≤◌, ◌==◌, max, Bool, true, false, cond, not, ◌&&◌, ◌||◌, nat_lt, nat_le, List, [], ◌∷◌, ◌++◌, filter, fold, flat_map, None, ◌⊎◌, inl, inr, refl, sym, ap, ◌∙◌, subst, arith, AllByRecursion, list_any, eq-eqb, ne_eqb, ltb-true, lt-ltb, le-leb, lt-leb, cases_lt, and_parts, and_right, greatest_from, IdCode, code_of, BodyItem, Entry, entries, gives_to, gives_at, last_value_is, latest_agree, Asked, Extent, eqb-true, leb-true}
 use Rattle.std.proofs.Math.Nat.{one-mul}
 use Rattle.vcd_model.specs.Items.{marks}
 use Rattle.vcd_model.specs.History.{last_value}
-use Rattle.vcd_model.specs.Compare.{changes_at, differs, is_due, lines_at, match, Pair, Rule, rule_for, Side, state_at, value_line}
+use Rattle.vcd_model.specs.Compare.{changes_at, differs, in_order, is_due, lines_at, match, Pair, Rule, rule_for, Side, state_at, value_line}
 use Rattle.vcd_model.specs.Compare.Extent.{First, EachPair, Always}
-use Rattle.vcd_model.specs.Within.{side}
+use Rattle.vcd_model.specs.Within.{side, times_in}
 use Rattle.vcd_laws.proofs.WrittenCodes.{In, any_of, from_any, from_filter, to_filter}
 use Rattle.vcd_laws.proofs.MergedHead.{all_in}
-use Rattle.vcd_laws.proofs.SameTimes.{at_in, greatest_in, greatest_above}
+use Rattle.vcd_laws.proofs.SameTimes.{at_in, to_order, greatest_in, greatest_above}
 use Rattle.vcd_laws.proofs.MergedTimes.{IsTimeOf, items_come}
 
 -- ---- lists of lines
@@ -34,7 +34,7 @@ flat_kept f keep (x ∷ xs) none =
     by_test true e n more = ap (λ l. f x ++ l) more
     by_test false e n more = rw (n e) more
 
-any_none : {X : Type 0} (test : X → Bool) (xs : List X) → AllByRecursion (λ x. test x ≡ false) xs
+pub any_none : {X : Type 0} (test : X → Bool) (xs : List X) → AllByRecursion (λ x. test x ≡ false) xs
     → list_any test xs ≡ false
 any_none test [] none = refl
 any_none test (x ∷ xs) none = rw (none.0, any_none test xs none.1) refl
@@ -162,6 +162,20 @@ module _ (from : ℕ) (items : List BodyItem) where
           (sym (same_state (code_of p.other) t first none' (sym even ∙ f)))
           ∙ d
 
+-- a timestamp within the times asked for, or the first of these, is compared
+pub marked_in : (q : Asked) (items : List BodyItem) (t : ℕ) → list_any (λ u. t == u) (q.from ∷ marks items) ≡ true
+    → q.from ≤ t → t ≤ q.to → In t (times_in q items)
+marked_in q items t e low high = let f = from_any (λ u. t == u) (q.from ∷ marks items) e in
+    to_filter (λ u. nat_le q.from u && nat_le u q.to) (in_order (q.from ∷ marks items)) t
+    (to_order t (q.from ∷ marks items) (subst (λ n. In n (q.from ∷ marks items)) (sym (eqb-true t f.0 f.2)) f.1))
+    (rw (le-leb q.from t low, le-leb t q.to high) refl)
+
+pub in_times : (q : Asked) (items : List BodyItem) (t : ℕ) → In t (times_in q items) → (q.from ≤ t) × (t ≤ q.to)
+in_times q items t i =
+    let f = from_filter (λ u. nat_le q.from u && nat_le u q.to) (in_order (q.from ∷ marks items)) t i in
+    let g = and_parts (nat_le q.from t) (nat_le t q.to) f.1 in
+    (leb-true q.from t g.0, leb-true t q.to g.1)
+
 module _ (q : Asked) (items : List BodyItem) (ps : List Pair) (ts : List ℕ) (to : ℕ) where
   -- the first time, or one of a timestamp
   abbrev pub is_marked : ℕ → Bool
@@ -200,7 +214,7 @@ module _ (q : Asked) (items : List BodyItem) (ps : List Pair) (ts : List ℕ) (t
     abbrev before : ℕ → ℕ
     before t = last_before q.from items t
 
-    before_in : (t : ℕ) → In t ts → is_marked t ≡ false → (before t < t) × In (before t) some
+    pub before_in : (t : ℕ) → In t ts → is_marked t ≡ false → (before t < t) × In (before t) some
     before_in t i e =
         let last = last_in q.from items t (after_first t i e) in
         let high = (are.inside t i).1 in
@@ -211,7 +225,7 @@ module _ (q : Asked) (items : List BodyItem) (ps : List Pair) (ts : List ℕ) (t
     abbrev differs_at : Pair → ℕ → Bool
     differs_at p t = differs q.rule (side items) (side items) p t
 
-    differed_before : (p : Pair) (t : ℕ) → In p ps → In t ts → is_marked t ≡ false → differs_at p t ≡ true
+    pub differed_before : (p : Pair) (t : ℕ) → In p ps → In t ts → is_marked t ≡ false → differs_at p t ≡ true
         → differs_at p (before t) ≡ true
     differed_before p t k i e d = differed q.from items q.rule p t (even p k) (after_first t i e)
         (no_change (code_of p.one) t i e) (no_change (code_of p.other) t i e) d

@@ -1,8 +1,8 @@
 -- Two parts of a dump without a fault compared: the lines of all times, in order.
-use Rattle.vcd_laws.proofs.Cited.{◌≡◌, ℕ, ◌<◌, ◌≤◌, Bool, true, false, cond, not, ◌&&◌, ◌||◌, nat_lt, nat_le, List, [], ◌∷◌, ◌++◌, filter, flat_map, None, ◌⊎◌, inl, inr, refl, sym, ap, ◌∙◌, subst, arith, AllByRecursion, list_any, append_assoc, append-nil, flat_map-append, leb-true, lt-ltb, cases_lt, and_parts, or_cases, is_empty, settled_below, BodyItem, Header, is_mark_above, Input, Asked, Extent, Names, Opened, items_in, fault_in}
+use Rattle.vcd_laws.proofs.Cited.{◌≡◌, ℕ, ◌<◌, ◌≤◌, Bool, true, false, cond, not, ◌&&◌, ◌||◌, nat_lt, nat_le, List, [], ◌∷◌, ◌++◌, filter, flat_map, Some, None, Fault, Outcome, ◌⊎◌, inl, inr, refl, sym, ap, ◌∙◌, subst, arith, AllByRecursion, list_any, append_assoc, append-nil, flat_map-append, leb-true, lt-ltb, cases_lt, and_parts, or_cases, is_empty, settled_below, BodyItem, Header, is_mark_above, Input, Asked, Extent, Names, Opened, items_in, fault_in}
 use Rattle.vcd_model.specs.Items.{marks}
 use Rattle.vcd_model.specs.Sample.{is_settled}
-use Rattle.vcd_model.specs.Compare.{Pair, differs, ends_with, in_order, is_due, lines_at, value_line}
+use Rattle.vcd_model.specs.Compare.{Pair, differs, ends_with, fault_after, in_order, is_due, lines_at, value_line}
 use Rattle.vcd_model.specs.Compare.Extent.{First, EachPair, Always}
 use Rattle.vcd_model.specs.Within.{answer_in, compared_in, ends_run, lines_where, side, times_in, within, within_close, within_dump, within_head, within_open}
 use Rattle.vcd_laws.specs.KeptValues.{Opens}
@@ -42,7 +42,7 @@ above_is b (BodyItem.Begin s ∷ items) = above_is b items
 above_is b (BodyItem.End ∷ items) = above_is b items
 above_is b (BodyItem.Changes c ∷ items) = above_is b items
 
-ends_first : (e : Extent) (lines : List ℕ) → ends_with e lines ≡ true → (e ≡ First) × (is_empty lines ≡ false)
+pub ends_first : (e : Extent) (lines : List ℕ) → ends_with e lines ≡ true → (e ≡ First) × (is_empty lines ≡ false)
 ends_first First [] ends = cc
 ends_first First (b ∷ bs) ends = (refl, refl)
 ends_first EachPair lines ends = cc
@@ -64,7 +64,7 @@ module _ (q : Asked) (h : Header) (ns : List Names) (items : List BodyItem) wher
   abbrev late : List ℕ
   late = lines_where q h ns items (λ t. not (is_settled items t))
 
-  all_lines : lines_where q h ns items (is_settled items) ++ late ≡ flat_map lines ts
+  pub all_lines : lines_where q h ns items (is_settled items) ++ late ≡ flat_map lines ts
   all_lines =
       sym (flat_map-append lines (filter (is_settled items) ts) (filter (λ t. not (is_settled items t)) ts))
       ∙ ap (flat_map lines) (parts_of (is_settled items) ts (settled_below (marks items))
@@ -91,7 +91,7 @@ module _ (q : Asked) (h : Header) (ns : List Names) (items : List BodyItem) wher
           by_order (inr same) = let e : q.to ≡ t = omega arith in
               subst (λ n. list_any (nat_lt n) (marks items) ≡ true) e f
 
-  no_lines : (t : ℕ) → any_at t ≡ false → lines t ≡ []
+  pub no_lines : (t : ℕ) → any_at t ≡ false → lines t ≡ []
   no_lines t e = flat_none (λ p. cond (is_due q (side items) (side items) ps ts t p) (value_line (side items) (side items) p t) []) ps
       (λ p k. by_test p (differs q.rule (side items) (side items) p t) refl k)
     where
@@ -167,25 +167,34 @@ module _ (q : Asked) (h : Header) (ns : List Names) (items : List BodyItem) wher
   late_lines : (front ++ early) ++ late ≡ front ++ flat_map lines ts
   late_lines = append_assoc front early late ∙ ap (λ l. front ++ l) all_lines
 
--- the outcome of a dump without a fault
-whole_outcome : (q : Asked) (ns : List Names) (name : List ℕ) (o : Opened) → fault_in o ≡ None
-    → within_dump q ns name o ≡ answer_in q o.header ns (within_head q o.header ns
+-- all lines, at all times in order
+abbrev pub whole_answer : Asked → List Names → Opened → Outcome
+whole_answer q ns o = answer_in q o.header ns (within_head q o.header ns
     ++ flat_map (lines_at q (compared_in q o.header ns) (side (items_in o)) (side (items_in o)) (times_in q (items_in o)))
     (times_in q (items_in o)))
+
+pub ended_outcome : (q : Asked) (ns : List Names) (name : List ℕ) (o : Opened) → ends_run q o.header ns (items_in o) ≡ true
+    → within_dump q ns name o ≡ whole_answer q ns o
+unfolding within_dump within_open
+ended_outcome q ns name o e = rw e (ap (answer_in q o.header ns) (early_lines q o.header ns (items_in o) e))
+
+-- the outcome of a dump without a fault
+pub whole_outcome : (q : Asked) (ns : List Names) (name : List ℕ) (o : Opened) → fault_in o ≡ None
+    → within_dump q ns name o ≡ whole_answer q ns o
 unfolding within_dump within_open within_close
 whole_outcome q ns name o whole = by_end (ends_run q o.header ns (items_in o)) refl
   where
-    by_end : (b : Bool) → ends_run q o.header ns (items_in o) ≡ b
-        → within_dump q ns name o ≡ answer_in q o.header ns (within_head q o.header ns
-        ++ flat_map (lines_at q (compared_in q o.header ns) (side (items_in o)) (side (items_in o)) (times_in q (items_in o)))
-        (times_in q (items_in o)))
-    by_end true e = rw e (ap (answer_in q o.header ns) (early_lines q o.header ns (items_in o) e))
+    by_end : (b : Bool) → ends_run q o.header ns (items_in o) ≡ b → within_dump q ns name o ≡ whole_answer q ns o
+    by_end true e = ended_outcome q ns name o e
     by_end false e = rw (e, whole) (ap (answer_in q o.header ns) (late_lines q o.header ns (items_in o)))
 
-pub within_whole : (q : Asked) (limit : ℕ) (ns : List Names) (name : List ℕ) (input : Input) (o : Opened)
-    → Opens limit input o → fault_in o ≡ None
-    → within q limit ns name input ≡ answer_in q o.header ns (within_head q o.header ns
-    ++ flat_map (lines_at q (compared_in q o.header ns) (side (items_in o)) (side (items_in o)) (times_in q (items_in o)))
-    (times_in q (items_in o)))
+pub faulty_outcome : (q : Asked) (ns : List Names) (name : List ℕ) (o : Opened) (f : Fault)
+    → ends_run q o.header ns (items_in o) ≡ false → fault_in o ≡ Some f
+    → within_dump q ns name o ≡ fault_after (within_open q o.header ns (items_in o)) name f
+unfolding within_dump
+faulty_outcome q ns name o f e fault = rw (e, fault) refl
+
+pub within_opened : (q : Asked) (limit : ℕ) (ns : List Names) (name : List ℕ) (input : Input) (o : Opened)
+    → Opens limit input o → within q limit ns name input ≡ within_dump q ns name o
 unfolding within
-within_whole q limit ns name input o opens whole = rw (opens, within) (whole_outcome q ns name o whole)
+within_opened q limit ns name input o opens = rw (opens, within) refl

@@ -11,3 +11,4 @@ pub mod Checked
 pub mod Final
 pub mod Due
 pub mod CompareMerged
+pub mod Matching

@@ -12,6 +12,7 @@ ghost use Rattle.vcd_laws.specs.OverPick.{ListOfPick, SampleOfPick, EdgesOfPick,
 ghost use Rattle.vcd_laws.specs.OverCut.{ListOfCut, SampleOfCut, SampleOfCutAnywhere, EdgesOfCut, CutTwice, CutPastEnd, CutOfCut, CutOfPick, PickOfCut};
 ghost use Rattle.vcd_laws.specs.OverMerge.{ListOfMerge, SampleOfMerge, EdgesOfMerge, SampleOfOneMerged, SampleOfAllMerged, EdgesOfOneMerged, EdgesOfAllMerged, SampleOfAnyMerged, EdgesOfAnyMerged};
 ghost use Rattle.vcd_laws.specs.CompareMerged.{CompareOfMerge};
+ghost use Rattle.vcd_laws.specs.Matching.{SuccessIsAMatch};
 ghost use Rattle.vcd_laws.specs.Counted.{CheckOfPick, CheckOfCut, CheckOfMerge};
 ghost use Rattle.vcd_laws.specs.Checked.{CheckedIsSafe, CheckNamesTheFault, CleanIsChecked, CheckedMergeIsSafe, MergeNamesTheFault};
 ghost use Rattle.vcd_laws.specs.Final.{SettledIsFinal, SettledIsFinalInMerge, SettledMergeIsFinal, SettledAloneSettlesMerge, UnsettledIsOpen, UnsettledMergeIsOpen};
@@ -253,6 +254,12 @@ pub fn sample_of_any_merged()
 /// `edges` of what `merge` wrote prints the counts of variables of any inputs.
 pub fn edges_of_any_merged()
     ensures { EdgesOfAnyMerged }
+{}
+
+/// A comparison of two parts of a dump has status 0 if and only if all of both matches, at every
+/// time.
+pub fn success_is_a_match()
+    ensures { SuccessIsAMatch }
 {}
 
 /// The two inputs in what `merge` wrote differ where the inputs themselves do, up to the end of the

@@ -1,0 +1,46 @@
+-- What it says that a comparison succeeds: everything that is compared matches.
+use Rattle.std.specs.Prelude.{◌≡◌, ◌≢◌, ◌⊎◌, ◌↔◌, ℕ, ◌*◌, ◌≤◌, IsTrue, IsFalse, List, [], ◌∷◌, ◌++◌, flat_map, Contains, None}
+use Rattle.std.specs.List.{list_any}
+use Rattle.vcd_model.specs.Input.{Input}
+use Rattle.vcd_model.specs.Cut.{is_mark_above}
+use Rattle.vcd_model.specs.Outcome.{Opened, fault_in, items_in}
+use Rattle.vcd_model.specs.Job.{Want, outcome}
+use Rattle.vcd_model.specs.Compare.{Asked, Named, Pair, Rule, Side, alone, differs, pairs, unlike}
+use Rattle.vcd_model.specs.Within.{Names, alone_in, compared_in, side, turned, unlike_in, within}
+use Rattle.vcd_laws.specs.KeptValues.{Opens}
+use Rattle.vcd_laws.specs.Dumps.{AreReadable, input_of}
+use Rattle.vcd_laws.specs.CompareMerged.{asked_of_merge, both_inputs, side_of}
+
+-- There are pairs, no variable without a counterpart, and no pair of different kinds. At each time
+-- from the first to the last, whether a timestamp has it or not, the states of each pair match.
+pub record AllMatch (rule : Rule) (a b : Side) (ps : List Pair) (alone : List Named)
+    (different : List Pair) (from to : ℕ) : Type 0 where
+  pub some : ps ≢ []
+  pub none_alone : alone ≡ []
+  pub none_different : different ≡ []
+  pub states : (p : Pair) (t : ℕ) → Contains ps p → from ≤ t → t ≤ to
+      → IsFalse (differs rule a b p t)
+
+-- The comparison of two parts of a dump has status 0 if and only if all of both matches, and the
+-- dump has no fault, or a timestamp above the last time before it.
+abbrev pub SuccessIsAMatch : Type 0
+SuccessIsAMatch = (q : Asked) (limit : ℕ) (ns : List Names) (name : List ℕ) (input : Input)
+    (o : Opened) → Opens limit input o
+    → ((within q limit ns name input).status ≡ 0)
+    ↔ (((fault_in o ≡ None) ⊎ IsTrue (list_any (is_mark_above q.to) (items_in o)))
+    × AllMatch q.rule (side (items_in o)) (side (items_in o)) (compared_in q o.header ns)
+    (flat_map (λ n. alone_in q o.header n ++ alone_in q o.header (turned n)) ns)
+    (unlike_in q o.header ns) q.from q.to)
+
+-- The comparison of the two inputs in what `merge` wrote has status 0 if and only if all of the
+-- inputs matches, in ticks of both, up to the end of the shorter one.
+abbrev pub MergedSuccessIsAMatch : Type 0
+MergedSuccessIsAMatch = (q : Asked) (limit : ℕ) (name : List ℕ) (names : List (List ℕ))
+    (inputs : List Input) (o p : Opened) (a b : Side)
+    → AreReadable limit names inputs (o ∷ p ∷ []) → q.names ≡ []
+    → a ≡ side_of (o.header ∷ p.header ∷ []) o → b ≡ side_of (o.header ∷ p.header ∷ []) p
+    → ((within (asked_of_merge q a b) limit both_inputs name
+    (input_of (outcome Want.Merge limit names inputs).output)).status ≡ 0)
+    ↔ AllMatch q.rule a b (pairs q o.header p.header)
+    (alone q o.header p.header ++ alone q p.header o.header) (unlike q o.header p.header)
+    (asked_of_merge q a b).from (asked_of_merge q a b).to
