@@ -108,7 +108,7 @@ module _ (q : Asked) (limit : ℕ) (names : List (List ℕ)) (inputs : List Inpu
   abbrev ps : List Pair
   ps = pairs q o.header p.header
 
-  abbrev items : List BodyItem
+  abbrev pub items : List BodyItem
   items = parts_items [] [] (merge_kept (merged_items (dumps_of os))) (greatest_mark (merged_items (dumps_of os)))
 
   abbrev asked : Asked
@@ -123,7 +123,7 @@ module _ (q : Asked) (limit : ℕ) (names : List (List ℕ)) (inputs : List Inpu
   both_can : AllByRecursion CanMerge hs
   both_can = subst (AllByRecursion CanMerge) headers (all_can limit inputs os can.opens can.shallow)
 
-  alike : (x : Pair) → In x ps → IsAlike a b items x (merged_pair o.header p.header x)
+  pub alike : (x : Pair) → In x ps → IsAlike a b items x (merged_pair o.header p.header x)
   alike x i =
       let known = pairs_known q o.header p.header x both_can.0 both_can.1.0 i in
       let kept = merge_kept (merged_items (dumps_of os)) in
@@ -279,6 +279,11 @@ module _ (q : Asked) (limit : ℕ) (names : List (List ℕ)) (inputs : List Inpu
       ∙ flat_map-map (λ x. words (codes "size" ∷ x.path ∷ kind_shown (kind_of x.one) ∷ kind_shown (kind_of x.other) ∷ [])) (merged_pair o.header p.header) (unlike q o.header p.header) in
       cc
 
+  pub paired_there : ArePaired q asked (merge_items limit names inputs os can).dump.dump.header o.header p.header
+  paired_there = let m = merge_items limit names inputs os can in
+      are_paired q a b m.dump.dump.header o.header p.header all
+      (m.dump.head.variables ∙ ap (λ (l : List Header). flat_map (λ vs. vs) (each_after merged_selected [] l)) headers)
+
   merged_is : (name : List ℕ) → within asked limit both_inputs name (input_of (outcome Want.Merge limit names inputs).output)
       ≡ answer (length ps) (lines_in_style merged_style q o.header p.header a b)
   merged_is name =
@@ -286,8 +291,7 @@ module _ (q : Asked) (limit : ℕ) (names : List (List ℕ)) (inputs : List Inpu
       let d = m.dump in
       let k = d.dump in
       let h = k.header in
-      let paired : ArePaired q asked h o.header p.header = are_paired q a b h o.header p.header all
-      (d.head.variables ∙ ap (λ (l : List Header). flat_map (λ vs. vs) (each_after merged_selected [] l)) headers) in
+      let paired = paired_there in
       within_opened asked limit both_inputs name (input_of (outcome Want.Merge limit names inputs).output) k d.opens
       ∙ whole_outcome asked both_inputs name k d.whole
       ∙ ap (λ (l : List BodyItem). answer (length (compared_in asked h both_inputs)) (within_head asked h both_inputs

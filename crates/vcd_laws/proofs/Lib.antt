@@ -93,5 +93,6 @@ pub mod SameSides
 pub mod CompareInputs
 pub mod CompareOfMerge
 pub mod SuccessMatches
+pub mod MergedSuccess
 pub mod Cited
 pub mod Facts

@@ -52,7 +52,7 @@ module _ (q : Asked) (a b : Side) (one other : Header) (items : List BodyItem) (
   abbrev there : Pair → ℕ → Bool
   there p t = differs q.rule (side items) (side items) (P p) t
 
-  differs_alike : (p : Pair) (t : ℕ) → In p ps → there p t ≡ here p t
+  pub differs_alike : (p : Pair) (t : ℕ) → In p ps → there p t ≡ here p t
   differs_alike p t i = let m = alike p i in
       ap (λ v. not (match (rule_for q.rule p.one) v (state_at 1 items (code_of (P p).other) t))) (m.one t)
       ∙ ap (λ v. not (match (rule_for q.rule p.one) (state_at a.scale a.items (code_of p.one) t) v)) (m.other t)

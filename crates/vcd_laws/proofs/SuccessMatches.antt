@@ -16,11 +16,11 @@ use Rattle.vcd_laws.proofs.CompareOfMerge.{fit_even}
 
 -- ---- texts without lines
 
-parts_none : {X : Type 0} (xs ys : List X) → xs ++ ys ≡ [] → (xs ≡ []) × (ys ≡ [])
+pub parts_none : {X : Type 0} (xs ys : List X) → xs ++ ys ≡ [] → (xs ≡ []) × (ys ≡ [])
 parts_none [] ys e = (refl, e)
 parts_none (x ∷ xs) ys e = cc
 
-both_none : {X : Type 0} (xs ys : List X) → xs ≡ [] → ys ≡ [] → xs ++ ys ≡ []
+pub both_none : {X : Type 0} (xs ys : List X) → xs ≡ [] → ys ≡ [] → xs ++ ys ≡ []
 both_none xs ys e f = rw (e, f) refl
 
 at_none : {X Y : Type 0} (f : X → List Y) (xs : List X) (x : X) → flat_map f xs ≡ [] → In x xs → f x ≡ []

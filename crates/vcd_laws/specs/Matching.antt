@@ -34,13 +34,20 @@ SuccessIsAMatch = (q : Asked) (limit : ℕ) (ns : List Names) (name : List ℕ) 
 
 -- The comparison of the two inputs in what `merge` wrote has status 0 if and only if all of the
 -- inputs matches, in ticks of both, up to the end of the shorter one.
-abbrev pub MergedSuccessIsAMatch : Type 0
-MergedSuccessIsAMatch = (q : Asked) (limit : ℕ) (name : List ℕ) (names : List (List ℕ))
-    (inputs : List Input) (o p : Opened) (a b : Side)
-    → AreReadable limit names inputs (o ∷ p ∷ []) → q.names ≡ []
-    → a ≡ side_of (o.header ∷ p.header ∷ []) o → b ≡ side_of (o.header ∷ p.header ∷ []) p
-    → ((within (asked_of_merge q a b) limit both_inputs name
+abbrev pub SucceedsOnMatch : Asked → ℕ → List ℕ → List (List ℕ) → List Input → Opened → Opened
+    → Side → Side → Type 0
+SucceedsOnMatch q limit name names inputs o p a b =
+    ((within (asked_of_merge q a b) limit both_inputs name
     (input_of (outcome Want.Merge limit names inputs).output)).status ≡ 0)
     ↔ AllMatch q.rule a b (pairs q o.header p.header)
     (alone q o.header p.header ++ alone q p.header o.header) (unlike q o.header p.header)
     (asked_of_merge q a b).from (asked_of_merge q a b).to
+
+-- for two dumps that can be merged and read again, all whose variables are compared apart from
+-- exceptions
+abbrev pub MergedSuccessIsAMatch : Type 0
+MergedSuccessIsAMatch = (q : Asked) (limit : ℕ) (name : List ℕ) (names : List (List ℕ))
+    (inputs : List Input) (o p : Opened)
+    → AreReadable limit names inputs (o ∷ p ∷ []) → q.names ≡ []
+    → SucceedsOnMatch q limit name names inputs o p
+    (side_of (o.header ∷ p.header ∷ []) o) (side_of (o.header ∷ p.header ∷ []) p)

@@ -12,7 +12,7 @@ ghost use Rattle.vcd_laws.specs.OverPick.{ListOfPick, SampleOfPick, EdgesOfPick,
 ghost use Rattle.vcd_laws.specs.OverCut.{ListOfCut, SampleOfCut, SampleOfCutAnywhere, EdgesOfCut, CutTwice, CutPastEnd, CutOfCut, CutOfPick, PickOfCut};
 ghost use Rattle.vcd_laws.specs.OverMerge.{ListOfMerge, SampleOfMerge, EdgesOfMerge, SampleOfOneMerged, SampleOfAllMerged, EdgesOfOneMerged, EdgesOfAllMerged, SampleOfAnyMerged, EdgesOfAnyMerged};
 ghost use Rattle.vcd_laws.specs.CompareMerged.{CompareOfMerge};
-ghost use Rattle.vcd_laws.specs.Matching.{SuccessIsAMatch};
+ghost use Rattle.vcd_laws.specs.Matching.{SuccessIsAMatch, MergedSuccessIsAMatch};
 ghost use Rattle.vcd_laws.specs.Counted.{CheckOfPick, CheckOfCut, CheckOfMerge};
 ghost use Rattle.vcd_laws.specs.Checked.{CheckedIsSafe, CheckNamesTheFault, CleanIsChecked, CheckedMergeIsSafe, MergeNamesTheFault};
 ghost use Rattle.vcd_laws.specs.Final.{SettledIsFinal, SettledIsFinalInMerge, SettledMergeIsFinal, SettledAloneSettlesMerge, UnsettledIsOpen, UnsettledMergeIsOpen};
@@ -266,6 +266,12 @@ pub fn success_is_a_match()
 /// shorter one.
 pub fn compare_of_merge()
     ensures { CompareOfMerge }
+{}
+
+/// The comparison of the two inputs in what `merge` wrote has status 0 if and only if all of the
+/// inputs matches, at every time up to the end of the shorter one.
+pub fn merged_success_is_a_match()
+    ensures { MergedSuccessIsAMatch }
 {}
 
 /// `check` of what `pick` wrote counts the selected variables and what was kept of the body.
