@@ -9,7 +9,7 @@ use Rattle.vcd_model.specs.Within.{alone_in, compared_in, side, times_in, turned
 use Rattle.vcd_laws.specs.CompareMerged.{CompareOfMerge, alone_in_style, asked_of_merge, both_inputs, lines_in_style, merged_style, side_of, unlike_in_style, values_in_style}
 use Rattle.vcd_laws.proofs.MergeDumps.{headers_are}
 use Rattle.vcd_laws.proofs.DumpLaws.{merge_is_a_dump}
-use Rattle.vcd_laws.proofs.WrittenCodes.{In, any_of, from_any, from_filter, from_find, from_map, in_left, in_map, in_right, to_filter}
+use Rattle.vcd_laws.proofs.WrittenCodes.{In, any_of, from_any, from_filter, from_find, from_map, in_left, in_map, in_right}
 use Rattle.vcd_laws.proofs.MergedHead.{CanMerge, merged_selected}
 use Rattle.vcd_laws.proofs.MergedBack.{all_can}
 use Rattle.vcd_laws.proofs.CheckOfMerge.{merge_items}
@@ -18,7 +18,7 @@ use Rattle.vcd_laws.proofs.SampleOfMerge.{among, code_in}
 use Rattle.vcd_laws.proofs.EdgesOfMerge.{changes_only}
 use Rattle.vcd_laws.proofs.MergedPairs.{ArePaired, are_paired, bytes_turned, merged_pair, named_in}
 use Rattle.vcd_laws.proofs.MergedStates.{IsMergedCode, changes_alike, is_merged_code, states_alike}
-use Rattle.vcd_laws.proofs.SameTimes.{greatest_above, le_min, same_times, to_order}
+use Rattle.vcd_laws.proofs.SameTimes.{greatest_above, le_min, same_times}
 use Rattle.vcd_laws.proofs.MergedTimes.{IsTimeOf, merged_marks}
 use Rattle.vcd_laws.proofs.QuietTimes.{AreTimes, IsEven, is_marked, marked_in, quiet_lines}
 use Rattle.vcd_laws.proofs.WholeWithin.{whole_outcome, within_opened}

@@ -1,6 +1,6 @@
 -- The comparison of two inputs in what `merge` wrote has status 0 if all of the inputs matches.
-use Rattle.vcd_laws.proofs.Cited.{◌≡◌, ◌≢◌, ℕ, ◌≤◌, List, [], ◌∷◌, ◌++◌, map, flat_map, Contains, None, inl, refl, sym, ap, ◌∙◌, subst, append-nil, Input, BodyItem, Want, outcome, input_of, AreReadable, input_scope, Opened, items_in, Asked}
-use Rattle.vcd_model.specs.Compare.{Named, Pair, Side, alone, differs, pairs, unlike}
+use Rattle.vcd_laws.proofs.Cited.{◌≡◌, ℕ, List, [], ◌∷◌, ◌++◌, map, flat_map, inl, refl, sym, ap, ◌∙◌, subst, Input, BodyItem, Want, outcome, input_of, AreReadable, input_scope, Opened, items_in, Asked}
+use Rattle.vcd_model.specs.Compare.{Pair, Side, alone, differs, pairs, unlike}
 use Rattle.vcd_model.specs.Within.{alone_in, compared_in, side, turned, unlike_in}
 use Rattle.vcd_laws.specs.CompareMerged.{asked_of_merge, both_inputs, side_of}
 use Rattle.vcd_laws.specs.Matching.{AllMatch, MergedSuccessIsAMatch}

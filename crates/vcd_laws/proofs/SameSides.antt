@@ -1,11 +1,11 @@
 -- The lines of two dumps compared are those of the two inputs in their merge, at the same times.
-use Rattle.vcd_laws.proofs.Cited.{◌≡◌, ℕ, ◌*◌, ◌==◌, Bool, true, false, cond, not, ◌&&◌, ◌||◌, nat_lt, List, [], ◌∷◌, ◌++◌, map, flat_map, decimal, codes, None, refl, sym, ap, ◌∙◌, list_any, IdCode, code_of, Header, BodyItem, Entry, entries, gives_to, words, shown, Asked, under_input}
+use Rattle.vcd_laws.proofs.Cited.{◌≡◌, ℕ, ◌*◌, ◌==◌, Bool, true, false, cond, not, ◌&&◌, ◌||◌, nat_lt, List, [], ◌∷◌, map, flat_map, decimal, codes, refl, sym, ap, ◌∙◌, list_any, code_of, Header, BodyItem, words, shown, Asked, under_input}
 use Rattle.std.proofs.lemmas.List.Folds.{flat_map-map}
 use Rattle.std.proofs.Math.Nat.{one-mul, div-one}
 use Rattle.vcd_model.specs.Compare.{Pair, Side, changes_at, differs, is_due, lines_at, match, rule_for, state_at, value_line}
 use Rattle.vcd_model.specs.Within.{side}
 use Rattle.vcd_laws.specs.CompareMerged.{asked_of_merge, merged_style, value_in_style}
-use Rattle.vcd_laws.proofs.WrittenCodes.{In, any_of, from_any}
+use Rattle.vcd_laws.proofs.WrittenCodes.{In}
 use Rattle.vcd_laws.proofs.MergedHead.{all_in}
 use Rattle.vcd_laws.proofs.MergedStates.{any_agree, any_mapped}
 use Rattle.vcd_laws.proofs.MergedPairs.{merged_pair}

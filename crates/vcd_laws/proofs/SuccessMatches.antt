@@ -1,5 +1,5 @@
 -- A comparison of two parts of a dump has status 0 if all of both matches, and only then.
-use Rattle.vcd_laws.proofs.Cited.{◌≡◌, ◌≢◌, ℕ, zero, suc, ◌*◌, ◌<◌, ◌≤◌, ◌==◌, Bool, true, false, cond, not, ◌&&◌, ◌||◌, nat_lt, List, [], ◌∷◌, ◌++◌, length, flat_map, codes, Contains, Option, Some, None, ◌⊎◌, inl, inr, refl, sym, ap, ◌∙◌, subst, arith, AllByRecursion, list_any, eq-eqb, eqb-true, ltb-true, lt-ltb, or_cases, or_parts, is_empty, code_of, Header, BodyItem, Asked, Extent, Fault, Names, Opened, Outcome, fault_outcome, items_in, fault_in, is_mark_above, words, as_line, at_contained, join_with_byte, decimal, shown, ◌/◌}
+use Rattle.vcd_laws.proofs.Cited.{◌≡◌, ◌≢◌, ℕ, zero, suc, ◌*◌, ◌<◌, ◌≤◌, ◌==◌, Bool, true, false, cond, not, ◌&&◌, ◌||◌, nat_lt, List, [], ◌∷◌, ◌++◌, length, flat_map, codes, Option, Some, None, ◌⊎◌, inl, inr, refl, sym, ap, ◌∙◌, arith, list_any, eq-eqb, ltb-true, lt-ltb, or_cases, or_parts, is_empty, code_of, Header, BodyItem, Asked, Extent, Fault, Names, Opened, Outcome, fault_outcome, items_in, fault_in, is_mark_above, words, as_line, join_with_byte, decimal, shown, ◌/◌}
 use Rattle.std.proofs.Math.Nat.{one-mul}
 use Rattle.vcd_model.specs.Items.{marks}
 use Rattle.vcd_model.specs.Sample.{is_settled}
@@ -63,9 +63,10 @@ no_alone q h [] e = (refl, refl)
 no_alone q h (n ∷ ns) e =
     let both = parts_none (alone_in q h n ++ alone_in q h (turned n)) (flat_map (λ n. alone_in q h n ++ alone_in q h (turned n)) ns) e in
     let one = parts_none (alone_in q h n) (alone_in q h (turned n)) both.0 in
-    let more = no_alone q h ns both.1 in
-    (both_none (alone_lines (codes "A") (alone_in q h n)) (flat_map (λ n. alone_lines (codes "A") (alone_in q h n)) ns) (ap (alone_lines (codes "A")) one.0) more.0,
-    both_none (alone_lines (codes "B") (alone_in q h (turned n))) (flat_map (λ n. alone_lines (codes "B") (alone_in q h (turned n))) ns) (ap (alone_lines (codes "B")) one.1) more.1)
+    let more = no_alone q h ns both.1 in (
+      both_none (alone_lines (codes "A") (alone_in q h n)) (flat_map (λ n. alone_lines (codes "A") (alone_in q h n)) ns) (ap (alone_lines (codes "A")) one.0) more.0,
+      both_none (alone_lines (codes "B") (alone_in q h (turned n))) (flat_map (λ n. alone_lines (codes "B") (alone_in q h (turned n))) ns) (ap (alone_lines (codes "B")) one.1) more.1,
+    )
 
 -- ---- the lines of values
 

@@ -41,7 +41,8 @@ value_in_style s a b t p =
 abbrev pub values_in_style : Style → Asked → List Pair → Side → Side → List ℕ
 values_in_style s q ps a b =
     let ts = times q a b in
-    flat_map (λ t. flat_map (λ p. cond (is_due q a b ps ts t p) (value_in_style s a b t p) []) ps) ts
+    flat_map (λ t.
+    flat_map (λ p. cond (is_due q a b ps ts t p) (value_in_style s a b t p) []) ps) ts
 
 -- all lines that `Compare` and `Within` have in common
 abbrev pub lines_in_style : Style → Asked → Header → Header → Side → Side → List ℕ

@@ -1,5 +1,5 @@
 -- What it says that a comparison succeeds: everything that is compared matches.
-use Rattle.std.specs.Prelude.{◌≡◌, ◌≢◌, ◌⊎◌, ◌↔◌, ℕ, ◌*◌, ◌≤◌, IsTrue, IsFalse, List, [], ◌∷◌, ◌++◌, flat_map, Contains, None}
+use Rattle.std.specs.Prelude.{◌≡◌, ◌≢◌, ◌⊎◌, ◌↔◌, ℕ, ◌≤◌, IsTrue, IsFalse, List, [], ◌∷◌, ◌++◌, flat_map, Contains, None}
 use Rattle.std.specs.List.{list_any}
 use Rattle.vcd_model.specs.Input.{Input}
 use Rattle.vcd_model.specs.Cut.{is_mark_above}
