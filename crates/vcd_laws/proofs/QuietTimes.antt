@@ -1,5 +1,5 @@
 -- Two parts of one dump compared: times that no timestamp has add no lines.
-use Rattle.vcd_laws.proofs.Cited.{◌≡◌, ℕ, ◌*◌, ◌<◌, ◌≤◌, ◌==◌, max, Bool, true, false, cond, not, ◌&&◌, ◌||◌, nat_lt, nat_le, List, [], ◌∷◌, ◌++◌, filter, fold, flat_map, None, ◌⊎◌, inl, inr, refl, sym, ap, ◌∙◌, subst, arith, AllByRecursion, list_any, eq-eqb, ne_eqb, ltb-true, lt-ltb, le-leb, lt-leb, cases_lt, and_parts, and_right, greatest_from, IdCode, code_of, BodyItem, Entry, entries, gives_to, gives_at, last_value_is, latest_agree, Asked, Extent, eqb-true, leb-true}
+use Rattle.vcd_laws.proofs.Cited.{◌≡◌, ℕ, ◌*◌, ◌<◌, ◌≤◌, ◌==◌, max, Bool, true, false, cond, not, ◌&&◌, ◌||◌, nat_lt, nat_le, List, [], ◌∷◌, ◌++◌, filter, fold, flat_map, None, ◌⊎◌, inl, inr, refl, sym, ap, ◌∙◌, subst, arith, AllByRecursion, list_any, eq-eqb, ne_eqb, ltb-true, lt-ltb, le-leb, lt-leb, cases_lt, and_from, and_parts, and_right, greatest_from, IdCode, code_of, BodyItem, Entry, entries, gives_to, gives_at, last_value_is, latest_agree, Asked, Extent, eqb-true, leb-true}
 use Rattle.std.proofs.Math.Nat.{one-mul}
 use Rattle.vcd_model.specs.Items.{marks}
 use Rattle.vcd_model.specs.History.{last_value}
@@ -133,11 +133,7 @@ module _ (from : ℕ) (items : List BodyItem) where
           (λ same.
           let here : (gives_to c x.item && 1 * x.time == t) ≡ true = rw (e, one-mul) (eq-eqb x.time t same) in
           let some = any_of (λ (y : Entry). gives_to c y.item && 1 * y.time == t) (entries items) x j here in
-          apart (changes_at (side items) c t) some none))
-        where
-          apart : (b : Bool) → b ≡ true → b ≡ false → ⊥
-          apart true f g = cc
-          apart false f g = cc
+          let no : true ≡ false = sym some ∙ none in cc))
 
   same_state : (c : IdCode) (t : ℕ) → from < t → changes_at (side items) c t ≡ false → c.event ≡ false
       → state_at 1 items c t ≡ state_at 1 items c (last_before t)
@@ -236,9 +232,6 @@ module _ (q : Asked) (items : List BodyItem) (ps : List Pair) (ts : List ℕ) (t
     abbrev HeldBefore : (ℕ → Bool) → Type 0
     HeldBefore X = (t : ℕ) → In t ts → is_marked t ≡ false → X t ≡ true → X (before t) ≡ true
 
-    and_both : (a b : Bool) → a ≡ true → b ≡ true → (a && b) ≡ true
-    and_both a b f g = rw (f, g) refl
-
     found_alike : (X : ℕ → Bool) (t : ℕ) → HeldBefore X
         → list_any (λ u. nat_lt u t && X u) ts ≡ list_any (λ u. nat_lt u t && X u) some
     found_alike X t held = both_ways (list_any (λ u. nat_lt u t && X u) ts) (list_any (λ u. nat_lt u t && X u) some)
@@ -255,14 +248,14 @@ module _ (q : Asked) (items : List BodyItem) (ps : List Pair) (ts : List ℕ) (t
             let low = last.0 in
             let here = ltb-true u t parts.0 in
             any_of (λ u. nat_lt u t && X u) some (before u) last.1
-            (and_both (nat_lt (before u) t) (X (before u)) (lt-ltb (before u) t (omega arith)) (held u i e parts.1))
+            (and_from (nat_lt (before u) t) (X (before u)) (lt-ltb (before u) t (omega arith)) (held u i e parts.1))
 
     found_some : (X : ℕ → Bool) (t : ℕ) → HeldBefore X → In t ts → is_marked t ≡ false → X t ≡ true
         → list_any (λ u. nat_lt u t && X u) ts ≡ true
     found_some X t held i e h =
         let last = before_in t i e in
         any_of (λ u. nat_lt u t && X u) ts (before t) (from_filter is_marked ts (before t) last.1).0
-        (and_both (nat_lt (before t) t) (X (before t)) (lt-ltb (before t) t last.0) (held t i e h))
+        (and_from (nat_lt (before t) t) (X (before t)) (lt-ltb (before t) t last.0) (held t i e h))
 
     abbrev any_at : ℕ → Bool
     any_at u = list_any (λ o. differs_at o u) ps

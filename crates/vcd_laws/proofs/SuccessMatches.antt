@@ -141,7 +141,7 @@ module _ (q : Asked) (h : Header) (ns : List Names) (items : List BodyItem) wher
           let window = in_times q items t i in
           let low = window.0 in
           let high = window.1 in
-          let ne = λ (e : t ≡ q.from). apart (t == 1 * q.from) (eq-eqb t (1 * q.from) (e ∙ sym (one-mul q.from))) two.0 in
+          let ne : t ≡ q.from → ⊥ = λ e. (let no : true ≡ false = sym (eq-eqb t (1 * q.from) (e ∙ sym (one-mul q.from))) ∙ two.0 in cc) in
           let later : q.from < t = omega (arith, ne) in
           let last = last_in q.from items t later in
           let less = last.0 in
@@ -150,11 +150,7 @@ module _ (q : Asked) (h : Header) (ns : List Names) (items : List BodyItem) wher
           (eq-eqb (last_before q.from items t) (last_before q.from items t) refl)) last.1 (omega arith) in
           let did = differed q.from items q.rule p t (even p k) later two.1 one.1 d in
           let not = before (last_before q.from items t) less there p k in
-          absurd (apart (differs_at p (last_before q.from items t)) did not)
-        where
-          apart : (b : Bool) → b ≡ true → b ≡ false → ⊥
-          apart true e f = cc
-          apart false e f = cc
+          let no : true ≡ false = sym did ∙ not in cc
 
   none_below : flat_map (lines_at q ps (side items) (side items) ts) ts ≡ [] → (n t : ℕ) → t < n → In t ts → (p : Pair) → In p ps
       → differs_at p t ≡ false
@@ -180,10 +176,6 @@ module _ (q : Asked) (h : Header) (ns : List Names) (items : List BodyItem) wher
       by_mark true e = none_below none (suc t) t (omega arith) (marked_in q items t e low high) p k
       by_mark false e = by_test (differs_at p t) refl
         where
-          apart : (b : Bool) → b ≡ true → b ≡ false → ⊥
-          apart true e f = cc
-          apart false e f = cc
-
           by_test : (b : Bool) → differs_at p t ≡ b → differs_at p t ≡ false
           by_test false d = d
           by_test true d =
@@ -192,7 +184,7 @@ module _ (q : Asked) (h : Header) (ns : List Names) (items : List BodyItem) wher
               let less = place.0 in
               let w = last_before q.from items t in
               let there : In w ts = by_place w less (from_filter (is_marked q items ps (t ∷ ts) q.to) (t ∷ ts) w place.1).0 in
-              absurd (apart (differs_at p w) did (none_below none (suc w) w (omega arith) there p k))
+              let no : true ≡ false = sym did ∙ none_below none (suc w) w (omega arith) there p k in cc
             where
               by_place : (w : ℕ) → w < t → In w (t ∷ times_in q items) → In w (times_in q items)
               by_place w less (inl same) = absurd (omega arith)

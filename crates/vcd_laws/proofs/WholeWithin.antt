@@ -1,5 +1,5 @@
 -- Two parts of a dump without a fault compared: the lines of all times, in order.
-use Rattle.vcd_laws.proofs.Cited.{◌≡◌, ℕ, ◌<◌, ◌≤◌, Bool, true, false, cond, not, ◌&&◌, ◌||◌, nat_lt, nat_le, List, [], ◌∷◌, ◌++◌, filter, flat_map, Some, None, Fault, Outcome, ◌⊎◌, inl, inr, refl, sym, ap, ◌∙◌, subst, arith, AllByRecursion, list_any, append_assoc, append-nil, flat_map-append, leb-true, lt-ltb, cases_lt, and_parts, or_cases, is_empty, settled_below, BodyItem, Header, is_mark_above, Input, Asked, Extent, Names, Opened, items_in, fault_in}
+use Rattle.vcd_laws.proofs.Cited.{◌≡◌, ℕ, ◌<◌, ◌≤◌, Bool, true, false, cond, not, ◌&&◌, ◌||◌, nat_lt, nat_le, List, [], ◌∷◌, ◌++◌, filter, flat_map, Some, None, Fault, Outcome, ◌⊎◌, inl, inr, refl, sym, ap, ◌∙◌, subst, arith, AllByRecursion, list_any, append_assoc, append-nil, flat_map-append, leb-true, lt-ltb, cases_lt, and_from, and_parts, and_right, not-true, or_cases, is_empty, settled_below, BodyItem, Header, is_mark_above, Input, Asked, Extent, Names, Opened, items_in, fault_in}
 use Rattle.vcd_model.specs.Items.{marks}
 use Rattle.vcd_model.specs.Sample.{is_settled}
 use Rattle.vcd_model.specs.Compare.{Pair, differs, ends_with, fault_after, in_order, is_due, lines_at, value_line}
@@ -77,12 +77,8 @@ module _ (q : Asked) (h : Header) (ns : List Names) (items : List BodyItem) wher
       let g = from_filter (λ t. nat_le q.from t && nat_le t q.to) (in_order (q.from ∷ marks items)) t f.0 in
       let high = leb-true t q.to (and_parts (nat_le q.from t) (nat_le t q.to) g.1).1 in
       let settled = still t high (sym (above_is q.to items) ∙ e) in
-      absurd (let no = f.1 in apart (is_settled items t) settled no))
+      let no : true ≡ false = sym settled ∙ not-true (is_settled items t) f.1 in cc)
     where
-      apart : (b : Bool) → b ≡ true → not b ≡ true → ⊥
-      apart true e f = cc
-      apart false e f = cc
-
       still : (t : ℕ) → t ≤ q.to → list_any (nat_lt q.to) (marks items) ≡ true → is_settled items t ≡ true
       still t l f = by_order (cases_lt t q.to)
         where
@@ -104,28 +100,15 @@ module _ (q : Asked) (h : Header) (ns : List Names) (items : List BodyItem) wher
   none_after : q.extent ≡ First → is_empty (lines_where q h ns items (is_settled items)) ≡ false → late ≡ []
   none_after first full = by_any (list_any any_at (filter (is_settled items) ts)) refl
     where
-      settled_apart : (t u : ℕ) → is_settled items u ≡ true → not (is_settled items t) ≡ true → u < t
-      settled_apart t u e f = by_order (cases_lt u t)
+      -- a time that is not settled comes after each that is
+      settled_apart : (t u : ℕ) → is_settled items u ≡ true → is_settled items t ≡ false → u < t
+      settled_apart t u e f = by_order (cases_lt u t) (cases_lt t u)
         where
-          apart : (b : Bool) → b ≡ true → not b ≡ true → ⊥
-          apart true e f = cc
-          apart false e f = cc
-
-          by_low : (t < u) ⊎ (u ≤ t) → t ≤ u → u < t
-          by_low (inl l) h = absurd (apart (is_settled items t) (settled_below (marks items) t u l e) f)
-          by_low (inr g) h = let same : u ≡ t = omega arith in
-              absurd (apart (is_settled items t) (subst (λ n. is_settled items n ≡ true) same e) f)
-
-          by_order : (u < t) ⊎ (t ≤ u) → u < t
-          by_order (inl l) = l
-          by_order (inr h) = by_low (cases_lt t u) h
-
-      and_both : (a b : Bool) → a ≡ true → b ≡ true → (a && b) ≡ true
-      and_both a b f g = rw (f, g) refl
-
-      and_none : (b : Bool) → (b && false) ≡ false
-      and_none true = refl
-      and_none false = refl
+          by_order : (u < t) ⊎ (t ≤ u) → (t < u) ⊎ (u ≤ t) → u < t
+          by_order (inl l) c = l
+          by_order (inr h) (inl l) = let no : true ≡ false = sym (settled_below (marks items) t u l e) ∙ f in cc
+          by_order (inr h) (inr g) = let same : u ≡ t = omega arith in
+              let no : true ≡ false = sym e ∙ ap (is_settled items) same ∙ f in cc
 
       by_any : (b : Bool) → list_any any_at (filter (is_settled items) ts) ≡ b → late ≡ []
       by_any true e =
@@ -134,9 +117,9 @@ module _ (q : Asked) (h : Header) (ns : List Names) (items : List BodyItem) wher
           flat_none lines (filter (λ t. not (is_settled items t)) ts) (λ t i.
           let f = from_filter (λ t. not (is_settled items t)) ts t i in
           let before : list_any (λ v. nat_lt v t && any_at v) ts ≡ true = any_of (λ v. nat_lt v t && any_at v) ts u.0 at.0
-          (and_both (nat_lt u.0 t) (any_at u.0) (lt-ltb u.0 t (settled_apart t u.0 at.1 f.1)) u.2) in
+          (and_from (nat_lt u.0 t) (any_at u.0) (lt-ltb u.0 t (settled_apart t u.0 at.1 (not-true (is_settled items t) f.1))) u.2) in
           flat_none (λ p. cond (is_due q (side items) (side items) ps ts t p) (value_line (side items) (side items) p t) []) ps
-          (λ p k. rw (first, before, and_none (differs q.rule (side items) (side items) p t)) refl))
+          (λ p k. rw (first, before, and_right (differs q.rule (side items) (side items) p t) false refl) refl))
       by_any false e =
           let none : lines_where q h ns items (is_settled items) ≡ [] = flat_none lines (filter (is_settled items) ts) (λ t i.
           no_lines t (by_test t (any_at t) refl i)) in
