@@ -92,9 +92,9 @@ abbrev pub line_of_ends : Asked → Header → Header → Side → Side → List
 line_of_ends q one other a b =
     cond (ends_with q.extent (value_lines q (pairs q one other) a b)) [] (end_lines a b)
 
--- Two dumps, and the two inputs in what `merge` wrote of them: `Compare` and `Within` find the same
--- variables alone, the same pairs of different kinds, and the same differences at the same times.
--- Only `Compare` writes of time scales and of ends.
+-- `Compare` over two dumps, and `Within` over what `merge` wrote of them, find the same: variables
+-- without a counterpart, pairs of different kinds, and differences at the same times. Only
+-- `Compare` writes of time scales and of ends.
 pub record AreComparedAlike (q : Asked) (limit : ℕ) (name : List ℕ) (names : List (List ℕ))
     (inputs : List Input) (o p : Opened) (a b : Side) : Type 0 where
   pub directly : compared q limit names inputs

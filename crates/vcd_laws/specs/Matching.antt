@@ -21,8 +21,8 @@ pub record AllMatch (rule : Rule) (a b : Side) (ps : List Pair) (alone : List Na
   pub states : (p : Pair) (t : ℕ) → Contains ps p → from ≤ t → t ≤ to
       → IsFalse (differs rule a b p t)
 
--- The comparison of two parts of a dump has status 0 if and only if all of both matches, and the
--- dump has no fault, or a timestamp above the last time before it.
+-- The comparison of two parts of a dump has status 0 if and only if all of both matches. The dump
+-- may have a fault, but only after a timestamp above the last time.
 abbrev pub SuccessIsAMatch : Type 0
 SuccessIsAMatch = (q : Asked) (limit : ℕ) (ns : List Names) (name : List ℕ) (input : Input)
     (o : Opened) → Opens limit input o
@@ -32,8 +32,8 @@ SuccessIsAMatch = (q : Asked) (limit : ℕ) (ns : List Names) (name : List ℕ) 
     (flat_map (λ n. alone_in q o.header n ++ alone_in q o.header (turned n)) ns)
     (unlike_in q o.header ns) q.from q.to)
 
--- The comparison of the two inputs in what `merge` wrote has status 0 if and only if all of the
--- inputs matches, in ticks of both, up to the end of the shorter one.
+-- The comparison of two inputs in what `merge` wrote has status 0 if and only if all of the inputs
+-- matches. Times are in ticks of both, up to the end of the shorter input.
 abbrev pub SucceedsOnMatch : Asked → ℕ → List ℕ → List (List ℕ) → List Input → Opened → Opened
     → Side → Side → Type 0
 SucceedsOnMatch q limit name names inputs o p a b =

@@ -268,8 +268,8 @@ pub fn compare_of_merge()
     ensures { CompareOfMerge }
 {}
 
-/// The comparison of the two inputs in what `merge` wrote has status 0 if and only if all of the
-/// inputs matches, at every time up to the end of the shorter one.
+/// Two merged dumps compare with status 0 if and only if they match at every time, up to the end of
+/// the shorter one.
 pub fn merged_success_is_a_match()
     ensures { MergedSuccessIsAMatch }
 {}
