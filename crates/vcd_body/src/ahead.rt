@@ -5,9 +5,9 @@ ghost use Rattle.vcd_body.specs.declared.item.Form.TheVariants as form;
 ghost use Rattle.vcd_body.specs.declared.item.Item.TheVariants as item;
 ghost use Rattle.vcd_body.specs.declared.words.PhraseKind.TheVariants as kind;
 
-use crate::values::bits::Bits;
 use crate::item::{Form, Item, Regs};
 use crate::phrases::{has_room, real_text, scalar_code, vector_text};
+use crate::values::bits::Bits;
 use crate::words::{
     KeywordUse, PhraseKind, after_first, are_binary_or_known, bits_at, first_byte_of, is_comment,
     is_end, keyword_use_of, kind_by, kind_of, rest_of,

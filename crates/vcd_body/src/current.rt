@@ -2,8 +2,8 @@
 ghost use Rattle.std.specs.Prelude.{◌∷◌, ◌++◌, [], List};
 ghost use Rattle.vcd_body.specs.Names.{AreHeld, BodyItem, HasBits, HasGoodText, Header, HeadView, IsItem, IsViewOf, KeepsTable};
 
-use crate::values::bits::Bits;
 use crate::item::Item;
+use crate::values::bits::Bits;
 use crate::values::table::Table;
 use crate::values::value::Value;
 

@@ -2,8 +2,8 @@
 ghost use Rattle.std.specs.Prelude.{◌≡◌, ◌≢◌, slice_index, ℕ, ◌+◌, ◌<◌, ◌≤◌, length, true, List, drop, take, ◌∷◌, ◌^◌, ◌&&◌, not, Some, None, ◌-◌, ◌/◌, ◌%◌, IfSome};
 ghost use Rattle.vcd_body.specs.Names.{AreBinary, AreBinaryIf, AreBitsAt, Begins, InClear, IsBinaryAt, IsDigitAt, MayBe, StandsAt, StandsFor, binary_digits, bit_at, bit_in, byte, command_is, is_comment, is_empty, is_end as ends, is_value_digit as is_digit, list_all};
 
-use crate::values::bits::Bits;
 use crate::item::Section;
+use crate::values::bits::Bits;
 use std::simd::prelude::*;
 use vcd_view::{Keyword, keyword_of};
 

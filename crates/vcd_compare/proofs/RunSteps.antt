@@ -97,8 +97,8 @@ module _ {X : Type 0} {g : Ghosts X} (q : ModelAsked) (exceptions : List (List �
         let quiet = section_quiet h.codes [] x y.0 section y.1 in
         let stands = compares_still h exceptions ns items y.0 run.comparison run.watched come.stands.compares quiet.0 quiet.1 in
         goes_quiet y.0 (ap (λ (c : Comparison). c.current.asked) comparison)
-            (subst (λ (w : Watched). Compares h exceptions ns (items ++ y.0 ∷ []) run'.comparison w) (sym watched) (subst (λ (c : Comparison). Compares h exceptions ns (items ++ y.0 ∷ []) c run.watched) (sym comparison) stands))
-            (open_same h exceptions ns items y.0 run.comparison run.watched come.stands.compares quiet.0) differs (subst (GaveItems h.codes i front (items ++ y.0 ∷ []) f') (sym regs) y.2.gave)
+        (subst (λ (w : Watched). Compares h exceptions ns (items ++ y.0 ∷ []) run'.comparison w) (sym watched) (subst (λ (c : Comparison). Compares h exceptions ns (items ++ y.0 ∷ []) c run.watched) (sym comparison) stands))
+        (open_same h exceptions ns items y.0 run.comparison run.watched come.stands.compares quiet.0) differs (subst (GaveItems h.codes i front (items ++ y.0 ∷ []) f') (sym regs) y.2.gave)
 
     -- a timestamp
     module _ (t : ℕ) (forth : time_after items ≤ t) (gave : GaveItems h.codes i front (items ++ BodyItem.Time t ∷ []) f' run'.regs) (out' : Device) where

@@ -3,8 +3,8 @@ ghost use Rattle.std.specs.Prelude.{◌≡◌, ◌≤◌, ◌<◌, length, true,
 ghost use Rattle.vcd_body.specs.Names.{AreTwo, Decides, HasDigits, are_two, differs, digits_of, extend, extended, extension, held_in, model_form, str_to_ascii_lowercase, value_at_size, value_with};
 
 use crate::change::extended_by;
-use crate::values::held::{digit_count, digit_or, digit_shown, last_held};
 use crate::item::Form;
+use crate::values::held::{digit_count, digit_or, digit_shown, last_held};
 use crate::values::slot::{HeldValue, State};
 
 /// Returns the digit, in lower case, by which a text of digits is extended on the left. It is `0`

@@ -2,8 +2,8 @@
 ghost use Rattle.std.specs.Prelude.{◌≡◌, ℕ, get_or, length, slice_get};
 ghost use Rattle.vcd_body.specs.Names.{digit_in, digits_of, held_in, last_digit_in, value_at_size};
 
-use crate::values::bits::{binary_digit, count_in, last_binary};
 use crate::change::extension_of;
+use crate::values::bits::{binary_digit, count_in, last_binary};
 use crate::values::packed::{digit_at, last_packed};
 use crate::values::slot::{HeldValue, State, digit_of_state};
 

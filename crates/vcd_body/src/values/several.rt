@@ -2,8 +2,8 @@
 ghost use Rattle.std.specs.Prelude.{◌≡◌, ◌≢◌, ◌≤◌, ◌<◌, ℕ, IfSome, length, map, true, false};
 ghost use Rattle.vcd_body.specs.Names.{Held, IsLaidOut, SetsCode, TellsStep, held_at, held_digit, with_change};
 
-use crate::values::held::last_held;
 use crate::item::Form;
+use crate::values::held::last_held;
 use crate::values::packed::{ends_differ, holds_packed};
 use crate::values::slot::{State, state_in};
 use crate::values::step::{Step, step_to_text};

@@ -2,9 +2,9 @@
 ghost use Rattle.std.specs.Prelude.{◌≡◌, ◌≢◌, ◌==◌, ℕ, max, ◌+◌, ◌-◌, ◌*◌, ◌<◌, ◌≤◌, ◌∷◌, [], true, false, length, take, None, Some, slice_get, Bool};
 ghost use Rattle.vcd_body.specs.Names.{ChangesCode, ChangesSlot, Code, Held, IsHeldAs, IsLaidOut, IsUnset, KeepsTable, LeavesNumber, LeavesSteps, LeavesFlip, SetsCode, SlotsKeepLaid, StepsTo, FlipsTo, bytes_in, codes_in, end_at, held_at, held_or, is_proper, text_bytes, len_of, one_digit, set_whole, share_from, some_by, start_of, state_in, used, whole, with_held, with_number, with_step, with_steps, with_text};
 
+use crate::item::Form;
 use crate::values::bits::{Bits, held_bits, is_number_step, is_proper};
 use crate::values::counters::{count_step, count_steps};
-use crate::item::Form;
 use crate::values::packed::pack;
 use crate::values::slot::{
     HeldValue, Holding, Share, Slot, State, UPPER, digit_of_state, flipped, holding_of,

@@ -2,11 +2,11 @@
 ghost use Rattle.std.specs.Prelude.{◌≡◌, ℕ, ◌<◌, ◌≤◌, length, false};
 ghost use Rattle.vcd_body.specs.Names.{ChangesCode, ChangesRoomy, GivesShares, GivesText, GivesValue, IsLaidOut, IsStep, KeepsTable, SetsCode, SetsNumber, as_chosen, by_text, bytes_in, codes_in, codes_shown, counts_at, digit_in, held_at, is_chosen, kept_at, model_form, new_at, one_more, real_text, shown_as, value_at_size, value_in, value_with, with_change, with_number_change, with_step, with_text, with_value, with_value_change};
 
+use crate::item::Form;
 use crate::values::bits::{Bits, put_digits};
 use crate::values::compare::value_differs;
 use crate::values::counters::{CARRY, count_more, counts_of};
 use crate::values::held::{digit_shown, last_held};
-use crate::item::Form;
 use crate::values::slot::{Share, Shown, Slot, State, number_of_digit, state_in};
 use crate::values::step::{Step, step_to_text, way_of};
 use crate::values::store::{Stepped, count_in_slot, flip_at, lay_out, set_bits, set_tag, step_at};

@@ -2,8 +2,8 @@
 ghost use Rattle.std.specs.Prelude.{◌≡◌, ℕ};
 ghost use Rattle.vcd_body.specs.Names.{Kept, with_change, with_text, with_value, with_value_change};
 
-use crate::values::bits::Bits;
 use crate::item::Form;
+use crate::values::bits::Bits;
 
 /// The value of a value change.
 #[derive(Clone, Copy)]
