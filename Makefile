@@ -162,7 +162,7 @@ uninstall:
 	rm -rf "$(DESTDIR)$(PREFIX)/share/vcdkit" "$(python)" "$(documents)"
 
 completions-check:
-	completions/check.sh
+	tools/check.py completions/tests.console
 
 extras-check:
 	extras/test.sh

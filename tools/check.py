@@ -34,7 +34,7 @@ DOCUMENTS = ["README.md", "docs/TUTORIAL.md", "docs/FAQ.md", "docs/MANUAL.md",
              "docs/INTERNALS.md", "docs/RECIPES.md", "docs/MANY_DUMPS.md", "docs/PYTHON.md",
              "docs/PRODUCERS.md", "extras/README.md"]
 PROGRAM = os.path.abspath(os.path.join(TOP, os.environ.get("VCDKIT") or "vcdkit"))
-SECONDS = 60
+SECONDS = 300
 START = re.compile(r"([0-9]*)\$ (.*)")
 
 

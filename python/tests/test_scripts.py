@@ -200,7 +200,7 @@ class Scripts(Case):
                 timeout=SECONDS).stderr
 
         cases = [(name, closed) for name in SCRIPTS for closed in (
-            "<&-", "2>&-", "<&- >&- 2>&-", "2>/dev/full")]  # extras/test.sh has those of output
+            "<&-", "2>&-", "<&- >&- 2>&-", "2>/dev/full")]  # extras/tests has those of output
         with ThreadPoolExecutor(os.cpu_count()) as pool:
             for case, messages in zip(cases, pool.map(messages_of, cases)):
                 with self.subTest(script=case[0], closed=case[1]):
