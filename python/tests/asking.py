@@ -16,11 +16,12 @@ sys.path[:0] = [HERE, os.path.dirname(HERE), os.path.join(TOP, "hostile")]
 os.environ.setdefault("VCDKIT", os.path.join(TOP, "vcdkit"))
 
 import answers as by_definition
-from reference import evaluator  # type: ignore[import]
+from reference import comparison, evaluator  # type: ignore[import]
 from answers import Change, Part, Tree, Variable
 from vcdkit import Dump, DumpFault, Value, VcdkitError
 from vcdkit.questions import condition, dump
-from vcdkit.reading import library, program, source
+from vcdkit.reading import comparing, library, program, source
+from vcdkit.reading.texts import Text
 
 EACH = 100  # of so many questions one goes through the program too
 Outcome = Any
@@ -76,6 +77,16 @@ class Evaluator:
         return done
 
 
+def compared(words: Sequence[str], merged: Text) -> Iterator[bytes]:
+    """Stands for vcdkit-compare, as vcdkit.reading.comparing.lines."""
+    asked = comparison.Asked(end=int(words[words.index("--to") + 1]), extent={
+        "--first": comparison.FIRST, "--always": comparison.ALWAYS}.get(
+            words[0], comparison.EACH_PAIR))
+    with library.opened(merged) as text:
+        out: bytes = comparison.within(asked, [(b"in1", b"in2")], b"(stdin)", text.read())[0]
+    yield from out.splitlines()
+
+
 def moment_of(time: str) -> Tuple[int, Optional[int]]:
     """Returns a time as the evaluator takes it."""
     digits = time.rstrip("smunpf")
@@ -100,7 +111,7 @@ class Ways:
         evaluator.read_head = Heads()
         setattr(condition, "_Text", functools.lru_cache(maxsize=None)(Condition))
         self._evaluator = Evaluator()
-        self._library = library.run, library.changes
+        self._library, self._lines = (library.run, library.changes), comparing.lines
         self.others = [program] if program.path() else []
         if library.path():
             self.others.append(library)
@@ -110,6 +121,7 @@ class Ways:
         """Lets one of them answer, the evaluator if none is named."""
         library.run, library.changes = self._library if way is library else (
             self._evaluator.run, lambda *_: None)
+        comparing.lines = self._lines if way else compared
         source.way = dump.way = lambda: way or library  # type: ignore[assignment]
 
 

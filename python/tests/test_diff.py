@@ -17,7 +17,6 @@ import xml.etree.ElementTree as xml
 sys.path.insert(0, ABOVE := os.path.dirname(os.path.dirname(os.path.abspath(__file__))))
 os.environ.update(VCDKIT=os.environ.get("VCDKIT", ABOVE + "/../vcdkit"), VCDKIT_WAY="program")
 from vcdkit.commands import diff
-from vcdkit.questions import compare
 
 # The variables: their scope, name, type, size and code; two have one code, and two one path.
 VARIABLES = [("t", "c", "wire", 1, "!"), ("t", "q", "reg", 4, '"'), ("t", "r", "real", 64, "@"),
@@ -361,7 +360,6 @@ def wrong(seed):
         "": [], "01": ["--rise=t.c"], "10": ["--fall=t.c"]}[asked["edge"]]
     if asked["common"] and not is_mapped:
         return []
-    compare.BLOCK = of.choice([9, 1 << 16])
     with contextlib.ExitStack() as stack:
         files = [stack.enter_context(tempfile.NamedTemporaryFile("w")) for _ in texts]
         for file, text in zip(files, texts):

@@ -33,6 +33,7 @@ examples:
   vcdkit-diff --map TOP.tb=tb --common --rise tb.clk verilator.vcd icarus.vcd
   vcdkit-diff --every --junit diff.xml --except tb.dut.seed golden.vcd sim.vcd"""
 import argparse
+import contextlib
 import os
 import sys
 from concurrent.futures import ThreadPoolExecutor
@@ -47,8 +48,8 @@ from ..model.names import hint
 from ..model.signals import Signal
 from ..model.times import LAST_TICK, amount_of
 from ..model.values import Cell, value_in
-from ..questions.compare import (Comparison, Difference, Pair, Side, Sides, choose, in_common, kind,
-                                 same_within)
+from ..questions.compare import (ALWAYS, EACH_PAIR, FIRST, Comparison, Difference, Pair, Side,
+                                 Sides, choose, in_common, kind, same_within)
 from ..questions.dump import Dump
 from ..reading.files import check_outputs, write
 from . import (FAULT, LAST, after_end, check_begin, command, dump_of, is_part, parser, part_of,
@@ -65,7 +66,8 @@ Line = Tuple[Any, ...]  # a kind, and its fields; a time is in ticks of A, an en
 
 
 class Lines:
-    """The lines of each kind, which are written as they come, and go to a JUnit file."""
+    """The lines of each kind, which are written as they come, and go to a JUnit file. Without that,
+    only the first one of each kind is kept."""
 
     def __init__(self, asked: argparse.Namespace):
         self._asked = asked
@@ -88,18 +90,20 @@ class Lines:
         """Writes lines of a kind."""
         kept = self.lines.setdefault(what, [])
         for line in lines:
-            kept.append(self._text(line))
+            text = self._text(line)
+            if self._asked.junit is not None or not kept:
+                kept.append(text)
             if self._asked.json:
                 values = [in_json(one, self._asked.form) if what == "differs" and at > 2 else one
                           for at, one in enumerate(line)]
                 write_json(dict(zip(("kind", *FIELDS[what]), values)))
             else:
-                print(kept[-1])
+                print(text)
         sys.stdout.flush()
 
     def say_some(self, what: str, lines: List[Line]) -> None:
         """Writes lines of a kind, the first ones if they are many and --every is not given."""
-        rest = 0 if self._asked.every else len(lines) - MAX_LINES
+        rest = len(lines) - MAX_LINES if self._asked.extent == FIRST else 0
         self.say(what, lines if rest <= 0 else lines[:MAX_LINES])
         if rest > 0:
             front = " ".join(map(str, lines[0][:1 + (what == "alone")]))
@@ -231,6 +235,21 @@ def write_parts(report: Lines, sides: Sides, times: Sequence[int], spans: Sequen
         report.say_file("window", path)
 
 
+def say_values(report: Lines, asked: argparse.Namespace, comparison: Comparison
+               ) -> List[Difference]:
+    """Says where values differ, and returns the first difference of each pair."""
+    first: Dict[Tuple[int, int], Difference] = {}
+    with contextlib.closing(comparison.differences()) as differences:
+        for found in differences:
+            for one in found:
+                first.setdefault(one.pair.places, one)
+            report.say_some("differs", lines_of(found))
+            if asked.extent == FIRST:
+                break
+    report.say("differs", [])
+    return [*first.values()]
+
+
 def compare(asked: argparse.Namespace, report: Lines) -> None:
     """Says all that differs."""
     sides = sides_of(asked)
@@ -243,29 +262,22 @@ def compare(asked: argparse.Namespace, report: Lines) -> None:
         raise UsageError("the dumps have no name in common: --map OLD=NEW gives a scope another")
     say_headers(report, sides, apart, asked.common)
     same = same_within(asked.tolerance, asked.x_matches)
-    comparison = Comparison(sides, pairs, same, clocks,
+    comparison = Comparison(sides, pairs, same, asked.extent, clocks,
                             (b"0", b"1") if asked.rise else (b"1", b"0"))
-    differences = comparison.differences() if pairs else iter(())
-    first: Optional[List[Difference]] = None
-    every: List[Difference] = []
-    for found in differences:
-        first = first or found
-        every += found
-        report.say_some("differs", lines_of(found))
-        if not asked.every:
-            break
-    report.say("differs", [])
+    found = say_values(report, asked, comparison)
     for side, count in zip(sides, comparison.counts):
         if clocks and pairs and not count:
             raise UsageError("%s: %s never %s" % (
                 side.dump.name, name, "rises" if asked.rise else "falls"))
-    if not asked.common and not (clocks and first):
+    if not asked.common and not (clocks and found):
         say_ends(report, sides, comparison, bool(clocks))
-    if first and asked.context:
-        write_parts(report, sides, first[0].times, spans, asked.into or ".")
-    if first and asked.html is not None:
+    if not pairs and not report.differs():
+        raise UsageError("no variable is compared")
+    if found and asked.context:
+        write_parts(report, sides, found[0].times, spans, asked.into or ".")
+    if found and asked.html is not None:
         page = page_of_two.texts_of(
-            sides, comparison.factors, every, clocks, same,
+            sides, comparison.factors, found, clocks, same,
             spans[0] * comparison.factors[0] if spans else None)
         write(asked.html, (text.encode("ascii") for text in page))
         report.say_file("page", asked.html)
@@ -309,8 +321,13 @@ def words_of(words: List[str]) -> argparse.Namespace:
                          "either dump matches any digit")
     options.window()
     options.clock("compare at the %s edges of this signal", is_one=True)
-    options.add_argument("--every", action="store_true", help="show the first difference of each "
-                         "signal, without the limit of %d lines of each kind" % MAX_LINES)
+    extent = options.add_mutually_exclusive_group()
+    extent.add_argument("--every", dest="extent", action="store_const", const=EACH_PAIR,
+                        default=FIRST, help="show the first difference of each signal, without the "
+                        "limit of %d lines of each kind" % MAX_LINES)
+    extent.add_argument("--always", dest="extent", action="store_const", const=ALWAYS,
+                        help="as --every, but each time at which values differ and one of the two "
+                        "is written")
     options.add_argument("--junit", metavar="FILE", help="also write a JUnit report, with a test "
                          "for each kind of line")
     options.add_argument("--context", metavar="TIME", help="if values differ, write both dumps "

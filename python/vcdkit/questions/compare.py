@@ -2,21 +2,28 @@
 
 A value is as a body has it: the fewest digits, or r and a real number. So equal values of one size
 have equal digits."""
-import contextlib
+import heapq
+import itertools
+import re
 from math import gcd, isclose, isnan
-from typing import (Callable, Dict, Generator, Iterator, List, NamedTuple, Optional,
-                    Sequence, Set, Tuple, Union)
+from operator import itemgetter
+from typing import (Callable, Dict, Generator, Iterator, List, NamedTuple, Optional, Sequence, Set,
+                    Tuple, Union)
 
 from ..errors import UnknownName, UsageError
 from ..model.names import bare, fronts, full_names, hint, names_for, places_of
 from ..model.signals import Signal
-from ..model.times import Timescale
+from ..model.times import LAST_TICK, Timescale
 from ..model.values import full, real_of
-from ..reading import body
-from ..reading.source import Source, merge
+from ..reading import body, header
+from ..reading.comparing import Line, differing, keys_in
+from ..reading.source import Source
+from ..reading.texts import Headed
 from .picked import MAX_NAMES
 
-BLOCK = 1 << 16
+BLOCK = 1 << 18
+# Which differences are due, as vcdkit-compare calls it; the second is the first one of each pair.
+FIRST, EACH_PAIR, ALWAYS = "--first", "", "--always"
 Values = Tuple[Optional[bytes], Optional[bytes]]
 Same = Callable[[Optional[bytes], Optional[bytes]], bool]
 
@@ -41,12 +48,7 @@ class Difference(NamedTuple):
     values: Values
 
 
-class Moment(NamedTuple):
-    """The changes that count as one: a number that both dumps have in common, and the time."""
-
-    at: int
-    time: int
-    changes: Dict[bytes, bytes]
+Found = Tuple[Tuple[int, int], List[Tuple[int, Values]]]  # times, and the pairs that differ then
 
 
 def kind(signal: Signal) -> Union[str, int]:
@@ -62,6 +64,7 @@ class Side:
         self.dump = dump
         self.report, self.scale = self.dump.check(), self.dump.timescale
         self.signals = list(self.dump.signals)
+        self.keys = list(keys_in(one.path for one in self.signals))
         self.found: Set[str] = set()
         self.mapped: Set[str] = set()
         self.names = [self._mapped(one.path, maps) for one in self.signals]
@@ -230,153 +233,110 @@ def same_within(tolerance: float, x_matches: bool = False) -> Same:
     return same
 
 
-# Texts that are alike are read at the speed of `cut`.
-
-def _count_alike(one: bytes, other: bytes) -> int:
-    """Returns how many bytes two texts have alike at their begin."""
-    pairs = enumerate(zip(one, other))
-    return next((at for at, (mine, its) in pairs if mine != its), min(len(one), len(other)))
-
-
-def _alike_until(dumps: Sequence[Source]) -> Optional[int]:
-    """Returns the last timestamp before the bodies of two dumps differ; None if they do not."""
-    time, tail = 0, b"\n"
-    with dumps[0].body() as one, dumps[1].body() as other:
-        while True:
-            mine, its = one.read(BLOCK), other.read(BLOCK)
-            is_alike = mine == its
-            if is_alike and not mine:
-                return None
-            text = tail + (mine if is_alike else mine[:_count_alike(mine, its)])
-            found = body.last_time(text)
-            time = time if found is None else found
-            if not is_alike:
-                return time
-            tail = text[-32:]  # longer than a timestamp
-
-
-def _of_one_code(sides: Sides, pairs: Sequence[Pair]) -> Optional[List[Source]]:
-    """Returns dumps of the pairs in which both signals of each have one code; None if there are
-    none, as the order of declaration differs."""
-    counts = {len(pairs), *(len(side.signals) for side in sides)}
-    if len(counts) == 1 and all(a == b for a, b in (pair.codes for pair in pairs)):
-        return [side.dump.cut() for side in sides]
-    orders = [sorted(pairs, key=lambda pair: pair.places[side]) for side in (0, 1)]
-    if orders[0] != orders[1]:
-        return None
-    parts = [side.picked([pair.signals[at].path for pair in pairs])
-             for at, side in enumerate(sides)]
-    made = [merge(part) for part in parts if part]  # it gives codes anew
-    if len(made) < 2:
-        return None
-    codes = []
-    for at, dump in enumerate(made):
-        paths, _, _, its = dump.signals.columns()
-        if paths != ["in1." + pair.signals[at].path for pair in orders[at]]:
-            return None
-        codes.append(its)
-    return made if codes[0] == codes[1] else None
-
-
-# Bodies that are not alike.
-
-def _together(steps: Sequence[Iterator[Moment]]) -> Iterator[List[Optional[Moment]]]:
-    """Returns the steps of two dumps in order; None for one that has no step with this number."""
-    heads = [next(step, None) for step in steps]
-    while any(heads):
-        now = min(head.at for head in heads if head)
-        taken = [head if head and head.at == now else None for head in heads]
-        yield taken
-        heads = [next(step, None) if one else head
-                 for step, one, head in zip(steps, taken, heads)]
+def _unscaled(dump: Source) -> Source:
+    """Returns a dump without its time scale."""
+    part = dump.cut()
+    front = re.sub(rb"(?m)^\$timescale\n.*\n\$end\n", b"", part.header_text(), 1)
+    return dump.like(Headed(front, part.text))
 
 
 class Comparison:
     """The comparison of pairs: at each time, or at the edges of a clock that both have."""
 
-    def __init__(self, sides: Sides, pairs: List[Pair], same: Same,
+    def __init__(self, sides: Sides, pairs: List[Pair], same: Same, extent: str,
                  clocks: Sequence[Signal] = (), edge: Tuple[bytes, bytes] = (b"", b"")):
-        self._sides, self._pairs, self._same = sides, pairs, same
+        self._sides, self._pairs, self._same, self._extent = sides, pairs, same, extent
         self._clocks, self._edge = clocks, edge
         self.factors = factors_of([side.scale for side in sides])
         self.counts = [0, 0]  # of edges, up to now
-        self._tables: List[Dict[bytes, List[int]]] = [{}, {}]  # of each code its pairs
-        for number, pair in enumerate(pairs):
-            for table, code in zip(self._tables, pair.codes):
-                table.setdefault(code, []).append(number)
-        self._codes = [pair.codes[0] for pair in pairs], [pair.codes[1] for pair in pairs]
-        self._events = {number for number, pair in enumerate(pairs)
-                        if kind(pair.signals[0]) == "event"}
 
-    def differences(self) -> Iterator[List[Difference]]:
-        """Returns the first difference of each pair, those of one time together."""
-        begin: Optional[int] = 0
-        if not self._clocks and self.factors[0] == self.factors[1]:
-            alike = _of_one_code(self._sides, self._pairs)
-            begin = _alike_until(alike) if alike else 0
-        if begin is not None:
-            with contextlib.ExitStack() as stack:
-                yield from self._compared([stack.enter_context(contextlib.closing(
-                    self._steps_of(at, begin))) for at in (0, 1)])
-
-    def _steps_of(self, at: int, begin: int) -> Generator[Moment, None, None]:
-        """Returns the changes of each time of one side, or from each edge of its clock to the time
-        before the next one."""
-        side, factor, codes = self._sides[at], self.factors[at], set(self._tables[at])
-        clocks = [self._clocks[at]] if self._clocks else []
-        part = side.picked([*(pair.signals[at].path for pair in self._pairs),
-                            *(clock.path for clock in clocks)]) or side.dump
-        for clock in clocks:
-            edges = body.at_edges(part, [], codes, [(clock.code.encode(), *self._edge)])
-            for number, (time, changes) in enumerate(edges):
-                yield Moment(number, time, dict(changes))
-        for time, before, changes in () if clocks else body.steps(
-                part.cut(begin, self._end() // factor), codes):
-            yield Moment(time * factor, time, dict(before + changes))
-
-    def _end(self) -> int:
-        """Returns the last time that both have, in ticks of both."""
-        return min((side.report.last or 0) * factor
-                   for side, factor in zip(self._sides, self.factors))
-
-    def _compared(self, steps: Sequence[Iterator[Moment]]) -> Iterator[List[Difference]]:
+    def differences(self) -> Generator[List[Difference], None, None]:
+        """Returns the differences of each time together."""
+        if not self._pairs:
+            return
         left = set(range(len(self._pairs)))
-        states: List[Dict[bytes, bytes]] = [{}, {}]
-        for taken in _together(steps):
-            self.counts = [count + bool(one) for count, one in zip(self.counts, taken)]
-            if self._clocks and None in taken:
-                continue
-            touched: Set[int] = set()
-            for step, table, state in zip(taken, self._tables, states):
-                if step:
-                    state.update(step.changes)
-                    touched.update(*(table.get(code, ()) for code in step.changes))
-            found = self._differing(touched & left, taken, states)
-            if found:
+        for times, its in self._at_edges() if self._clocks else self._at_times():
+            found = [one for one in its if one[0] in left]
+            if self._extent != ALWAYS:
                 left.difference_update(number for number, _ in found)
-                times = self._times(taken)
+            if found:
                 yield [Difference(times, self._pairs[number], values) for number, values in found]
 
-    def _differing(self, numbers: Set[int], taken: Sequence[Optional[Moment]],
-                   states: Sequence[Dict[bytes, bytes]]) -> List[Tuple[int, Values]]:
-        """Returns those of the pairs whose values differ, with these; of events whether they are
-        triggered."""
-        mine, its = states
-        triggered = [step.changes if step else {} for step in taken]
-        codes, others = self._codes
-        found = []
-        suspects = {number for number in numbers
-                    if mine.get(codes[number]) != its.get(others[number])}
-        for number in suspects | numbers & self._events:
-            one, other = triggered if number in self._events else states
-            values = one.get(codes[number]), other.get(others[number])
-            if not self._same(*values):
-                found.append((number, values))
-        return found
+    def _at_times(self) -> Iterator[Found]:
+        # Where values that are not equal may be the same, each time at which they are not counts.
+        numbers: List[List[int]] = [[], []]
+        for number, pair in enumerate(self._pairs):
+            is_loose = kind(pair.signals[0]) == "real" or self._same(b"x", b"1")
+            numbers[is_loose].append(number)
+        lines = heapq.merge(
+            self._lines(numbers[False], self._extent),
+            (line for line in self._lines(numbers[True], ALWAYS) if not self._same(*line[2])),
+            key=itemgetter(0))
+        for at, its in itertools.groupby(() if self._is_one_body() else lines, itemgetter(0)):
+            yield (at // self.factors[0], at // self.factors[1]), [line[1:] for line in its]
 
-    def _times(self, taken: Sequence[Optional[Moment]]) -> Tuple[int, int]:
-        """Returns the time of a step in the ticks of each."""
-        at = next(step.at for step in taken if step)
-        one, other = (step.time if step else at // factor
-                      for step, factor in zip(taken, self.factors))
-        return one, other
+    def _is_one_body(self) -> bool:
+        """Whether both dumps have one body, byte for byte, and each pair has one code in it: then
+        no value differs. It is much faster than to look at the values."""
+        if self.factors[0] != self.factors[1] or any(
+                one != other for one, other in (pair.codes for pair in self._pairs)):
+            return False
+        with self._sides[0].dump.open() as one, self._sides[1].dump.open() as other:
+            is_equal = header.BODY in one and header.BODY in other
+            while is_equal:
+                text = one.read(BLOCK)
+                is_equal = text == other.read(BLOCK)
+                if not text:
+                    break
+        return is_equal
+
+    def _lines(self, numbers: List[int], extent: str) -> Iterator[Line]:
+        """Returns the lines of some of the pairs."""
+        if not numbers:
+            return
+        pairs, dumps, end = [self._pairs[number] for number in numbers], [], LAST_TICK
+        for at, (side, factor) in enumerate(zip(self._sides, self.factors)):
+            # To pick most signals takes longer than to merge all.
+            part = (side.picked([pair.signals[at].path for pair in pairs])
+                    if 2 * len(pairs) < len(side.signals) else None)
+            dumps.append(part or side.dump)
+            # A merge takes a dump without a time scale for one of seconds.
+            if side.scale and not self._sides[1 - at].scale:
+                dumps[at] = _unscaled(dumps[at])
+            end = min(end, (side.report.last or 0) * factor)
+        keys = [[side.keys[place] for side, place in zip(self._sides, pair.places)]
+                for pair in pairs]
+        words = [*filter(None, [extent]), "--to", str(end)]
+        for time, at, values in differing(dumps, keys, words):
+            yield time, numbers[at], values
+
+    def _edges_of(self, at: int) -> Iterator[Tuple[int, body.Changes]]:
+        side, clock = self._sides[at], self._clocks[at]
+        part = side.picked([*(pair.signals[at].path for pair in self._pairs), clock.path])
+        return body.at_edges(part or side.dump, [], {pair.codes[at] for pair in self._pairs},
+                             [(clock.code.encode(), *self._edge)])
+
+    def _at_edges(self) -> Iterator[Found]:
+        codes = [pair.codes for pair in self._pairs]
+        events = [kind(pair.signals[0]) == "event" for pair in self._pairs]
+        tables: List[Dict[bytes, List[int]]] = [{}, {}]  # of each code its pairs
+        for number, pair in enumerate(codes):
+            for table, code in zip(tables, pair):
+                table.setdefault(code, []).append(number)
+        states: List[Dict[bytes, bytes]] = [{}, {}]
+        for edges in itertools.zip_longest(self._edges_of(0), self._edges_of(1)):
+            self.counts = [count + bool(edge) for count, edge in zip(self.counts, edges)]
+            if None in edges:
+                continue
+            changes = [dict(its) for _, its in edges]
+            touched: Set[int] = set()
+            for its, table, state in zip(changes, tables, states):
+                state.update(its)
+                touched.update(*(table.get(code, ()) for code in its))
+            found = []
+            for number in touched:
+                one, other = changes if events[number] else states
+                values = one.get(codes[number][0]), other.get(codes[number][1])
+                if not self._same(*values):
+                    found.append((number, values))
+            yield (edges[0][0], edges[1][0]), found

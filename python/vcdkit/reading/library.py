@@ -11,8 +11,9 @@ from array import array
 from typing import Any, BinaryIO, Dict, Iterator, List, Optional, Sequence, Tuple, Union
 
 from ..errors import RunFailed, UnknownName, VcdkitError, error_of
+from . import header
 from .program import FAULT, not_started
-from .texts import PACKAGE, Bytes, File, Made, Text
+from .texts import PACKAGE, Bytes, File, Headed, Made, Text
 
 Data = Union[bytes, mmap.mmap]
 OUT_OF_MEMORY = 4  # of vcdkit_run
@@ -129,6 +130,9 @@ def _read(text: Text) -> Tuple[Data, Optional[VcdkitError]]:
     """Returns the bytes of a text up to its end, or up to the error with which it ends."""
     if isinstance(text, Bytes):
         return text.data, None
+    if isinstance(text, Headed):
+        data, error = _read(text.of)
+        return text.front + bytes(data).partition(header.BODY)[2], error
     return _made(text) if isinstance(text, Made) else (_bytes_of(text), None)
 
 

@@ -11,8 +11,8 @@ import threading
 from typing import BinaryIO, Dict, Iterator, List, Optional, Sequence, Union, cast
 
 from ..errors import RunFailed, UnknownName, VcdkitError, error_of
-from . import progress
-from .texts import Bytes, File, Text, installed
+from . import header, progress
+from .texts import Bytes, File, Headed, Text, installed
 
 
 def path() -> Optional[str]:
@@ -20,6 +20,17 @@ def path() -> Optional[str]:
     or is on the PATH; `None` if there is none."""
     named = os.environ.get("VCDKIT")
     return shutil.which(named) if named else installed("vcdkit")
+
+
+def comparer() -> str:
+    """Returns the vcdkit-compare that comes with vcdkit: the one beside it, or beside the file to
+    which it is a link."""
+    its = path() or ""
+    for one in its, os.path.realpath(its):
+        found = shutil.which(os.path.join(os.path.dirname(one), "vcdkit-compare"))
+        if found:
+            return found
+    raise RunFailed("there is no program vcdkit-compare beside vcdkit: install both")
 
 
 def refusal() -> str:
@@ -55,8 +66,10 @@ FAULT = b"\n\x01\n"
 
 
 class _Part:
-    """A running program, and what it calls its inputs. If it fails and a merge reads what it
-    writes, a fault comes after that: at an end, the merge would go on with the other dumps."""
+    """A running program, and what it calls its inputs. If it fails and a merge or a comparison
+    reads what it writes, a fault comes after that: an end would seem to be that of the dump."""
+
+    answer = 0  # the greatest status that is an answer and no failure
 
     def __init__(self, words: Sequence[str], stdin: Union[BinaryIO, int], names: Dict[str, str],
                  of: Optional[Text], pass_fds: Sequence[int] = (), is_merged: bool = False):
@@ -91,6 +104,9 @@ class _Part:
             said.seek(0)
             self.said = said.read().decode(errors="backslashreplace").strip()
 
+    def has_failed(self) -> bool:
+        return not 0 <= self.status <= self.answer
+
     def ended_early(self) -> bool:
         """Whether the next program did not read on: a script says so as a shell does."""
         return (self.status in (-signal.SIGPIPE, 128 + signal.SIGPIPE)
@@ -113,6 +129,8 @@ class _Pipe:
     def __init__(self) -> None:
         self.files: List[File] = []
         self.parts: List[_Part] = []
+        self.threads: List[threading.Thread] = []
+        self.errors: List[Exception] = []  # of threads
         progress.running.append(self.part_read)
 
     def start(self, words: Sequence[str], stdin: Optional[BinaryIO], names: Dict[str, str],
@@ -128,7 +146,8 @@ class _Pipe:
         return self.parts[-1].out
 
     def feed(self, text: Text, is_merged: bool = False) -> BinaryIO:
-        """Returns a file from which the text can be read, by a merge if `is_merged`."""
+        """Returns a file from which the text can be read; with `is_merged` it has no end before the
+        text's."""
         if isinstance(text, File):
             self.files.append(text)
             filters = text.filters()
@@ -141,11 +160,18 @@ class _Pipe:
             kept.write(text.data)
             kept.seek(0)
             return kept
+        if isinstance(text, Headed):
+            return self.head(text, is_merged)
         program = path()
         if not program:
             raise RunFailed(refusal())
         if os.environ.get("VCDKIT") and not is_vcdkit(program):
             raise RunFailed("%s, which VCDKIT names, is no vcdkit" % program)
+        if text.command == "compare":
+            words, file = [comparer(), *text.words], self.feed(text.of[0], True)
+            out = self.start(words, file, {"(stdin)": text.name}, None)
+            self.parts[-1].answer = 1
+            return out
         files = [self.feed(one, is_merged or text.command == "merge") for one in text.of]
         if text.command != "merge":
             return self.start([program, text.command, *text.words], files[0],
@@ -159,6 +185,28 @@ class _Pipe:
         finally:
             for file in files[1:]:
                 file.close()
+
+    def head(self, text: Headed, is_merged: bool) -> BinaryIO:
+        """Returns a file from which a text with another header can be read."""
+        file = self.feed(text.of, is_merged)
+        reader, writer = os.pipe()
+        self.threads.append(threading.Thread(
+            target=self._pass_on, args=[text.front, file, os.fdopen(writer, "wb")], daemon=True))
+        self.threads[-1].start()
+        return cast(BinaryIO, os.fdopen(reader, "rb"))
+
+    def _pass_on(self, front: bytes, file: BinaryIO, to: BinaryIO) -> None:
+        """Writes a header, and what comes behind the header of a file; behind that a fault, unless
+        all of it is there."""
+        with contextlib.suppress(BrokenPipeError), file, to:
+            try:
+                to.write(front if header.BODY in file else FAULT)
+                shutil.copyfileobj(file, to, 1 << 16)
+            except BrokenPipeError:
+                raise
+            except Exception as error:  # pylint: disable=broad-except
+                self.errors.append(error)
+                to.write(FAULT)
 
     def part_read(self) -> Optional[float]:
         """Returns how much of its first file is read, as a part of 1; `None` if that cannot be
@@ -176,18 +224,25 @@ class _Pipe:
         progress.running.remove(self.part_read)
         for part in self.parts:
             part.finish()
+        for thread in self.threads:
+            thread.join()
         for file in self.files:
             file.check()
         for at, part in enumerate(self.parts):
             is_last = at == len(self.parts) - 1
-            if part.status and (is_last or not part.ended_early()):
+            if part.has_failed() and (is_last or not part.ended_early()):
                 raise part.error()
+        for error in self.errors:
+            raise error
 
     def stop(self) -> None:
         """Ends all that still run."""
         progress.running.remove(self.part_read)
         for part in self.parts:
             part.process.terminate()
+        for thread in self.threads:
+            thread.join()
+        for part in self.parts:
             part.out.close()
             part.finish()
 

@@ -145,7 +145,8 @@ class Bytes(NamedTuple):
 
 
 class Made(NamedTuple):
-    """What `vcdkit COMMAND WORDS..` writes of other texts: of one, or for `merge` of some."""
+    """What `vcdkit COMMAND WORDS..` writes of other texts: of one, or for `merge` of some. For
+    `compare` it is what vcdkit-compare writes."""
 
     command: str
     words: Tuple[str, ...]
@@ -158,4 +159,16 @@ class Made(NamedTuple):
         return "merge of " + names if self.command == "merge" else names
 
 
-Text = Union[File, Bytes, Made]
+class Headed(NamedTuple):
+    """A text that vcdkit writes, with another header, to the end of its last line."""
+
+    front: bytes
+    of: "Text"
+
+    @property
+    def name(self) -> str:
+        """What a fault of it is called."""
+        return self.of.name
+
+
+Text = Union[File, Bytes, Made, Headed]
