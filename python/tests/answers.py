@@ -789,7 +789,7 @@ def factors_of(scales: Sequence[Optional[int]]) -> List[int]:
 def compare(dumps: Sequence[Dump], asked: Compare) -> Tuple[List[str], bool]:
     """The lines of vcdkit-diff, and whether it refuses the question: a window that begins after the
     end of a dump, a NAME that is not in both dumps, an exception that is in neither, no clock,
-    nothing in common, or no edge."""
+    nothing in common, no edge, or no line where no variable is compared."""
     whole, dumps = dumps, windows(dumps, asked)
     if any(part.begin > last_time(dump) for part, dump in zip(dumps, whole)):
         return [], True
@@ -813,7 +813,8 @@ def compare(dumps: Sequence[Dump], asked: Compare) -> Tuple[List[str], bool]:
                      for dump in dumps] if fit else [0, 0]
     if asked.edge and fit and 0 in edges_of_each:
         return lines, True
-    return lines + ends(dumps, edges_of_each, asked, bool(found)), False
+    lines += ends(dumps, edges_of_each, asked, bool(found))
+    return lines, not fit and not lines
 
 
 def in_order(one: List[Variable], other: List[Variable]) -> List[List[Variable]]:
@@ -843,7 +844,7 @@ def ends(dumps: Sequence[Dump], counts: Sequence[int], asked: Compare, is_differ
     if asked.edge:
         return ["edges %d %d" % tuple(counts)] * (counts[0] != counts[1] and not is_different)
     factors = factors_of([dump.tick for dump in dumps])
-    last = [dump.times[-1] * factor if dump.times else None for dump, factor in zip(dumps, factors)]
+    last = [max([0, *dump.times]) * factor for dump, factor in zip(dumps, factors)]
     texts = [time_text(dump.tick, dump.times[-1]) if dump.times else "-" for dump in dumps]
     return ["ends %s %s" % tuple(texts)] * (last[0] != last[1])
 

@@ -440,10 +440,45 @@ def tried():
             os.chdir(here)
 
 
+REAL = os.path.abspath(os.environ["VCDKIT"])
+WRAPPED = "#!/bin/sh\n[ \"$1\" != merge ] || { %%s; }\nexec '%s' \"$@\"\n" % REAL
+MERGES = ["exit 3", "kill -9 $$", *("'%s' \"$@\" | head -c %d; %s" % (REAL, length, end)
+                                  for length in (9, 100, 180, 9999)
+                                  for end in ("exit 1", "kill -9 $$"))]
+COMPARES = ["exit 0", "kill -9 $$", *("echo compared %d; exit" % count for count in (0, 1, 9)),
+            "echo alone A in1.p0; echo compared 2; exit 1", "cat > /dev/null; kill -9 $$",
+            "'%s-compare' \"$@\"; kill -9 $$" % REAL, "'%s-compare' \"$@\"; exit 3" % REAL]
+
+
+def failing():
+    """What is wrong if a merge or vcdkit-compare fails, or there is none: there is a message, and
+    the status is never that of an answer, although two dumps are the same."""
+    with tempfile.TemporaryDirectory() as folder:
+        def program(name, text):
+            with open(os.path.join(folder, name), "w", encoding="ascii") as file:
+                file.write(text)
+            os.chmod(file.name, 0o755)
+            return file.name
+
+        dumps = [program(name, FILES["a"] + end) for name, end in (("a", ""), ("b", "\n"))]
+        for merge, compare in [("", None), *((one, "") for one in MERGES),
+                               *(("", one) for one in COMPARES), ("", "")]:
+            os.environ["VCDKIT"] = program("vcdkit", WRAPPED % (merge or ":"))
+            if compare is not None:
+                program("vcdkit-compare", "#!/bin/sh\n%s\nexec '%s-compare' \"$@\"\n" % (
+                    compare, REAL))
+            for words in dumps, ["--every", *dumps], [*dumps, "t.q"]:
+                out, text, status = said(words)
+                is_refused = status in (2, 3) and text[:13] == "vcdkit-diff: "
+                if out or (is_refused if (merge, compare) == ("", "") else not is_refused):
+                    yield "%s, %s" % (merge, compare), words, "a refusal", (out, text, status)
+    os.environ["VCDKIT"] = REAL
+
+
 if __name__ == "__main__":
     with multiprocessing.Pool() as pool:
         found = sum(pool.map(wrong, range(int(os.environ.get("COUNT", 1000))), 5), [])
-    found += tried()
+    found += [*tried(), *failing()]
     for one in sorted(found, key=lambda one: len(one[1]))[:3]:
         print("%s: of\n%s\n  wanted: %s\n  got:    %s" % one)
     sys.exit("%d answers are wrong" % len(found) if found else 0)

@@ -317,8 +317,9 @@ def same_lines(of: Asker, words: List[str], said: Said, sides: Sides, found: Lis
     kinds = [row[0] for row in wanted]
     if not asked.every and any(kinds.count(kind) > MAX_LINES for kind in kinds):
         wanted = [row for row in wanted if row in got]
-    of.same("diff", words, (said.status, sorted(got, key=key), said.message),
-            (int(bool(wanted)), sorted(wanted, key=key), ""))
+    is_refused = not sides.pairs and not wanted
+    of.same("diff", words, (said.status, sorted(got, key=key), bool(said.message)),
+            (2 if is_refused else int(bool(wanted)), sorted(wanted, key=key), is_refused))
 
 
 def last_of(dump: Dump, window: Window) -> Optional[int]:
@@ -327,8 +328,8 @@ def last_of(dump: Dump, window: Window) -> Optional[int]:
 
 
 def moment(dump: Dump, time: Optional[int]) -> Any:
-    """Returns a time in femtoseconds, if the dump has a time scale."""
-    return None if time is None else time * (dump.tick or 1)
+    """Returns a time in femtoseconds, if the dump has a time scale; 0 without a timestamp."""
+    return (time or 0) * (dump.tick or 1)
 
 
 # ---- The windows around the first difference.

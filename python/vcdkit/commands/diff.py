@@ -206,14 +206,13 @@ def say_headers(report: Lines, sides: Sides, apart: Sequence[Pair], is_common: b
 
 
 def say_ends(report: Lines, sides: Sides, comparison: Comparison, has_clock: bool) -> None:
-    """Says whether one of them is longer."""
+    """Says whether one of them is longer. Without a timestamp, a dump ends at 0."""
     if has_clock:
         report.say("edges", [("edges", *comparison.counts)]
                    if len(set(comparison.counts)) > 1 else [])
         return
     ends = [side.report.last for side in sides]
-    spans = {end if end is None else end * factor
-             for end, factor in zip(ends, comparison.factors)}
+    spans = {(end or 0) * factor for end, factor in zip(ends, comparison.factors)}
     report.say("ends", [("ends", *ends)] if len(spans) > 1 else [])
 
 

@@ -22,7 +22,9 @@ class Surroundings:
     def __init__(self, sides: Sides, factors: Tuple[int, int], first: Difference, span: int):
         self.mark, other = (time * factor for time, factor in zip(first.times, factors))
         self.later, self.factors = (0, self.mark - other), factors
-        self.begin = max(self.mark - span, 0)
+        self.begin = max(self.mark - span, 0, min(
+            side.dump.begin() * factor + later
+            for side, factor, later in zip(sides, factors, self.later)))
         # Of each dump, in its own ticks.
         self.parts = [Window(max(self.begin - later, 0) // factor, 1 + min(
             (self.mark + span - later) // factor, side.report.last or 0))
