@@ -223,6 +223,9 @@ class Data(Case):
             streams.MAX_CHANGES = was
         for path, status in ((os.path.join(self.folder.name, "none", "page.html"), 3), (page, 1)):
             self.assertEqual(run(diff, "--html", path, NESTED, slow)[0], status)
+        self.assertEqual(run(diff, "--html", page, "--from", "20ns", NESTED, fast)[0], 1)
+        with open(page, encoding="ascii") as file:
+            self.assertEqual(int(data_of(file.read())["begin"]), 200)
 
 
     def test_more_ticks_than_a_page_has(self):

@@ -700,6 +700,24 @@ class Rules(Case):
             lines = said("vcdkit-diff", *words, one, other)
             self.assertEqual(lines, [wanted, "status 1"] if wanted else ["status 0"], words)
         self.assertEqual(said("vcdkit-diff", "--from", "21ns", one, other), ["status 2"])
+        self.assertEqual(said("vcdkit-diff", "--always", one, other), [
+            v % ("0ns", "0000", "xxxx"), v % ("10ns", "0011", "001x"),
+            v % ("15ns", "0011", "0100"), "status 1"])
+
+    def test_two_dumps_of_other_ticks(self):
+        head = b"$timescale %s $end $var wire 1 ! c $end $var real 64 r r $end $enddefinitions $end "
+        body = b"#0 0! r1 r #5 1! #9 r1.50 r #20\n"
+        one = self.file("a.vcd", head % b"1ns" + body)
+        other = self.file("b.vcd", head[19:] + body.replace(b"1.50", b"1.5"))
+        self.assertEqual(said("vcdkit-diff", one, other), ["timescale 1ns -", "status 1"])
+        self.assertEqual(said("vcdkit-diff", "--common", other, one), ["status 0"])
+        other = self.file("b.vcd", head[19:] + body.replace(b"1.50", b"2").replace(b"1!", b"x!"))
+        self.assertEqual(said("vcdkit-diff", "--every", "--common", one, other), [
+            "differs 5ns c 1 x", "differs 9ns r 1.5 2", "status 1"])
+        late = self.file("c.vcd", head % b"1s" + body + b"#99999999999 1!\n")
+        for dumps in (one, late), (late, one):
+            self.assertEqual(said("vcdkit-diff", "--common", *dumps), ["status 2"])
+            self.assertEqual(said("vcdkit-diff", "--common", "--to", "1s", *dumps)[-1], "status 1")
 
     @unittest.skipIf(not shutil.which("unshare") or subprocess.run(
         ["unshare", "-rm", "true"], stderr=subprocess.DEVNULL).returncode, "needs a namespace")

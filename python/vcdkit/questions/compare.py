@@ -264,13 +264,12 @@ class Comparison:
 
     def _at_times(self) -> Iterator[Found]:
         # Where values that are not equal may be the same, each time at which they are not counts.
-        numbers: List[List[int]] = [[], []]
-        for number, pair in enumerate(self._pairs):
-            is_loose = kind(pair.signals[0]) == "real" or self._same(b"x", b"1")
-            numbers[is_loose].append(number)
+        loose = [self._same(b"x", b"1") or kind(pair.signals[0]) == "real" for pair in self._pairs]
+        strict, others = ([number for number, its in enumerate(loose) if its == is_loose]
+                          for is_loose in (False, True))
         lines = heapq.merge(
-            self._lines(numbers[False], self._extent),
-            (line for line in self._lines(numbers[True], ALWAYS) if not self._same(*line[2])),
+            self._lines(strict, self._extent),
+            (line for line in self._lines(others, ALWAYS) if not self._same(*line[2])),
             key=itemgetter(0))
         for at, its in itertools.groupby(() if self._is_one_body() else lines, itemgetter(0)):
             yield (at // self.factors[0], at // self.factors[1]), [line[1:] for line in its]
@@ -303,7 +302,11 @@ class Comparison:
             # A merge takes a dump without a time scale for one of seconds.
             if side.scale and not self._sides[1 - at].scale:
                 dumps[at] = _unscaled(dumps[at])
-            end = min(end, (side.report.last or 0) * factor)
+            last = (side.report.last or 0) * factor
+            if last > LAST_TICK:
+                raise UsageError("%s: its last time is 2^64 ticks or more in the time scale of the "
+                                 "other dump: give --to" % side.dump.name)
+            end = min(end, last)
         keys = [[side.keys[place] for side, place in zip(self._sides, pair.places)]
                 for pair in pairs]
         words = [*filter(None, [extent]), "--to", str(end)]
