@@ -1,50 +1,28 @@
 """Conditions over signals: `tb.bus == 0xff & !tb.reset`, `req -> ack within 5`.
 
-Python's own parser reads them. What only this grammar has becomes Python first: `&` is `and`, which
-binds less than `==`; `!` is `~`, which binds more; `A -> B within N` is `A if B else N`, which
-binds least; names and numbers are v0, v1, .. What the grammar does not have is refused in the tree.
-
-As with Verilog's operators, digits that are x or z may leave it open whether a test is true or
-false, so there are two tests in Python: whether it is true, and whether it is false. A value is an
-int, a float, digits (a str) if one of them is x or z, or None if the signal has none yet."""
-import ast
+The kinds of values go up the tree of a condition, and those in which they are asked for go down, as
+in Verilog. Then each node becomes a line of a Python function, which takes the values from a list,
+in the kinds in which they are asked for."""
+import collections
 import functools
-import re
-from typing import (Any, Callable, Dict, Iterable, KeysView, List, NamedTuple, Optional, Tuple,
-                    Union, cast)
+from typing import (Any, Callable, Deque, Dict, Iterable, KeysView, List, NamedTuple, Optional,
+                    Tuple)
 
-from ..errors import UsageError
 from ..model.names import FIELD, field_of, full_names
+from ..model.operators import (ARITHMETIC, BIT, BITWISE, COMPARISONS, OPERATORS, REAL, REDUCTIONS,
+                               SHIFTS, Kind, Value, converted, kind_of, value_of_digits)
 from ..model.signals import Signal
-from ..model.times import AMOUNT
 from ..model.values import extension, real_of
 from ..reading.body import Changes
 from ..reading.source import Source
+from .expression import Node, Parser, Span, bad
 
-Test = Callable[[], bool]
-Tests = Tuple[str, str]  # of values v: whether something is true, and whether it is false
-LETTERS = ("x", "z", "X", "Z")
-SPAN = re.compile(r"%s\Z" % AMOUNT)
-SPLIT = re.compile(r"\bwithin\s+%s\b" % AMOUNT)
-MAX_DEPTH = 50  # parentheses inside each other
-TOKEN = re.compile(r'"([^"]*)"|(->|&&?|\|\|?|[!=<>]=|[!<>()])|((?:(?!->)[^\s"&|!=<>()])+)')
-IN_PYTHON = {"&": "and", "&&": "and", "|": "or", "||": "or", "!": "~", "->": "if", "within": "else"}
-ORDERS: Dict[type, str] = {ast.Lt: "<", ast.LtE: "<=", ast.Gt: ">", ast.GtE: ">="}
-
-
-class _Number(NamedTuple):
-    """A number: an int, a float, or digits of which one is x or z."""
-
-    text: str
-    value: Union[int, float, str]
-
-
-class Span(NamedTuple):
-    """How long `within` waits: a number and a unit, which is empty for edges of the clock."""
-
-    text: str
-    number: str
-    unit: str
+Test = Callable[[], Any]
+Read = Callable[[bytes], Value]
+SAME = ("===", "!==", "stable", "changed")
+OF_BITS = ("%", "===", "!==", "{", "signed", "unsigned", "rose", "fell", *BITWISE, *SHIFTS,
+           *REDUCTIONS)
+IN_CONTEXT = ("**", "?:", *ARITHMETIC, *BITWISE, *SHIFTS)  # their operands take on their kind
 
 
 class _Name(NamedTuple):
@@ -54,125 +32,28 @@ class _Name(NamedTuple):
     signal: Signal
     begin: int
     end: int
-    is_signed: bool
 
     @property
-    def width(self) -> int:
-        """How many digits it has."""
-        return self.end - self.begin
+    def kind(self) -> Kind:
+        """The kind of its values."""
+        if self.signal.type == "event":
+            return BIT
+        is_whole = self.end - self.begin == self.signal.size
+        return REAL if self.signal.is_real else kind_of(
+            self.end - self.begin, self.signal.type == "integer" and is_whole)
 
-    @property
-    def has_no_bits(self) -> bool:
-        """Whether it is a real number or an event."""
-        return self.signal.is_real or self.signal.type == "event"
-
-    def value(self, raw: bytes) -> Any:
-        """Returns the value that a body has for the signal."""
-        is_part = self.width < self.signal.size
-        if raw[:1] == b"r":
-            number = None if is_part else real_of(raw)
-            return number if isinstance(number, float) else None
+    def value(self, own: Kind, to: Kind, raw: bytes) -> Value:
+        """Returns the value that a body has for the signal, in a kind; none if that is empty, or if
+        it is a real number for bits."""
+        if self.signal.type == "event":
+            return 1 if raw else 0
+        if not raw or raw[:1] == b"r":
+            number = real_of(raw) if raw and not own.width else ""
+            return number if isinstance(number, float) else "-" * (to.width or 1)
         text = raw.decode()
         digits = text.rjust(self.signal.size, extension(text))[self.begin:self.end]
-        if digits.strip("01"):
-            return digits
-        number = int(digits, 2)
-        return number - (self.is_signed and digits[0] == "1") * (1 << self.width)
-
-
-Word = Union[str, _Number, Span]
-
-
-def _bad(why: str) -> UsageError:
-    """Returns the exception for a condition that is none."""
-    return UsageError("bad condition: " + why)
-
-
-def _word(text: str) -> Word:
-    """Returns the number, the time or the name that a word is."""
-    span = SPAN.match(text)
-    if span and span.group(4):
-        return Span(text, text[:span.start(4)], span.group(4))
-    digits = re.match(r"(-?)0([xXbB])([0-9a-fA-FxXzZ_]+)\Z", text)
-    try:
-        if digits and re.search("[xXzZ]", digits.group(3)):
-            return _Number(text, _unknown(digits.group(2), digits.group(3), digits.group(1)))
-        if re.match(r"-?0[xXbB]", text):
-            return _Number(text, int(text, 0))
-        if re.match(r"-?\d", text):
-            is_whole = re.match(r"-?[\d_]+\Z", text)
-            return _Number(text, int(text) if is_whole else float(text))
-    except ValueError:
-        raise _bad("%s is no number: numbers are as 0xff, 0b1x0, 10, -1 and 1.5" % text) from None
-    return text
-
-
-def _unknown(base: str, digits: str, sign: str) -> str:
-    """Returns the binary digits of a number of which some are x or z."""
-    if sign or base in "bB" and digits.strip("01xXzZ_"):
-        raise ValueError
-    each = {"x": "xxxx", "z": "zzzz"} if base in "xX" else {}
-    return "".join(each.get(digit) or ("{:04b}".format(int(digit, 16)) if base in "xX" else digit)
-                   for digit in digits.lower().replace("_", ""))
-
-
-def _at_width(digits: str, width: int) -> str:
-    """Returns the last digits, or these and what fills them up to a width."""
-    return digits.rjust(width, extension(digits))[-width:]
-
-
-class _Text:
-    """A condition as Python's parser takes it."""
-
-    def __init__(self, text: str):
-        if not isinstance(text, str):
-            raise _bad("%r is no text" % (text,))
-        self.words: List[Word] = []
-        self.source = ""
-        self._ends: List[Tuple[int, str]] = []  # of each token, in the source
-        self._split = SPLIT.search(text)
-        at, last, depth = 0, "", 0
-        for token in TOKEN.finditer(text):
-            self._check_gap(text[at:token.start()])
-            depth += {"(": 1, ")": -1}.get(token.group(), 0)
-            if depth > MAX_DEPTH or last == token.group() == "!":
-                raise _bad("it has !!" if last == "!" else "it is nested too deep")
-            at, (quoted, sign, word) = token.end(), token.groups()
-            is_letter = last in ("is", "not") and word in ("not", *LETTERS) and word != last
-            if sign or is_letter or word in ("is", "within", "signed"):
-                self.source += IN_PYTHON.get(token.group(), token.group()) + " "
-            else:
-                self.source += "v%d " % len(self.words)
-                self.words.append(quoted if quoted is not None else _word(word))
-            last = token.group()
-            self._ends.append((len(self.source) - 1, last))
-        self._check_gap(text[at:])
-        self._is_open = depth > 0
-
-    @staticmethod
-    def _check_gap(text: str) -> None:
-        """Refuses what is between tokens, unless it is blank."""
-        sign = text.strip()[:1]
-        if sign:
-            raise _bad("write == for =" if sign == "=" else 'a " has no second one')
-
-    def tree(self) -> ast.expr:
-        """Returns what Python's parser makes of it."""
-        arrows, withins = (len(re.findall(r"\b%s " % word, self.source)) for word in ("if", "else"))
-        if arrows != withins:
-            raise _bad("-> and within need each other, as in req -> ack within 5")
-        try:
-            return ast.parse(self.source.strip() or "(", mode="eval").body
-        except SyntaxError as error:
-            if self._split and self._split.group(3) and self._split.group(4):
-                raise _bad("write %s%s" % self._split.group(1, 4)) from None
-            if self._is_open:
-                raise _bad("a ) is missing") from None
-            is_at_end = not error.offset or error.msg.startswith("unexpected EOF")
-            read = [token for end, token in self._ends if end < (error.offset or 0)]
-            rest = [token for _, token in self._ends[len(read):]]
-            raise _bad("it ends too early" if is_at_end or not rest else "it cannot be read at "
-                       + ", after ".join([rest[0], *read[-1:]])) from None
+        return converted(value_of_digits(digits, own if own.width else kind_of(len(digits))), own,
+                         to)
 
 
 def _found(dump: Source, names: Iterable[str]) -> Dict[str, Dict[int, Signal]]:
@@ -198,65 +79,129 @@ def _name(dump: Source, name: str, base: str, found: Dict[str, Dict[int, Signal]
     its = found[base if field else name]
     if not its:
         dump.select(base)  # it raises UnknownName, unless this is a scope
-        raise _bad("%s is a scope: name a signal in it" % base)
+        raise bad("%s is a scope: name a signal in it" % base)
     place, signal = next(iter(its.items()))
     if len({one.code for one in its.values()}) > 1:
-        raise _bad("%s names %d signals: %s, .." % (base, len(its), signal.path))
+        raise bad("%s names %d signals: %s, .." % (base, len(its), signal.path))
     if not field:
-        return _Name(name, signal, 0, signal.size, signal.type == "integer")
+        return _Name(name, signal, 0, signal.size)
     if signal.is_real or signal.type == "event":
-        raise _bad("%s: %s has no bits" % (name, signal.path))
+        raise bad("%s: %s has no bits" % (name, signal.path))
     bits = dump.declarations[place].bits
     begin, end = (bits.index(bit) if bit in bits else -1 for bit in field)
     if not 0 <= begin <= end:
-        raise _bad("%s: the bits of %s are [%d:%d]" % (name, signal.path, bits[0], bits[-1]))
-    return _Name(name, signal, begin, end + 1, False)
+        raise bad("%s: the bits of %s are [%d:%d]" % (name, signal.path, bits[0], bits[-1]))
+    return _Name(name, signal, begin, end + 1)
 
 
-def _differ(one: Any, other: Any, signs: Tuple[bool, bool], width: int) -> bool:
-    """Whether two values, of which one is no number, have a bit that is 0 in one and 1 in the
-    other."""
-    if None in (one, other) or float in (type(one), type(other)):
-        return False
-    rows = (value.rjust(width, value[0] if is_signed else "0") if isinstance(value, str)
-            else "{:0{}b}".format(value % (1 << width), width)
-            for value, is_signed in zip((one, other), signs))
-    return any({*pair} == {"0", "1"} for pair in zip(*rows))
+# The kinds of the nodes of a tree.
+
+def _common(parts: Iterable[Node]) -> Kind:
+    """Returns the kind in which operands are joined: they are signed if all of them are."""
+    kinds = [one.kind for one in parts]
+    return REAL if REAL in kinds else kind_of(max(one.width for one in kinds),
+                                              all(one.sign for one in kinds))
+
+
+def _type(node: Node) -> None:
+    """Finds the kind of a node, whose operands have theirs."""
+    sign, parts, first = node.sign, node.parts, node.parts[0].kind if node.parts else REAL
+    if sign == "->":
+        raise bad("-> is for the whole condition, or the whole with ! before it")
+    if sign in OF_BITS and REAL in [one.kind for one in parts]:
+        raise bad("%s takes bits, and not real numbers" % sign.replace("unary ", ""))
+    if sign in ("signed", "unsigned"):
+        node.kind = kind_of(first.width, sign == "signed")
+        if parts[0].sign == "name":  # which is the same, and is faster
+            node.sign, node.value, node.parts = "name", parts[0].value, []
+    elif sign == "{":
+        if any(one.sign == "number" for one in parts):
+            raise bad("a number between { and } needs a size, as 4'd3")
+        node.kind = kind_of(node.value * sum(one.kind.width for one in parts))
+    elif sign in IN_CONTEXT or sign == "past":
+        is_common = len(parts) > 1 and sign not in ("?:", *SHIFTS) and (
+            sign != "**" or REAL in (first, parts[1].kind))
+        node.kind = _common(parts if is_common else parts[1:] if sign == "?:" else parts[:1])
+    elif parts:
+        node.kind = BIT
+        if sign in COMPARISONS or sign in SAME:
+            for one, other in (parts, parts[::-1]):
+                if one.sign == "name" and other.sign == "number":
+                    _compare(one, other, sign)
+
+
+def _compare(name: Node, number: Node, sign: str) -> None:
+    """Takes it that a name is compared with a number: one below 0 makes it signed."""
+    value, kind, its = number.value, name.kind, name.value.text
+    if not kind.width:
+        return
+    if isinstance(value, str):
+        if len(value) > kind.width:
+            raise bad("%s has more digits than the %d of %s" % (value, kind.width, its))
+        return
+    if value < 0:
+        kind = name.kind = kind_of(kind.width, True)
+    if sign[1:] == "=" and sign[0] in "=!":
+        if value % 1:
+            raise bad("%s is never %s: it is a whole number" % (its, value))
+        if kind.of(int(value)) != value:
+            raise bad("%s is never %s: it has %d bits%s" % (
+                its, value, kind.width, ", signed" if kind.sign else ""))
+
+
+def _place(node: Node) -> Any:
+    """Finds in which kinds a node asks for its operands, and returns that in which it works."""
+    sign, parts, works = node.sign, node.parts, node.kind
+    for one in parts:
+        one.to = one.kind
+    if sign in IN_CONTEXT:
+        works = node.to if node.to.width or not works.width else works
+        for one in parts[sign == "?:":1 if sign == "**" or sign in SHIFTS else None]:
+            one.to = works
+        if sign in SHIFTS:
+            parts[1].to = kind_of(parts[1].kind.width)
+    elif sign in COMPARISONS or sign in SAME:
+        works = _common(parts)
+        for one in parts:
+            one.to = works
+    elif sign == "{":
+        return [one.kind for one in parts], node.value
+    elif parts and sign not in ("signed", "unsigned"):
+        works = parts[0].kind
+    return works
 
 
 class Condition:
     """A condition over the signals of a dump, and the last value of each of them."""
 
-    def __init__(self, text: str, dump: Source):
-        its = _Text(text)
-        tree = its.tree()
-        self._words = its.words
-        self._names = _names(dump, [word for word in its.words if isinstance(word, str)])
-        if not self._names:
-            raise _bad("it names no signal")
-        self._places: Dict[Union[_Name, _Number], int] = {}
-        self.values: List[Any] = []
+    def __init__(self, text: str, dump: Source, has_clock: bool):
+        parser = Parser(text)
+        tree = parser.tree()
+        if not parser.names:
+            raise bad("it names no signal")
+        its = _names(dump, dict.fromkeys(node.value for node in parser.names))
+        self.paths = list(dict.fromkeys(name.signal.path for name in its.values()))
+        for node in parser.names:
+            node.value = its[node.value]
+            node.kind = node.value.kind
+        self.values: List[Value] = []
+        self.readers: Dict[bytes, List[Tuple[int, Read]]] = {}
+        self._places: Dict[Tuple[_Name, Kind, Kind], int] = {}
+        self._pasts: List[Tuple[Node, Deque[Value]]] = []
         self.answer: Optional[Test] = None  # whether it has its answer, if it asks for one
         self.span: Optional[Span] = None
-        self.is_refusal = (isinstance(tree, ast.UnaryOp) and isinstance(tree.operand, ast.IfExp))
-        whole = tree.operand if isinstance(tree, ast.UnaryOp) and self.is_refusal else tree
-        if isinstance(whole, ast.IfExp):
-            self.answer, self.span = self._compiled(whole.test), self._span(whole.orelse)
-            whole = whole.body
-        self.holds = self._compiled(whole)  # whether it holds at the values that there are
-        self.readers: Dict[bytes, List[Tuple[int, Callable[[bytes], Any]]]] = {}
-        for name, place in self._places.items():
-            if isinstance(name, _Name):
-                read = functools.lru_cache(maxsize=1 << 10)(name.value)
-                self.readers.setdefault(name.signal.code.encode(), []).append((place, read))
-        self._events = [place for name, place in self._places.items()
-                        if isinstance(name, _Name) and name.signal.type == "event"]
-        self.end_events()
-
-    @property
-    def paths(self) -> List[str]:
-        """The paths of its signals."""
-        return list(dict.fromkeys(name.signal.path for name in self._names.values()))
+        self.is_refusal = tree.sign == "unary !" and tree.parts[0].sign == "->"
+        whole = tree.parts[0] if self.is_refusal else tree
+        if whole.sign == "->":
+            self.span, (whole, answer) = whole.value, whole.parts
+            self.answer = self._test(answer)
+        self.holds = self._test(whole)  # whether it holds at the values that there are
+        self._samples = [(kept, self._compiled(one, "{}")) for one, kept in self._pasts]
+        if self._pasts and not has_clock:
+            raise bad("past, rose, fell, stable and changed look at edges: name a clock by rise or "
+                      "fall")
+        self._events = [place for (name, _, _), place in self._places.items()
+                        if name.signal.type == "event"]
 
     @property
     def codes(self) -> KeysView[bytes]:
@@ -270,12 +215,21 @@ class Condition:
                 self.values[place] = read(raw)
 
     @property
+    def has_past(self) -> bool:
+        """Whether it asks for values at earlier edges."""
+        return bool(self._pasts)
+
+    @property
     def has_events(self) -> bool:
         """Whether it names an event."""
         return bool(self._events)
 
-    def end_events(self) -> bool:
-        """Takes it that no event is triggered now; returns whether one was."""
+    def end(self) -> bool:
+        """Takes it that a time is over: what it has then is the past, and no event is triggered;
+        returns whether one was."""
+        values = [sample() for _, sample in self._samples]
+        for (kept, _), value in zip(self._samples, values):
+            kept.append(value)
         were_some = any(self.values[place] for place in self._events)
         for place in self._events:
             self.values[place] = 0
@@ -283,141 +237,69 @@ class Condition:
 
     # The tree.
 
-    def _compiled(self, node: ast.expr) -> Test:
+    def _test(self, tree: Node) -> Test:
         """Returns what says whether an expression is true."""
-        made = ast.parse("lambda v: 0", mode="eval")
-        cast(ast.Lambda, made.body).body = self._test(node, True)
-        code = compile(ast.fix_missing_locations(made), "condition", "eval")
-        return functools.partial(eval(code, {"NUMBERS": (int, float), "differ": _differ}),
-                                 self.values)
+        order = [tree]
+        for node in order:
+            order += node.parts
+        for node in reversed(order):
+            _type(node)
+        return self._compiled(tree, "'1' in {0} if {0}.__class__ is str else {0} != 0")
 
-    def _test(self, node: ast.expr, wanted: bool) -> ast.expr:
-        """Returns what says of values v whether an expression is true, or whether it is false."""
-        if isinstance(node, ast.BoolOp):
-            is_and = isinstance(node.op, ast.And) == wanted
-            return ast.BoolOp(ast.And() if is_and else ast.Or(),
-                              [self._test(one, wanted) for one in node.values])
-        if isinstance(node, ast.UnaryOp):
-            return self._test(node.operand, not wanted)
-        if isinstance(node, ast.IfExp):
-            raise _bad("-> is for the whole condition, or the whole with ! before it")
-        tests = self._comparison(node) if isinstance(node, ast.Compare) else self._truth(node)
-        return ast.parse(tests[0 if wanted else 1], mode="eval").body
+    def _compiled(self, tree: Node, result: str) -> Test:
+        """Returns a function of the values, with a line for each operator."""
+        tree.to, order = tree.kind, [tree]
+        lines: List[str] = []
+        known: Dict[str, Any] = {"v": self.values, "converted": converted}
+        works = {}
+        for node in order:  # from the top down
+            node.text = ""
+            works[node] = _place(node)
+            order += node.parts if node.sign != "past" else []
+        for node in reversed(order):
+            if not node.text:
+                text = self._text(node, works[node], known)
+                if node.parts:
+                    lines.append(" t%d = %s" % (len(lines), text))
+                    text = "t%d" % (len(lines) - 1)
+                node.text = text
+        lines.append(" return " + result.format(tree.text))
+        exec("def test():\n" + "\n".join(lines), known)
+        test: Test = known["test"]
+        return test
 
-    def _truth(self, node: ast.expr) -> Tests:
-        """Returns the tests whether a digit of a value is 1."""
-        side = self._side(node)
-        if not isinstance(side, _Name):
-            raise _bad("%s is a number: compare it" % side.text)
-        value = self._value(side)
-        return ("'1' in {0} if type({0}) is str else {0} not in (None, 0)".format(value),
-                value + " == 0")
-
-    def _word(self, node: ast.expr) -> Optional[Word]:
-        """Returns the name, number or time that an expression is; None if it is none."""
-        if isinstance(node, ast.Name) and node.id[1:].isdigit():
-            return self._words[int(node.id[1:])]
-        return None
-
-    def _side(self, node: ast.expr) -> Union[_Name, _Number]:
-        """Returns the signal or the number that an expression is."""
-        if isinstance(node, ast.Call) and len(node.args) == 1 and not node.keywords and isinstance(
-                node.func, ast.Name) and node.func.id == "signed":
-            name = self._side(node.args[0])
-            if isinstance(name, _Name) and not name.has_no_bits:
-                return name._replace(is_signed=True)
-        word = self._word(node)
-        if isinstance(word, str):
-            return self._names[word]
-        if isinstance(word, _Number):
-            return word
-        if isinstance(word, Span):
-            raise _bad("%s is a time: it goes with within" % word.text)
-        raise _bad("only names and numbers are compared: write !(a == b) for !a == b, and "
-                  "signed(a) for a name")
-
-    def _value(self, of: Union[_Name, _Number]) -> str:
-        """Returns which of the values v its own is."""
-        if of not in self._places:
-            self._places[of] = len(self.values)
-            self.values.append(of.value if isinstance(of, _Number) else None)
-        return "v[%d]" % self._places[of]
-
-    def _comparison(self, node: ast.Compare) -> Tests:
-        """Returns the tests of two values, or of one for x."""
-        if len(node.ops) > 1:
-            raise _bad("two comparisons in one: write a < b & b < c")
-        kind, other_node = node.ops[0], node.comparators[0]
-        one = self._side(node.left)
-        if isinstance(one, _Name) and one.signal.type == "event":
-            raise _bad("%s is an event: it has no value" % one.text)
-        if isinstance(kind, (ast.Is, ast.IsNot)):
-            letter = other_node.id.lower() if isinstance(other_node, ast.Name) else ""
-            if letter not in LETTERS or not isinstance(one, _Name):
-                raise _bad("is asks for x or z of a name, as in a is x or a is not z")
-            value = self._value(one)
-            has = "(type(%s) is str and %r in %s)" % (value, letter, value)
-            tests = has, "%s is not None and not %s" % (value, has)
-            return tests[::-1] if isinstance(kind, ast.IsNot) else tests
-        return self._comparison_of(one, self._side(other_node), kind)
-
-    def _comparison_of(self, one: Union[_Name, _Number], other: Union[_Name, _Number],
-                       kind: ast.cmpop) -> Tests:
-        """Returns the tests of two values."""
-        sides = [one, other]
-        for at, (side, against) in enumerate(((one, other), (other, one))):
-            if isinstance(side, _Name) and side.signal.type == "event":
-                raise _bad("%s is an event: it has no value" % side.text)
-            if isinstance(side, _Name) and isinstance(against, _Number):
-                sides[at] = self._against(side, against, isinstance(kind, (ast.Eq, ast.NotEq)))
-        numbers = [side for side in sides if isinstance(side, _Number)]
-        names = [side for side in sides if isinstance(side, _Name)]
-        if not names:
-            raise _bad("%s and %s are two numbers" % (one.text, other.text))
-        first, second = map(self._value, sides)
-        known = " and ".join("type(%s) in NUMBERS" % self._value(name) for name in names)
-        if type(kind) in ORDERS:
-            test = "%s %s %s" % (first, ORDERS[type(kind)], second)
-            return "%s and %s" % (known, test), "%s and not %s" % (known, test)
-        if numbers and isinstance(numbers[0].value, str):
-            digits = _at_width(numbers[0].value, names[0].width)
-            value = self._value(names[0])
-            tests = "%s == %r" % (value, digits), "%s not in (None, %r)" % (value, digits)
+    def _text(self, node: Node, works: Any, known: Dict[str, Any]) -> str:
+        """Returns a node in Python; `known` gets what it names."""
+        def named(value: Any) -> str:
+            known["c%d" % len(known)] = value
+            return "c%d" % (len(known) - 1)
+        sign, value = node.sign, node.value
+        if sign == "name":
+            return "v[%d]" % self._value(node)
+        if sign in ("number", "literal"):
+            if isinstance(value, str) and node.fill:
+                value = value.rjust(node.to.width, node.fill)
+            return named(node.to.of(value) if sign == "number" and not isinstance(value, str)
+                         else converted(value, node.kind, node.to))
+        if sign == "past":
+            kept = collections.deque(["x" * (node.kind.width or 1)] * value, value)
+            self._pasts.append((node.parts[0], kept))
+            found = named(kept) + "[0]"
         else:
-            width = 1 + max([name.width for name in names] + [
-                one.value.bit_length() for one in numbers if isinstance(one.value, int)])
-            signs = tuple(isinstance(side, _Name) and side.is_signed for side in sides)
-            tests = ("%s and %s == %s" % (known, first, second),
-                     "{1} != {2} if {0} else differ({1}, {2}, {3}, {4})".format(
-                         known, first, second, signs, width))
-        return tests[::-1] if isinstance(kind, ast.NotEq) else tests
+            its = "real /" if sign == "/" and not works.width else sign
+            found = "%s(%s)" % (named(OPERATORS[its]), ", ".join(
+                [named(works), *(one.text for one in node.parts)]))
+        own = works if sign in IN_CONTEXT else node.kind
+        return found if own == node.to else "converted(%s, %s, %s)" % (
+            found, named(own), named(node.to))
 
-    def _against(self, name: _Name, number: _Number, is_equality: bool) -> _Name:
-        """Returns how a name is compared with a number: one below 0 makes it signed."""
-        value, is_real = number.value, name.signal.is_real
-        if isinstance(value, str):
-            if is_real or not is_equality:
-                raise _bad("%s has x or z: only == and != of digits take it" % number.text)
-            if _at_width(_at_width(value, name.width), len(value)) != value:
-                raise _bad("%s has more digits than the %d of %s"
-                          % (number.text, name.width, name.text))
-            return name
-        if is_real:
-            return name
-        name = name if value >= 0 else name._replace(is_signed=True)
-        limit = 1 << name.width - name.is_signed
-        if is_equality and value % 1:
-            raise _bad("%s is never %s: it is a whole number" % (name.text, number.text))
-        if is_equality and not -limit * name.is_signed <= value < limit:
-            raise _bad("%s is never %s: it has %d bits%s" % (
-                name.text, number.text, name.width, ", signed" if name.is_signed else ""))
-        return name
-
-    def _span(self, node: ast.expr) -> Span:
-        """Returns what is after `within`."""
-        word = self._word(node)
-        if isinstance(word, _Number) and isinstance(word.value, int) and word.value >= 0:
-            return Span(word.text, str(word.value), "")
-        if isinstance(word, Span):
-            return word
-        raise _bad("within takes a number of edges or a time, as 5 or 20ns")
+    def _value(self, node: Node) -> int:
+        """Returns the place of the value of a name in a kind."""
+        key = node.value, node.kind, node.to
+        if key not in self._places:
+            self._places[key] = len(self.values)
+            read = functools.lru_cache(maxsize=1 << 10)(functools.partial(node.value.value, *key[1:]))
+            self.readers.setdefault(node.value.signal.code.encode(), []).append(
+                (len(self.values), read))
+            self.values.append(read(b""))
+        return self._places[key]

@@ -156,7 +156,8 @@ class Dump(Source):
         edges = edges_of(self, rise, fall)
         if at is not None and edges:
             raise UsageError("rows are at times or at edges: give `at`, or `rise` and `fall`")
-        only = None if condition is None else when.state(self, condition)
+        only = None if condition is None else when.state(
+            self, condition, rise is not None or fall is not None)
         if at is not None:
             return at_times(self, columns, [self.ticks(time) for time in _each(at)], its, only)
         every = [*its, *(name for name in (rise, fall) if name is not None),

@@ -60,7 +60,7 @@ def _holding(source: Source, condition: Condition, times: Iterable[int]) -> Set[
             one = waiting.pop()
             if held:
                 found.add(one)
-        condition.end_events()
+        condition.end()
         held = condition.holds()
     return found.union(waiting if held else ())
 
@@ -138,4 +138,4 @@ def _rows(pairs: Iterable[Tuple[int, body.Changes]], columns: Sequence[Signal], 
         if (is_other or is_every) and (only is None or only.holds()):
             yield time, cells.row[:]
         if only:
-            only.end_events()
+            only.end()

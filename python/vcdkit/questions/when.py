@@ -6,7 +6,8 @@ from typing import (Any, Callable, Collection, Deque, Dict, Iterator, List, Name
 from ..errors import DumpFault, UnknownName, UsageError
 from ..reading import body
 from ..reading.source import Source
-from .condition import Condition, Span
+from .condition import Condition
+from .expression import Span
 from .rows import edges_of
 
 MAX_WAITING = 1_000_000  # starts without an answer
@@ -32,14 +33,15 @@ class _Question:
     """A condition that is asked, and what is known of it up to now."""
 
     def __init__(self, dump: Source, text: str, has_clock: bool, every: bool, in_order: bool):
-        self.condition, self.every, self.in_order = Condition(text, dump), every, in_order
+        self.condition, self.every, self.in_order = Condition(text, dump, has_clock), every, in_order
         self.has_clock, self.span = has_clock, self.condition.span
         self.ticks = _ticks_of(self.span, dump, has_clock)
         self.overlaps = 0  # requests that began before the answer of the one before
         self._waiting: Deque[_Request] = collections.deque()
         self._late = 0  # of them, how many wait for an answer that would come too late
         self._held, self._looks = False, 0
-        self._is_plain = not self.condition.answer and not self.condition.has_events
+        self._is_plain = not (self.condition.answer or self.condition.has_events
+                              or self.condition.has_past)
 
     def look(self, time: int) -> List[Outcome]:
         """Takes the values at a time as those at which the condition is looked at. Returns what is
@@ -52,7 +54,7 @@ class _Question:
             return found
         if condition.answer:
             found = self._outcomes(time, is_start)
-        if condition.end_events() and not self.has_clock:  # they are over
+        if condition.end() and not self.has_clock:  # they are over
             self._held = condition.holds()
         return found
 
@@ -217,9 +219,9 @@ def when(dump: Source, text: str, rise: Optional[str], fall: Optional[str],
     return Questions(dump, [("", text)], rise, fall, every).times()
 
 
-def state(dump: Source, text: str) -> Condition:
+def state(dump: Source, text: str, has_clock: bool) -> Condition:
     """Returns a condition that holds at a time or does not."""
-    condition = Condition(text, dump)
+    condition = Condition(text, dump, has_clock)
     if condition.answer is not None:
         raise UsageError("bad condition: -> is of several times, and a row has one")
     return condition

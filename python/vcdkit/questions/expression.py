@@ -1,0 +1,268 @@
+"""The text of a condition as a tree: an expression of Verilog (clause 5 of IEEE Std 1364-2005), in
+which names are paths, and what conditions have beside it."""
+import re
+from typing import Any, Dict, List, NamedTuple, Optional, Sequence, Tuple
+
+from ..errors import UsageError
+from ..model.operators import BITWISE, REDUCTIONS, REAL, Kind, kind_of, value_of_digits
+from ..model.times import AMOUNT, UNITS
+
+MAX_DEPTH = 50  # parentheses inside each other
+MAX_WIDTH = 1 << 20  # bits of a literal, and of what is repeated
+MAX_PAST = 1 << 20  # edges
+TOKEN = re.compile(
+    r'"([^"]*)"|((?:\d[\d_]*\s*)?\'\s*[sS]?[bodhBODH]\s*[\da-fA-FxXzZ?_]+'
+    r"|\d[\d_]*(?:\.\d+)?[eE][-+]?\d+(?![\w.])|\d[\w.]*)"
+    r"|(->|<<<|>>>|[!=]==|\*\*|<<|>>|[<>!=]=|&&|\|\||~[&|^]|\^~|[-+*/%&|^~!<>?:,(){}])"
+    r'|((?:[^\s"&|!=<>()+\-*/%^~?:,{}\'\[\]]|\[[^\s\]]*\])+)')
+SPAN = re.compile(r"%s\Z" % AMOUNT)
+BASED = re.compile(r"([\d_]*)\s*'\s*([sS]?)([bodhBODH])\s*(.+)")
+LEVELS = {sign: level for level, signs in enumerate((
+    "||", "&&", "|", "^ ~^ ^~", "&", "== != === !== is", "< <= > >=", "<< >> <<< >>>", "+ -",
+    "* / %", "**")) for sign in signs.split()}
+UNARY = ("+", "-", "!", *(sign[6:] for sign in (*BITWISE, *REDUCTIONS) if sign[:6] == "unary "))
+BITS_OF_DIGIT = {"b": 1, "o": 3, "h": 4}
+FUNCTIONS = ("signed", "unsigned", "past", "rose", "fell", "stable", "changed")
+
+
+class Span(NamedTuple):
+    """How long `within` waits: a number and a unit, which is empty for edges of the clock."""
+
+    text: str
+    number: str
+    unit: str
+
+
+class Node:
+    """A name, a number, or an operator with its operands."""
+
+    __slots__ = ("sign", "parts", "value", "kind", "fill", "to", "text")
+
+    def __init__(self, sign: str, parts: Sequence["Node"] = (), value: Any = None,
+                 kind: Kind = REAL, fill: str = ""):
+        self.sign, self.parts, self.value = sign, list(parts), value
+        self.kind = self.to = kind  # its own kind, and the one in which it is asked for
+        self.fill = fill  # of a number: the digit to the left of its digits
+        self.text = ""  # what has its value in the compiled condition
+
+
+def bad(why: str) -> UsageError:
+    """Returns the exception for a condition that is none."""
+    return UsageError("bad condition: " + why)
+
+
+def number_of(text: str) -> Node:
+    """Returns the number that a word is. `number` is one without a size, whose value is an int, a
+    float or digits; `literal` is one of Verilog."""
+    based = BASED.match(text)
+    digits = re.match(r"0([xXbB])([0-9a-fA-FxXzZ_]+)\Z", text)
+    try:
+        if based:
+            return _literal(*based.groups())
+        if digits and re.search("[xXzZ]", digits.group(2)):
+            bits = _bits(digits.group(2), 1 if digits.group(1) in "bB" else 4)
+            return Node("number", (), bits, kind_of(len(bits)), bits[0] if bits[0] in "xz" else "0")
+        is_whole = digits or re.match(r"\d[\d_]*\Z", text)
+        value = int(text, 0 if digits else 10) if is_whole else float(text)
+    except ValueError:
+        raise bad("%s is no number: numbers are as 0xff, 0b1x0, 10, 1.5 and 4'b1x0" % text
+                  ) from None
+    return Node("number", (), value, kind_of(max(32, value.bit_length() + 1), True)
+                if isinstance(value, int) else REAL)
+
+
+def _literal(size: str, sign: str, base: str, digits: str) -> Node:
+    """Returns a number of Verilog, such as 4'b1x0. x or z at its front goes on to the left."""
+    digits, base = digits.lower().replace("_", "").replace("?", "z"), base.lower()
+    if base != "d":
+        bits = _bits(digits, BITS_OF_DIGIT[base])
+    else:
+        bits = digits if digits in ("x", "z") else "{:b}".format(int(digits))
+    width = int(size.replace("_", "")) if size else max(32, len(bits.lstrip("0")))
+    if not 0 < width <= MAX_WIDTH:
+        raise bad("a number has 1 to %d bits" % MAX_WIDTH)
+    fill = bits[0] if bits[0] in "xz" else "0"
+    kind, value = kind_of(width, bool(sign)), bits.rjust(width, fill)[-width:]
+    # Without a size, x or z goes on up to the size of the expression.
+    return Node("literal", (), value_of_digits(value, kind), kind,
+                "" if size or fill == "0" else fill)
+
+
+def _bits(digits: str, size: int) -> str:
+    """Returns the bits of digits, of which each has so many."""
+    each = [digit * size if digit in "xz" else "{:0{}b}".format(int(digit, 16), size)
+            for digit in digits.lower().replace("_", "").replace("?", "z")]
+    if any(len(bits) > size for bits in each) or not each:
+        raise ValueError
+    return "".join(each)
+
+
+class Parser:
+    """Reads a condition. `names` are those in it."""
+
+    def __init__(self, text: str):
+        if not isinstance(text, str):
+            raise bad("%r is no text" % (text,))
+        self.names: List[Node] = []
+        self._tokens: List[Tuple[str, ...]] = []  # quoted, number, sign and name: one is there
+        self._at, self._depth, end = 0, 0, 0
+        for token in TOKEN.finditer(text):
+            self._check_gap(text[end:token.start()])
+            self._tokens.append((token.group(), *token.groups()))
+            end = token.end()
+        self._check_gap(text[end:])
+
+    def _check_gap(self, text: str) -> None:
+        """Refuses what is between tokens, unless it is blank."""
+        sign = text.strip()[:1]
+        if sign:
+            raise bad({"=": "write == for =", '"': 'a " has no second one'}.get(
+                sign, "it cannot be read at " + text.strip()))
+
+    @property
+    def _next(self) -> str:
+        """The next token; nothing at the end, and for a name in quotes the quotes too."""
+        return self._tokens[self._at][0] if self._at < len(self._tokens) else ""
+
+    def _take(self, *wanted: str) -> str:
+        """Takes the next token, which has to be one of these, if some are named."""
+        token = self._next
+        if not token or wanted and token not in wanted:
+            if not token and self._depth and ")" in wanted:
+                raise bad("a ) is missing")
+            if token in ("->", "within") or wanted == ("within",):
+                raise bad("-> and within need each other, as in req -> ack within 5")
+            before = self._tokens[self._at - 1][0] if self._at else ""
+            raise bad("it cannot be read at %s" % ", after ".join(filter(None, [token, before]))
+                      if token else "it ends too early")
+        self._at += 1
+        return token
+
+    def tree(self) -> Node:
+        """Returns the whole condition."""
+        try:
+            found = self._rule()
+        except RecursionError:
+            raise bad("it is nested too deep") from None
+        if self._next:
+            self._take("")
+        return found
+
+    def _rule(self) -> Node:
+        """Reads a condition, which may have an answer."""
+        one = self._choice()
+        if self._next != "->":
+            return one
+        self._take()
+        parts = [one, self._choice()]
+        self._take("within")
+        self._take()
+        text, _, number, *_ = self._tokens[self._at - 1]
+        span = SPAN.match(text)
+        if not number or not span or span.group(3) or span.group(2) and not span.group(4):
+            raise bad("within takes a number of edges or a time, as 5 or 20ns")
+        if self._next in (*UNITS, "tick"):
+            raise bad("write %s%s" % (text, self._next))
+        unit = span.group(4) or ""
+        return Node("->", parts, Span(text, text[:len(text) - len(unit)], unit))
+
+    def _choice(self) -> Node:
+        """Reads an expression, which may have ?:."""
+        test = self._binary(0)
+        if self._next != "?":
+            return test
+        self._take()
+        one = self._choice()
+        self._take(":")
+        return Node("?:", [test, one, self._choice()])
+
+    def _binary(self, least: int) -> Node:
+        """Reads operands of operators that bind at least so tightly."""
+        one = self._unary()
+        while LEVELS.get(self._next, -1) >= least:
+            sign = self._take()
+            if sign == "is":
+                sign += " not" * (self._next == "not" and bool(self._take()))
+                one = Node("%s %s" % (sign, self._take(*"xzXZ").lower()), [one])
+                continue
+            other = self._binary(LEVELS[sign] + 1)
+            has_digits = any(its.sign == "number" and isinstance(its.value, str)
+                             for its in (one, other))
+            one = Node(sign + "=" * (has_digits and sign in ("==", "!=")), [one, other])
+        return one
+
+    def _unary(self) -> Node:
+        """Reads an operand, which may have an operator before it."""
+        if self._next not in UNARY:
+            return self._primary()
+        sign, one = self._take(), self._primary()
+        if sign in "+-" and one.sign == "number" and not isinstance(one.value, str):
+            return Node("number", (), -one.value if sign == "-" else one.value, one.kind)
+        return Node("unary " + sign, [one])
+
+    def _primary(self) -> Node:
+        """Reads a name, a number, a function, or what is in parentheses or braces."""
+        if self._next == "{":
+            return self._join()
+        if self._next == "(":
+            return self._inside()
+        token = self._take()
+        _, quoted, number, sign, _ = self._tokens[self._at - 1]
+        if sign:
+            self._at -= 1
+            self._take("")
+        if number:
+            return number_of(token)
+        name = quoted if quoted is not None else token
+        if quoted is None and self._next == "(" and name.lstrip("$") in FUNCTIONS:
+            return self._call(name.lstrip("$"))
+        self.names.append(Node("name", (), name))
+        return self.names[-1]
+
+    def _inside(self) -> Node:
+        """Reads what is in parentheses."""
+        self._take("(")
+        self._depth += 1
+        if self._depth > MAX_DEPTH:
+            raise RecursionError
+        one = self._rule()
+        self._take(")")
+        self._depth -= 1
+        return one
+
+    def _call(self, name: str) -> Node:
+        """Reads the operands of a function. What is asked of an edge is asked of past() too."""
+        self._take("(")
+        one, count = self._choice(), 1
+        if name == "past" and self._next == ",":
+            self._take()
+            count = self._count(MAX_PAST)
+        self._take(")")
+        if name in ("signed", "unsigned"):
+            return Node(name, [one])
+        past = Node("past", [one], count)
+        return past if name == "past" else Node(name, [one, past])
+
+    def _join(self) -> Node:
+        """Reads a concatenation, which may be repeated."""
+        self._take("{")
+        start = self._at
+        parts, count = [self._choice()], 1
+        if self._next == "{":
+            self._at, count = start, self._count(MAX_WIDTH)
+            node = self._join()
+            self._take("}")
+            return Node("{", [node], count)
+        while self._next == ",":
+            self._take()
+            parts.append(self._choice())
+        self._take("}")
+        return Node("{", parts, count)
+
+    def _count(self, most: int) -> int:
+        """Reads a number that is not 0."""
+        count = self._primary()
+        if count.sign not in ("number", "literal") or not isinstance(count.value, int) or not (
+                0 < count.value <= most):
+            raise bad("a count is a number from 1 to %d" % most)
+        return count.value
