@@ -248,11 +248,10 @@ class Parser:
         self._take("{")
         start = self._at
         parts, count = [self._choice()], 1
-        if self._next == "{":
-            self._at, count = start, self._count(MAX_WIDTH)
-            node = self._join()
-            self._take("}")
-            return Node("{", [node], count)
+        if self._next == "{":  # the first is a count
+            self._at = start
+            count = self._count(MAX_WIDTH)
+            parts = [self._join()]
         while self._next == ",":
             self._take()
             parts.append(self._choice())

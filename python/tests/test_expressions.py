@@ -1,0 +1,213 @@
+#!/usr/bin/env python3
+"""Compares what expressions mean in conditions with what Icarus Verilog makes of them.
+
+test_expressions.py [--count N] [--seed N]: random expressions over variables that get random
+values. Icarus evaluates each one in a wire of a test bench, of the width that the expression has by
+itself, and dumps it. In each dump, `$unsigned(expression) === wire` has to hold at all times, and
+second_reader/expressions.py has to find the digits of the wire. As Icarus has no $past, registers
+stand for it there, which keep what an expression was at earlier edges."""
+import argparse
+import itertools
+import os
+import random
+import re
+import shutil
+import subprocess
+import sys
+import tempfile
+from typing import Any, Dict, Iterator, List, NamedTuple, Optional, Tuple
+
+sys.path[:0] = [os.path.dirname(os.path.dirname(os.path.abspath(__file__))),
+                os.path.join(os.path.dirname(os.path.abspath(__file__)), "second_reader")]
+import expressions
+from expressions import Expression, leaf
+from vcdkit import Dump
+from vcdkit.questions.when import Questions
+
+EACH, TIMES = 400, 10  # expressions of a test bench, and times
+WIDTHS = [1, 1, 2, 3, 4, 5, 8, 8, 13, 31, 32, 33, 64]
+
+
+class Look(NamedTuple):
+    """The values of a time, and the look at the edge before."""
+
+    values: Dict[str, Any]
+    before: Optional["Look"]
+
+
+def constant(text: str, digits: str) -> Expression:
+    """Returns a number."""
+    return leaf(text, len(digits), False, lambda _: digits)
+
+
+class Bench(expressions.Random):
+    """A test bench: variables, and the registers that stand for past()."""
+
+    def __init__(self, seed: int):
+        self.random = random.Random("a bench %d" % seed)
+        self.is_clocked = seed % 4 == 3
+        self.lines: List[str] = []
+        self.widths: Dict[str, int] = {}
+        self.meanings: Dict[str, str] = {}  # of a register: what it stands for
+        self.is_wide = seed % 5 == 2
+        super().__init__(self.random, self._leaves(), [] if seed % 3 else self._reals(),
+                         self.is_clocked, *((200, "/ % **") if self.is_wide else (64, "")))
+
+    def _leaves(self) -> List[Expression]:
+        """Returns variables, and bits of them."""
+        found = []
+        for number in range(9):
+            name = "t.v%d" % number
+            width = self.random.choice(WIDTHS + [64, 65, 100, 128] * self.is_wide)
+            low = self.random.choice([0, 0, 0, 3])
+            bits = list(range(low + width - 1, low - 1, -1))
+            if self.random.random() < .25:
+                bits.reverse()
+            is_integer = number > 6
+            if is_integer:
+                width, bits = 32, list(range(31, -1, -1))
+                self.lines.append("integer %s;" % name)
+            else:
+                self.lines.append("reg [%d:%d] %s;" % (bits[0], bits[-1], name))
+            self.widths[name] = width
+            found.append(leaf(name, width, is_integer, lambda look, of=name: look.values[of]))
+            if width > 1 and self.random.random() < .6:
+                found.append(self._part(name, bits))
+        return found
+
+    def _part(self, name: str, bits: List[int]) -> Expression:
+        """Returns some bits of a variable."""
+        first = self.random.randrange(len(bits))
+        last = self.random.randint(first, min(len(bits) - 1, first + 9))
+        text = "%s[%d:%d]" % (name, bits[first], bits[last])
+        if first == last and self.random.random() < .8:
+            text = "%s[%d]" % (name, bits[first])
+        return leaf(text, last - first + 1, False, lambda look: look.values[name][first:last + 1])
+
+    def _reals(self) -> List[Expression]:
+        """Returns variables of real numbers."""
+        self.lines += ["real t.r0;", "real t.r1;"]
+        self.widths.update({"t.r0": 0, "t.r1": 0})
+        return [Expression(name, expressions.OPERAND, 0, True,
+                           lambda look, *_, of=name: look.values[of])
+                for name in ("t.r0", "t.r1")] + [expressions.real("1.5")]
+
+    def _chosen(self, *of: Expression) -> Expression:
+        """Returns ?:, of which one value has no z: Icarus makes z of two z."""
+        test, one, other = of
+        return super()._chosen(test, expressions.unary("~", one), other)
+
+    def _beside_real(self, one: Expression) -> Expression:
+        """Returns 0 for what has an x: to Icarus, as to clause 4.8.2, x is 0 in a real number."""
+        has_x = expressions.joined("===", expressions.unary("^", one), constant("1'bx", "x"))
+        return super()._chosen(has_x, constant("%d'd0" % one.width, "0" * one.width), one)
+
+    def _past(self, one: Expression) -> Expression:
+        """Returns past(), rose() or the like, for which a register or a wire stands."""
+        found = super()._past(one)
+        number, of = len(self.meanings), (one.width, "signed " * one.is_signed)
+        name = "t.p%d" % number
+        self.meanings[name] = found.text
+        kept = [name + "_%d" % at for at in range(3)]
+        self.lines.append("wire %s[%d:0] %s_w = %s;" % (of[1], of[0] - 1, name, one.text))
+        self.lines.append("reg %s[%d:0] %s;" % (of[1], of[0] - 1, ", ".join(kept)))
+        self.lines.append("always @(posedge t.clk) begin %s end" % " ".join(
+            "%s <= %s;" % pair for pair in zip(kept, [name + "_w", *kept])))
+        kind, is_name = found.text.partition("(")[0], {"w": name + "_w", "p": kept[0]}
+        meaning = {"rose": "{w}[0] === 1'b1 && {p}[0] !== 1'b1",
+                   "fell": "{w}[0] === 1'b0 && {p}[0] !== 1'b0", "stable": "{w} === {p}",
+                   "changed": "{w} !== {p}"}.get(kind, kept[int(found.text[-2]) - 1]
+                                                 if kind == "past" else "").format(**is_name)
+        self.lines.append("wire %s[%d:0] %s = %s;" % (
+            "signed " * found.is_signed, found.width - 1, name, meaning))
+        return found._replace(text=name)
+
+    def asked(self, text: str) -> str:
+        """Returns an expression with what its registers stand for."""
+        while re.search(r"t\.p\d", text):
+            text = re.sub(r"t\.p\d+", lambda found: self.meanings[found.group()], text)
+        return text
+
+    def value(self, width: int) -> str:
+        """Returns a random value, as Verilog writes it."""
+        chance = self.random.random()
+        if width == 0:
+            return self.random.choice(["0.0", "1.0", "-1.0", "2.5", "-0.5", "3.0", "100.25"])
+        if chance < .3:
+            return "%d'd%d" % (width, self.random.choice(
+                [0, 1, 2**width - 1, 2**width // 2, 3]) % 2**width)
+        digits = "01" if chance < .7 else "0011xz" if chance < .95 else "01xz"
+        return "%d'b%s" % (width, "".join(self.random.choice(digits) for _ in range(width)))
+
+    def verilog(self, of: List[Expression]) -> str:
+        """Returns the test bench."""
+        lines = ["`timescale 1ns/1ns", "module t;", "reg clk;", *self.lines]
+        lines += ["wire [%d:0] t.y%d = %s;" % (one.width - 1, at, one.text)
+                  for at, one in enumerate(of)]
+        lines += ["initial begin", '$dumpfile("dump.vcd");', "$dumpvars(0, t);", "clk = 0;"]
+        for _ in range(TIMES):
+            lines += ["%s = %s;" % (name, self.value(width))
+                      for name, width in self.widths.items() if self.random.random() < .7 or not _]
+            lines.append("#1 clk = 1; #1 clk = 0;" if self.is_clocked else "#1;")
+        return "\n".join([*lines, "end", "endmodule", ""]).replace("t.", "")
+
+
+def wrong_of(seed: int, folder: str, count: int) -> Iterator[Tuple[str, str]]:
+    """Returns the expressions of a test bench whose values are others than those of Icarus."""
+    bench = Bench(seed)
+    made = iter(lambda: bench.make(bench.random.choice([1, 2, 2, 3, 3, 4])), None)
+    of = list(itertools.islice((one for one in made if "t." in one.text), count))
+    with open(os.path.join(folder, "bench.v"), "w", encoding="ascii") as file:
+        file.write(bench.verilog(of))
+    subprocess.run(["iverilog", "-g2005", "-gstrict-expr-width", "-o", "bench", "bench.v"], cwd=folder, check=True,
+                   stderr=subprocess.DEVNULL)
+    subprocess.run(["vvp", "-n", "bench"], cwd=folder, check=True, stdout=subprocess.DEVNULL)
+    dump = Dump(os.path.join(folder, "dump.vcd"))
+    clock = "t.clk" if bench.is_clocked else None
+    texts = [bench.asked(one.text) for one in of]
+    rules = [("", "%s($unsigned(%s) === t.y%d)" % ("!" * (at % 50 > 0), text, at))
+             for at, text in enumerate(texts)]
+    asking = Questions(dump, rules, clock, None, False)
+    held = {number for number, _ in asking.outcomes()}
+    for at, text in enumerate(texts):  # each 50th has to hold, so that it is known that they can
+        if (at in held) == (at % 50 > 0):
+            yield "vcdkit", "%s of y%d" % (text, at)
+    names = [*bench.widths, *("t.y%d" % at for at in range(count))]
+    look = None
+    for _, values in dump.rows(names, rise=clock):
+        row = dict(zip(names, (value if isinstance(value, float) else str(value)
+                               for value in values)))
+        look = Look(row, look)
+        for at, one in enumerate(of):
+            if one.own(look) != row["t.y%d" % at]:
+                yield "the definition", "%s of y%d: %s, by Icarus %s, of %s" % (
+                    texts[at], at, one.own(look), row["t.y%d" % at], {
+                        name: row[name] for name in bench.widths if name in one.text})
+
+
+def main() -> int:
+    """Asks, and says what differs."""
+    options = argparse.ArgumentParser(description=__doc__.partition("\n")[0])
+    options.add_argument("--count", type=int, default=1600)
+    options.add_argument("--seed", type=int, default=0)
+    asked = options.parse_args()
+    if not shutil.which("iverilog"):
+        print("expressions are not compared: there is no iverilog")
+        return 0
+    seen: Dict[str, int] = {"vcdkit": 0, "the definition": 0}
+    done = 0
+    for seed in range(asked.seed, asked.seed + -(-asked.count // EACH)):
+        with tempfile.TemporaryDirectory() as folder:
+            folder = os.environ.get("KEEP", folder)
+            for who, what in wrong_of(seed, folder, min(EACH, asked.count - done)):
+                seen[who] += 1
+                if seen[who] <= 5:
+                    print("seed %d, %s: %s" % (seed, who, what))
+        done += min(EACH, asked.count - done)
+    print("%d expressions; %d values of vcdkit differ, and %d of the definition" % (
+        done, *seen.values()))
+    return int(any(seen.values()))
+
+
+if __name__ == "__main__":
+    sys.exit(main())
