@@ -97,6 +97,10 @@ class Bench(expressions.Random):
         test, one, other = of
         return super()._chosen(test, expressions.unary("~", one), other)
 
+    def _power(self, one: Expression, other: Expression) -> Expression:
+        """Returns ** with an unsigned exponent: Icarus does not follow table 5-6 for others."""
+        return super()._power(one, expressions.read_as("$unsigned", other))
+
     def _beside_real(self, one: Expression) -> Expression:
         """Returns 0 for what has an x: to Icarus, as to clause 4.8.2, x is 0 in a real number."""
         has_x = expressions.joined("===", expressions.unary("^", one), constant("1'bx", "x"))

@@ -428,7 +428,13 @@ class Random:
         if any(NAME.match(a.text) and re.match(r"[-+]?\d+\Z", b.text)
                for a, b in ((one, other), (other, one))):
             sign = "+"  # conditions have a rule of their own for a name beside a number
+        if sign == "**":
+            return self._power(one, other)
         return joined(sign, one, other, random.choice([" ", " ", ""]))
+
+    def _power(self, one: Expression, other: Expression) -> Expression:
+        """Returns **."""
+        return joined("**", one, other)
 
     def _chosen(self, *of: Expression) -> Expression:
         """Returns ?:."""

@@ -119,6 +119,8 @@ def _type(node: Node) -> None:
             raise bad("a number between { and } needs a size, as 4'd3")
         node.kind = kind_of(node.value * sum(one.kind.width for one in parts))
     elif sign in IN_CONTEXT or sign == "past":
+        if sign in SHIFTS:  # the number of bits is unsigned
+            node.parts[1] = Node("unsigned", parts[1:], None, kind_of(parts[1].kind.width))
         is_common = len(parts) > 1 and sign not in ("?:", *SHIFTS) and (
             sign != "**" or REAL in (first, parts[1].kind))
         node.kind = _common(parts if is_common else parts[1:] if sign == "?:" else parts[:1])
@@ -158,8 +160,6 @@ def _place(node: Node) -> Any:
         works = node.to if node.to.width or not works.width else works
         for one in parts[sign == "?:":1 if sign == "**" or sign in SHIFTS else None]:
             one.to = works
-        if sign in SHIFTS:
-            parts[1].to = kind_of(parts[1].kind.width)
     elif sign in COMPARISONS or sign in SAME:
         works = _common(parts)
         for one in parts:
