@@ -10,6 +10,7 @@ from typing import Any, Callable, Dict, NamedTuple, Sequence, Tuple
 
 Value = Any  # an int, a float or a str
 Operate = Callable[..., Any]
+INVERSE = str.maketrans("01z-", "10xx")
 
 
 class Kind(NamedTuple):
@@ -50,35 +51,21 @@ def value_of_digits(digits: str, kind: Kind) -> Value:
 
 def converted(value: Value, own: Kind, to: Kind) -> Value:
     """Returns a value of a kind as one of another kind. Digits are added only on the left."""
-    if isinstance(value, str):
-        if to.width and own.width:
-            return value.rjust(to.width, value[0] if to.sign else "0")
-        return "-" if "-" in value else "x"
-    return value if to.sign or not to.width else value & own.mask
+    if not isinstance(value, str):
+        return value if to.sign or not to.width else value & own.mask
+    if to.width and own.width:
+        return value.rjust(to.width, value[0] if to.sign else "0")
+    return "-" if "-" in value else "x"
 
 
-def truth(one: Value) -> Value:
-    """Returns whether a value is true: 1, 0, or x if that depends on an x."""
-    if isinstance(one, str):
-        return 1 if "1" in one else "x"
-    return 1 if one else 0
-
-
-def inverse(one: Value) -> Value:
-    """Returns the inverse of 1, 0 or x."""
-    return one if isinstance(one, str) else 1 - one
-
-
-def _arithmetic(operate: Operate) -> Callable[..., Value]:
-    """Returns an operator on numbers: if one of them is unknown, the result is."""
-    def result(kind: Kind, *values: Value) -> Value:
-        if str not in map(type, values):
-            try:
-                return kind.of(operate(*values))
-            except (ArithmeticError, ValueError):
-                pass
-        return kind.unknown
-    return result
+def _arithmetic(operate: Operate, kind: Kind, *values: Value) -> Value:
+    """Returns a number: if one of the values is unknown, it is."""
+    if str not in map(type, values):
+        try:
+            return kind.of(operate(*values))
+        except (ArithmeticError, ValueError):
+            pass
+    return kind.unknown
 
 
 def _quotient(one: int, other: int) -> int:
@@ -87,20 +74,13 @@ def _quotient(one: int, other: int) -> int:
     return number if (one < 0) == (other < 0) else -number
 
 
-def _remainder(one: int, other: int) -> int:
-    """Returns the rest of a division, which has the sign of what is divided."""
-    return one - other * _quotient(one, other)
-
-
 def _power(kind: Kind, one: Value, other: Value) -> Value:
-    """Returns a power. Only that of 0 to a negative number is unknown."""
-    if isinstance(one, str) or isinstance(other, str) or kind.width and other < 0 == one:
-        return kind.unknown
-    if kind.width and other >= 0:
+    """Returns a power. That of 0 to a negative number is unknown."""
+    if not kind.width or isinstance(one, str) or isinstance(other, str):
+        return _arithmetic(math.pow, kind, one, other)
+    if other >= 0:
         return kind.of(pow(one, other, kind.mask + 1))
-    if kind.width:
-        return one ** (other % 2) if one in (1, -1) else 0
-    return _arithmetic(math.pow)(kind, one, other)
+    return (one ** (other % 2) if one in (1, -1) else 0) if one else kind.unknown
 
 
 def _shift(is_left: bool, is_signed: bool, kind: Kind, one: Value, by: Value) -> Value:
@@ -115,19 +95,20 @@ def _shift(is_left: bool, is_signed: bool, kind: Kind, one: Value, by: Value) ->
                            fill * by + one[:kind.width - by], kind)
 
 
-def _bitwise(operate: Operate, decides: str) -> Callable[[Kind, Value, Value], Value]:
-    """Returns an operator on each bit, in which one digit decides, whatever the other is."""
-    table: Dict[Tuple[str, str], str] = {
-        (one, other): str(operate(int(one), int(other)) & 1) if one + other in BINARY else
-        decides if decides and decides in one + other else "x" for one in "01xz-"
-        for other in "01xz-"}
+def _table(operate: Operate, decides: str) -> Dict[Tuple[str, str], str]:
+    """Returns what digits make, of which one may decide whatever the other is."""
+    return {(one, other): str(operate(int(one), int(other)) & 1) if (one + other).isdigit() else
+            decides if decides and decides in one + other else "x"
+            for one in "01xz-" for other in "01xz-"}
 
-    def result(kind: Kind, one: Value, other: Value) -> Value:
-        if not (isinstance(one, str) or isinstance(other, str)):
-            return kind.of(operate(one, other))
-        pairs = zip(digits_of(one, kind.width), digits_of(other, kind.width))
-        return value_of_digits("".join(map(table.__getitem__, pairs)), kind)
-    return result
+
+def _bitwise(operate: Operate, table: Dict[Tuple[str, str], str], kind: Kind, one: Value,
+             other: Value) -> Value:
+    """Returns what each two digits make."""
+    if not (isinstance(one, str) or isinstance(other, str)):
+        return kind.of(operate(one, other))
+    pairs = zip(digits_of(one, kind.width), digits_of(other, kind.width))
+    return value_of_digits("".join(map(table.__getitem__, pairs)), kind)
 
 
 def _inverted(kind: Kind, one: Value) -> Value:
@@ -135,113 +116,95 @@ def _inverted(kind: Kind, one: Value) -> Value:
     return one.translate(INVERSE) if isinstance(one, str) else kind.of(~one)
 
 
+def _not(operate: Operate) -> Operate:
+    """Returns the inverse of an operator whose result is 1, 0 or x."""
+    return lambda *values: _inverted(BIT, operate(*values))
+
+
 def _reduced(decides: str, kind: Kind, one: Value) -> Value:
     """Returns all digits joined by & or |, which one digit decides; by ^ if none does."""
     digits = digits_of(one, kind.width)
     if decides and decides in digits:
         return int(decides)
-    return "x" if digits.strip("01") else digits.count("1") & 1 if not decides else 1 - int(decides)
+    return "x" if digits.strip("01") else 1 - int(decides) if decides else digits.count("1") & 1
 
 
-def _compared(operate: Operate) -> Callable[[Kind, Value, Value], Value]:
-    """Returns a comparison, which is unknown if a value is."""
-    def result(_: Kind, one: Value, other: Value) -> Value:
-        if isinstance(one, str) or isinstance(other, str):
-            return "x"
-        return 1 if operate(one, other) else 0
-    return result
-
-
-def _equal(kind: Kind, one: Value, other: Value) -> Value:
-    """Returns whether values are equal: two known digits that differ decide."""
+def _compared(operate: Operate, kind: Kind, one: Value, other: Value) -> Value:
+    """Returns a comparison. If digits are unknown, two known ones that differ decide that values
+    are not equal."""
     if not (isinstance(one, str) or isinstance(other, str)):
-        return 1 if one == other else 0
-    pairs = zip(*(digits_of(value, kind.width) for value in (one, other))) if kind.width else ()
+        return 1 if operate(one, other) else 0
+    if operate is not operator.eq or not kind.width:
+        return "x"
+    pairs = zip(digits_of(one, kind.width), digits_of(other, kind.width))
     return 0 if any({*pair} == {"0", "1"} for pair in pairs) else "x"
 
 
 def _same(_: Kind, one: Value, other: Value) -> Value:
     """Returns whether all digits are the same."""
-    return "x" if any(isinstance(value, str) and "-" in value for value in (one, other)) else (
-        1 if one == other else 0)
+    is_none = any(isinstance(value, str) and "-" in value for value in (one, other))
+    return "x" if is_none else 1 if one == other else 0
 
 
-def _has(letter: str) -> Callable[[Kind, Value], Value]:
+def _has(letter: str, _: Kind, one: Value) -> Value:
     """Returns whether a digit is x, or z."""
-    return lambda _, one: 0 if not isinstance(one, str) else "x" if "-" in one else (
-        1 if letter in one else 0)
+    return 0 if not isinstance(one, str) else "x" if "-" in one else 1 if letter in one else 0
 
 
-def _and(_: Kind, one: Value, other: Value) -> Value:
-    """Returns whether both are true."""
-    both = truth(one), truth(other)
-    return 0 if 0 in both else "x" if "x" in both else 1
-
-
-def _or(_: Kind, one: Value, other: Value) -> Value:
-    """Returns whether one is true."""
-    both = truth(one), truth(other)
-    return 1 if 1 in both else "x" if "x" in both else 0
+def truth(one: Value) -> Value:
+    """Returns whether a value is true: 1, 0, or x if that depends on an x."""
+    return 1 if ("1" in one if isinstance(one, str) else one) else "x" if one else 0
 
 
 def _chosen(kind: Kind, test: Value, one: Value, other: Value) -> Value:
     """Returns one of two values. If the test is unknown, what they have in common is known."""
     which = truth(test)
-    if which != "x":
-        return one if which else other
-    if not kind.width:
-        return 0.0
+    if which != "x" or not kind.width:
+        return 0.0 if which == "x" else one if which else other
     pairs = zip(digits_of(one, kind.width), digits_of(other, kind.width))
     return value_of_digits("".join(a if a == b and a in "01" else "x" for a, b in pairs), kind)
 
 
 def _joined(of: Tuple[Sequence[Kind], int], *values: Value) -> Value:
     """Returns the digits of values of some kinds, joined, so many times."""
-    kinds, count = of
-    digits = "".join(digits_of(one, kind.width) for one, kind in zip(values, kinds)) * count
+    digits = "".join(digits_of(one, kind.width) for one, kind in zip(values, of[0])) * of[1]
     return digits if digits.strip("01") else int(digits, 2)
 
 
-def _read_as(kind: Kind, one: Value) -> Value:
-    """Returns the value whose digits are those of another one."""
-    return one if isinstance(one, str) else kind.of(one)
-
-
-def _became(digit: str) -> Callable[[Kind, Value, Value], Value]:
+def _became(digit: str, kind: Kind, one: Value, was: Value) -> Value:
     """Returns whether the last digit is this one, and was not."""
-    return lambda kind, one, was: int(digits_of(one, kind.width)[-1] == digit
-                                      != digits_of(was, kind.width)[-1])
+    last, before = (digits_of(value, kind.width)[-1] for value in (one, was))
+    return 1 if last == digit != before else 0
 
 
-def _not(operate: Callable[..., Value]) -> Callable[..., Value]:
-    """Returns the inverse of an operator whose result is 1, 0 or x."""
-    return lambda *values: inverse(operate(*values))
+def _each(operate: Operate, its: Dict[str, Any]) -> Dict[str, Operate]:
+    """Returns operators that differ in the first value of a function."""
+    return {sign: functools.partial(operate, value) for sign, value in its.items()}
 
 
-BINARY, INVERSE = ("00", "01", "10", "11"), str.maketrans("01z-", "10xx")
-_xnor = _bitwise(lambda one, other: ~(one ^ other), "")
-ARITHMETIC: Dict[str, Callable[..., Value]] = {
-    "+": _arithmetic(operator.add), "-": _arithmetic(operator.sub),
-    "*": _arithmetic(operator.mul), "/": _arithmetic(_quotient), "%": _arithmetic(_remainder),
-    "unary -": _arithmetic(operator.neg), "unary +": lambda _, one: one}
-BITWISE: Dict[str, Callable[..., Value]] = {
-    "&": _bitwise(operator.and_, "0"), "|": _bitwise(operator.or_, "1"),
-    "^": _bitwise(operator.xor, ""), "~^": _xnor, "^~": _xnor, "unary ~": _inverted}
-SHIFTS: Dict[str, Callable[..., Value]] = {
-    sign: functools.partial(_shift, sign[0] == "<", len(sign) == 3)
-    for sign in ("<<", "<<<", ">>", ">>>")}
-COMPARISONS: Dict[str, Callable[..., Value]] = {
-    "<": _compared(operator.lt), "<=": _compared(operator.le), ">": _compared(operator.gt),
-    ">=": _compared(operator.ge), "==": _equal, "!=": _not(_equal)}
-REDUCTIONS: Dict[str, Callable[..., Value]] = {
-    "unary " + sign: functools.partial(_reduced, decides)
-    for sign, decides in (("&", "0"), ("|", "1"), ("^", ""))}
-REDUCTIONS.update({sign: _not(REDUCTIONS["unary " + sign.strip("unary ~")]) for sign in (
-    "unary ~&", "unary ~|", "unary ~^", "unary ^~")})
-OPERATORS: Dict[str, Callable[..., Value]] = {
+_and, _or, _xor = (functools.partial(_bitwise, operate, _table(operate, decides)) for operate, decides in (
+    (operator.and_, "0"), (operator.or_, "1"), (operator.xor, "")))
+_xnor = functools.partial(_bitwise, lambda a, b: ~(a ^ b), _table(lambda a, b: ~(a ^ b), ""))
+ARITHMETIC = {**_each(_arithmetic, {
+    "+": operator.add, "-": operator.sub, "*": operator.mul, "/": _quotient, "unary -": operator.neg,
+    "%": lambda a, b: a - b * _quotient(a, b)}), "unary +": lambda _, one: one}
+BITWISE: Dict[str, Operate] = {
+    "&": _and, "|": _or, "^": _xor, "~^": _xnor, "^~": _xnor, "unary ~": _inverted}
+SHIFTS = {sign: functools.partial(_shift, sign[0] == "<", len(sign) == 3)
+          for sign in ("<<", "<<<", ">>", ">>>")}
+COMPARISONS = _each(_compared, {"<": operator.lt, "<=": operator.le, ">": operator.gt,
+                                ">=": operator.ge, "==": operator.eq})
+COMPARISONS["!="] = _not(COMPARISONS["=="])
+REDUCTIONS = _each(_reduced, {"unary &": "0", "unary |": "1", "unary ^": ""})
+REDUCTIONS.update({"unary " + sign: _not(REDUCTIONS["unary " + sign.strip("~")])
+                   for sign in ("~&", "~|", "~^", "^~")})
+OPERATORS: Dict[str, Operate] = {
     **ARITHMETIC, **BITWISE, **SHIFTS, **COMPARISONS, **REDUCTIONS, "**": _power,
     "===": _same, "!==": _not(_same), "stable": _same, "changed": _not(_same),
-    "real /": _arithmetic(operator.truediv), "is x": _has("x"), "is z": _has("z"),
-    "is not x": _not(_has("x")), "is not z": _not(_has("z")), "&&": _and, "||": _or,
-    "unary !": lambda _, one: inverse(truth(one)), "?:": _chosen, "{": _joined,
-    "signed": _read_as, "unsigned": _read_as, "rose": _became("1"), "fell": _became("0")}
+    "real /": functools.partial(_arithmetic, operator.truediv),
+    **_each(_has, {"is x": "x", "is z": "z"}), **{"is not " + letter: _not(functools.partial(
+        _has, letter)) for letter in "xz"}, "unary !": lambda _, one: _inverted(BIT, truth(one)),
+    "&&": lambda _, one, other: _and(BIT, truth(one), truth(other)),
+    "||": lambda _, one, other: _or(BIT, truth(one), truth(other)), "?:": _chosen, "{": _joined,
+    **dict.fromkeys(("signed", "unsigned"), lambda kind, one: one if isinstance(one, str)
+                    else kind.of(one)), **_each(_became, {"rose": "1", "fell": "0"})}

@@ -215,14 +215,9 @@ class Condition:
                 self.values[place] = read(raw)
 
     @property
-    def has_past(self) -> bool:
-        """Whether it asks for values at earlier edges."""
-        return bool(self._pasts)
-
-    @property
-    def has_events(self) -> bool:
-        """Whether it names an event."""
-        return bool(self._events)
+    def has_more(self) -> bool:
+        """Whether it depends on more than values: on events, or on what was at earlier edges."""
+        return bool(self._events or self._pasts)
 
     def end(self) -> bool:
         """Takes it that a time is over: what it has then is the past, and no event is triggered;
@@ -235,8 +230,6 @@ class Condition:
             self.values[place] = 0
         return were_some
 
-    # The tree.
-
     def _test(self, tree: Node) -> Test:
         """Returns what says whether an expression is true."""
         order = [tree]
@@ -248,23 +241,19 @@ class Condition:
 
     def _compiled(self, tree: Node, result: str) -> Test:
         """Returns a function of the values, with a line for each operator."""
-        tree.to, order = tree.kind, [tree]
-        lines: List[str] = []
+        tree.to, order, lines = tree.kind, [tree], ["def test():"]
         known: Dict[str, Any] = {"v": self.values, "converted": converted}
         works = {}
         for node in order:  # from the top down
-            node.text = ""
-            works[node] = _place(node)
+            node.text, works[node] = "", _place(node)
             order += node.parts if node.sign != "past" else []
         for node in reversed(order):
             if not node.text:
-                text = self._text(node, works[node], known)
+                node.text = self._text(node, works[node], known)
                 if node.parts:
-                    lines.append(" t%d = %s" % (len(lines), text))
-                    text = "t%d" % (len(lines) - 1)
-                node.text = text
-        lines.append(" return " + result.format(tree.text))
-        exec("def test():\n" + "\n".join(lines), known)
+                    lines.append(" t%d = %s" % (len(lines), node.text))
+                    node.text = "t%d" % (len(lines) - 1)
+        exec("\n".join([*lines, " return " + result.format(tree.text)]), known)
         test: Test = known["test"]
         return test
 
@@ -276,13 +265,13 @@ class Condition:
         sign, value = node.sign, node.value
         if sign == "name":
             return "v[%d]" % self._value(node)
-        if sign in ("number", "literal"):
-            if isinstance(value, str) and node.fill:
-                value = value.rjust(node.to.width, node.fill)
-            return named(node.to.of(value) if sign == "number" and not isinstance(value, str)
-                         else converted(value, node.kind, node.to))
+        if sign == "number" and not isinstance(value, str):
+            return named(node.to.of(value))
+        if not node.parts:
+            value = value.rjust(node.to.width, node.fill) if node.fill else value
+            return named(converted(value, node.kind, node.to))
         if sign == "past":
-            kept = collections.deque(["x" * (node.kind.width or 1)] * value, value)
+            kept = collections.deque([node.kind.unknown] * value, value)
             self._pasts.append((node.parts[0], kept))
             found = named(kept) + "[0]"
         else:

@@ -1,7 +1,7 @@
 """The text of a condition as a tree: an expression of Verilog (clause 5 of IEEE Std 1364-2005), in
 which names are paths, and what conditions have beside it."""
 import re
-from typing import Any, Dict, List, NamedTuple, Optional, Sequence, Tuple
+from typing import Any, List, NamedTuple, Sequence, Tuple
 
 from ..errors import UsageError
 from ..model.operators import BITWISE, REDUCTIONS, REAL, Kind, kind_of, value_of_digits
@@ -21,7 +21,6 @@ LEVELS = {sign: level for level, signs in enumerate((
     "||", "&&", "|", "^ ~^ ^~", "&", "== != === !== is", "< <= > >=", "<< >> <<< >>>", "+ -",
     "* / %", "**")) for sign in signs.split()}
 UNARY = ("+", "-", "!", *(sign[6:] for sign in (*BITWISE, *REDUCTIONS) if sign[:6] == "unary "))
-BITS_OF_DIGIT = {"b": 1, "o": 3, "h": 4}
 FUNCTIONS = ("signed", "unsigned", "past", "rose", "fell", "stable", "changed")
 
 
@@ -53,17 +52,25 @@ def bad(why: str) -> UsageError:
 
 def number_of(text: str) -> Node:
     """Returns the number that a word is. `number` is one without a size, whose value is an int, a
-    float or digits; `literal` is one of Verilog."""
+    float or digits; `literal` is one of Verilog. x or z at its front goes on to the left; without a
+    size, up to that of the expression."""
     based = BASED.match(text)
-    digits = re.match(r"0([xXbB])([0-9a-fA-FxXzZ_]+)\Z", text)
+    plain = re.match(r"(0([xXbB])\w+|\d[\d_]*)\Z", text)
     try:
         if based:
-            return _literal(*based.groups())
-        if digits and re.search("[xXzZ]", digits.group(2)):
-            bits = _bits(digits.group(2), 1 if digits.group(1) in "bB" else 4)
+            size, sign, base, digits = (group.replace("_", "") for group in based.groups())
+            bits = _bits(digits, base.lower())
+            width = int(size) if size else max(32, len(bits.lstrip("0")))
+            if not 0 < width <= MAX_WIDTH:
+                raise bad("a number has 1 to %d bits" % MAX_WIDTH)
+            fill = bits[0] if bits[0] in "xz" else "0"
+            kind = kind_of(width, bool(sign))
+            return Node("literal", (), value_of_digits(bits.rjust(width, fill)[-width:], kind),
+                        kind, "" if size or fill == "0" else fill)
+        if plain and plain.group(2) and re.search("[xzXZ]", text[2:]):
+            bits = _bits(text[2:], "h" if text[1] in "xX" else "b")
             return Node("number", (), bits, kind_of(len(bits)), bits[0] if bits[0] in "xz" else "0")
-        is_whole = digits or re.match(r"\d[\d_]*\Z", text)
-        value = int(text, 0 if digits else 10) if is_whole else float(text)
+        value = int(text, 0 if plain.group(2) else 10) if plain else float(text)
     except ValueError:
         raise bad("%s is no number: numbers are as 0xff, 0b1x0, 10, 1.5 and 4'b1x0" % text
                   ) from None
@@ -71,28 +78,15 @@ def number_of(text: str) -> Node:
                 if isinstance(value, int) else REAL)
 
 
-def _literal(size: str, sign: str, base: str, digits: str) -> Node:
-    """Returns a number of Verilog, such as 4'b1x0. x or z at its front goes on to the left."""
-    digits, base = digits.lower().replace("_", "").replace("?", "z"), base.lower()
-    if base != "d":
-        bits = _bits(digits, BITS_OF_DIGIT[base])
-    else:
-        bits = digits if digits in ("x", "z") else "{:b}".format(int(digits))
-    width = int(size.replace("_", "")) if size else max(32, len(bits.lstrip("0")))
-    if not 0 < width <= MAX_WIDTH:
-        raise bad("a number has 1 to %d bits" % MAX_WIDTH)
-    fill = bits[0] if bits[0] in "xz" else "0"
-    kind, value = kind_of(width, bool(sign)), bits.rjust(width, fill)[-width:]
-    # Without a size, x or z goes on up to the size of the expression.
-    return Node("literal", (), value_of_digits(value, kind), kind,
-                "" if size or fill == "0" else fill)
-
-
-def _bits(digits: str, size: int) -> str:
-    """Returns the bits of digits, of which each has so many."""
+def _bits(digits: str, base: str) -> str:
+    """Returns the bits of digits in a base of Verilog."""
+    digits = digits.lower().replace("_", "").replace("?", "z")
+    if base == "d":
+        return digits if digits in ("x", "z") else "{:b}".format(int(digits))
+    size = {"b": 1, "o": 3, "h": 4}[base]
     each = [digit * size if digit in "xz" else "{:0{}b}".format(int(digit, 16), size)
-            for digit in digits.lower().replace("_", "").replace("?", "z")]
-    if any(len(bits) > size for bits in each) or not each:
+            for digit in digits]
+    if not each or max(map(len, each)) > size:
         raise ValueError
     return "".join(each)
 
@@ -104,30 +98,26 @@ class Parser:
         if not isinstance(text, str):
             raise bad("%r is no text" % (text,))
         self.names: List[Node] = []
-        self._tokens: List[Tuple[str, ...]] = []  # quoted, number, sign and name: one is there
+        self._tokens: List[Tuple[Any, ...]] = []  # quoted, number, sign and name: one is there
         self._at, self._depth, end = 0, 0, 0
-        for token in TOKEN.finditer(text):
-            self._check_gap(text[end:token.start()])
-            self._tokens.append((token.group(), *token.groups()))
-            end = token.end()
-        self._check_gap(text[end:])
-
-    def _check_gap(self, text: str) -> None:
-        """Refuses what is between tokens, unless it is blank."""
-        sign = text.strip()[:1]
-        if sign:
-            raise bad({"=": "write == for =", '"': 'a " has no second one'}.get(
-                sign, "it cannot be read at " + text.strip()))
+        for token in [*TOKEN.finditer(text), None]:
+            rest = text[end:token.start() if token else None].strip()  # nothing but blanks
+            if rest:
+                raise bad({"=": "write == for =", '"': 'a " has no second one'}.get(
+                    rest[0], "it cannot be read at " + rest))
+            if token:
+                self._tokens.append((token.group(), *token.groups()))
+                end = token.end()
 
     @property
-    def _next(self) -> str:
+    def _next(self) -> Any:
         """The next token; nothing at the end, and for a name in quotes the quotes too."""
         return self._tokens[self._at][0] if self._at < len(self._tokens) else ""
 
     def _take(self, *wanted: str) -> str:
         """Takes the next token, which has to be one of these, if some are named."""
-        token = self._next
-        if not token or wanted and token not in wanted:
+        token: str = self._next
+        if token not in wanted if wanted else not token:
             if not token and self._depth and ")" in wanted:
                 raise bad("a ) is missing")
             if token in ("->", "within") or wanted == ("within",):
@@ -144,8 +134,7 @@ class Parser:
             found = self._rule()
         except RecursionError:
             raise bad("it is nested too deep") from None
-        if self._next:
-            self._take("")
+        self._take("")
         return found
 
     def _rule(self) -> Node:
@@ -202,33 +191,28 @@ class Parser:
 
     def _primary(self) -> Node:
         """Reads a name, a number, a function, or what is in parentheses or braces."""
-        if self._next == "{":
-            return self._join()
-        if self._next == "(":
-            return self._inside()
         token = self._take()
         _, quoted, number, sign, _ = self._tokens[self._at - 1]
+        if token == "{":
+            return self._join()
+        if token == "(":
+            self._depth += 1
+            if self._depth > MAX_DEPTH:
+                raise RecursionError
+            one = self._rule()
+            self._take(")")
+            self._depth -= 1
+            return one
         if sign:
             self._at -= 1
             self._take("")
         if number:
             return number_of(token)
-        name = quoted if quoted is not None else token
-        if quoted is None and self._next == "(" and name.lstrip("$") in FUNCTIONS:
-            return self._call(name.lstrip("$"))
-        self.names.append(Node("name", (), name))
+        name = token.lstrip("$") if quoted is None else quoted
+        if quoted is None and self._next == "(" and name in FUNCTIONS:
+            return self._call(name)
+        self.names.append(Node("name", (), token if quoted is None else quoted))
         return self.names[-1]
-
-    def _inside(self) -> Node:
-        """Reads what is in parentheses."""
-        self._take("(")
-        self._depth += 1
-        if self._depth > MAX_DEPTH:
-            raise RecursionError
-        one = self._rule()
-        self._take(")")
-        self._depth -= 1
-        return one
 
     def _call(self, name: str) -> Node:
         """Reads the operands of a function. What is asked of an edge is asked of past() too."""
@@ -244,14 +228,13 @@ class Parser:
         return past if name == "past" else Node(name, [one, past])
 
     def _join(self) -> Node:
-        """Reads a concatenation, which may be repeated."""
-        self._take("{")
+        """Reads the rest of a concatenation, which may be repeated."""
         start = self._at
         parts, count = [self._choice()], 1
         if self._next == "{":  # the first is a count
             self._at = start
             count = self._count(MAX_WIDTH)
-            parts = [self._join()]
+            parts = [self._primary()]
         while self._next == ",":
             self._take()
             parts.append(self._choice())

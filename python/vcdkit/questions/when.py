@@ -40,8 +40,7 @@ class _Question:
         self._waiting: Deque[_Request] = collections.deque()
         self._late = 0  # of them, how many wait for an answer that would come too late
         self._held, self._looks = False, 0
-        self._is_plain = not (self.condition.answer or self.condition.has_events
-                              or self.condition.has_past)
+        self._is_plain = not self.condition.answer and not self.condition.has_more
 
     def look(self, time: int) -> List[Outcome]:
         """Takes the values at a time as those at which the condition is looked at. Returns what is
