@@ -1,8 +1,6 @@
 """All small dumps, who answers, and what is counted, for test_every_small_dump.py."""
-import ast
 import collections
 import contextlib
-import functools
 import io
 import os
 import re
@@ -19,7 +17,7 @@ import answers as by_definition
 from reference import comparison, evaluator  # type: ignore[import]
 from answers import Change, Part, Tree, Variable
 from vcdkit import Dump, DumpFault, Value, VcdkitError
-from vcdkit.questions import condition, dump
+from vcdkit.questions import dump
 from vcdkit.reading import comparing, library, program, source
 from vcdkit.reading.texts import Text
 
@@ -94,22 +92,11 @@ def moment_of(time: str) -> Tuple[int, Optional[int]]:
     return int(digits), evaluator.UNITS[unit.encode()] if unit else None
 
 
-class Condition(condition._Text):
-    """The text of a condition, which is parsed once for all dumps."""
-
-    def tree(self) -> ast.expr:
-        """Returns what Python's parser makes of it."""
-        if not hasattr(self, "_tree"):
-            self._tree = super().tree()
-        return self._tree
-
-
 class Ways:
     """Who answers: the evaluator in this process; the program; the library, if there is one."""
 
     def __init__(self) -> None:
         evaluator.read_head = Heads()
-        setattr(condition, "_Text", functools.lru_cache(maxsize=None)(Condition))
         self._evaluator = Evaluator()
         self._library, self._lines = (library.run, library.changes), comparing.lines
         self.others = [program] if program.path() else []
@@ -281,7 +268,9 @@ DECLARATIONS = {
             ("t.q == 1", ("==", Q, 1)), ("t.q[1:0] >= 1 & t.c", (
                 "and", (">=", Part('"', 1, 3, 3, False), 1), ("true", C))),
             ("t.q == 0bx1 | t.c == 0", ("or", ("==", Q, "x1"), ("==", C, 0))),
-            ("signed(t.q) < t.c", ("<", Q._replace(is_signed=True), C)),
+            ("signed(t.q) < signed(t.c)", ("<", Q._replace(is_signed=True),
+                                           C._replace(is_signed=True))),
+            ("signed(t.q) < t.c", ("<", Q, C)),
             ("!(t.q[0] & t.c)", ("not", ("and", ("true", Part('"', 2, 3, 3, False)), ("true", C)))),
             ("t.q == -3", ("==", Q._replace(is_signed=True), -3))]),
     "slices": Declarations(

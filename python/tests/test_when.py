@@ -4,6 +4,7 @@ what it has to refuse, by one line."""
 import contextlib
 import io
 import os
+import re
 import sys
 import tempfile
 
@@ -32,17 +33,18 @@ ANSWERS = [
     (["%s == 1 -> %s == 2 within 9.9ns" % (COUNT, COUNT)], ""),
     (["--rise", "bench.clock", "!(%s == 1 -> %s == 3 within 1)" % (COUNT, COUNT)], "25ns"),
     (["--rise", "bench.clock", "!(%s == 10 -> %s == 11 within 1)" % (COUNT, COUNT)], "")]
-REFUSED = ["", " ", "(", ")", "a b", "a ==", "a == = 1", "a = 1", "== 1", "!", "!!a", "a &",
-           "a & & b", "1", "1 == 1", "a -> b", "a within 5", "a -> b within", "a -> b within c",
-           "(a -> b within 5) & c", "a -> b -> c within 5 within 5", "c -> c within 5", "a is",
-           "a is 5", "a is not", "q == 5ns", "q == 16", "q == -9", "q == 0b1xx00", "q < 0bx",
-           "q == 0xg", "q == 8'hff", "q == 1.2.3", "!q == 1", "1 < q < 3", "(q) == (c & c)",
-           "q[4]", "q[0:1]", "r[0]", "r == 0bx", "e == 1", "e is x", "e < c", "signed(r) == 1",
-           "signed(1) == q", "signed", "signed(q, q)", "q(c)", "p == 1", "u", "none", "q[3:0].a",
-           '"', '"q', "q; import os", "q.__class__", "lambda: q", "q if c else q", "[q]", "{q}",
-           "q + 1", "q := 1", "\udcff", "(" * 5000 + "q" + ")" * 5000, "*", "...", "q\n==",
-           "!(" * 5000 + "q" + ")" * 5000, "a" * 100000, "0x" + "f" * 100000 + " == q",
-           "9" * 100000 + " == q"]
+REFUSED = ["", " ", "(", ")", "q q", "q ==", "q == = 1", "q = 1", "== 1", "!", "!!q", "- -q", "q &",
+           "q & ~ ~q", "1", "1 == 1", "q -> q", "q within 5", "q -> q within", "q -> q within c",
+           "(q -> q within 5) & q", "q -> q -> q within 5 within 5", "q -> q within 5", "q is",
+           "q is 5", "q is not", "q == 5ns", "q == 16", "q == -9", "q == 0b1xx00", "q == 0xg",
+           "q == 1.2.3", "q[4]", "q[0:1]", "r[0]", "r == 0bx", "r === 1", "r & c", "~r", "r % 2",
+           "r << 1", "{r}", "signed(r) == 1", "rose(r)", "signed(q, q)", "q(c)", "p == 1", "u",
+           "none", "q[3:0].a", '"', '"q', "q; import os", "q.__class__", "lambda: q",
+           "q if c else q", "[q]", "{q", "{}", "{q, 1}", "{q{q}}", "{0{q}}", "{9999999{q}}", "q ? q",
+           "q := 1", "0'h1 == q", "4'q1 == q", "4'b2 == q", "4'h == q", "99999999'h1 == q",
+           "past(q)", "past(q, 0)", "past(q, q)", "stable(q)", "rose()", "\udcff", "*", "...",
+           "(" * 5000 + "q" + ")" * 5000, "q\n==", "!(" * 5000 + "q" + ")" * 5000, "a" * 100000,
+           "0x" + "f" * 100000 + " == q", "9" * 100000 + " == q"]
 
 
 def said(words):
@@ -72,7 +74,8 @@ def tried():
         for name, text in files.items():
             with open("%s/%s" % (folder, name), "w", encoding="latin-1") as file:
                 file.write(text)
-        asked = [["--", folder + "/dump", text.replace("q", "t.q")] for text in REFUSED]
+        asked = [["--", folder + "/dump", re.sub(r"\b([qcr])\b(?!\.a)", r"t.\1", text)]
+                 for text in REFUSED]
         asked += [[folder + "/" + name, "t.c"]
                   for name in ("empty", "fault", "binary", "other", "none", "", "dump/none")]
         asked += [[*words, folder + "/dump", "t.c"] for words in (

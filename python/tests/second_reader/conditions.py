@@ -1,29 +1,34 @@
-"""Random conditions, and what they mean by the page of the scripts. Each is a text, how tightly it
-binds (4: a name; 3: a comparison; 2: `&`; 1: `|`), and a function of the values and the events of
-a time. The function returns True, False, or None for neither."""
+"""Random conditions, and what they mean by the page of the scripts: expressions over the variables
+of a dump."""
 import re
-from typing import Any, Callable, List, NamedTuple, Optional, Set, Tuple, Union
+from typing import Any, List, NamedTuple, Optional, Set, Tuple, Union
 
-from dumps import Dump, Real, State, Variable, bare, number
+import expressions
+from dumps import Dump, Real, Variable, bare, number
+from expressions import Expression
 from shown import integer, is_known
 
-Truth = Optional[bool]
-Test = Callable[[State, Set[str]], Truth]
-Read = Callable[[State], Any]  # digits, a number, or None
-Side = Tuple[Read, bool]  # and whether it is signed
-KEYWORDS = ("is", "within", "signed", "not")
+Test = Any  # of a look
+PLAIN = re.compile(r"(?!\d)(?:[^\s\"&|!=<>()+\-*/%^~?:,{}'\[\]]|\[[^\s\]]*\])+\Z")
 
 
 class Condition(NamedTuple):
     """A condition."""
 
-    text: str
-    binding: int
-    test: Test
+    of: Expression
+
+    @property
+    def text(self) -> str:
+        """Its text."""
+        return self.of.text
 
     def inside(self, least: int) -> str:
         """Returns the text, in parentheses if it binds less tightly."""
-        return self.text if self.binding >= least else "(%s)" % self.text
+        return self.of.inside(least)
+
+    def test(self, look: Any) -> bool:
+        """Whether it holds."""
+        return expressions.truth(self.of.own(look)) == "1"
 
 
 class Operand(NamedTuple):
@@ -35,103 +40,28 @@ class Operand(NamedTuple):
     end: int
     is_signed: bool
 
-    def read(self, state: State) -> Any:
-        """Returns the digits, the real number, or None."""
-        value = state.get(self.of.code)
-        if isinstance(value, Real):
-            return number(value.text)
-        return None if value is None else value[self.begin:self.end]
+    def read(self, state: Any) -> Any:
+        """Returns the digits, or the number that a real variable has; - if there is none."""
+        value, width = state.get(self.of.code), self.end - self.begin
+        if isinstance(value, Real) or value is None:
+            found = number(value.text) if value and self.of.is_real else None
+            return "-" * (1 if self.of.is_real else width) if found is None else found
+        if self.of.is_real:
+            return integer(value) if is_known(value) else "x"
+        return value[self.begin:self.end]
+
+    def expression(self, is_signed: bool = False) -> Expression:
+        """Returns it as an expression."""
+        if self.of.is_real:
+            return Expression(self.text, expressions.OPERAND, 0, True,
+                              lambda look, *_: self.read(look.values))
+        return expressions.leaf(self.text, self.end - self.begin, self.is_signed or is_signed,
+                                lambda look: self.read(look.values))
 
 
 def quoted(name: str, is_free: bool = False) -> str:
     """Returns a name as a condition needs it; in quotes also if that `is_free`."""
-    must = (name in KEYWORDS or re.search(r"[\s&|!=<>()]|->", name) or re.match(r"-?\d", name))
-    return '"%s"' % name if must or is_free else name
-
-
-# ---- What comparisons mean.
-
-def known_number(side: Any, is_signed: bool) -> Union[int, float, None]:
-    """Returns the number of a side; None if digits are x or z."""
-    if isinstance(side, str):
-        return integer(side, is_signed) if is_known(side) else None
-    found: Union[int, float, None] = side
-    return found
-
-
-def equal(one: Any, other: Any, signs: Tuple[bool, bool]) -> Truth:
-    """Whether two sides are equal; if digits are x or z, they differ if two known digits do."""
-    if one is None or other is None:
-        return None
-    numbers = known_number(one, signs[0]), known_number(other, signs[1])
-    if numbers[0] is not None and numbers[1] is not None:
-        return numbers[0] == numbers[1]
-    if isinstance(one, float) or isinstance(other, float):
-        return None
-    width = 2 + max(len(side) if isinstance(side, str) else side.bit_length()
-                    for side in (one, other))
-    wide = [format(side % 2**width, "0%db" % width) if isinstance(side, int) else
-            side.rjust(width, side[0] if is_signed else "0")
-            for side, is_signed in zip((one, other), signs)]
-    return False if {("0", "1"), ("1", "0")} & set(zip(*wide)) else None
-
-
-def compared(sign: str, one: Side, other: Side) -> Test:
-    """Returns the test of a comparison."""
-    def ordered(state: State, _: Set[str]) -> Truth:
-        numbers = known_number(one[0](state), one[1]), known_number(other[0](state), other[1])
-        if numbers[0] is None or numbers[1] is None:
-            return None
-        return {"<": numbers[0] < numbers[1], "<=": numbers[0] <= numbers[1],
-                ">": numbers[0] > numbers[1], ">=": numbers[0] >= numbers[1]}[sign]
-
-    def are_equal(state: State, _: Set[str]) -> Truth:
-        return equal(one[0](state), other[0](state), (one[1], other[1]))
-    if sign == "!=":
-        return negated(are_equal)
-    return are_equal if sign == "==" else ordered
-
-
-def negated(test: Test) -> Test:
-    """Returns `!`."""
-    def found(state: State, events: Set[str]) -> Truth:
-        truth = test(state, events)
-        return None if truth is None else not truth
-    return found
-
-
-def joined(one: Test, other: Test, decides: bool) -> Test:
-    """Returns `&`, which False decides, or `|`, which True decides."""
-    def found(state: State, events: Set[str]) -> Truth:
-        both = one(state, events), other(state, events)
-        return decides if decides in both else None if None in both else not decides
-    return found
-
-
-def truth_of(read: Read) -> Test:
-    """Returns the test of a name as a condition."""
-    def found(state: State, _: Set[str]) -> Truth:
-        value = read(state)
-        if not isinstance(value, str):
-            return None if value is None else value != 0
-        return True if "1" in value else False if not value.strip("0") else None
-    return found
-
-
-def has_letter(read: Read, letter: str, is_wanted: bool) -> Test:
-    """Returns the test of `is x`."""
-    def found(state: State, _: Set[str]) -> Truth:
-        value = read(state)
-        return None if value is None else (isinstance(value, str) and letter in value) == is_wanted
-    return found
-
-
-def are_digits(read: Read, digits: str, is_wanted: bool) -> Test:
-    """Returns the test of digits of which one is x or z."""
-    def found(state: State, _: Set[str]) -> Truth:
-        value = read(state)
-        return None if value is None else (value == digits) == is_wanted
-    return found
+    return '"%s"' % name if is_free or not PLAIN.match(name) else name
 
 
 # ---- Random conditions.
@@ -168,43 +98,51 @@ class Conditions:
             return str(self.random.choice([short, of.path]))
         return of.path
 
-    def make(self, depth: int = 2) -> Optional[Condition]:
+    def make(self, depth: int = 2, is_clocked: bool = False) -> Optional[Condition]:
         """Returns a condition; None if the dump has no suitable variable."""
+        if self.plain and self.random.random() < .35:
+            its = [self._operand() for _ in range(3)]
+            leaves = [one.expression() for one in its if not one.of.is_real]
+            reals = [one.expression() for one in its if one.of.is_real]
+            if leaves:
+                return Condition(expressions.Random(
+                    self.random, leaves, reals, is_clocked, 300).make(depth))
+        found = self._any(depth)
+        return Condition(found) if found else None
+
+    def _any(self, depth: int) -> Optional[Expression]:
+        """Returns what is joined by ! & |."""
         chance = self.random.random()
         if depth == 0 or chance < .35:
             return self._simple()
-        one = self.make(depth - 1)
+        one = self._any(depth - 1)
         if one and chance < .5:
-            is_bare = one.binding == 4 and one.text[0] != "!" and self.random.random() < .8
-            return Condition("!" + (one.text if is_bare else "(%s)" % one.text), 4,
-                             negated(one.test))
-        other = self.make(depth - 1)
+            return expressions.unary("!", one)
+        other = self._any(depth - 1)
         if one is None or other is None:
             return None
-        which = 2 if chance < .78 else 1
-        sign = self.random.choice({1: [" | ", " || ", "|", "||"],
-                                   2: [" & ", " && ", "&", "&&"]}[which])
-        least = which + self.random.choice([0, 0, 0, 4])
-        return Condition(one.inside(least) + sign + other.inside(least), which,
-                         joined(one.test, other.test, which == 1))
+        has_bits = not one.is_real and not other.is_real
+        return expressions.joined(self.random.choice(
+            ["&", "|", "&&", "||"] if has_bits else ["&&", "||"]), one, other,
+            self.random.choice([" ", ""]))
 
-    def _simple(self) -> Optional[Condition]:
+    def _simple(self) -> Optional[Expression]:
         """Returns a condition without `!`, `&` and `|`."""
         chance = self.random.random()
         if self.all_events and (chance < .1 or not self.plain):
             of = self.busiest(self.all_events)
             self.codes.add(of.code)
             self.events.add(of.code)
-            return Condition(quoted(of.path, chance < .01), 4, lambda _, events: of.code in events)
+            return expressions.leaf(quoted(of.path, chance < .01), 1, False,
+                                    lambda look: "%d" % (of.code in look.events))
         if not self.plain:
             return None
         one = self._operand()
         if chance < .28:
-            return Condition(one.text, 4, truth_of(one.read))
+            return one.expression()
         if chance < .42:
             letter, is_wanted = self.random.choice("xzXZ"), chance < .37
-            return Condition("%s is %s%s" % (one.text, "" if is_wanted else "not ", letter), 3,
-                             has_letter(one.read, letter.lower(), is_wanted))
+            return expressions.has(one.expression(), ("" if is_wanted else "not ") + letter)
         return self._comparison(one)
 
     def _operand(self) -> Operand:
@@ -224,33 +162,33 @@ class Conditions:
                 return Operand(of, quoted(full, is_quoted), first, last + 1, False)
         return Operand(of, quoted(name, is_quoted), 0, of.size, of.type == "integer")
 
-    def _comparison(self, one: Operand) -> Condition:
+    def _comparison(self, one: Operand) -> Expression:
         """Returns a comparison with a name, with digits or with a number."""
         sign = self.random.choice(["==", "==", "!=", "<", "<=", ">", ">="])
-        space = self.random.choice([" ", " ", ""]) if one.of.path[-1] != "-" else " "
-        text, is_signed = self._side(one)
+        space = self.random.choice([" ", " ", ""])
+        side, is_signed = self._side(one)
         if self.random.random() < .3:
-            other = self._operand()
-            its_text, its_sign = self._side(other)
-            return Condition(text + space + sign + " " + its_text, 3, compared(
-                sign, (one.read, is_signed), (other.read, its_sign)))
+            return expressions.joined(sign, side, self._side(self._operand())[0], space)
         if not one.of.is_real and sign in ("==", "!=") and self.random.random() < .25:
             digits = self._unknown_digits(one)
             if digits.strip("01"):
-                full = digits.rjust(one.end - one.begin, digits[0] if digits[0] in "xz" else "0")
-                return Condition("%s%s%s%s0b%s" % (text, space, sign, space, digits), 3,
-                                 are_digits(one.read, full, sign == "=="))
+                same = expressions.joined(sign + "=", one.expression(), expressions.leaf(
+                    "0b" + digits, len(digits), False, lambda _: digits,
+                    digits[0] if digits[0] in "xz" else "0"))
+                return same._replace(text=same.text.replace(" %s= " % sign, space + sign + space))
         written, value = self._number(one, sign, is_signed)
-        sides = [(one.read, is_signed or value < 0), (lambda _: value, False)]
-        if self.random.random() < .2:
-            return Condition("%s %s %s" % (written, sign, text), 3, compared(sign, *sides[::-1]))
-        return Condition(text + space + sign + space + written, 3, compared(sign, *sides))
+        if value < 0 and not one.of.is_real:
+            side = one.expression(True)._replace(text=side.text)
+        other = (expressions.real(written) if isinstance(value, float) else
+                 expressions.fixed(written, value))
+        sides = [side, other] if self.random.random() < .8 else [other, side]
+        return expressions.joined(sign, *sides, space)
 
-    def _side(self, one: Operand) -> Tuple[str, bool]:
+    def _side(self, one: Operand) -> Tuple[Expression, bool]:
         """Returns an operand in a comparison, and whether it is signed."""
         if not one.of.is_real and self.random.random() < .15:
-            return "signed(%s)" % one.text, True
-        return one.text, one.is_signed
+            return expressions.read_as("signed", one.expression()), True
+        return one.expression(), one.is_signed
 
     def _seen(self, one: Operand) -> List[Any]:
         """Returns the values that an operand has in the dump."""

@@ -51,7 +51,7 @@ def extended(digits: str, width: int, is_signed: bool) -> str:
 
 def number(digits: Digits, is_signed: bool) -> Any:
     """Returns the number that digits are; None if it is unknown."""
-    if isinstance(digits, float):
+    if not isinstance(digits, str):
         return digits
     if digits.strip("01"):
         return None
@@ -65,7 +65,7 @@ def binary(value: int, width: int) -> str:
 
 def truth(digits: Digits) -> str:
     """Returns 1 if a digit is 1, 0 if all are 0, else x."""
-    if isinstance(digits, float):
+    if not isinstance(digits, str):
         return "1" if digits != 0 else "0"
     return "1" if "1" in digits else "0" if set(digits) == {"0"} else "x"
 
@@ -122,7 +122,7 @@ def leaf(text: str, width: int, is_signed: bool, read: Callable[[Look], Digits],
         value = read(look)
         if to == 0:  # a real number is asked for
             its = number(value, is_signed)
-            return float(its) if its is not None else "-" if "-" in value else "x"
+            return its if its is not None else "-" if "-" in value else "x"
         return value.rjust(to, fill) if fill else extended(value, to, as_signed)
     return Expression(text, binding, width, is_signed, digits)
 
@@ -132,8 +132,8 @@ def fixed(text: str, value: int) -> Expression:
     width = max(32, value.bit_length() + 1)
 
     def digits(_: Look, to: int, as_signed: bool) -> Digits:
-        return float(value) if to == 0 else binary(value, to)
-    return Expression(text, OPERAND, width, True, digits)
+        return value if to == 0 else binary(value, to)
+    return Expression(text, UNARY if value < 0 else OPERAND, width, True, digits)
 
 
 def real(text: str) -> Expression:
@@ -165,7 +165,7 @@ def context(text: str, binding: int, of: Tuple[int, bool], value: Read) -> Expre
         if to or not width:
             return value(look, to, as_signed)
         its = number(value(look, width, is_signed), is_signed)
-        return "x" if its is None else float(its)
+        return "x" if its is None else its
     return Expression(text, binding, width, is_signed, digits)
 
 
@@ -222,7 +222,7 @@ def of_numbers(sign: str, one: Expression, other: Expression) -> Read:
             return "x" * (to or 1)
         if to == 0:
             return "x" if sign == "/" and its[1] == 0 else (
-                its[0] / its[1] if sign == "/" else float(NUMBERS[sign](*its) or 0))
+                its[0] / its[1] if sign == "/" else NUMBERS[sign](*its))
         found = NUMBERS[sign](*its)
         return "x" * to if found is None else binary(found, to)
     return value
@@ -349,7 +349,7 @@ def at_edges(name: str, one: Expression) -> Expression:
 
 BINARY = [sign for signs in LEVELS[1:] for sign in signs]
 UNSIZED = re.compile(r"(?<![\w'.\[:])\d+(?![\w'])|(?<![\d_])'")  # may not be in {}
-NAME = re.compile(r"(\$(un)?signed\()*t[.]\w+(\[[\d:]+\])?\)*\Z")
+READ_AS = re.compile(r"^(\$(un)?signed\()+|\)+$")
 REDUCTIONS = ["&", "~&", "|", "~|", "^", "~^", "^~"]
 
 
@@ -384,6 +384,7 @@ class Random:
                  has_past: bool = False, max_width: int = 200, without: str = ""):
         self.signs = [sign for sign in BINARY if sign not in without.split()]
         self.random, self.leaves, self.reals = random, leaves, reals
+        self.names = {one.text for one in (*leaves, *reals) if not re.match(r"\d", one.text)}
         self.has_past, self.max_width = has_past, max_width
 
     def make(self, depth: int) -> Expression:
@@ -425,7 +426,7 @@ class Random:
         if chance < .52:
             return read_as(random.choice(["$signed", "$unsigned"]), self.make(depth - 1))
         sign, one, other = random.choice(self.signs), self.make(depth - 1), self.make(depth - 1)
-        if any(NAME.match(a.text) and re.match(r"[-+]?\d+\Z", b.text)
+        if any(READ_AS.sub("", a.text) in self.names and re.match(r"[-+]?\d+\Z", b.text)
                for a, b in ((one, other), (other, one))):
             sign = "+"  # conditions have a rule of their own for a name beside a number
         if sign == "**":
@@ -456,5 +457,6 @@ class Random:
         if self.random.random() < .3:
             one = joined(self.random.choice("+-*"), one, self.random.choice(self.reals))
         sides = [one, other] if self.random.random() < .5 else [other, one]
-        signs = ["<", "<=", ">", ">="] + ["==", "!="] * all(it.text[0] == "t" for it in sides)
+        signs = ["<", "<=", ">", ">="] + ["==", "!="] * all(
+            one.is_real and one.text in self.names for one in sides)
         return joined(self.random.choice(signs), *sides)

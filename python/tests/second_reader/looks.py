@@ -9,11 +9,13 @@ Edges = Set[Tuple[str, str, str]]  # a code, and the digits from which and to wh
 
 
 class Look(NamedTuple):
-    """A time at which values are looked at: the values, and the events that count then."""
+    """A time at which values are looked at: the values, the events that count then, and the look at
+    the edge before."""
 
     time: int
     values: State
     events: Set[str]
+    before: Optional["Look"] = None
 
 
 class Wait(NamedTuple):
@@ -45,7 +47,7 @@ def looks_at_edges(dump: Dump, edges: Edges, begin: int = 0, end: int = LAST) ->
     events: Set[str] = set()
     for step in dump.steps_in(begin, end):
         if step.time in times:
-            found.append(Look(step.time, step.before, events))
+            found.append(Look(step.time, step.before, events, found[-1] if found else None))
             events = set()
         events = events | step.events
     return found
@@ -77,7 +79,7 @@ def rows_at_changes(dump: Dump, columns: Sequence[Variable], begin: int, end: in
 
 def holds(test: Test, look: Look) -> bool:
     """Whether a condition holds."""
-    return test(look.values, look.events) is True
+    return test(look)
 
 
 def starts(looks: Sequence[Look], test: Test, is_clocked: bool, every: bool = False

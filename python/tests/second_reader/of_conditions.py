@@ -36,9 +36,9 @@ class Question(NamedTuple):
         return dump.end_of(self.window.begin, self.window.end)
 
 
-def condition(of: Asker, depth: int = 2) -> Condition:
+def condition(of: Asker, depth: int = 2, is_clocked: bool = False) -> Condition:
     """Returns a condition."""
-    found = of.conditions.make(depth)
+    found = of.conditions.make(depth, is_clocked)
     if not found:
         raise Skip
     return found
@@ -71,12 +71,13 @@ def span_of(of: Asker, is_clocked: bool) -> Tuple[str, Tuple[bool, int]]:
 def ask_when(of: Asker) -> None:
     """Asks when a condition begins to hold, or is answered in time."""
     dump, asked, unit = of.dump, question(of), of.unit(.2)
-    first = condition(of)
+    first = condition(of, 2, bool(asked.edges))
     text = first.text
     refused = after = None
     if of.happens(.3):
-        after, (within, span) = condition(of, 1), span_of(of, bool(asked.edges))
-        text = "%s -> %s within %s" % (first.inside(2), after.inside(2), within)
+        after = condition(of, 1, bool(asked.edges))
+        within, span = span_of(of, bool(asked.edges))
+        text = "%s -> %s within %s" % (first.inside(0), after.inside(0), within)
         refused = of.happens(.5)
         text = "!(%s)" % text if refused else text
     looks = asked.looks(dump, of.conditions.codes)
@@ -103,7 +104,8 @@ def ask_when(of: Asker) -> None:
 def ask_latency(of: Asker) -> None:
     """Asks how long answers take."""
     dump, asked, unit = of.dump, question(of, .7), of.unit(.2)
-    before, after, (within, span) = condition(of), condition(of, 1), span_of(of, bool(asked.edges))
+    before, after = (condition(of, depth, bool(asked.edges)) for depth in (2, 1))
+    within, span = span_of(of, bool(asked.edges))
     is_in_order, is_json = bool(asked.edges) and of.happens(.4), of.happens(.25)
     looks, end = asked.looks(dump, of.conditions.codes), asked.end(dump)
     begins = starts(looks, before.test, bool(asked.edges), asked.every)
@@ -111,7 +113,7 @@ def ask_latency(of: Asker) -> None:
              else waits(looks, begins, after.test, span, end))
     words = of.placed([*asked.words, "--latency", *["--in-order"] * is_in_order,
                        *["--json"] * is_json, *(["--unit", unit] if unit else [])],
-                      [of.path, "%s -> %s within %s" % (before.inside(2), after.inside(2), within)])
+                      [of.path, "%s -> %s within %s" % (before.inside(0), after.inside(0), within)])
     said = run("when", words)
     if of.is_late(asked.window, "latency", words, said):
         return
@@ -157,7 +159,7 @@ def ask_rules(of: Asker) -> None:
     dump, asked, unit, rules = of.dump, question(of), of.unit(.2), []
     for number in range(of.random.randint(1, 6)):
         of.conditions.reset()
-        one = condition(of)
+        one = condition(of, 2, bool(asked.edges))
         looks = asked.looks(dump, of.conditions.codes)
         begins = starts(looks, one.test, bool(asked.edges), asked.every)
         times = [look.time for look, is_one in zip(looks, begins) if is_one]

@@ -170,7 +170,7 @@ def rows_of(of: Asker, part: Part, names: List[str]) -> Tuple[Dict[str, Any], Li
     chosen = of.conditions.make() if of.happens(.4) else None
     if chosen:
         asked["condition"] = chosen.text
-        rows = [row for row in rows if chosen.test(row[0].values, row[0].events) is True]
+        rows = [row for row in rows if chosen.test(row[0])]
     return asked, rows
 
 

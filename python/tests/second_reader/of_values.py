@@ -85,7 +85,7 @@ def ask_table(of: Asker) -> None:
     condition = of.conditions.make() if of.happens(.5) else None
     if condition:
         rows_words += ["--if", condition.text]
-        rows = [row for row in rows if condition.test(row[0].values, row[0].events) is True]
+        rows = [row for row in rows if condition.test(row[0])]
     words = of.placed([*words, *(["--unit", unit] if unit else []), *["--json"] * is_json,
                        *rows_words], [of.path, *names])
     said = run("table", words)
