@@ -105,8 +105,10 @@ class Conditions:
             leaves = [one.expression() for one in its if not one.of.is_real]
             reals = [one.expression() for one in its if one.of.is_real]
             if leaves:
-                return Condition(expressions.Random(
-                    self.random, leaves, reals, is_clocked, 300).make(depth))
+                of = expressions.Random(self.random, leaves, reals, is_clocked, 300)
+                made = iter(lambda: of.make(depth), None)
+                return Condition(next(one for one in made
+                                      if any(name in one.text for name in of.names)))
         found = self._any(depth)
         return Condition(found) if found else None
 

@@ -5,26 +5,22 @@ holds at --from, that time is listed too. With --rise or --fall, the condition i
 edges of a one-bit clock, with the values just before the edge, which are what a flip-flop samples;
 with both, it is evaluated at every edge.
 
-conditions:
-  tb.bus == 0xff   also != < <= > >=; numbers are 0xff, 0b101, 10, -1 and 1.5
-  tb.bus[7:4] > 3  a bit range, numbered as declared; tb.bus[0] is one bit
-  tb.valid         a digit is 1; for an event: it is triggered
-  !a  a & b  a | b (a | b) & c: & binds tighter than |, comparisons tighter
-                   than &
+conditions are expressions of Verilog, in which names are paths:
+  tb.bus[7:4] + 1 == 0xff   a range is numbered as declared; numbers: 4'b1x0z, 0xff, 10, 1.5
   a is x           a digit is x; also is z, is not x, is not z
-  a == 0b1x0       a has exactly these digits, including x and z
-  signed(a) < b    two's complement, which integers and comparisons with
-                   negative numbers use anyway
+  a == 0b1x0       the digits are these, as with ===
+  a == -1          a is signed here, as in signed(a); so is an integer
+  past(a), past(a, 3), rose(a), fell(a), stable(a), changed(a)
+                   what a was at earlier edges of the clock
   req -> ack within 5
-                   req begins to hold, and ack holds then or at one of the
-                   next 5 edges of the clock; or in time: within 20ns,
-                   within 20tick
+                   req begins to hold, and ack holds then or at one of the next 5 edges; or in
+                   time: within 20ns, within 20tick
   !(req -> ack within 5)
                    req begins to hold, and ack does not follow
-  "tb.a&b" == 1    a name that contains such signs
+  "tb.a&b" == 1    a name with a character of an operator; an event holds when it is triggered
 
-If the result of a comparison depends on x or z digits, or on a signal that has no value yet, it is
-neither true nor false, as in Verilog: neither the comparison nor its ! holds.
+A condition holds if it is true, as for `if` in Verilog: a digit is 1. What depends on x or z, or on
+a signal that has no value yet, is x, which does not hold, nor does its !.
 
 With --latency, each line for `req -> ack within 5` has the time at which req begins to hold, that
 of ack, and how long that takes: the number of edges, or a time if `within` gives a time. The last
