@@ -163,8 +163,8 @@ def wrong_of(seed: int, folder: str, count: int) -> Iterator[Tuple[str, str]]:
     of = list(itertools.islice((one for one in made if "t." in one.text), count))
     with open(os.path.join(folder, "bench.v"), "w", encoding="ascii") as file:
         file.write(bench.verilog(of))
-    subprocess.run(["iverilog", "-g2005", "-gstrict-expr-width", "-o", "bench", "bench.v"], cwd=folder, check=True,
-                   stderr=subprocess.DEVNULL)
+    subprocess.run(["iverilog", "-g2005", "-gstrict-expr-width", "-o", "bench", "bench.v"],
+                   cwd=folder, check=True, stderr=subprocess.DEVNULL)
     subprocess.run(["vvp", "-n", "bench"], cwd=folder, check=True, stdout=subprocess.DEVNULL)
     dump = Dump(os.path.join(folder, "dump.vcd"))
     clock = "t.clk" if bench.is_clocked else None
@@ -202,7 +202,6 @@ def main() -> int:
     done = 0
     for seed in range(asked.seed, asked.seed + -(-asked.count // EACH)):
         with tempfile.TemporaryDirectory() as folder:
-            folder = os.environ.get("KEEP", folder)
             for who, what in wrong_of(seed, folder, min(EACH, asked.count - done)):
                 seen[who] += 1
                 if seen[who] <= 5:

@@ -108,7 +108,8 @@ class Conditions:
                 of = expressions.Random(self.random, leaves, reals, is_clocked, 300)
                 made = iter(lambda: of.make(depth), None)
                 return Condition(next(one for one in made
-                                      if any(name in one.text for name in of.names)))
+                                      if any(re.search(r"(?<![\w'])" + re.escape(name), one.text)
+                                             for name in of.names)))
         found = self._any(depth)
         return Condition(found) if found else None
 

@@ -444,7 +444,8 @@ class Random:
     def _past(self, one: Expression) -> Expression:
         """Returns what an expression was, or what became of it."""
         name = self.random.choice(["past", "past", "rose", "fell", "stable", "changed"])
-        return past(one, self.random.choice([1, 1, 2, 3])) if name == "past" else at_edges(name, one)
+        count = self.random.choice([1, 1, 2, 3])
+        return past(one, count) if name == "past" else at_edges(name, one)
 
     def _beside_real(self, one: Expression) -> Expression:
         """Returns an operand that is compared with a real number."""

@@ -1,56 +1,17 @@
 """Lists the times at which a condition on signals begins to hold
 
-The condition is evaluated at the end of each time step in which one of its signals changes. If it
-holds at --from, that time is listed too. With --rise or --fall, the condition is evaluated at these
-edges of a one-bit clock, with the values just before the edge, which are what a flip-flop samples;
-with both, it is evaluated at every edge.
-
-conditions are expressions of Verilog, in which names are paths:
-  tb.bus[7:4] + 1 == 0xff   a range is numbered as declared; numbers: 4'b1x0z, 0xff, 10, 1.5
-  a is x           a digit is x; also is z, is not x, is not z
-  a == 0b1x0       the digits are these, as with ===
-  a == -1          a is signed here, as in signed(a); so is an integer
-  past(a), past(a, 3), rose(a), fell(a), stable(a), changed(a)
-                   what a was at earlier edges of the clock
-  req -> ack within 5
-                   req begins to hold, and ack holds then or at one of the next 5 edges; or in
-                   time: within 20ns, within 20tick
-  !(req -> ack within 5)
-                   req begins to hold, and ack does not follow
-  "tb.a&b" == 1    a name with a character of an operator; an event holds when it is triggered
-
-A condition holds if it is true, as for `if` in Verilog: a digit is 1. What depends on x or z, or on
-a signal that has no value yet, is x, which does not hold, nor does its !.
-
-With --latency, each line for `req -> ack within 5` has the time at which req begins to hold, that
-of ack, and how long that takes: the number of edges, or a time if `within` gives a time. The last
-line has the shortest, mean and longest of these, and how many requests had no ack in time. (With
---json, there is no such line.) If two requests wait at the same time, both get the same answer, and
-a warning on standard error counts the requests that begin before the previous one is answered. With
---in-order, each edge at which req holds is a request, each edge at which ack holds is an answer,
-and the n-th answer belongs to the n-th request.
-
-With --rules, all conditions in a file are evaluated in one pass. For each rule that holds, a line
-shows its name, the first time and the number of times. The exit status is 0 if all rules hold (with
---never: if none does). --junit also writes a JUnit report, with a test for each rule.
-
-While a pipe is read, each time is written as soon as it is known. Without --rise or --fall, it is
-known only after the next change of a signal in the condition, so if the condition keeps holding,
-the answer does not come before the end of the dump. For an early answer from a running simulation,
-add --rise. --count and --rules answer at the end.
-
-If the dump or --to ends before the N of `within N` has passed, a request without an answer is
-neither in time nor late: neither form of the condition holds, and --latency does not list or count
-it. In a CI job, choose an N that fits between the last request and the end of the dump.
-`vcdkit-when --count sim.vcd tb.req`, with the same clock and window, counts all requests.
+The condition is evaluated at the end of each time step in which one of its signals changes, or at
+the edges of a clock, with the values just before. It is an expression of Verilog over paths:
+  tb.bus[7:4] + 1 == 0xff    "tb.a&b" === 4'b1x0z    tb.q is not x    signed(tb.a) < -1
+  past(tb.q, 2) == 3 & rose(tb.a)  at edges of the clock; also fell, stable and changed
+  req -> ack within 5  req begins to hold, and ack holds at most 5 edges later; or within 20ns
+  !(req -> ack within 5)  it does not
+What depends on x is x, which does not hold. More is on the page of the scripts (extras/README.md).
 
 examples:
-  vcdkit-when sim.vcd 'tb.bus == 0xdeadbeef'
   vcdkit-when --rise tb.clk --every --count sim.vcd.gz 'tb.valid & tb.ready'
   vcdkit-when --latency --rise tb.clk sim.vcd 'tb.req -> tb.ack within 50'
-  vcdkit-when --never --rise tb.clk sim.vcd '!(tb.req -> tb.ack within 5)'
-  vcdkit-when --never --rules rules.txt --junit rules.xml --rise tb.clk sim.vcd
-  vcdkit-when --first --from 1us sim.vcd 'tb.dut.state is x'"""
+  vcdkit-when --never --rules rules.txt --junit rules.xml --rise tb.clk sim.vcd"""
 import argparse
 import sys
 from typing import Callable, Iterable, List, Tuple

@@ -25,11 +25,6 @@ class Kind(NamedTuple):
         """Returns a number in as many bits."""
         return ((number & self.mask) ^ self.sign) - self.sign if self.width else number
 
-    @property
-    def unknown(self) -> str:
-        """The digits of a value of which nothing is known."""
-        return "x" * (self.width or 1)
-
 
 def kind_of(width: int, is_signed: bool = False) -> Kind:
     """Returns the kind of values of some bits."""
@@ -65,13 +60,12 @@ def _arithmetic(operate: Operate, kind: Kind, *values: Value) -> Value:
             return kind.of(operate(*values))
         except (ArithmeticError, ValueError):
             pass
-    return kind.unknown
+    return "x" * (kind.width or 1)
 
 
 def _quotient(one: int, other: int) -> int:
     """Returns a quotient, rounded towards 0."""
-    number = abs(one) // abs(other)
-    return number if (one < 0) == (other < 0) else -number
+    return abs(one) // abs(other) * (1 if (one < 0) == (other < 0) else -1)
 
 
 def _power(kind: Kind, one: Value, other: Value) -> Value:
@@ -80,13 +74,13 @@ def _power(kind: Kind, one: Value, other: Value) -> Value:
         return _arithmetic(math.pow, kind, one, other)
     if other >= 0:
         return kind.of(pow(one, other, kind.mask + 1))
-    return (one ** (other % 2) if one in (1, -1) else 0) if one else kind.unknown
+    return (one ** (other % 2) if one in (1, -1) else 0) if one else "x" * (kind.width or 1)
 
 
 def _shift(is_left: bool, is_signed: bool, kind: Kind, one: Value, by: Value) -> Value:
     """Returns a value shifted by a number of bits, which is unsigned."""
     if isinstance(by, str):
-        return kind.unknown
+        return "x" * (kind.width or 1)
     by = min(by, kind.width)
     if not isinstance(one, str):
         return kind.of(one << by if is_left else (one if is_signed else one & kind.mask) >> by)
@@ -182,12 +176,13 @@ def _each(operate: Operate, its: Dict[str, Any]) -> Dict[str, Operate]:
     return {sign: functools.partial(operate, value) for sign, value in its.items()}
 
 
-_and, _or, _xor = (functools.partial(_bitwise, operate, _table(operate, decides)) for operate, decides in (
-    (operator.and_, "0"), (operator.or_, "1"), (operator.xor, "")))
-_xnor = functools.partial(_bitwise, lambda a, b: ~(a ^ b), _table(lambda a, b: ~(a ^ b), ""))
+_and, _or, _xor, _xnor = (
+    functools.partial(_bitwise, operate, _table(operate, decides)) for operate, decides in (
+        (operator.and_, "0"), (operator.or_, "1"), (operator.xor, ""), (lambda a, b: ~(a ^ b), "")))
 ARITHMETIC = {**_each(_arithmetic, {
-    "+": operator.add, "-": operator.sub, "*": operator.mul, "/": _quotient, "unary -": operator.neg,
-    "%": lambda a, b: a - b * _quotient(a, b)}), "unary +": lambda _, one: one}
+    "+": operator.add, "-": operator.sub, "*": operator.mul, "/": _quotient,
+    "%": lambda a, b: a - b * _quotient(a, b), "unary -": operator.neg}),
+    "unary +": lambda _, one: one}
 BITWISE: Dict[str, Operate] = {
     "&": _and, "|": _or, "^": _xor, "~^": _xnor, "^~": _xnor, "unary ~": _inverted}
 SHIFTS = {sign: functools.partial(_shift, sign[0] == "<", len(sign) == 3)

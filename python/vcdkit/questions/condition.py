@@ -5,7 +5,7 @@ in Verilog. Then each node becomes a line of a Python function, which takes the 
 in the kinds in which they are asked for."""
 import collections
 import functools
-from typing import (Any, Callable, Deque, Dict, Iterable, KeysView, List, NamedTuple, Optional,
+from typing import (Any, Callable, Deque, Dict, Iterable, List, NamedTuple, Optional,
                     Tuple)
 
 from ..model.names import FIELD, field_of, full_names
@@ -56,22 +56,16 @@ class _Name(NamedTuple):
                          to)
 
 
-def _found(dump: Source, names: Iterable[str]) -> Dict[str, Dict[int, Signal]]:
-    """Returns of each name the signals whose path it is, or stands for, by their places."""
-    paths = dump.signals.columns()[0]
-    full = full_names(list(names), paths, dump.signals, True)
+def _names(dump: Source, words: Iterable[str]) -> Dict[str, _Name]:
+    """Returns the signals of a dump that a condition names."""
+    bases, paths = {name: FIELD.sub("", name) for name in words}, dump.signals.columns()[0]
+    full = full_names([*bases, *bases.values()], paths, dump.signals, True)
     found: Dict[str, Dict[int, Signal]] = {path: {} for path in full.values()}
     for at, path in enumerate(paths):
         if path in found:
             found[path][at] = dump.signals[at]
-    return {name: found[path] for name, path in full.items()}
-
-
-def _names(dump: Source, words: Iterable[str]) -> Dict[str, _Name]:
-    """Returns the signals of a dump that a condition names."""
-    bases = {name: FIELD.sub("", name) for name in words}
-    found = _found(dump, {*bases, *bases.values()})
-    return {name: _name(dump, name, base, found) for name, base in bases.items()}
+    its = {name: found[path] for name, path in full.items()}
+    return {name: _name(dump, name, base, its) for name, base in bases.items()}
 
 
 def _name(dump: Source, name: str, base: str, found: Dict[str, Dict[int, Signal]]) -> _Name:
@@ -140,10 +134,9 @@ def _compare(name: Node, number: Node, sign: str) -> None:
     if isinstance(value, str):
         if len(value) > kind.width:
             raise bad("%s has more digits than the %d of %s" % (value, kind.width, its))
-        return
-    if value < 0:
+    elif value < 0:
         kind = name.kind = kind_of(kind.width, True)
-    if sign[1:] == "=" and sign[0] in "=!":
+    if sign in ("==", "!="):
         if value % 1:
             raise bad("%s is never %s: it is a whole number" % (its, value))
         if kind.of(int(value)) != value:
@@ -196,28 +189,20 @@ class Condition:
             self.span, (whole, answer) = whole.value, whole.parts
             self.answer = self._test(answer)
         self.holds = self._test(whole)  # whether it holds at the values that there are
+        self.codes = self.readers.keys()  # of its signals
         self._samples = [(kept, self._compiled(one, "{}")) for one, kept in self._pasts]
         if self._pasts and not has_clock:
             raise bad("past, rose, fell, stable and changed look at edges: name a clock by rise or "
                       "fall")
         self._events = [place for (name, _, _), place in self._places.items()
                         if name.signal.type == "event"]
-
-    @property
-    def codes(self) -> KeysView[bytes]:
-        """The codes of its signals."""
-        return self.readers.keys()
+        self.has_more = bool(self._events or self._pasts)  # than values: events, earlier edges
 
     def take(self, changes: Changes) -> None:
         """Takes changes, of which some may be of other signals."""
         for code, raw in changes:
             for place, read in self.readers.get(code, ()):
                 self.values[place] = read(raw)
-
-    @property
-    def has_more(self) -> bool:
-        """Whether it depends on more than values: on events, or on what was at earlier edges."""
-        return bool(self._events or self._pasts)
 
     def end(self) -> bool:
         """Takes it that a time is over: what it has then is the past, and no event is triggered;
@@ -271,7 +256,7 @@ class Condition:
             value = value.rjust(node.to.width, node.fill) if node.fill else value
             return named(converted(value, node.kind, node.to))
         if sign == "past":
-            kept = collections.deque([node.kind.unknown] * value, value)
+            kept = collections.deque(["x" * (node.kind.width or 1)] * value, value)
             self._pasts.append((node.parts[0], kept))
             found = named(kept) + "[0]"
         else:
@@ -284,11 +269,11 @@ class Condition:
 
     def _value(self, node: Node) -> int:
         """Returns the place of the value of a name in a kind."""
-        key = node.value, node.kind, node.to
-        if key not in self._places:
-            self._places[key] = len(self.values)
-            read = functools.lru_cache(maxsize=1 << 10)(functools.partial(node.value.value, *key[1:]))
-            self.readers.setdefault(node.value.signal.code.encode(), []).append(
-                (len(self.values), read))
+        name, place = node.value, len(self.values)
+        found = self._places.setdefault((name, node.kind, node.to), place)
+        if found == place:
+            read = functools.lru_cache(maxsize=1 << 10)(
+                functools.partial(name.value, node.kind, node.to))
+            self.readers.setdefault(name.signal.code.encode(), []).append((place, read))
             self.values.append(read(b""))
-        return self._places[key]
+        return found

@@ -33,7 +33,8 @@ class _Question:
     """A condition that is asked, and what is known of it up to now."""
 
     def __init__(self, dump: Source, text: str, has_clock: bool, every: bool, in_order: bool):
-        self.condition, self.every, self.in_order = Condition(text, dump, has_clock), every, in_order
+        self.condition = Condition(text, dump, has_clock)
+        self.every, self.in_order = every, in_order
         self.has_clock, self.span = has_clock, self.condition.span
         self.ticks = _ticks_of(self.span, dump, has_clock)
         self.overlaps = 0  # requests that began before the answer of the one before
