@@ -67,6 +67,8 @@ class Side:
         self.keys = list(keys_in(one.path for one in self.signals))
         self.found: Set[str] = set()
         self.mapped: Set[str] = set()
+        self._bare = {front for front, _ in maps if not any(  # of no scope: for what has a range too
+            one.path.startswith(front + ".") for one in self.signals)}
         self.names = [self._mapped(one.path, maps) for one in self.signals]
         self._known, self._maps = frozenset(self.names), maps
         self.of_name: Dict[str, List[int]] = {}  # the places of each name
@@ -75,7 +77,8 @@ class Side:
         self.common: Set[str] = set()
 
     def _mapped(self, path: str, maps: Sequence[Tuple[str, str]]) -> str:
-        its = [one for one in maps if one[0] in (path, bare(path)) or path.startswith(one[0] + ".")]
+        its = [one for one in maps if one[0] == path or path.startswith(one[0] + ".")
+               or one[0] == bare(path) and one[0] in self._bare]
         self.mapped.update(front for front, _ in its)
         return _renamed(path, *its[0]) if its else path
 
