@@ -15,7 +15,7 @@ from ..model.signals import Signal
 from ..model.values import extension, real_of
 from ..reading.body import Changes
 from ..reading.source import Source
-from .expression import Node, Parser, Span, bad
+from .expression import Node, ConditionText, Span, bad
 
 Test = Callable[[], Any]
 Read = Callable[[bytes], Value]
@@ -168,7 +168,7 @@ class Condition:
     """A condition over the signals of a dump, and the last value of each of them."""
 
     def __init__(self, text: str, dump: Source, has_clock: bool):
-        parser = Parser(text)
+        parser = ConditionText(text)
         tree = parser.tree()
         if not parser.names:
             raise bad("it names no signal")

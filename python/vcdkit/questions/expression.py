@@ -91,7 +91,7 @@ def _bits(digits: str, base: str) -> str:
     return "".join(each)
 
 
-class Parser:
+class ConditionText:
     """Reads a condition. `names` are those in it."""
 
     def __init__(self, text: str):
