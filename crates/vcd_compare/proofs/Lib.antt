@@ -15,6 +15,7 @@ pub mod MatchLemmas
 pub mod PathTexts
 pub mod VariableLemmas
 pub mod RowPaths
+pub mod SelectedLemmas
 pub mod PlaceLemmas
 pub mod KindLemmas
 pub mod LineLemmas

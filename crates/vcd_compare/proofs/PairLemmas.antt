@@ -1,6 +1,7 @@
 -- The pair of a class, and what its codes have in common.
 use Rattle.vcd_compare.proofs.Cited.{zero, ◌≡◌, ◌≢◌, ℕ, suc, ◌<◌, ◌==◌, Bool, true, false, cond, ◌||◌, List, [], ◌∷◌, length, filter, filter_map, flat_map, codes, slice_get, get_or, Option, Some, None, refl, sym, ap, subst, ◌∙◌, MatchOption, bytes_eq, slice_set, IsSomeAnd, eqb-true, get_or-set_other, get_or-set_same, same_Some, bytes_eq-Decides, AllZip-left, IdCode, Variable, code_of, Header, Asked, Kind, Pair, is_fit, kind_of, same_kind, Event, Real, Digits, Names, compared_in, pair_at, places_of, marked, ArePairs, IsClassOf, IsPairAt, End, PairRow, Pairs}
 use Rattle.std.proofs.Math.ListN.{length-set}
+use Rattle.vcd_compare.proofs.PlaceLemmas.{kept}
 
 -- ---- two of a kind
 
@@ -42,15 +43,6 @@ fit_events p fit =
         let yes : same_kind (kind_of p.one) Event ≡ true = rw (← fit) (ap (λ b. same_kind (kind_of p.one) (cond b Event (other_kind p.other))) (sym f)) in cc
 
 -- ---- the pair of a class
-
-kept : {X : Type 0} (f : X → Bool) (xs : List X) (n : ℕ) (x : X) → slice_get (filter f xs) n ≡ Some x → f x ≡ true
-kept f [] n x e = cc
-kept f (y ∷ ys) n x e = by_test (f y) refl n e (λ n e. kept f ys n x e)
-  where
-    by_test : (b : Bool) → f y ≡ b → (n : ℕ) → slice_get (cond b (y ∷ filter f ys) (filter f ys)) n ≡ Some x → ((n : ℕ) → slice_get (filter f ys) n ≡ Some x → f x ≡ true) → f x ≡ true
-    by_test true e zero g more = let same : y ≡ x = same_Some y x g in rw (← same) e
-    by_test true e (suc n) g more = more n g
-    by_test false e n g more = more n g
 
 pub pair_of_class : (ps : Pairs) (h : Header) (q : Asked) (ns : List Names) (class : ℕ) → ArePairs ps h q ns → class < ps.classes → (p : Pair) × (is_fit p ≡ true) × IsClassOf h ps.ends.items class p
 pair_of_class ps h q ns class are below =

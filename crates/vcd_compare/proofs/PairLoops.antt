@@ -1,62 +1,44 @@
 -- The pairs of all variables, one after the other.
-use Rattle.vcd_compare.proofs.Cited.{◌≡◌, ℕ, suc, ◌≤◌, not, cond, Bool, true, false, List, [], ◌∷◌, ◌++◌, length, take, filter, filter_map, flat_map, slice_get, Option, Some, None, refl, sym, ap, subst, ◌∙◌, is_none, option_map, Vec, AllZip, flat_map_more, take_all, flat_map-append, filter-append, filter_map-append, same_Some, Header, Asked, Named, Pair, all_named, is_fit, is_left_in, Names, alone_in, at_path, compared_in, pair_at, pairs_in, places_of, rest_of, turned, unlike_in, all_zip_push, IsPlace, place_of, Counterpart, Unselected, Missing, At, HasPairs, alone_with, compared_with, places_with, unlike_with, Pairs, IsNamedAt}
+use Rattle.vcd_compare.proofs.Cited.{◌≡◌, ℕ, suc, ◌≤◌, ◌&&◌, not, cond, Bool, true, false, List, [], ◌∷◌, ◌++◌, length, take, drop, map, map-append, filter, filter_map, flat_map, slice_get, Option, Some, None, refl, sym, ap, subst, ◌∙◌, is_none, option_map, Vec, AllZip, flat_map_more, take_all, flat_map-append, filter-append, filter_map-append, same_Some, Header, Asked, Named, Pair, all_named, is_fit, is_left_in, Names, alone_in, at_path, compared_in, pair_at, pairs_in, places_of, turned, unlike_in, all_zip_push, selects_path, IsPlace, place_of, selected_in, HasPairs, alone_at, compared_at, unlike_at, Pairs, IsNamedAt}
 use Rattle.std.proofs.Common.{zero}
 use Rattle.std.proofs.lemmas.List.{append_assoc, append-nil}
 use Rattle.vcd_compare.proofs.PairSteps.{held_other}
 use Rattle.vcd_compare.proofs.VariableLemmas.{take_next}
 
-one_place : (f : Named → Option (Named × Option Named)) (v : Named) → filter_map f (v ∷ []) ≡ places_with (f v)
-one_place f v = by_value (f v) refl
-  where
-    by_value : (o : Option (Named × Option Named)) → f v ≡ o → filter_map f (v ∷ []) ≡ places_with (f v)
-    by_value (Some p) e = rw e refl
-    by_value None e = rw e refl
-
--- the places of so many first variables
+-- the places of so many first variables that the name selects
 abbrev pub places_before : Asked → Header → Names → ℕ → List (Named × Option Named)
-places_before q h n i = filter_map (place_of q h n) (take i (all_named h))
+places_before q h n i = map (place_of h n) (take i (selected_in q h n))
 
-next_place : (q : Asked) (h : Header) (n : Names) (i : ℕ) (v : Named) → slice_get (all_named h) i ≡ Some v → places_before q h n (suc i) ≡ places_before q h n i ++ places_with (place_of q h n v)
-next_place q h n i v at =
-    ap (filter_map (place_of q h n)) (take_next (all_named h) i v at) ∙ filter_map-append (place_of q h n) (take i (all_named h)) (v ∷ []) ∙ ap (λ l. places_before q h n i ++ l) (one_place (place_of q h n) v)
+next_place : (q : Asked) (h : Header) (n : Names) (i : ℕ) (v : Named) → slice_get (selected_in q h n) i ≡ Some v → places_before q h n (suc i) ≡ places_before q h n i ++ place_of h n v ∷ []
+next_place q h n i v at = ap (map (place_of h n)) (take_next (selected_in q h n) i v at) ∙ map-append (place_of h n) (take i (selected_in q h n)) (v ∷ [])
 
 -- all places are those of the definition
-filtered : {X Y : Type 0} (f : X → Option Y) (p : X → Bool) (xs : List X) → filter_map f (filter p xs) ≡ filter_map (λ x. cond (p x) (f x) None) xs
-filtered f p [] = refl
-filtered f p (x ∷ xs) = by_test (p x) refl (f x) refl (filtered f p xs)
+mapped : {X Y Z : Type 0} (p s : X → Bool) (r : X → Y) (g : X → Y → Z) (xs : List X) → filter_map (λ x. option_map (g x) (cond (s x) (Some (r x)) None)) (filter p xs) ≡ map (λ x. g x (r x)) (filter (λ x. p x && s x) xs)
+mapped p s r g [] = refl
+mapped p s r g (x ∷ xs) = by_tests (p x) refl (s x) refl (mapped p s r g xs)
   where
-    by_test : (b : Bool) → p x ≡ b → (o : Option _) → f x ≡ o → filter_map f (filter p xs) ≡ filter_map (λ y. cond (p y) (f y) None) xs → filter_map f (filter p (x ∷ xs)) ≡ filter_map (λ y. cond (p y) (f y) None) (x ∷ xs)
-    by_test true t (Some y) e rest = rw (t, e, rest) refl
-    by_test true t None e rest = rw (t, e, rest) refl
-    by_test false t o e rest = rw (t, rest) refl
+    by_tests : (b : Bool) → p x ≡ b → (c : Bool) → s x ≡ c → filter_map (λ y. option_map (g y) (cond (s y) (Some (r y)) None)) (filter p xs) ≡ map (λ y. g y (r y)) (filter (λ y. p y && s y) xs)
+        → filter_map (λ y. option_map (g y) (cond (s y) (Some (r y)) None)) (filter p (x ∷ xs)) ≡ map (λ y. g y (r y)) (filter (λ y. p y && s y) (x ∷ xs))
+    by_tests true t true e rest = rw (t, e, rest) refl
+    by_tests true t false e rest = rw (t, e, rest) refl
+    by_tests false t c e rest = rw (t, rest) refl
 
-pub all_places : (q : Asked) (h : Header) (n : Names) → places_of q h n ≡ filter_map (place_of q h n) (all_named h)
-all_places q h n = filtered (λ v. option_map (λ r. (v, at_path h (n.1 ++ r) v.nth)) (rest_of n.0 v.path)) (λ v. is_left_in q v.path) (all_named h)
-
-last_place : (q : Asked) (h : Header) (n : Names) (i : ℕ) → length (all_named h) ≤ i → places_before q h n i ≡ places_of q h n
-last_place q h n i all = ap (filter_map (place_of q h n)) (take_all i (all_named h) all) ∙ sym (all_places q h n)
-
--- what places add
-abbrev pub compared_at : List (Named × Option Named) → List Pair
-compared_at ps = filter is_fit (filter_map pair_at ps)
-
-abbrev pub unlike_at : List (Named × Option Named) → List Pair
-unlike_at ps = filter (λ p. not (is_fit p)) (filter_map pair_at ps)
-
-abbrev pub alone_at : List (Named × Option Named) → List Named
-alone_at ps = filter_map (λ p. cond (is_none p.1) (Some p.0) None) ps
+last_place : (q : Asked) (h : Header) (n : Names) (i : ℕ) → length (selected_in q h n) ≤ i → places_before q h n i ≡ places_of q h n
+last_place q h n i all =
+    ap (map (place_of h n)) (take_all i (selected_in q h n) all)
+    ∙ sym (mapped (λ (v : Named). is_left_in q v.path) (λ (v : Named). selects_path v.path n.0) (λ (v : Named). drop (length n.0) v.path) (λ v r. (v, at_path h (n.1 ++ r) v.nth)) (all_named h))
 
 module _ (keys : List (ℕ × ℕ)) (ps : Pairs) (q : Asked) (h : Header) (n : Names) (compared other_kinds : List Pair) (ones others : List Named) where
   -- what is held after so many variables
   abbrev pub HeldBefore : ℕ → Type 0
   HeldBefore i = let before = places_before q h n i in HasPairs keys ps h (compared ++ compared_at before) (other_kinds ++ unlike_at before) (ones ++ alone_at before) others
 
-  pub held_next : (i : ℕ) (v : Named) → slice_get (all_named h) i ≡ Some v
-      → (let before = places_before q h n i in let e = place_of q h n v in
-      HasPairs keys ps h ((compared ++ compared_at before) ++ compared_with e) ((other_kinds ++ unlike_at before) ++ unlike_with e) ((ones ++ alone_at before) ++ alone_with e) others) → HeldBefore (suc i)
+  pub held_next : (i : ℕ) (v : Named) → slice_get (selected_in q h n) i ≡ Some v
+      → (let before = places_before q h n i in let more = place_of h n v ∷ [] in
+      HasPairs keys ps h ((compared ++ compared_at before) ++ compared_at more) ((other_kinds ++ unlike_at before) ++ unlike_at more) ((ones ++ alone_at before) ++ alone_at more) others) → HeldBefore (suc i)
   held_next i v at s =
       let before = places_before q h n i in
-      let more = places_with (place_of q h n v) in
+      let more = place_of h n v ∷ [] in
       let next = sym (next_place q h n i v at) in
       let c : (compared ++ compared_at before) ++ compared_at more ≡ compared ++ compared_at (places_before q h n (suc i)) =
       append_assoc compared (compared_at before) (compared_at more) ∙ ap (λ l. compared ++ l) (sym (ap (filter is_fit) (filter_map-append pair_at before more) ∙ filter-append is_fit (filter_map pair_at before) (filter_map pair_at more))) ∙ ap (λ l. compared ++ compared_at l) next in
@@ -71,7 +53,7 @@ module _ (keys : List (ℕ × ℕ)) (ps : Pairs) (q : Asked) (h : Header) (n : N
       (subst (λ l. HasPairs keys ps h ((compared ++ compared_at before) ++ compared_at more) ((other_kinds ++ unlike_at before) ++ unlike_at more) l others) a s))
 
   -- after the last variable
-  pub held_all : (i : ℕ) → length (all_named h) ≤ i → HeldBefore i → HasPairs keys ps h (compared ++ compared_in q h (n ∷ [])) (other_kinds ++ unlike_in q h (n ∷ [])) (ones ++ alone_in q h n) others
+  pub held_all : (i : ℕ) → length (selected_in q h n) ≤ i → HeldBefore i → HasPairs keys ps h (compared ++ compared_in q h (n ∷ [])) (other_kinds ++ unlike_in q h (n ∷ [])) (ones ++ alone_in q h n) others
   held_all i all s =
       let placed = subst (λ l. HasPairs keys ps h (compared ++ compared_at l) (other_kinds ++ unlike_at l) (ones ++ alone_at l) others) (last_place q h n i all) s in
       subst (λ l. HasPairs keys ps h (compared ++ filter is_fit l) (other_kinds ++ filter (λ p. not (is_fit p)) l) (ones ++ alone_in q h n) others) (sym (append-nil (filter_map pair_at (places_of q h n)))) placed
@@ -81,30 +63,29 @@ module _ (q : Asked) (h : Header) (n : Names) (others : List Named) where
   abbrev pub AloneBefore : List ℕ → ℕ → Type 0
   AloneBefore alone i = AllZip (IsNamedAt h) alone (others ++ alone_at (places_before q h n i))
 
-  pub alone_next : (alone : List ℕ) (i : ℕ) (v : Named) → slice_get (all_named h) i ≡ Some v → AllZip (IsNamedAt h) alone ((others ++ alone_at (places_before q h n i)) ++ alone_with (place_of q h n v)) → AloneBefore alone (suc i)
+  alone_next : (alone : List ℕ) (i : ℕ) (v : Named) → slice_get (selected_in q h n) i ≡ Some v → AllZip (IsNamedAt h) alone ((others ++ alone_at (places_before q h n i)) ++ alone_at (place_of h n v ∷ [])) → AloneBefore alone (suc i)
   alone_next alone i v at s =
       let before = places_before q h n i in
-      let more = places_with (place_of q h n v) in
+      let more = place_of h n v ∷ [] in
       let all : (others ++ alone_at before) ++ alone_at more ≡ others ++ alone_at (places_before q h n (suc i)) =
       append_assoc others (alone_at before) (alone_at more) ∙ ap (λ l. others ++ l) (sym (filter_map-append (λ p. cond (is_none p.1) (Some p.0) None) before more)) ∙ ap (λ l. others ++ alone_at l) (sym (next_place q h n i v at)) in
       subst (AllZip (IsNamedAt h) alone) all s
 
-  -- a variable that has a counterpart, or that is not selected
-  pub alone_same : (alone : List ℕ) (i : ℕ) (v : Named) (p : Counterpart) → slice_get (all_named h) i ≡ Some v → IsPlace q h n v p → (p ≡ Missing → ⊥) → AloneBefore alone i → AloneBefore alone (suc i)
-  alone_same alone i v p at is other s = alone_next alone i v at (subst (AllZip (IsNamedAt h) alone) (sym (ap (λ l. (others ++ alone_at (places_before q h n i)) ++ l) (none_alone p is other) ∙ append-nil (others ++ alone_at (places_before q h n i)))) s)
-    where
-      none_alone : (p : Counterpart) → IsPlace q h n v p → (p ≡ Missing → ⊥) → alone_with (place_of q h n v) ≡ []
-      none_alone Unselected is other = ap alone_with is
-      none_alone Missing is other = absurd (other refl)
-      none_alone (At j) is other = ap alone_with is.1
+  -- a variable that has a counterpart
+  pub alone_same : (alone : List ℕ) (i : ℕ) (v : Named) (p : Option ℕ) → slice_get (selected_in q h n) i ≡ Some v → IsPlace h n v p → is_none p ≡ false → AloneBefore alone i → AloneBefore alone (suc i)
+  alone_same alone i v None at is some s = cc
+  alone_same alone i v (Some j) at is some s =
+      alone_next alone i v at
+      (subst (λ o. AllZip (IsNamedAt h) alone ((others ++ alone_at (places_before q h n i)) ++ alone_at ((v, o) ∷ []))) (sym is.1) (subst (AllZip (IsNamedAt h) alone) (sym (append-nil (others ++ alone_at (places_before q h n i)))) s))
 
   -- one that has none
-  pub alone_one : (alone : List ℕ) (i row : ℕ) (v : Named) → slice_get (all_named h) i ≡ Some v → place_of q h n v ≡ Some (v, None) → IsNamedAt h row v → AloneBefore alone i → AloneBefore (alone ++ row ∷ []) (suc i)
-  alone_one alone i row v at is named s =
+  pub alone_one : (alone : List ℕ) (i row : ℕ) (v : Named) (p : Option ℕ) → slice_get (selected_in q h n) i ≡ Some v → IsPlace h n v p → is_none p ≡ true → IsNamedAt h row v → AloneBefore alone i → AloneBefore (alone ++ row ∷ []) (suc i)
+  alone_one alone i row v (Some j) at is none named s = cc
+  alone_one alone i row v None at is none named s =
       alone_next (alone ++ row ∷ []) i v at
-      (subst (λ e. AllZip (IsNamedAt h) (alone ++ row ∷ []) ((others ++ alone_at (places_before q h n i)) ++ alone_with e)) (sym is) (all_zip_push (IsNamedAt h) alone (others ++ alone_at (places_before q h n i)) row v s named))
+      (subst (λ o. AllZip (IsNamedAt h) (alone ++ row ∷ []) ((others ++ alone_at (places_before q h n i)) ++ alone_at ((v, o) ∷ []))) (sym is) (all_zip_push (IsNamedAt h) alone (others ++ alone_at (places_before q h n i)) row v s named))
 
-  pub alone_all : (alone : List ℕ) (i : ℕ) → length (all_named h) ≤ i → AloneBefore alone i → AllZip (IsNamedAt h) alone (others ++ alone_in q h n)
+  pub alone_all : (alone : List ℕ) (i : ℕ) → length (selected_in q h n) ≤ i → AloneBefore alone i → AllZip (IsNamedAt h) alone (others ++ alone_in q h n)
   alone_all alone i all s = subst (λ l. AllZip (IsNamedAt h) alone (others ++ alone_at l)) (last_place q h n i all) s
 
 -- ---- the pairs of all names
@@ -134,10 +115,3 @@ module _ (q : Asked) (h : Header) (ns : List Names) where
       (subst (λ l. HasPairs keys (record ps { alone_other = alone }) h (compared_in q h (take i ns) ++ compared_in q h (n ∷ [])) l (flat_map (alone_in q h) (take (suc i) ns)) (flat_map (λ m. alone_in q h (turned m)) (take (suc i) ns))) u
       (subst (λ l. HasPairs keys (record ps { alone_other = alone }) h (compared_in q h (take i ns) ++ compared_in q h (n ∷ [])) (unlike_in q h (take i ns) ++ unlike_in q h (n ∷ [])) l (flat_map (λ m. alone_in q h (turned m)) (take (suc i) ns))) a
       (subst (λ l. HasPairs keys (record ps { alone_other = alone }) h (compared_in q h (take i ns) ++ compared_in q h (n ∷ [])) (unlike_in q h (take i ns) ++ unlike_in q h (n ∷ [])) (flat_map (alone_in q h) (take i ns) ++ alone_in q h n) l) b held)))
-
--- the name of two numbers
-pub zip_from : {X Y : Type 0} (R : X → Y → Type 0) (xs : List X) (ys : List Y) (i : ℕ) (x : X) → AllZip R xs ys → slice_get xs i ≡ Some x → (y : Y) × (slice_get ys i ≡ Some y) × R x y
-zip_from R [] ys i x all at = cc
-zip_from R (w ∷ xs) [] i x all at = absurd all
-zip_from R (w ∷ xs) (y ∷ ys) zero x all at = (y, refl, subst (λ z. R z y) (same_Some w x at) all.0)
-zip_from R (w ∷ xs) (y ∷ ys) (suc i) x all at = zip_from R xs ys i x all.1 at

@@ -1,5 +1,5 @@
 -- The pairs of a header, one more at a time.
-use Rattle.vcd_compare.proofs.Cited.{◌≡◌, ℕ, suc, ◌*◌, ◌<◌, Bool, true, false, not, cond, List, [], ◌∷◌, ◌++◌, length, get_or, slice_get, Option, Some, None, inl, inr, sym, ap, subst, ◌∙◌, Vec, AllZip, get_or_from_slice_get, Variable, code_of, Header, Kind, Named, Pair, all_named, is_fit, kind_of, same_kind, all_zip_push, slice_get-front, slice_get-seam, EntersClass, HasPairs, alone_with, compared_of, compared_with, unlike_of, unlike_with, HasEnd, HoldsPairs, IsClassOf, IsPairAt, IsUnlikeAt, IsAt, IsNamedAt, UnlikeRows, End, PairRow, Pairs}
+use Rattle.vcd_compare.proofs.Cited.{◌≡◌, ℕ, suc, ◌*◌, ◌<◌, Bool, true, false, not, cond, List, [], ◌∷◌, ◌++◌, length, get_or, slice_get, Option, Some, None, inl, inr, sym, ap, subst, ◌∙◌, Vec, AllZip, get_or_from_slice_get, Variable, code_of, Header, Kind, Named, Pair, all_named, is_fit, kind_of, same_kind, all_zip_push, slice_get-front, slice_get-seam, EntersClass, HasPairs, alone_at, compared_at, compared_of, unlike_at, unlike_of, HasEnd, HoldsPairs, IsClassOf, IsPairAt, IsUnlikeAt, IsAt, IsNamedAt, UnlikeRows, End, PairRow, Pairs}
 use Rattle.std.proofs.lemmas.List.{append-nil}
 use Rattle.vcd_compare.proofs.PlaceLemmas.{zip_at}
 
@@ -67,11 +67,6 @@ fits_as p one other b a c e = e ∙ ap (λ k. same_kind k other) a ∙ ap (same_
 -- ---- what is held, one place more
 
 module _ (keys : List (ℕ × ℕ)) (h : Header) (compared other_kinds : List Pair) (ones others : List Named) where
-  -- nothing more
-  pub held_same : (ps : Pairs) → HasPairs keys ps h compared other_kinds ones others → HasPairs keys ps h (compared ++ []) (other_kinds ++ []) (ones ++ []) others
-  held_same ps s = subst (λ l. HasPairs keys ps h l (other_kinds ++ []) (ones ++ []) others) (sym (append-nil compared))
-      (subst (λ l. HasPairs keys ps h compared l (ones ++ []) others) (sym (append-nil other_kinds)) (subst (λ l. HasPairs keys ps h compared other_kinds l others) (sym (append-nil ones)) s))
-
   -- a variable without a counterpart
   pub held_alone : (old : Pairs) (alone : Vec ℕ) (row : ℕ) (v : Named) → alone.items ≡ old.alone_one.items ++ row ∷ [] → IsNamedAt h row v → HasPairs keys old h compared other_kinds ones others → HasPairs keys (record old { alone_one = alone }) h compared other_kinds (ones ++ v ∷ []) others
   held_alone old alone row v is at s = record {
@@ -147,22 +142,16 @@ named_row h rows i row v all at is =
     let x = zip_at (IsNamedAt h) rows (all_named h) i v all at in
     subst (λ r. IsNamedAt h r v) (sym (is ∙ get_or_from_slice_get rows i x.0 0 x.1)) x.2
 
-module _ (keys : List (ℕ × ℕ)) (h : Header) (compared other_kinds : List Pair) (ones others : List Named) (place : Option (Named × Option Named)) where
+module _ (keys : List (ℕ × ℕ)) (h : Header) (compared other_kinds : List Pair) (ones others : List Named) (ps : Pairs) (v : Named) (found : Option Named) where
   -- what is held once the place is taken
-  abbrev pub HeldWith : Pairs → Type 0
-  HeldWith ps = HasPairs keys ps h (compared ++ compared_with place) (other_kinds ++ unlike_with place) (ones ++ alone_with place) others
+  abbrev pub HeldWith : Option Named → Type 0
+  HeldWith o = HasPairs keys ps h (compared ++ compared_at ((v, o) ∷ [])) (other_kinds ++ unlike_at ((v, o) ∷ [])) (ones ++ alone_at ((v, o) ∷ [])) others
 
-  pub place_none : (ps : Pairs) → place ≡ None → HasPairs keys ps h compared other_kinds ones others → HeldWith ps
-  place_none ps is s = subst (λ e. HasPairs keys ps h (compared ++ compared_with e) (other_kinds ++ unlike_with e) (ones ++ alone_with e) others) (sym is) (held_same keys h compared other_kinds ones others ps s)
+  pub place_missing : found ≡ None → HasPairs keys ps h compared other_kinds (ones ++ v ∷ []) others → HeldWith found
+  place_missing is s =
+      subst HeldWith (sym is) (subst (λ l. HasPairs keys ps h l (other_kinds ++ []) (ones ++ v ∷ []) others) (sym (append-nil compared)) (subst (λ l. HasPairs keys ps h compared l (ones ++ v ∷ []) others) (sym (append-nil other_kinds)) s))
 
-  pub place_missing : (ps : Pairs) (v : Named) → place ≡ Some (v, None) → HasPairs keys ps h compared other_kinds (ones ++ v ∷ []) others → HeldWith ps
-  place_missing ps v is s =
-      subst (λ e. HasPairs keys ps h (compared ++ compared_with e) (other_kinds ++ unlike_with e) (ones ++ alone_with e) others) (sym is)
-      (subst (λ l. HasPairs keys ps h l (other_kinds ++ []) (ones ++ v ∷ []) others) (sym (append-nil compared)) (subst (λ l. HasPairs keys ps h compared l (ones ++ v ∷ []) others) (sym (append-nil other_kinds)) s))
-
-  pub place_both : (ps : Pairs) (v w : Named) → place ≡ Some (v, Some w)
-      → (let p : Pair = record { path = v.path; one = v.variable; other = w.variable } in HasPairs keys ps h (compared ++ compared_of p) (other_kinds ++ unlike_of p) ones others) → HeldWith ps
-  place_both ps v w is s =
+  pub place_both : (w : Named) → found ≡ Some w → (let p : Pair = record { path = v.path; one = v.variable; other = w.variable } in HasPairs keys ps h (compared ++ compared_of p) (other_kinds ++ unlike_of p) ones others) → HeldWith found
+  place_both w is s =
       let p : Pair = record { path = v.path; one = v.variable; other = w.variable } in
-      subst (λ e. HasPairs keys ps h (compared ++ compared_with e) (other_kinds ++ unlike_with e) (ones ++ alone_with e) others) (sym is)
-      (subst (λ l. HasPairs keys ps h (compared ++ compared_of p) (other_kinds ++ unlike_of p) l others) (sym (append-nil ones)) s)
+      subst HeldWith (sym is) (subst (λ l. HasPairs keys ps h (compared ++ compared_of p) (other_kinds ++ unlike_of p) l others) (sym (append-nil ones)) s)

@@ -1,85 +1,29 @@
--- What a name selects, path by path: a path inside another one, and what has another name in place of
--- the first.
-use Rattle.vcd_compare.proofs.Cited.{◌≡◌, ◌≢◌, ℕ, suc, ◌+◌, ◌<◌, ◌≤◌, ◌==◌, ◌&&◌, ◌||◌, not, nat_eq, nat_lt, Bool, true, false, cond, List, [], ◌∷◌, ◌++◌, length, drop, get_or, slice_get, find, position, bytes_eq, Option, Some, None, inl, inr, refl, sym, ap, subst, ◌∙◌, arith, option_map, AllZip, list_any, position_or_len, starts_with, find_at, eq-eqb, eqb-false, eqb-true, ne_eqb, ltb-true, ltb-false, false_from_ne_true, or_parts, length-append, get_or_from_slice_get, same_Some, slice_get-get_or, slice_get_past, slice_get_within, bytes_eq-Decides, or-false, Header, selects_path, Asked, Named, all_named, is_left_in, Names, at_path, rest_of, bytes_flip, slice_get-front, slice_get-seam, there, selected_begins, selects_behind_byte, selects-front, selects-longer, selects_split, AreCounterparts, AreLeftOut, IsCounterpart, IsPlace, found_at, looked_up, numbered, place_of, AreApart, AreTexts, IsNumberOf, has_dot, joined, AreVariables, IsKeyOf, same_key, Counterpart, Unselected, Missing, At, Variables}
+-- What has another name in place of a first one: paths, and variables.
+use Rattle.vcd_compare.proofs.Cited.{◌≡◌, ◌≢◌, ℕ, suc, ◌+◌, ◌<◌, ◌≤◌, ◌==◌, ◌&&◌, ◌||◌, not, nat_eq, Bool, true, false, cond, List, [], ◌∷◌, ◌++◌, length, drop, set, get_or, slice_get, filter, find, position, bytes_eq, Option, Some, None, inl, inr, refl, sym, ap, subst, ◌∙◌, arith, option_map, AllZip, list_any, position_or_len, find_at, take_all, eq-eqb, eqb-false, eqb-true, ne_eqb, false_from_ne_true, and_parts, or-false, length-append, length-set, get_or-set_other, get_or-set_same, get_or_from_slice_get, same_Some, slice_get-get_or, slice_get_past, slice_get_within, bytes_eq-Decides, ◌⊎◌, Header, selects_path, Asked, Named, all_named, Names, at_path, bytes_flip, there, selected_begins, ArePlaces, AreSelected, AreWithin, FindPlaces, IsCounterpart, IsNth, IsPlace, looked_up, place_of_node, replaced, selected_in, AreApart, AreTexts, IsNumberOf, has_dot, joined, both_names, chosen, is_inside, is_kept, is_one_of, lists_in, AreVariables, IsKeyOf, same_key, HasSelected, Paths, Selections, Variables, Vec}
 use Rattle.std.proofs.Common.{zero}
-use Rattle.std.proofs.lemmas.List.{append_assoc, append-nil}
-use Rattle.vcd_compare.proofs.PathTexts.{is_same, joined_number, last_dot, no_dot, number_within, node_of, none_first, not_there, position_first, position_none, position_passes, same_is, same_node, text_of}
+use Rattle.std.proofs.lemmas.List.{append_assoc, append-nil, drop-append-le}
+use Rattle.std.proofs.lemmas.List.Folds.{list_any-append}
+use Rattle.vcd_compare.proofs.PathTexts.{joined_number, last_dot, no_dot, number_within, node_of, none_first, not_there, position_first, position_none, position_passes, same_is, is_same, text_of}
+use Rattle.vcd_compare.proofs.SelectedLemmas.{chosen_has, chosen_zip, kept_around, plain_selected, selects_inside}
 use Rattle.vcd_compare.proofs.VariableLemmas.{same_number}
 
--- ---- a path and one inside it
+-- ---- a path with the second name in place of the first
 
--- a text without a dot is only selected by itself
-plain_selected : (p name : List ℕ) → has_dot p ≡ false → selects_path p name ≡ true → p ≡ name
-plain_selected [] [] plain h = refl
-plain_selected [] (y ∷ name) plain h = cc
-plain_selected (x ∷ p) [] plain h =
-    let d = (or_parts (x == 46) (has_dot p) plain).0 in
-    let other : nat_eq 46 x ≡ false = ne_eqb 46 x (λ e. eqb-false x 46 d (sym e)) in
-    let fails : selects_path (x ∷ p) [] ≡ false = rw other refl in
-    cc
-plain_selected (x ∷ p) (y ∷ name) plain h =
-    let both = selects_behind_byte x y p name h in
-    let rest = plain_selected p name (or_parts (x == 46) (has_dot p) plain).1 both.1 in
-    rw (both.0, rest) refl
+pub replaced_inside : (n : Names) (u p : List ℕ) → selects_path u n.0 ≡ true → replaced n (u ++ 46 ∷ p) ≡ replaced n u ++ 46 ∷ p
+replaced_inside n u p h =
+    let b = selected_begins u n.0 h in
+    let l = ap length b.1 in
+    let m = length-append n.0 b.0 in
+    ap (λ t. n.1 ++ t) (drop-append-le (length n.0) u (46 ∷ p) (omega (arith, l, m))) ∙ sym (append_assoc n.1 (drop (length n.0) u) (46 ∷ p))
 
--- a name selects what is inside a path if and only if it selects the path
-pub selects_inside : (u p name : List ℕ) → has_dot p ≡ false → u ++ 46 ∷ p ≢ name → selects_path (u ++ 46 ∷ p) name ≡ selects_path u name
-selects_inside u p name plain differs = by_test (selects_path u name) refl
-  where
-    by_test : (b : Bool) → selects_path u name ≡ b → selects_path (u ++ 46 ∷ p) name ≡ b
-    by_test true q = selects-longer u name p q
-    by_test false q =
-        false_from_ne_true (selects_path (u ++ 46 ∷ p) name) (λ h. elim (selects_split u name p h) [
-          | inl is ↦ cc
-          | inr more ↦
-              let inner : selects_path p more.0 ≡ true =
-              sym (ap (selects_path (u ++ 46 ∷ p)) more.1 ∙ selects-front u (46 ∷ p) (46 ∷ more.0) ∙ selects-front (46 ∷ []) p more.0) ∙ h in
-              let same = plain_selected p more.0 plain inner in
-              differs (ap (λ t. u ++ 46 ∷ t) same ∙ sym more.1)
-        ])
-
--- so does the rest of a path
-pub rest_inside : (u p name : List ℕ) → has_dot p ≡ false → u ++ 46 ∷ p ≢ name → rest_of name (u ++ 46 ∷ p) ≡ option_map (λ r. r ++ 46 ∷ p) (rest_of name u)
-rest_inside u p name plain differs = by_test (selects_path u name) refl
-  where
-    dropped : (a b : List ℕ) → drop (length a) (a ++ b) ≡ b
-    dropped [] b = refl
-    dropped (x ∷ a) b = dropped a b
-
-    by_test : (b : Bool) → selects_path u name ≡ b → rest_of name (u ++ 46 ∷ p) ≡ option_map (λ r. r ++ 46 ∷ p) (rest_of name u)
-    by_test true q =
-        let begins = selected_begins u name q in
-        let one : drop (length name) u ≡ begins.0 = ap (drop (length name)) begins.1 ∙ dropped name begins.0 in
-        let two : drop (length name) (u ++ 46 ∷ p) ≡ begins.0 ++ 46 ∷ p =
-        ap (λ t. drop (length name) (t ++ 46 ∷ p)) begins.1 ∙ ap (drop (length name)) (append_assoc name begins.0 (46 ∷ p)) ∙ dropped name (begins.0 ++ 46 ∷ p) in
-        ap (λ b. cond b (Some (drop (length name) (u ++ 46 ∷ p))) None) (selects_inside u p name plain differs ∙ q) ∙ ap Some (two ∙ ap (λ r. r ++ 46 ∷ p) (sym one))
-        ∙ sym (ap (λ b. option_map (λ r. r ++ 46 ∷ p) (cond b (Some (drop (length name) u)) None)) q)
-    by_test false q =
-        ap (λ b. cond b (Some (drop (length name) (u ++ 46 ∷ p))) None) (selects_inside u p name plain differs ∙ q)
-        ∙ sym (ap (λ b. option_map (λ r. r ++ 46 ∷ p) (cond b (Some (drop (length name) u)) None)) q)
-
--- of a text without a dot there is a rest only after itself
-pub rest_plain : (p name : List ℕ) → has_dot p ≡ false → p ≢ name → rest_of name p ≡ None
-rest_plain p name plain differs =
-    let none = false_from_ne_true (selects_path p name) (λ h. differs (plain_selected p name plain h)) in
-    ap (λ b. cond b (Some (drop (length name) p)) None) none
-
--- nothing comes after the name in itself
-pub rest_itself : (name : List ℕ) → rest_of name name ≡ Some []
-rest_itself name =
-    let is : selects_path name name ≡ true = ap (λ b. b || starts_with nat_eq name (name ++ 46 ∷ [])) ((bytes_eq-Decides name name).1 refl) in
-    ap (λ b. cond b (Some (drop (length name) name)) None) is ∙ ap Some (passed name)
+pub replaced_itself : (n : Names) → replaced n n.0 ≡ n.1
+replaced_itself n = ap (λ t. n.1 ++ t) (passed n.0) ∙ append-nil n.1
   where
     passed : (a : List ℕ) → drop (length a) a ≡ []
     passed [] = refl
     passed (x ∷ a) = passed a
 
 -- ---- counterparts of paths
-
--- what a look-up gives
-abbrev pub IsLookedUp : Counterpart → Option ℕ → Type 0
-IsLookedUp new (Some f) = new ≡ At (suc f)
-IsLookedUp new None = new ≡ Missing
 
 module _ (parts : List (List ℕ)) (nodes : List (ℕ × ℕ)) (texts : List (List ℕ)) (are : AreTexts parts nodes texts) where
   -- with a path there is the one around it
@@ -97,195 +41,126 @@ module _ (parts : List (List ℕ)) (nodes : List (ℕ × ℕ)) (texts : List (Li
           (j, slice_get-get_or texts j [] (omega (arith, l)) ∙ ap Some same)
 
   module _ (n : Names) where
-    -- of the first name the second one
-    pub place_itself : (m : ℕ) (t : List ℕ) → t ≡ n.0 → IsNumberOf texts m n.1 → IsCounterpart texts n t (At m)
-    place_itself m t e is = ([], ap (rest_of n.0) e ∙ rest_itself n.0, subst (IsNumberOf texts m) (sym (append-nil n.1)) is)
-
     -- of a path inside another one
-    place_inside : (a k : ℕ) (p u : List ℕ) (old : Counterpart) → has_dot p ≡ false → slice_get parts k ≡ Some p → u ++ 46 ∷ p ≢ n.0 → IsCounterpart texts n u old → (new : Counterpart)
-        → ((m : ℕ) → old ≡ At m → IsLookedUp new (position (same_node (m, k)) nodes)) → (((m : ℕ) → old ≢ At m) → new ≡ old) → IsCounterpart texts n (u ++ 46 ∷ p) new
-    place_inside a k p u Unselected plain part differs is new looked kept = subst (IsCounterpart texts n (u ++ 46 ∷ p)) (sym (kept (λ m e. cc))) (rest_inside u p n.0 plain differs ∙ ap (option_map (λ r. r ++ 46 ∷ p)) is)
-    place_inside a k p u Missing plain part differs is new looked kept =
-        subst (IsCounterpart texts n (u ++ 46 ∷ p)) (sym (kept (λ m e. cc))) (
-          is.0 ++ 46 ∷ p,
-          rest_inside u p n.0 plain differs ∙ ap (option_map (λ r. r ++ 46 ∷ p)) is.1,
-          λ i at. let j = around_there i (n.1 ++ is.0) p plain (at ∙ ap Some (sym (append_assoc n.1 is.0 (46 ∷ p)))) in is.2 j.0 j.1,
-        )
-    place_inside a k p u (At m) plain part differs is new looked kept = by_found (position (same_node (m, k)) nodes) refl new (looked m refl)
+    place_inside : (k : ℕ) (p u : List ℕ) (old : Option ℕ) → has_dot p ≡ false → slice_get parts k ≡ Some p → selects_path u n.0 ≡ true → IsCounterpart texts n u old → IsCounterpart texts n (u ++ 46 ∷ p) (option_map suc (looked_up nodes k old))
+    place_inside k p u None plain part selected is = λ i at. let j = around_there i (replaced n u) p plain (at ∙ ap Some (replaced_inside n u p selected)) in is j.0 j.1
+    place_inside k p u (Some m) plain part selected is = by_found (position (same_key (m, k)) nodes) refl
       where
-        longer : joined texts m p ≡ n.1 ++ (is.0 ++ 46 ∷ p)
-        longer = joined_number texts m (n.1 ++ is.0) p is.2 ∙ append_assoc n.1 is.0 (46 ∷ p)
+        longer : joined texts m p ≡ replaced n (u ++ 46 ∷ p)
+        longer = joined_number texts m (replaced n u) p is ∙ sym (replaced_inside n u p selected)
 
-        by_found : (o : Option ℕ) → position (same_node (m, k)) nodes ≡ o → (new : Counterpart) → IsLookedUp new o → IsCounterpart texts n (u ++ 46 ∷ p) new
-        by_found (Some f) q new l =
-            let found = position_passes (same_node (m, k)) nodes f q in
+        by_found : (o : Option ℕ) → position (same_key (m, k)) nodes ≡ o → IsCounterpart texts n (u ++ 46 ∷ p) (option_map suc o)
+        by_found (Some f) q =
+            let found = position_passes (same_key (m, k)) nodes f q in
             let at : slice_get nodes f ≡ Some (m, k) = found.1 ∙ ap Some (sym (same_is (m, k) found.0 found.2)) in
-            subst (IsCounterpart texts n (u ++ 46 ∷ p)) (sym l) (
-              is.0 ++ 46 ∷ p,
-              rest_inside u p n.0 plain differs ∙ ap (option_map (λ r. r ++ 46 ∷ p)) is.1,
-              (f, refl, (text_of parts nodes texts are f m k p at part).0 ∙ ap Some longer),
-            )
-        by_found None q new l =
-            subst (IsCounterpart texts n (u ++ 46 ∷ p)) (sym l) (
-              is.0 ++ 46 ∷ p,
-              rest_inside u p n.0 plain differs ∙ ap (option_map (λ r. r ++ 46 ∷ p)) is.1,
-              λ i at.
-                  let within : m ≤ length texts = number_within texts m (n.1 ++ is.0) is.2 in
-                  let node = node_of parts nodes texts are i m k p (at ∙ ap Some (sym longer)) within plain part in
-                  let fails = not_there (same_node (m, k)) nodes i (m, k) (position_none (same_node (m, k)) nodes q) node in
-                  let passes = is_same (m, k) in
-                  cc,
-            )
+            (f, refl, (text_of parts nodes texts are f m k p at part).0 ∙ ap Some longer)
+        by_found None q = λ i at.
+            let within : m ≤ length texts = number_within texts m (replaced n u) is in
+            let node = node_of parts nodes texts are i m k p (at ∙ ap Some (sym longer)) within plain part in
+            let fails = not_there (same_key (m, k)) nodes i (m, k) (position_none (same_key (m, k)) nodes q) node in
+            let passes = is_same (m, k) in
+            cc
 
-    -- of the path at an index
-    pub place_at : (i : ℕ) (node : ℕ × ℕ) (t : List ℕ) (places : List Counterpart) (old new : Counterpart) → slice_get nodes i ≡ Some node → slice_get texts i ≡ Some t → t ≢ n.0 → AreCounterparts texts n i places → slice_get places node.0 ≡ Some old
-        → ((m : ℕ) → old ≡ At m → IsLookedUp new (position (same_node (m, node.1)) nodes)) → (((m : ℕ) → old ≢ At m) → new ≡ old) → IsCounterpart texts n t new
-    place_at i node t places old new at text differs ps there looked kept =
-        let is = are.each i node at in
-        by_around node.0 is.around (same_Some _ _ (sym is.text_is ∙ text)) there
-      where
-        by_around : (a : ℕ) → a ≤ i → joined texts a (are.each i node at).part ≡ t → slice_get places a ≡ Some old → IsCounterpart texts n t new
-        by_around zero l e there =
-            let is = are.each i node at in
-            let same : Unselected ≡ old = same_Some Unselected old (sym ps.none ∙ there) in
-            let none = rest_plain is.part n.0 is.plain (λ q. differs (sym e ∙ q)) in
-            subst (IsCounterpart texts n t) (same ∙ sym (kept (λ m q. let no = same ∙ q in cc))) (ap (rest_of n.0) (sym e) ∙ none)
-        by_around (suc j) l e there =
-            let is = are.each i node at in
-            let within = slice_get_within texts i t text in
-            let u = get_or texts j [] in
-            let place = ps.each j u (omega (arith, l)) (slice_get-get_or texts j [] (omega (arith, l, within))) in
-            let same : place.0 ≡ old = same_Some place.0 old (sym place.1 ∙ there) in
-            subst (λ x. IsCounterpart texts n x new) e (place_inside j node.1 is.part u old is.plain is.part_is (λ q. differs (sym e ∙ q)) (subst (IsCounterpart texts n u) same place.2) new looked kept)
+    module _ (es : List (List ℕ)) where
+      -- which nodes are inside the first name
+      abbrev pub node_inside : ℕ → Bool
+      node_inside i = is_inside texts es n.0 (get_or nodes i (0, 0)).0
 
-    -- one place more
-    pub places_more : (i : ℕ) (t : List ℕ) (places : List Counterpart) (p : Counterpart) → slice_get texts i ≡ Some t → AreCounterparts texts n i places → IsCounterpart texts n t p → AreCounterparts texts n (suc i) (places ++ p ∷ [])
-    places_more i t places p text ps is = record {
-      len = let l = ps.len in let m = length-append places (p ∷ []) in omega (arith, l, m);
-      none = slice_get-front places (p ∷ []) 0 Unselected ps.none;
-      each = λ j u l at. by_index j u l at (nat_lt j i) refl;
-    }
-      where
-        by_index : (j : ℕ) (u : List ℕ) → j < suc i → slice_get texts j ≡ Some u → (b : Bool) → nat_lt j i ≡ b → (q : Counterpart) × (slice_get (places ++ p ∷ []) (suc j) ≡ Some q) × IsCounterpart texts n u q
-        by_index j u l at true q =
-            let old = ps.each j u (ltb-true j i q) at in
-            (old.0, slice_get-front places (p ∷ []) (suc j) old.0 old.1, old.2)
-        by_index j u l at false q =
-            let past = ltb-false j i q in
-            let same : j ≡ i = omega (arith, l, past) in
-            let len = ps.len in
-            let last : suc j ≡ length places = omega (arith, same, len) in (
-              p,
-              ap (slice_get (places ++ p ∷ [])) last ∙ slice_get-seam places p [],
-              subst (λ v. IsCounterpart texts n v p) (same_Some t u (sym text ∙ ap (slice_get texts) (sym same) ∙ at)) is,
-            )
-
-pub no_places : (texts : List (List ℕ)) (n : Names) → AreCounterparts texts n 0 (Unselected ∷ [])
-no_places texts n = record { len = refl; none = refl; each = λ i t l at. absurd (omega (arith, l)) }
-
--- ---- what the code has found
-
--- a place without a number stays
-pub looked_other : (keys : List (ℕ × ℕ)) (second : ℕ) (p : Counterpart) → ((m : ℕ) → p ≢ At m) → p ≡ looked_up keys second p
-looked_other keys second Unselected other = refl
-looked_other keys second Missing other = refl
-looked_other keys second (At m) other = absurd (other m refl)
-
-pub looked_at : (keys : List (ℕ × ℕ)) (second m : ℕ) (p : Counterpart) (o : Option ℕ) → p ≡ At m → o ≡ position (same_key (m, second)) keys → found_at o ≡ looked_up keys second p
-looked_at keys second m p o is e = ap found_at e ∙ ap (looked_up keys second) (sym is)
-
--- so it is a counterpart inside another one
-pub looked_inside : (keys : List (ℕ × ℕ)) (k : ℕ) (old new : Counterpart) → new ≡ numbered (looked_up keys k old) → ((m : ℕ) → old ≡ At m → IsLookedUp new (position (same_node (m, k)) keys)) × (((m : ℕ) → old ≢ At m) → new ≡ old)
-looked_inside keys k Unselected new e = (λ m q. cc, λ other. e)
-looked_inside keys k Missing new e = (λ m q. cc, λ other. e)
-looked_inside keys k (At m) new e = (
-  λ l q. let same : m ≡ l = at_same m l q in subst (λ j. IsLookedUp new (position (same_node (j, k)) keys)) same (by_found (position (same_node (m, k)) keys) e),
-  λ other. absurd (other m refl),
-)
-  where
-    at_same : (a b : ℕ) → At a ≡ At b → a ≡ b
-    at_same a b q = cc
-
-    by_found : (o : Option ℕ) → new ≡ numbered (found_at o) → IsLookedUp new o
-    by_found (Some f) e = e
-    by_found None e = e
-
--- ---- what is left out
-
-any_or : {X : Type 0} (f g b : X → Bool) (xs : List X) → ((x : X) → b x ≡ (f x || g x)) → list_any b xs ≡ (list_any f xs || list_any g xs)
-any_or f g b [] e = refl
-any_or f g b (x ∷ xs) e = ap (λ p. p || list_any b xs) (e x) ∙ ap (λ r. (f x || g x) || r) (any_or f g b xs e) ∙ shuffle (f x) (g x) (list_any f xs) (list_any g xs)
-  where
-    shuffle : (p q r s : Bool) → ((p || q) || (r || s)) ≡ ((p || r) || (q || s))
-    shuffle true q r s = refl
-    shuffle false true true s = refl
-    shuffle false true false s = refl
-    shuffle false false r s = refl
-
--- a path inside another one is left out if it is named itself, or if the other is
-excepted_inside : (u p : List ℕ) (es : List (List ℕ)) → has_dot p ≡ false → list_any (selects_path (u ++ 46 ∷ p)) es ≡ (list_any (λ e. bytes_eq (u ++ 46 ∷ p) e) es || list_any (selects_path u) es)
-excepted_inside u p es plain = any_or (λ e. bytes_eq (u ++ 46 ∷ p) e) (selects_path u) (selects_path (u ++ 46 ∷ p)) es (λ e. by_same e (bytes_eq (u ++ 46 ∷ p) e) refl)
-  where
-    by_same : (e : List ℕ) (b : Bool) → bytes_eq (u ++ 46 ∷ p) e ≡ b → selects_path (u ++ 46 ∷ p) e ≡ (bytes_eq (u ++ 46 ∷ p) e || selects_path u e)
-    by_same e true q = ap (λ b. b || starts_with nat_eq (u ++ 46 ∷ p) (e ++ 46 ∷ [])) q ∙ sym (ap (λ b. b || selects_path u e) q)
-    by_same e false q =
-        selects_inside u p e plain (λ same. let yes = (bytes_eq-Decides (u ++ 46 ∷ p) e).1 same in absurd (cc)) ∙ sym (ap (λ b. b || selects_path u e) q)
-
-excepted_plain : (p : List ℕ) (es : List (List ℕ)) → has_dot p ≡ false → list_any (selects_path p) es ≡ list_any (λ e. bytes_eq p e) es
-excepted_plain p [] plain = refl
-excepted_plain p (e ∷ es) plain = (λ z. by_same (bytes_eq p e) refl z || excepted_plain p es plain z)
-  where
-    by_same : (b : Bool) → bytes_eq p e ≡ b → selects_path p e ≡ bytes_eq p e
-    by_same true q = ap (λ b. b || starts_with nat_eq p (e ++ 46 ∷ [])) q ∙ sym q
-    by_same false q = false_from_ne_true (selects_path p e) (λ h. let yes = (bytes_eq-Decides p e).1 (plain_selected p e plain h) in absurd (cc)) ∙ sym q
-
--- a number is among those of the exceptions if and only if its text is one
-pub marked_is : (texts : List (List ℕ)) (n : ℕ) (t : List ℕ) (ns : List ℕ) (es : List (List ℕ)) → AreApart texts → IsNumberOf texts n t → AllZip (IsNumberOf texts) ns es → list_any (λ m. m == n) ns ≡ list_any (λ e. bytes_eq t e) es
-marked_is texts n t [] [] apart is all = refl
-marked_is texts n t [] (e ∷ es) apart is all = absurd all
-marked_is texts n t (m ∷ ns) [] apart is all = absurd all
-marked_is texts n t (m ∷ ns) (e ∷ es) apart is all = λ z. (same_number texts m n e t apart all.0 is ∙ bytes_flip e t) z || marked_is texts n t ns es apart is all.1 z
-
-module _ (parts : List (List ℕ)) (nodes : List (ℕ × ℕ)) (texts : List (List ℕ)) (are : AreTexts parts nodes texts) (es : List (List ℕ)) where
-  -- one flag more
-  pub flags_more : (i : ℕ) (node : ℕ × ℕ) (flags : List Bool) (mark flag : Bool) → slice_get nodes i ≡ Some node → ((t : List ℕ) → slice_get texts i ≡ Some t → mark ≡ list_any (λ e. bytes_eq t e) es) → flag ≡ (mark || get_or flags node.0 false)
-      → AreLeftOut texts es i flags → AreLeftOut texts es (suc i) (flags ++ flag ∷ [])
-  flags_more i node flags mark flag at marks is old = record {
-    len = let l = old.len in let m = length-append flags (flag ∷ []) in omega (arith, l, m);
-    none = slice_get-front flags (flag ∷ []) 0 false old.none;
-    each = λ j t l there. by_index j t l there (nat_lt j i) refl;
-  }
-    where
-      here : (t : List ℕ) → slice_get texts i ≡ Some t → flag ≡ list_any (selects_path t) es
-      here t there =
-          let n = are.each i node at in
-          by_around node.0 n.around (same_Some _ _ (sym n.text_is ∙ there)) (is ∙ ap (λ m. m || get_or flags node.0 false) (marks t there))
+      -- a path that the first name selects is it, or is inside of it
+      selected_inside : (i : ℕ) (t : List ℕ) → slice_get texts i ≡ Some t → is_kept es t ≡ true → selects_path t n.0 ≡ true → t ≢ n.0 → node_inside i ≡ true
+      selected_inside i t text kept selected differs =
+          let within = slice_get_within texts i t text in
+          let node = get_or nodes i (0, 0) in
+          let at = slice_get-get_or nodes i (0, 0) (let l = are.len in omega (arith, within, l)) in
+          let is = are.each i node at in
+          by_around node.0 is.part is.plain (same_Some _ _ (sym is.text_is ∙ text))
         where
-          by_around : (a : ℕ) → a ≤ i → joined texts a (are.each i node at).part ≡ t → flag ≡ (list_any (λ e. bytes_eq t e) es || get_or flags a false) → flag ≡ list_any (selects_path t) es
-          by_around zero l e f =
-              let n = are.each i node at in
-              let root : get_or flags 0 false ≡ false = get_or_from_slice_get flags 0 false false old.none in
-              f ∙ ap (λ b. list_any (λ e. bytes_eq t e) es || b) root ∙ or-false (list_any (λ e. bytes_eq t e) es) ∙ ap (λ x. list_any (λ e. bytes_eq x e) es) (sym e)
-              ∙ sym (excepted_plain n.part es n.plain) ∙ ap (λ x. list_any (selects_path x) es) e
-          by_around (suc j) l e f =
-              let n = are.each i node at in
-              let within = slice_get_within texts i t there in
+          by_around : (a : ℕ) (p : List ℕ) → has_dot p ≡ false → joined texts a p ≡ t → is_inside texts es n.0 a ≡ true
+          by_around zero p plain e = absurd (differs (plain_selected t n.0 (ap has_dot (sym e) ∙ plain) selected))
+          by_around (suc j) p plain e =
               let u = get_or texts j [] in
-              let inner = old.each j u (omega (arith, l)) (slice_get-get_or texts j [] (omega (arith, l, within))) in
-              f ∙ ap (λ b. list_any (λ e. bytes_eq t e) es || b) (get_or_from_slice_get flags (suc j) (list_any (selects_path u) es) false inner) ∙ ap (λ x. list_any (λ e. bytes_eq x e) es || list_any (selects_path u) es) (sym e)
-              ∙ sym (excepted_inside u n.part es n.plain) ∙ ap (λ x. list_any (selects_path x) es) e
+              let one = kept_around u p es (ap (is_kept es) e ∙ kept) in
+              let two : selects_path u n.0 ≡ true = sym (selects_inside u p n.0 plain (λ q. differs (sym e ∙ q))) ∙ ap (λ x. selects_path x n.0) e ∙ selected in
+              rw (one, two) refl
 
-      by_index : (j : ℕ) (t : List ℕ) → j < suc i → slice_get texts j ≡ Some t → (b : Bool) → nat_lt j i ≡ b → slice_get (flags ++ flag ∷ []) (suc j) ≡ Some (list_any (selects_path t) es)
-      by_index j t l there true q = slice_get-front flags (flag ∷ []) (suc j) (list_any (selects_path t) es) (old.each j t (ltb-true j i q) there)
-      by_index j t l there false q =
-          let past = ltb-false j i q in
-          let same : j ≡ i = omega (arith, l, past) in
-          let len = old.len in
-          let last : suc j ≡ length flags = omega (arith, same, len) in
-          ap (slice_get (flags ++ flag ∷ [])) last ∙ slice_get-seam flags flag [] ∙ ap Some (here t (ap (slice_get texts) (sym same) ∙ there))
+      -- the places of the first name and of those nodes are set
+      pub record IsPlacing (one : ℕ) (done : List ℕ) (places : List (Option ℕ)) : Type 0 where
+        pub len : length places ≡ length texts + 1
+        pub each : (i : ℕ) (t : List ℕ) → slice_get texts i ≡ Some t → is_kept es t ≡ true → selects_path t n.0 ≡ true → (suc i ≡ one) ⊎ (list_any (λ x. x == i) done ≡ true) → IsCounterpart texts n t (get_or places (suc i) None)
 
-pub no_flags : (texts es : List (List ℕ)) → AreLeftOut texts es 0 (false ∷ [])
-no_flags texts es = record { len = refl; none = refl; each = λ i t l at. absurd (omega (arith, l)) }
+      pub placing_first : (one other : ℕ) (old new : List (Option ℕ)) → IsNumberOf texts one n.0 → IsNumberOf texts other n.1 → length old ≡ length texts + 1 → new ≡ set old one (Some other) → IsPlacing one [] new
+      placing_first one other old new a b len is = record {
+        len = ap length is ∙ length-set old one (Some other) ∙ len;
+        each = λ i t text kept selected at. elim at [
+          | inl e ↦
+              let index : i ≡ a.0 = let f = a.1 in omega (arith, e, f) in
+              let same : t ≡ n.0 = same_Some t n.0 (sym text ∙ ap (slice_get texts) index ∙ a.2) in
+              let within = slice_get_within texts i t text in
+              let place : get_or new (suc i) None ≡ Some other = ap (get_or new (suc i)) refl ∙ ap (λ l. get_or l (suc i) None) is ∙ ap (λ m. get_or (set old one (Some other)) m None) e ∙ get_or-set_same old one (Some other) None (omega (arith, within, e, len)) in
+              subst (IsCounterpart texts n t) (sym place) (subst (IsNumberOf texts other) (sym (ap (replaced n) same ∙ replaced_itself n)) b)
+          | inr e ↦ absurd (let no : false ≡ true = e in cc)
+        ];
+      }
+
+      pub placing_next : (one k : ℕ) (done : List ℕ) (old new : List (Option ℕ)) → IsNumberOf texts one n.0 → done ≡ chosen node_inside k → node_inside k ≡ true → k < length texts → new ≡ set old (k + 1) (place_of_node nodes old k) → IsPlacing one done old
+          → IsPlacing one (done ++ k ∷ []) new
+      placing_next one k done old new a before pass within is s = record {
+        len = ap length is ∙ length-set old (k + 1) (place_of_node nodes old k) ∙ s.len;
+        each = λ i t text kept selected at. by_index i t text kept selected at (nat_eq k i) refl;
+      }
+        where
+          node : ℕ × ℕ
+          node = get_or nodes k (0, 0)
+
+          at_node : slice_get nodes k ≡ Some node
+          at_node = slice_get-get_or nodes k (0, 0) (let l = are.len in omega (arith, within, l))
+
+          here : (t : List ℕ) → slice_get texts k ≡ Some t → IsCounterpart texts n t (place_of_node nodes old k)
+          here t text = let is = are.each k node at_node in by_around node.0 is.around (same_Some _ _ (sym is.text_is ∙ text)) pass
+            where
+              by_around : (a : ℕ) → a ≤ k → joined texts a (are.each k node at_node).part ≡ t → is_inside texts es n.0 a ≡ true → IsCounterpart texts n t (option_map suc (looked_up nodes node.1 (get_or old a None)))
+              by_around zero l e h = cc
+              by_around (suc j) l e h =
+                  let is = are.each k node at_node in
+                  let u = get_or texts j [] in
+                  let both = and_parts (is_kept es u) (selects_path u n.0) h in
+                  let text_u = slice_get-get_or texts j [] (omega (arith, l, within)) in
+                  let place = s.each j u text_u both.0 both.1 (by_same j u l text_u both.0 both.1 (bytes_eq u n.0) refl) in
+                  subst (λ x. IsCounterpart texts n x (option_map suc (looked_up nodes node.1 (get_or old (suc j) None)))) e (place_inside node.1 is.part u (get_or old (suc j) None) is.plain is.part_is both.1 place)
+                where
+                  by_same : (j : ℕ) (u : List ℕ) → suc j ≤ k → slice_get texts j ≡ Some u → is_kept es u ≡ true → selects_path u n.0 ≡ true → (b : Bool) → bytes_eq u n.0 ≡ b → (suc j ≡ one) ⊎ (list_any (λ x. x == j) done ≡ true)
+                  by_same j u l text kept selected true q =
+                      let index : j ≡ a.0 = are.apart j a.0 n.0 (text ∙ ap Some ((bytes_eq-Decides u n.0).0 q)) a.2 in
+                      inl (ap suc index ∙ sym a.1)
+                  by_same j u l text kept selected false q =
+                      let inside = selected_inside j u text kept selected (λ e. let yes = (bytes_eq-Decides u n.0).1 e in absurd (cc)) in
+                      inr (ap (list_any (λ x. x == j)) before ∙ chosen_has node_inside j k inside (omega (arith, l)))
+
+          by_index : (i : ℕ) (t : List ℕ) → slice_get texts i ≡ Some t → is_kept es t ≡ true → selects_path t n.0 ≡ true → (suc i ≡ one) ⊎ (list_any (λ x. x == i) (done ++ k ∷ []) ≡ true) → (b : Bool) → nat_eq k i ≡ b
+              → IsCounterpart texts n t (get_or new (suc i) None)
+          by_index i t text kept selected at true q =
+              let same : k ≡ i = eqb-true k i q in
+              let len = s.len in
+              let index : suc i ≡ k + 1 = omega (arith, same) in
+              let place : get_or new (suc i) None ≡ place_of_node nodes old k =
+              ap (λ l. get_or l (suc i) None) is ∙ ap (λ m. get_or (set old (k + 1) (place_of_node nodes old k)) m None) index ∙ get_or-set_same old (k + 1) (place_of_node nodes old k) None (omega (arith, within, len)) in
+              subst (IsCounterpart texts n t) (sym place) (here t (ap (slice_get texts) same ∙ text))
+          by_index i t text kept selected at false q =
+              let d = eqb-false k i q in
+              let other : suc i ≢ k + 1 = λ e. d (omega (arith, e)) in
+              let place : get_or new (suc i) None ≡ get_or old (suc i) None = ap (λ l. get_or l (suc i) None) is ∙ get_or-set_other old (k + 1) (suc i) (place_of_node nodes old k) None other in
+              let done_is : list_any (λ x. x == i) (done ++ k ∷ []) ≡ list_any (λ x. x == i) done =
+              list_any-append (λ x. x == i) done (k ∷ []) ∙ ap (λ b. list_any (λ x. x == i) done || (b || false)) q ∙ or-false (list_any (λ x. x == i) done) in
+              subst (IsCounterpart texts n t) (sym place) (s.each i t text kept selected (elim at [ inl e ↦ inl e | inr e ↦ inr (sym done_is ∙ e) ]))
+
+      pub placing_last : (one count : ℕ) (places : List (Option ℕ)) → IsNumberOf texts one n.0 → IsPlacing one (chosen node_inside count) places → ArePlaces texts es n count places
+      placing_last one count places a s = λ i t l text kept selected. s.each i t text kept selected (by_same i t l text kept selected (bytes_eq t n.0) refl)
+        where
+          by_same : (i : ℕ) (t : List ℕ) → i < count → slice_get texts i ≡ Some t → is_kept es t ≡ true → selects_path t n.0 ≡ true → (b : Bool) → bytes_eq t n.0 ≡ b → (suc i ≡ one) ⊎ (list_any (λ x. x == i) (chosen node_inside count) ≡ true)
+          by_same i t l text kept selected true q = let index : i ≡ a.0 = are.apart i a.0 n.0 (text ∙ ap Some ((bytes_eq-Decides t n.0).0 q)) a.2 in inl (ap suc index ∙ sym a.1)
+          by_same i t l text kept selected false q =
+              let inside = selected_inside i t text kept selected (λ e. let yes = (bytes_eq-Decides t n.0).1 e in absurd (cc)) in
+              inr (chosen_has node_inside i count inside l)
 
 -- ---- counterparts of variables
 
@@ -297,51 +172,23 @@ zip_at R (x ∷ xs) [] i y all at = absurd all
 zip_at R (x ∷ xs) (z ∷ ys) zero y all at = (x, refl, subst (R x) (same_Some z y at) all.0)
 zip_at R (x ∷ xs) (z ∷ ys) (suc i) y all at = zip_at R xs ys i y all.1 at
 
--- ---- what the code does with a path
+pub zip_from : {X Y : Type 0} (R : X → Y → Type 0) (xs : List X) (ys : List Y) (i : ℕ) (x : X) → AllZip R xs ys → slice_get xs i ≡ Some x → (y : Y) × (slice_get ys i ≡ Some y) × R x y
+zip_from R [] ys i x all at = cc
+zip_from R (w ∷ xs) [] i x all at = absurd all
+zip_from R (w ∷ xs) (y ∷ ys) zero x all at = (y, refl, subst (λ z. R z y) (same_Some w x at) all.0)
+zip_from R (w ∷ xs) (y ∷ ys) (suc i) x all at = zip_from R xs ys i x all.1 at
 
 -- what is found is there
-pub found_within : (keys : List (ℕ × ℕ)) (second f : ℕ) (p : Counterpart) → At f ≡ looked_up keys second p → f < length keys
-found_within keys second f Unselected e = cc
-found_within keys second f Missing e = cc
-found_within keys second f (At m) e = by_found (position (same_key (m, second)) keys) refl e
-  where
-    by_found : (o : Option ℕ) → position (same_key (m, second)) keys ≡ o → At f ≡ found_at o → f < length keys
-    by_found None q e = cc
-    by_found (Some g) q e =
-        let same : f ≡ g = cc in
-        let found = position_passes (same_key (m, second)) keys g q in
-        subst (λ x. x < length keys) (sym same) (slice_get_within keys g found.0 found.1)
+pub found_within : (keys : List (ℕ × ℕ)) (second f : ℕ) (place : Option ℕ) → Some f ≡ looked_up keys second place → f < length keys
+found_within keys second f None e = cc
+found_within keys second f (Some m) e = let found = position_passes (same_key (m, second)) keys f (sym e) in slice_get_within keys f found.0 found.1
 
-pub place_code : (parts : List (List ℕ)) (nodes : List (ℕ × ℕ)) (texts : List (List ℕ)) (are : AreTexts parts nodes texts) (n : Names) (i : ℕ) (t : List ℕ) (places : List Counterpart) (place looked new : Counterpart) (list : List (ℕ × ℕ))
-    → list ≡ nodes → place ≡ get_or places (get_or list i (0, 0)).0 Unselected → looked ≡ looked_up nodes (get_or list i (0, 0)).1 place → new ≡ numbered looked
-    → slice_get texts i ≡ Some t → t ≢ n.0 → AreCounterparts texts n i places → IsCounterpart texts n t new
-place_code parts nodes texts are n i t places place looked new list same is looks numbers text differs ps =
-    let node = get_or nodes i (0, 0) in
-    let nodes_len = are.len in
-    let within : i < length nodes = let w = slice_get_within texts i t text in omega (arith, w, nodes_len) in
-    let at = slice_get-get_or nodes i (0, 0) within in
-    let around = (are.each i node at).around in
-    let key : get_or list i (0, 0) ≡ node = ap (λ (l : List (ℕ × ℕ)). get_or l i (0, 0)) same in
-    let there : slice_get places node.0 ≡ Some place =
-    let len = ps.len in
-    slice_get-get_or places node.0 Unselected (omega (arith, around, len)) ∙ ap Some (sym (is ∙ ap (λ (k : ℕ × ℕ). get_or places k.0 Unselected) key)) in
-    let inside = looked_inside nodes node.1 place new (numbers ∙ ap numbered (looks ∙ ap (λ (k : ℕ × ℕ). looked_up nodes k.1 place) key)) in
-    place_at parts nodes texts are n i node t places place new at text differs ps there inside.0 inside.1
-
--- the first name itself
-pub place_one : (texts : List (List ℕ)) (n : Names) (i one other : ℕ) (t : List ℕ) → IsNumberOf texts one n.0 → IsNumberOf texts other n.1 → slice_get texts i ≡ Some t → i + 1 ≡ one → IsCounterpart texts n t (At other)
-place_one texts n i one other t a b text e =
-    let index : i ≡ a.0 = let q = a.1 in omega (arith, e, q) in
-    let same : t ≡ n.0 = same_Some t n.0 (sym text ∙ ap (slice_get texts) index ∙ a.2) in
-    ([], ap (rest_of n.0) same ∙ rest_itself n.0, subst (IsNumberOf texts other) (sym (append-nil n.1)) b)
-
--- another path is not the first name
-pub other_text : (texts : List (List ℕ)) (i one : ℕ) (t name : List ℕ) → AreApart texts → IsNumberOf texts one name → slice_get texts i ≡ Some t → i + 1 ≢ one → t ≢ name
-other_text texts i one t name apart a text differs e =
-    let index : i ≡ a.0 = apart i a.0 name (text ∙ ap Some e) a.2 in
-    differs (let q = a.1 in omega (arith, index, q))
-
--- ---- what it does with a variable
+-- a number is among those of the exceptions if and only if its text is one
+pub marked_is : (texts : List (List ℕ)) (n : ℕ) (t : List ℕ) (ns : List ℕ) (es : List (List ℕ)) → AreApart texts → IsNumberOf texts n t → AllZip (IsNumberOf texts) ns es → list_any (λ m. m == n) ns ≡ list_any (λ e. bytes_eq t e) es
+marked_is texts n t [] [] apart is all = refl
+marked_is texts n t [] (e ∷ es) apart is all = absurd all
+marked_is texts n t (m ∷ ns) [] apart is all = absurd all
+marked_is texts n t (m ∷ ns) (e ∷ es) apart is all = λ z. (same_number texts m n e t apart all.0 is ∙ bytes_flip e t) z || marked_is texts n t ns es apart is all.1 z
 
 nat_flip : (a b : ℕ) → nat_eq a b ≡ nat_eq b a
 nat_flip a b = by_test (nat_eq b a) refl
@@ -382,68 +229,93 @@ none_found texts path nth (k ∷ ks) (w ∷ vs) absent all =
     let other : bytes_eq w.path path ≡ false = false_from_ne_true (bytes_eq w.path path) (λ e. absent is.0 (is.2 ∙ ap Some ((bytes_eq-Decides w.path path).0 e))) in
     ap (λ b. cond (b && (w.nth == nth)) (Some w) (find (λ (w : Named). bytes_eq w.path path && (w.nth == nth)) vs)) other ∙ none_found texts path nth ks vs absent all.1
 
-module _ (q : Asked) (h : Header) (n : Names) (texts : List (List ℕ)) (v : Named) (apart : AreApart texts) (vs : Variables) (are : AreVariables h texts vs) where
-  -- a variable of a path that was found, or was not
-  found_place : (m : ℕ) (rest : List ℕ) → is_left_in q v.path ≡ true → rest_of n.0 v.path ≡ Some rest → IsNumberOf texts m (n.1 ++ rest) → (o : Option ℕ) → position (same_key (m, v.nth)) vs.keys.keys ≡ o → IsPlace q h n v (found_at o)
-  found_place m rest left r number (Some f) e =
-      let path = n.1 ++ rest in
-      let test = λ (w : Named). bytes_eq w.path path && (w.nth == v.nth) in
-      let first : position_or_len test (all_named h) ≡ f = sym (first_same texts m v.nth path vs.keys.keys (all_named h) apart number are.keys) ∙ position_first (same_key (m, v.nth)) vs.keys.keys f e in
-      let found = position_passes (same_key (m, v.nth)) vs.keys.keys f e in
-      let within = slice_get_within vs.keys.keys f found.0 found.1 in
-      let w = there (all_named h) f (omega (arith, within, same_len (IsKeyOf texts) vs.keys.keys (all_named h) are.keys)) in
-      let is : at_path h path v.nth ≡ Some w.0 = find_at test (all_named h) ∙ ap (slice_get (all_named h)) first ∙ w.1 in (
-        w.0,
-        ap (λ b. cond b (option_map (λ r. (v, at_path h (n.1 ++ r) v.nth)) (rest_of n.0 v.path)) None) left ∙ ap (option_map (λ r. (v, at_path h (n.1 ++ r) v.nth))) r ∙ ap (λ o. Some (v, o)) is,
-        w.1,
-      )
-  found_place m rest left r number None e =
-      let path = n.1 ++ rest in
-      let test = λ (w : Named). bytes_eq w.path path && (w.nth == v.nth) in
-      let none = none_first (same_key (m, v.nth)) vs.keys.keys (position_none (same_key (m, v.nth)) vs.keys.keys e) in
-      let last : position_or_len test (all_named h) ≡ length (all_named h) = sym (first_same texts m v.nth path vs.keys.keys (all_named h) apart number are.keys) ∙ none ∙ same_len (IsKeyOf texts) vs.keys.keys (all_named h) are.keys in
-      let is : at_path h path v.nth ≡ None = find_at test (all_named h) ∙ slice_get_past (all_named h) (position_or_len test (all_named h)) (omega (arith, last)) in
-      ap (λ b. cond b (option_map (λ r. (v, at_path h (n.1 ++ r) v.nth)) (rest_of n.0 v.path)) None) left ∙ ap (option_map (λ r. (v, at_path h (n.1 ++ r) v.nth))) r ∙ ap (λ o. Some (v, o)) is
+-- what a filter leaves passes
+pub kept : {X : Type 0} (f : X → Bool) (xs : List X) (n : ℕ) (x : X) → slice_get (filter f xs) n ≡ Some x → f x ≡ true
+kept f [] n x e = cc
+kept f (y ∷ ys) n x e = by_test (f y) refl n e (λ n e. kept f ys n x e)
+  where
+    by_test : (b : Bool) → f y ≡ b → (n : ℕ) → slice_get (cond b (y ∷ filter f ys) (filter f ys)) n ≡ Some x → ((n : ℕ) → slice_get (filter f ys) n ≡ Some x → f x ≡ true) → f x ≡ true
+    by_test true e zero g more = let same : y ≡ x = same_Some y x g in rw (← same) e
+    by_test true e (suc n) g more = more n g
+    by_test false e n g more = more n g
 
-  by_path : (p : Counterpart) → is_left_in q v.path ≡ true → IsCounterpart texts n v.path p → IsPlace q h n v (looked_up vs.keys.keys v.nth p)
-  by_path Unselected left is = ap (λ b. cond b (option_map (λ r. (v, at_path h (n.1 ++ r) v.nth)) (rest_of n.0 v.path)) None) left ∙ ap (option_map (λ r. (v, at_path h (n.1 ++ r) v.nth))) is
-  by_path Missing left is =
-      ap (λ b. cond b (option_map (λ r. (v, at_path h (n.1 ++ r) v.nth)) (rest_of n.0 v.path)) None) left ∙ ap (option_map (λ r. (v, at_path h (n.1 ++ r) v.nth))) is.1
-      ∙ ap (λ o. Some (v, o)) (none_found texts (n.1 ++ is.0) v.nth vs.keys.keys (all_named h) is.2 are.keys)
-  by_path (At m) left is = found_place m is.0 left is.1 is.2 (position (same_key (m, v.nth)) vs.keys.keys) refl
+-- a variable that is selected is not left out
+pub selected_nth : (q : Asked) (h : Header) (n : Names) (j : ℕ) (v : Named) → slice_get (selected_in q h n) j ≡ Some v → (is_kept q.exceptions v.path ≡ true) × (selects_path v.path n.0 ≡ true)
+selected_nth q h n j v at = and_parts (is_kept q.exceptions v.path) (selects_path v.path n.0) (kept (λ (w : Named). is_kept q.exceptions w.path && selects_path w.path n.0) (all_named h) j v at)
 
-  -- the key of the variable
-  pub record HasKey (index : ℕ) (list : List (ℕ × ℕ)) : Type 0 where
-    pub path : ℕ
-    pub key_is : get_or list index (0, 0) ≡ (suc path, v.nth)
-    pub text : slice_get texts path ≡ Some v.path
-    pub within : index < length vs.keys.keys
+module _ (h : Header) (n : Names) (texts : List (List ℕ)) (v : Named) (apart : AreApart texts) (vs : Variables) (are : AreVariables h texts vs) where
+  -- a variable by the place of its path
+  by_path : (place : Option ℕ) → IsCounterpart texts n v.path place → IsPlace h n v (looked_up vs.keys.keys v.nth place)
+  by_path None is = none_found texts (replaced n v.path) v.nth vs.keys.keys (all_named h) is are.keys
+  by_path (Some m) is = by_found (position (same_key (m, v.nth)) vs.keys.keys) refl
+    where
+      path : List ℕ
+      path = replaced n v.path
 
-  pub key_at : (index : ℕ) (list : List (ℕ × ℕ)) → list ≡ vs.keys.keys → slice_get (all_named h) index ≡ Some v → HasKey index list
-  key_at index list same at =
-      let k = zip_at (IsKeyOf texts) vs.keys.keys (all_named h) index v are.keys at in
-      let key : get_or list index (0, 0) ≡ k.0 = ap (λ (l : List (ℕ × ℕ)). get_or l index (0, 0)) same ∙ get_or_from_slice_get vs.keys.keys index k.0 (0, 0) k.1 in
-      record {
-        path = k.2.path.0;
-        key_is = key ∙ (λ z. (k.2.path.1 z, k.2.nth z));
-        text = k.2.path.2;
-        within = slice_get_within vs.keys.keys index k.0 k.1;
-      }
+      test : Named → Bool
+      test w = bytes_eq w.path path && (w.nth == v.nth)
 
-  flag_is : (left_out : List Bool) (path : ℕ) → AreLeftOut texts q.exceptions (length texts) left_out → slice_get texts path ≡ Some v.path → get_or left_out (suc path) false ≡ list_any (selects_path v.path) q.exceptions
-  flag_is left_out path flags text = get_or_from_slice_get left_out (suc path) (list_any (selects_path v.path) q.exceptions) false (flags.each path v.path (slice_get_within texts path v.path text) text)
+      by_found : (o : Option ℕ) → position (same_key (m, v.nth)) vs.keys.keys ≡ o → IsPlace h n v o
+      by_found (Some f) e =
+          let first : position_or_len test (all_named h) ≡ f = sym (first_same texts m v.nth path vs.keys.keys (all_named h) apart is are.keys) ∙ position_first (same_key (m, v.nth)) vs.keys.keys f e in
+          let found = position_passes (same_key (m, v.nth)) vs.keys.keys f e in
+          let within = slice_get_within vs.keys.keys f found.0 found.1 in
+          let w = there (all_named h) f (omega (arith, within, same_len (IsKeyOf texts) vs.keys.keys (all_named h) are.keys)) in
+          (w.0, find_at test (all_named h) ∙ ap (slice_get (all_named h)) first ∙ w.1, w.1)
+      by_found None e =
+          let none = none_first (same_key (m, v.nth)) vs.keys.keys (position_none (same_key (m, v.nth)) vs.keys.keys e) in
+          let last : position_or_len test (all_named h) ≡ length (all_named h) = sym (first_same texts m v.nth path vs.keys.keys (all_named h) apart is are.keys) ∙ none ∙ same_len (IsKeyOf texts) vs.keys.keys (all_named h) are.keys in
+          find_at test (all_named h) ∙ slice_get_past (all_named h) (position_or_len test (all_named h)) (omega (arith, last))
 
-  pub left_place : (index : ℕ) (list : List (ℕ × ℕ)) (left_out : List Bool) → list ≡ vs.keys.keys → slice_get (all_named h) index ≡ Some v → AreLeftOut texts q.exceptions (length texts) left_out → get_or left_out (get_or list index (0, 0)).0 false ≡ true → place_of q h n v ≡ None
-  left_place index list left_out same at flags e =
-      let k = key_at index list same at in
-      let left : list_any (selects_path v.path) q.exceptions ≡ true = sym (flag_is left_out k.path flags k.text) ∙ ap (λ (x : ℕ × ℕ). get_or left_out x.0 false) (sym k.key_is) ∙ e in
-      ap (λ b. cond (not b) (option_map (λ r. (v, at_path h (n.1 ++ r) v.nth)) (rest_of n.0 v.path)) None) left
+-- what the code finds for a variable
+pub variable_place : (q : Asked) (h : Header) (n : Names) (texts : List (List ℕ)) (vs : Variables) (places : List (Option ℕ)) (index j : ℕ) (v : Named) (list : List (ℕ × ℕ)) (place result : Option ℕ) → FindPlaces q h n texts vs places → IsNth h index v → slice_get (selected_in q h n) j ≡ Some v
+    → list ≡ vs.keys.keys → place ≡ get_or places (get_or list index (0, 0)).0 None → result ≡ looked_up vs.keys.keys (get_or list index (0, 0)).1 place → IsPlace h n v result
+variable_place q h n texts vs places index j v list place result finds nth at same is looks =
+    let k = zip_at (IsKeyOf texts) vs.keys.keys (all_named h) index v finds.are.keys nth in
+    let key : get_or list index (0, 0) ≡ k.0 = ap (λ (l : List (ℕ × ℕ)). get_or l index (0, 0)) same ∙ get_or_from_slice_get vs.keys.keys index k.0 (0, 0) k.1 in
+    let path = k.2.path in
+    let both = selected_nth q h n j v at in
+    let within = finds.within index k.0 k.1 in
+    let p = finds.placed path.0 v.path (let e = path.1 in omega (arith, within, e)) path.2 both.0 both.1 in
+    let place_is : place ≡ get_or places (suc path.0) None = is ∙ ap (λ (x : ℕ × ℕ). get_or places x.0 None) key ∙ ap (λ m. get_or places m None) path.1 in
+    subst (IsPlace h n v) (sym (looks ∙ ap (λ (x : ℕ × ℕ). looked_up vs.keys.keys x.1 place) key ∙ ap (λ m. looked_up vs.keys.keys m place) k.2.nth ∙ ap (looked_up vs.keys.keys v.nth) place_is))
+    (by_path h n texts v finds.apart vs finds.are (get_or places (suc path.0) None) p)
 
-  pub other_place : (index : ℕ) (list : List (ℕ × ℕ)) (left_out : List Bool) (places : List Counterpart) (place result : Counterpart) → list ≡ vs.keys.keys → slice_get (all_named h) index ≡ Some v → AreLeftOut texts q.exceptions (length texts) left_out
-      → AreCounterparts texts n (length texts) places → get_or left_out (get_or list index (0, 0)).0 false ≡ false → place ≡ get_or places (get_or list index (0, 0)).0 Unselected → result ≡ looked_up vs.keys.keys (get_or list index (0, 0)).1 place → IsPlace q h n v result
-  other_place index list left_out places place result same at flags ps e is looks =
-      let k = key_at index list same at in
-      let left : is_left_in q v.path ≡ true = ap not (sym (flag_is left_out k.path flags k.text) ∙ ap (λ (x : ℕ × ℕ). get_or left_out x.0 false) (sym k.key_is) ∙ e) in
-      let p = ps.each k.path v.path (slice_get_within texts k.path v.path k.text) k.text in
-      let place_is : place ≡ p.0 = is ∙ ap (λ (x : ℕ × ℕ). get_or places x.0 Unselected) k.key_is ∙ get_or_from_slice_get places (suc k.path) p.0 Unselected p.1 in
-      subst (IsPlace q h n v) (sym (looks ∙ ap (λ (x : ℕ × ℕ). looked_up vs.keys.keys x.1 place) k.key_is ∙ ap (looked_up vs.keys.keys v.nth) place_is)) (by_path p.0 left p.2)
+-- the index is that of a variable
+pub nth_within : (q : Asked) (h : Header) (n : Names) (texts : List (List ℕ)) (vs : Variables) (places : List (Option ℕ)) (index : ℕ) (v : Named) → FindPlaces q h n texts vs places → IsNth h index v → index < length vs.keys.keys
+nth_within q h n texts vs places index v finds nth = let k = zip_at (IsKeyOf texts) vs.keys.keys (all_named h) index v finds.are.keys nth in slice_get_within vs.keys.keys index k.0 k.1
+
+-- the variables that a name selects are those that are inside its path
+pub selected_zip : (q : Asked) (h : Header) (n : Names) (texts : List (List ℕ)) (vs : Variables) (list : List ℕ) → AreVariables h texts vs → list ≡ chosen (λ i. is_inside texts q.exceptions n.0 (get_or vs.keys.keys i (0, 0)).0) (length vs.keys.keys) → AreSelected q h n list
+selected_zip q h n texts vs list are is =
+    let keys = vs.keys.keys in
+    let len = same_len (IsKeyOf texts) keys (all_named h) are.keys in
+    subst (AreSelected q h n) (sym is) (subst (λ l. AllZip (IsNth h) (chosen (λ i. is_inside texts q.exceptions n.0 (get_or keys i (0, 0)).0) (length keys)) (filter (λ (v : Named). is_kept q.exceptions v.path && selects_path v.path n.0) l)) (take_all (length keys) (all_named h) (omega (arith, len)))
+    (chosen_zip (all_named h) (λ i. is_inside texts q.exceptions n.0 (get_or keys i (0, 0)).0) (λ (v : Named). is_kept q.exceptions v.path && selects_path v.path n.0) same (length keys) (omega (arith, len))))
+  where
+    same : (i : ℕ) (v : Named) → slice_get (all_named h) i ≡ Some v → is_inside texts q.exceptions n.0 (get_or vs.keys.keys i (0, 0)).0 ≡ (is_kept q.exceptions v.path && selects_path v.path n.0)
+    same i v at =
+        let k = zip_at (IsKeyOf texts) vs.keys.keys (all_named h) i v are.keys at in
+        let path = k.2.path in
+        ap (λ (x : ℕ × ℕ). is_inside texts q.exceptions n.0 x.0) (get_or_from_slice_get vs.keys.keys i k.0 (0, 0) k.1) ∙ ap (is_inside texts q.exceptions n.0) path.1
+        ∙ ap (λ t. is_kept q.exceptions t && selects_path t n.0) (get_or_from_slice_get texts path.0 v.path [] path.2)
+
+-- the paths of variables are among those of the header
+pub keys_within : (h : Header) (texts : List (List ℕ)) (vs : Variables) → AreVariables h texts vs → AreWithin vs.keys.keys (length texts)
+keys_within h texts vs are = λ i x at.
+    let v = zip_from (IsKeyOf texts) vs.keys.keys (all_named h) i x are.keys at in
+    let path = v.2.path in
+    let l = slice_get_within texts path.0 v.0.path path.2 in
+    let e = path.1 in
+    omega (arith, l, e)
+
+-- what is listed for a name of some pair of names
+module _ (paths : Paths) (vs : Variables) (s : Selections) (q : Asked) (h : Header) (ns : List Names) (texts : List (List ℕ)) (ready : HasSelected paths vs s q h ns texts) (n : Names) (one : ℕ) (number : IsNumberOf texts one n.0) (name : is_one_of (both_names ns) n.0 ≡ true) where
+  pub listed_paths : (lists : List (Vec ℕ)) (list : List ℕ) → lists ≡ s.paths.items → list ≡ get_or (lists_in lists) one [] → list ≡ chosen (λ i. is_inside texts q.exceptions n.0 (get_or paths.nodes.keys i (0, 0)).0) ready.count
+  listed_paths lists list same is = is ∙ ap (λ (l : List (Vec ℕ)). get_or (lists_in l) one []) same ∙ ready.inside one n.0 number name
+
+  pub listed_variables : (lists : List (Vec ℕ)) (list : List ℕ) → lists ≡ s.variables.items → list ≡ get_or (lists_in lists) one [] → AreSelected q h n list
+  listed_variables lists list same is = selected_zip q h n texts vs list ready.are (is ∙ ap (λ (l : List (Vec ℕ)). get_or (lists_in l) one []) same ∙ ready.variables one n.0 number name)
+
+  pub found_places : (places list : List (Option ℕ)) → list ≡ places → ArePlaces texts q.exceptions n ready.count places → FindPlaces q h n texts vs list
+  found_places places list same placed = record { apart = ready.has.apart; are = ready.are; count = ready.count; within = ready.within; placed = subst (ArePlaces texts q.exceptions n ready.count) (sym same) placed }

@@ -1,5 +1,5 @@
 -- The path of a row is that of the scope around it, a dot, and its name.
-use Rattle.vcd_compare.proofs.Cited.{◌≡◌, ℕ, suc, ◌<◌, ◌≤◌, false, true, List, [], ◌∷◌, ◌++◌, length, take, get_or, slice_get, Option, Some, None, nat_lt, Result, Ok, Err, refl, sym, ap, subst, ◌∙◌, arith, length-append, IfOk, AllZip, ltb-true, ltb-false, get_or_from_slice_get, same_Some, Declaration, enclosing, name_of, parent, path_of, Header, innermost, slice_get-take, counted_from_one, all_zip_push, slice_get-front, slice_get-seam, around_some, parent_before, front, scopes_text, front_is, front_next, path_is, Names, AreNumbersOf, EntersNames, EntersTexts, EntersPath, HasTexts, IsNumberOf, joined, AreNumbered, IsAround, IsScopeNumber, Paths}
+use Rattle.vcd_compare.proofs.Cited.{◌≡◌, ℕ, suc, ◌<◌, ◌≤◌, false, true, List, [], ◌∷◌, ◌++◌, length, take, get_or, slice_get, Option, Some, None, nat_lt, Result, Ok, Err, refl, sym, ap, subst, ◌∙◌, arith, length-append, IfOk, AllZip, ltb-true, ltb-false, get_or_from_slice_get, same_Some, Declaration, enclosing, name_of, parent, path_of, Header, innermost, slice_get-take, counted_from_one, all_zip_push, slice_get-front, slice_get-seam, around_some, parent_before, front, scopes_text, front_is, front_next, path_is, Names, AreNumbersOf, EntersNames, EntersTexts, EntersPath, HasTexts, IsNumberOf, joined, all_named, AreNumbered, AreVariables, IsAround, IsKeyOf, IsScopeNumber, Paths, Variables}
 use Rattle.std.proofs.lemmas.List.{append_assoc}
 use Rattle.vcd_compare.proofs.PairSteps.{zip_weaker}
 use Rattle.vcd_compare.proofs.PathTexts.{joined_number, number_within}
@@ -92,11 +92,11 @@ pub ok_then : {X E : Type 0} (r : Result X E) (P Q : X → Type 0) → ((x : X) 
 ok_then (Ok x) P Q f p = f x p
 ok_then (Err e) P Q f p = tt
 
--- so many rows keep their numbers
-pub numbered_stay : (h : Header) (texts more : List (List ℕ)) (numbers : List ℕ) (rows : ℕ) → AreNumbered h texts numbers rows → AreNumbered h (texts ++ more) numbers rows
-numbered_stay h texts more numbers rows are = record {
-  len = are.len;
-  each = λ i d l at. let n = are.each i d l at in (n.0, n.1, numbers_stay texts more n.0 (path_of (take i h.declarations) d) n.2);
+-- the variables keep their numbers
+pub variables_stay : (h : Header) (texts more : List (List ℕ)) (vs : Variables) → AreVariables h texts vs → AreVariables h (texts ++ more) vs
+variables_stay h texts more vs are = record {
+  rows = are.rows;
+  keys = zip_weaker (IsKeyOf texts) (IsKeyOf (texts ++ more)) vs.keys.keys (all_named h) (λ k v is. record { path = numbers_stay texts more k.0 v.path is.path; nth = is.nth }) are.keys;
 }
 
 -- ---- names and other texts

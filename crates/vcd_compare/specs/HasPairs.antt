@@ -1,14 +1,18 @@
 -- The pairs while they are made: what is held of some places, and the classes by their codes.
-use Rattle.std.specs.Prelude.{◌≡◌, ℕ, not, cond, is_none, List, [], ◌∷◌, ◌++◌, filter, filter_map, length, Option, Some, None}
+use Rattle.std.specs.Prelude.{◌≡◌, ◌≤◌, ℕ, not, cond, is_none, List, [], ◌∷◌, ◌++◌, filter, filter_map, length, Option, Some, None}
 use Rattle.std.specs.List.{AllZip}
 use Rattle.vcd_model.specs.Header.{Header}
-use Rattle.vcd_model.specs.Compare.{Named, Pair, is_fit}
+use Rattle.vcd_model.specs.Compare.{Asked, Named, Pair, is_fit}
 use Rattle.vcd_model.specs.Within.{Names, pair_at}
 use Rattle.vcd_compare.specs.Classes.{HasClasses}
 use Rattle.vcd_compare.specs.Pairs.{HoldsPairs}
 use Rattle.vcd_compare.specs.Paths.{HasTexts, IsNumberOf}
 use Rattle.vcd_compare.specs.declared.pairs.Pairs.{Pairs}
+use Rattle.vcd_compare.specs.Selected.{AreInside, AreWithin, both_names}
+use Rattle.vcd_compare.specs.Variables.{AreVariables}
 use Rattle.vcd_compare.specs.declared.paths.Paths.{Paths}
+use Rattle.vcd_compare.specs.declared.selected.Selections.{Selections}
+use Rattle.vcd_compare.specs.declared.variables.Variables.{Variables}
 
 -- a pair, if it is compared, and if it is not
 abbrev pub compared_of : Pair → List Pair
@@ -17,20 +21,15 @@ compared_of p = filter is_fit (p ∷ [])
 abbrev pub unlike_of : Pair → List Pair
 unlike_of p = filter (λ x. not (is_fit x)) (p ∷ [])
 
--- a place that may not be there
-abbrev pub places_with : Option (Named × Option Named) → List (Named × Option Named)
-places_with None = []
-places_with (Some p) = p ∷ []
+-- what places add
+abbrev pub compared_at : List (Named × Option Named) → List Pair
+compared_at ps = filter is_fit (filter_map pair_at ps)
 
--- what it adds
-abbrev pub compared_with : Option (Named × Option Named) → List Pair
-compared_with e = filter is_fit (filter_map pair_at (places_with e))
+abbrev pub unlike_at : List (Named × Option Named) → List Pair
+unlike_at ps = filter (λ p. not (is_fit p)) (filter_map pair_at ps)
 
-abbrev pub unlike_with : Option (Named × Option Named) → List Pair
-unlike_with e = filter (λ p. not (is_fit p)) (filter_map pair_at (places_with e))
-
-abbrev pub alone_with : Option (Named × Option Named) → List Named
-alone_with e = filter_map (λ p. cond (is_none p.1) (Some p.0) None) (places_with e)
+abbrev pub alone_at : List (Named × Option Named) → List Named
+alone_at ps = filter_map (λ p. cond (is_none p.1) (Some p.0) None) ps
 
 -- these pairs are held, and the classes have these codes
 pub record HasPairs (keys : List (ℕ × ℕ)) (ps : Pairs) (h : Header) (compared unlike : List Pair) (ones others : List Named) : Type 0 where
@@ -49,3 +48,13 @@ EntersNames texts new ns numbers = (more : List (List ℕ)) × HasTexts new (tex
 -- so have these texts
 abbrev pub EntersTexts : List (List ℕ) → Paths → List (List ℕ) → List ℕ → Type 0
 EntersTexts texts new ts numbers = (more : List (List ℕ)) × HasTexts new (texts ++ more) × AllZip (IsNumberOf (texts ++ more)) numbers ts
+
+-- the lists of what the names select, and no exception, among the header's paths and its variables
+pub record HasSelected (paths : Paths) (vs : Variables) (s : Selections) (q : Asked) (h : Header) (ns : List Names) (texts : List (List ℕ)) : Type 0 where
+  pub has : HasTexts paths texts
+  pub are : AreVariables h texts vs
+  pub count : ℕ
+  pub within : AreWithin vs.keys.keys count
+  pub below : count ≤ length texts
+  pub inside : AreInside texts (both_names ns) q.exceptions paths.nodes.keys count s.paths.items
+  pub variables : AreInside texts (both_names ns) q.exceptions vs.keys.keys (length vs.keys.keys) s.variables.items

@@ -7,6 +7,7 @@ pub mod Pairs
 pub mod Run
 pub mod Paths
 pub mod Variables
+pub mod Selected
 pub mod Counterparts
 pub mod Kinds
 pub mod Classes

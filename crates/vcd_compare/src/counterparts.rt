@@ -1,181 +1,103 @@
-// What a name selects, and what has another name in its place.
-ghost use Rattle.std.specs.Prelude.{◌≡◌, ◌+◌, ◌≤◌, ◌<◌, ◌^◌, ◌==◌, ◌||◌, ℕ, List, Some, false, get_or, length, slice_get, IfOk};
-ghost use Rattle.std.specs.List.{AllZip, list_any};
-ghost use Rattle.vcd_model.specs.Compare.{Asked, Named, all_named};
+// What has another name in place of a first one.
+ghost use Rattle.std.specs.Prelude.{◌≡◌, ◌<◌, ◌+◌, ◌≤◌, ℕ, List, Some, None, get_or, length, set, slice_get};
+ghost use Rattle.vcd_model.specs.Compare.{Asked, Named};
 ghost use Rattle.vcd_model.specs.Header.{Header};
 ghost use Rattle.vcd_model.specs.Within.{Names};
-ghost use Rattle.vcd_compare.specs.Counterparts.{AreCounterparts, AreLeftOut, IsCounterpart, IsPlace, looked_up};
-ghost use Rattle.vcd_compare.specs.declared.counterparts.Counterpart.TheVariants as Counterpart;
-ghost use Rattle.vcd_compare.specs.Paths.{AreApart, HasTexts, IsNumberOf};
-ghost use Rattle.vcd_compare.specs.Variables.{AreVariables};
+ghost use Rattle.vcd_compare.specs.Counterparts.{ArePlaces, FindPlaces, IsNth, IsPlace, looked_up, place_of_node, selected_in};
+ghost use Rattle.vcd_compare.specs.Paths.{HasTexts, IsNumberOf};
+ghost use Rattle.vcd_compare.specs.Selected.{chosen, is_inside};
 
 use crate::paths::Paths;
 use crate::variables::Variables;
 use indexmap::IndexSet;
-use std::alloc::{AllocError, Global};
 use vcd_view::CodeSeed;
 
-// What has the second name of a pair of names in place of the first one.
-#[derive(Clone, Copy)]
-pub(crate) enum Counterpart {
-    // The first name does not select the path or the variable.
-    Unselected,
-    // There is no such path or variable.
-    Missing,
-    // The number of the path, or the index of the variable.
-    At(usize),
-}
-
-/// Returns for each number of a path, and for 0, the path that has the path with number `other` in
-/// place of the path with number `one`.
-pub(crate) fn counterparts_of(
-    alloc: Global,
+/// Sets the places of the path with number `one` and of the paths inside it, which have these
+/// indexes: the number of the path that has the path with number `other` in place of that with
+/// number `one`, or `None` if there is no such path. `places` has one for each number of a path.
+pub(crate) fn place_paths(
     paths: &Paths,
     one: usize,
     other: usize,
-) -> Result<Vec<Counterpart>, AllocError>
-    ensures { IfOk result (λ places. (texts : List (List ℕ)) (n : Names) → HasTexts paths.now texts
-        → IsNumberOf texts one n.0 → IsNumberOf texts other n.1
-        → AreCounterparts texts n (length texts) places.items) }
+    inside: &[usize],
+    places: &mut Vec<Option<usize>>,
+)
+    ensures placed { (texts es : List (List ℕ)) (n : Names) (count : ℕ) → HasTexts paths.now texts
+        → IsNumberOf texts one n.0 → IsNumberOf texts other n.1 → count ≤ length texts
+        → length places.old.items ≡ length texts + 1
+        → inside.now ≡ chosen (λ i. is_inside texts es n.0 (get_or paths.now.nodes.keys i (0, 0)).0)
+        count → ArePlaces texts es n count places.new.items }
+    ensures len { length places.new.items ≡ length places.old.items }
 {
-    let mut places = vec![in alloc; Counterpart::Unselected; 1]?;
-    for index in 0..paths.nodes.len() {
-        let place = counterpart_at(paths, index, &places, one, other);
-        places.push(place)?;
+    set_place(places, one, Some(other));
+    for index in inside {
+        place_path(paths, *index, places);
     }
-    Ok(places)
 }
 
-/// Returns the counterpart of the path at this index, if `places` has those of all paths before it:
-/// the path with number `other` has the place of that with number `one`.
-fn counterpart_at(
-    paths: &Paths,
-    index: usize,
-    places: &[Counterpart],
-    one: usize,
-    other: usize,
-) -> Counterpart
-    ensures { (texts : List (List ℕ)) (n : Names) (t : List ℕ) → HasTexts paths.now texts
-        → IsNumberOf texts one n.0 → IsNumberOf texts other n.1 → slice_get texts index ≡ Some t
-        → AreCounterparts texts n index places.now → IsCounterpart texts n t result }
+/// Sets the place of the path at this index, if that of the path around it is set.
+fn place_path(paths: &Paths, index: usize, places: &mut Vec<Option<usize>>)
+    ensures placed { index < length paths.now.nodes.keys
+        → places.new.items ≡ set places.old.items (index + 1)
+        (place_of_node paths.now.nodes.keys places.old.items index) }
+    ensures len { length places.new.items ≡ length places.old.items }
 {
     if index >= paths.nodes.len() {
-        return Counterpart::Unselected;
-    }
-    if index + 1 == one {
-        return Counterpart::At(other);
+        return;
     }
     let (around, part) = paths.nodes.as_slice()[index];
-    match looked_up(&paths.nodes, place_at(places, around), part) {
-        Counterpart::At(found) => Counterpart::At(found.saturating_add(1)),
-        Counterpart::Missing => Counterpart::Missing,
-        Counterpart::Unselected => Counterpart::Unselected,
+    let place = match looked_up(&paths.nodes, place_at(places, around), part) {
+        Some(found) => Some(found.saturating_add(1)),
+        None => None,
+    };
+    set_place(places, index + 1, place);
+}
+
+/// Sets the place at this index, if there is one.
+fn set_place(places: &mut Vec<Option<usize>>, index: usize, place: Option<usize>)
+    ensures { places.new.items ≡ set places.old.items index place }
+{
+    if index < places.len() {
+        places[index] = place;
     }
 }
 
-/// Returns the counterpart at this index, `Unselected` if there is none.
-fn place_at(places: &[Counterpart], index: usize) -> Counterpart
-    ensures { result ≡ get_or places.now index Counterpart.Unselected }
+/// Returns the place at this index, `None` if there is none.
+fn place_at(places: &[Option<usize>], index: usize) -> Option<usize>
+    ensures { result ≡ get_or places.now index None }
 {
     match places.get(index) {
         Some(place) => *place,
-        None => Counterpart::Unselected,
+        None => None,
     }
 }
 
-/// Returns the index of the key that consists of the number in `place` and of `second`. `Missing`
-/// if there is no such key; another `place` without a number stays.
+/// Returns the index of the key that consists of the number in `place` and of `second`, or `None`.
 fn looked_up(
     keys: &IndexSet<(usize, usize), CodeSeed>,
-    place: Counterpart,
+    place: Option<usize>,
     second: usize,
-) -> Counterpart
+) -> Option<usize>
     ensures { result ≡ looked_up keys.now.keys second place }
 {
-    let Counterpart::At(first) = place else {
-        return place;
-    };
-    match keys.get_index_of(&(first, second)) {
-        Some(found) => Counterpart::At(found),
-        None => Counterpart::Missing,
-    }
+    keys.get_index_of(&(place?, second))
 }
 
-/// Returns for each number of a path, and for 0, whether one of the paths with the numbers in
-/// `exceptions` selects it.
-pub(crate) fn left_out_by(
-    alloc: Global,
-    paths: &Paths,
-    exceptions: &[usize],
-) -> Result<Vec<bool>, AllocError>
-    ensures { IfOk result (λ left_out. (texts es : List (List ℕ)) → HasTexts paths.now texts
-        → AllZip (IsNumberOf texts) exceptions.now es
-        → AreLeftOut texts es (length texts) left_out.items) }
-{
-    let mut left_out = vec![in alloc; false; 1]?;
-    for index in 0..paths.nodes.len() {
-        let (around, _) = paths.nodes.as_slice()[index];
-        let flag = is_left_out(exceptions, index + 1, &left_out, around);
-        left_out.push(flag)?;
-    }
-    Ok(left_out)
-}
-
-/// Returns whether the path with this number is left out: if it is an exception itself, or if the
-/// path with number `around`, which it is inside of, is left out.
-fn is_left_out(exceptions: &[usize], number: usize, left_out: &[bool], around: usize) -> bool
-    ensures { result ≡ (list_any (λ m. m == number) exceptions.now
-        || get_or left_out.now around false) }
-{
-    if is_among(exceptions, number) {
-        return true;
-    }
-    flag_at(left_out, around)
-}
-
-/// Returns whether the number is among these.
-fn is_among(numbers: &[usize], number: usize) -> bool
-    ensures { result ≡ list_any (λ m. m == number) numbers.now }
-{
-    for other in numbers {
-        if *other == number {
-            return true;
-        }
-    }
-    false
-}
-
-/// Returns the flag at this index, or false if there is none.
-fn flag_at(flags: &[bool], index: usize) -> bool
-    ensures { result ≡ get_or flags.now index false }
-{
-    match flags.get(index) {
-        Some(flag) => *flag,
-        None => false,
-    }
-}
-
-/// Returns the variable that is compared with the variable at this index: the one whose path is the
-/// counterpart of its path, and that has equally many of this path before it. `left_out` has the
-/// flags of paths that are left out.
+/// Returns the variable that is compared with the variable at this index, which the first of two
+/// names selects: the one whose path is the counterpart of its path, and that has equally many of
+/// this path before it.
 pub(crate) fn counterpart_of(
     variables: &Variables,
-    places: &[Counterpart],
-    left_out: &[bool],
+    places: &[Option<usize>],
     index: usize,
-) -> Counterpart
-    ensures { (q : Asked) (h : Header) (n : Names) (texts : List (List ℕ)) (v : Named)
-        → AreApart texts → AreVariables h texts variables.now
-        → AreCounterparts texts n (length texts) places.now
-        → AreLeftOut texts q.exceptions (length texts) left_out.now
-        → slice_get (all_named h) index ≡ Some v → IsPlace q h n v result }
+) -> Option<usize>
+    ensures { (q : Asked) (h : Header) (n : Names) (texts : List (List ℕ)) (j : ℕ) (v : Named)
+        → FindPlaces q h n texts variables.now places.now → IsNth h index v
+        → slice_get (selected_in q h n) j ≡ Some v → IsPlace h n v result }
 {
     if index >= variables.keys.len() {
-        return Counterpart::Unselected;
+        return None;
     }
     let (path, nth) = variables.keys.as_slice()[index];
-    if flag_at(left_out, path) {
-        return Counterpart::Unselected;
-    }
     looked_up(&variables.keys, place_at(places, path), nth)
 }

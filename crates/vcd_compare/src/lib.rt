@@ -8,6 +8,7 @@
 //!
 //! - `asked`: `Asked`, `Extent`
 //! - `paths`, `variables`: the paths of a header by number, and its variables by their paths
+//! - `selected`: what each of some names selects
 //! - `counterparts`, `kinds`: what a variable is compared with, and whether it is of the same kind
 //! - `pairs`: `Pairs`, `pairs_of`
 //! - `current`, `values`: the current states of all codes, and whether two of them match
@@ -28,6 +29,7 @@ pub mod laws;
 mod lines;
 mod pairs;
 mod paths;
+mod selected;
 mod values;
 mod variables;
 mod whole;

@@ -7,15 +7,15 @@ ghost use Rattle.vcd_model.specs.Header.{Header};
 ghost use Rattle.vcd_model.specs.Within.{Names, alone_in, compared_in, unlike_in};
 ghost use Rattle.vcd_view.specs.Views.{IsViewOf};
 ghost use Rattle.vcd_compare.specs.Classes.{AddsEnd, EntersClass, HasClasses};
-ghost use Rattle.vcd_compare.specs.Counterparts.{AreCounterparts, AreLeftOut, place_of};
-ghost use Rattle.vcd_compare.specs.Paths.{AreApart, HasTexts};
+ghost use Rattle.vcd_compare.specs.Counterparts.{AreSelected, FindPlaces, IsNth, place_of, selected_in};
+ghost use Rattle.vcd_compare.specs.Paths.{HasTexts};
 ghost use Rattle.vcd_compare.specs.Pairs.{ArePairs, IsAt, IsNamedAt, names_in};
-ghost use Rattle.vcd_compare.specs.HasPairs.{EntersNames, EntersTexts, HasPairs, alone_with, compared_of, compared_with, unlike_of, unlike_with};
-ghost use Rattle.vcd_compare.specs.Variables.{AreVariables};
+ghost use Rattle.vcd_compare.specs.HasPairs.{AreNumbersOf, EntersNames, EntersTexts, HasPairs, HasSelected, alone_at, compared_at, compared_of, unlike_at, unlike_of};
 
-use crate::counterparts::{Counterpart, counterpart_of, counterparts_of, left_out_by};
+use crate::counterparts::{counterpart_of, place_paths};
 use crate::kinds::{code_of, is_same_kind, kind_of};
 use crate::paths::{Paths, enter_path};
+use crate::selected::{Selections, list_at, selected_by};
 use crate::variables::{Variables, number_at, number_rows, variables_of};
 use indexmap::IndexSet;
 use std::alloc::{AllocError, Global};
@@ -85,17 +85,39 @@ pub fn pairs_of(
 {
     let mut paths = Paths::new(alloc, view.seed);
     let rows = number_rows(alloc, view, &mut paths)?;
+    let declared = paths.nodes.len();
+    let variables = variables_of(alloc, view, &rows, declared)?;
     let numbers = number_names(alloc, names, &mut paths)?;
     let exceptions = number_texts(alloc, exceptions, &mut paths)?;
-    let variables = variables_of(alloc, view, &rows, paths.nodes.len())?;
-    let left_out = left_out_by(alloc, &paths, &exceptions)?;
+    let selected = selected_by(alloc, &paths, declared, &variables, &numbers, &exceptions)?;
+    pairs_between(alloc, view, &paths, &variables, &selected, &numbers)
+}
+
+/// Returns the pairs that names make of the variables of a header: `numbers` are those of the
+/// names' paths, and `selected` is what the names select.
+fn pairs_between(
+    alloc: Global,
+    view: HeadView<'_>,
+    paths: &Paths,
+    variables: &Variables,
+    selected: &Selections,
+    numbers: &[(usize, usize)],
+) -> Result<Pairs, AllocError>
+    ensures { IfOk result (λ ps. (q : Asked) (h : Header) (ns : List Names)
+        (texts : List (List ℕ)) → IsViewOf view.entry h
+        → HasSelected paths.now variables.now selected.now q h ns texts
+        → AllZip (AreNumbersOf texts) numbers.now ns → ArePairs ps h q ns) }
+{
+    let mut places = vec![in alloc; None; paths.nodes.len() + 1]?;
     let mut pairs = no_pairs(alloc, view.codes.len())?;
     let mut keys = IndexSet::with_hasher(alloc, view.seed);
-    for (one, other) in &numbers {
-        let places = counterparts_of(alloc, &paths, *one, *other)?;
-        add_pairs(view, &variables, &places, &left_out, &mut keys, &mut pairs)?;
-        let places = counterparts_of(alloc, &paths, *other, *one)?;
-        add_alone(&variables, &places, &left_out, &mut pairs.alone_other)?;
+    for (one, other) in numbers {
+        place_paths(paths, *one, *other, list_at(&selected.paths, *one), &mut places);
+        let below = list_at(&selected.variables, *one);
+        add_pairs(view, variables, &places, below, &mut keys, &mut pairs)?;
+        place_paths(paths, *other, *one, list_at(&selected.paths, *other), &mut places);
+        let below = list_at(&selected.variables, *other);
+        add_alone(variables, &places, below, &mut pairs.alone_other)?;
     }
     Ok(pairs)
 }
@@ -150,83 +172,74 @@ fn number_texts(
     Ok(numbers)
 }
 
-/// Adds the variables that the first of two names selects, each with its counterpart: `places` are
-/// the counterparts of paths.
+/// Adds the variables that the first of two names selects, each with its counterpart. They have
+/// the indexes `below`, and `places` are the counterparts of their paths.
 fn add_pairs(
     view: HeadView<'_>,
     variables: &Variables,
-    places: &[Counterpart],
-    left_out: &[bool],
+    places: &[Option<usize>],
+    below: &[usize],
     keys: &mut IndexSet<(usize, usize), CodeSeed>,
     pairs: &mut Pairs,
 ) -> Result<(), AllocError>
     ensures { IfOk result (λ _. (q : Asked) (h : Header) (n : Names) (texts : List (List ℕ))
         (compared unlike : List Pair) (ones others : List Named) → IsViewOf view.entry h
-        → AreApart texts → AreVariables h texts variables.now
-        → AreCounterparts texts n (length texts) places.now
-        → AreLeftOut texts q.exceptions (length texts) left_out.now
+        → FindPlaces q h n texts variables.now places.now → AreSelected q h n below.now
         → HasPairs keys.old.keys pairs.old h compared unlike ones others
         → HasPairs keys.new.keys pairs.new h (compared ++ compared_in q h (n ∷ []))
         (unlike ++ unlike_in q h (n ∷ [])) (ones ++ alone_in q h n) others) }
 {
-    for index in 0..variables.rows.len() {
-        take_variable(view, variables, places, left_out, index, keys, pairs)?;
+    for index in below {
+        take_variable(view, variables, places, *index, keys, pairs)?;
     }
     Ok(())
 }
 
-/// Adds the variable at this index with its counterpart, if the first of two names selects it:
+/// Adds the variable at this index, which the first of two names selects, with its counterpart:
 /// `places` are the counterparts of paths.
 fn take_variable(
     view: HeadView<'_>,
     variables: &Variables,
-    places: &[Counterpart],
-    left_out: &[bool],
+    places: &[Option<usize>],
     index: usize,
     keys: &mut IndexSet<(usize, usize), CodeSeed>,
     pairs: &mut Pairs,
 ) -> Result<(), AllocError>
     ensures { IfOk result (λ _. (q : Asked) (h : Header) (n : Names) (texts : List (List ℕ))
-        (v : Named) (compared unlike : List Pair) (ones others : List Named)
-        → IsViewOf view.entry h → AreApart texts → AreVariables h texts variables.now
-        → AreCounterparts texts n (length texts) places.now
-        → AreLeftOut texts q.exceptions (length texts) left_out.now
-        → slice_get (all_named h) index ≡ Some v
+        (j : ℕ) (v : Named) (compared unlike : List Pair) (ones others : List Named)
+        → IsViewOf view.entry h → FindPlaces q h n texts variables.now places.now
+        → IsNth h index v → slice_get (selected_in q h n) j ≡ Some v
         → HasPairs keys.old.keys pairs.old h compared unlike ones others
-        → HasPairs keys.new.keys pairs.new h (compared ++ compared_with (place_of q h n v))
-        (unlike ++ unlike_with (place_of q h n v)) (ones ++ alone_with (place_of q h n v))
+        → HasPairs keys.new.keys pairs.new h (compared ++ compared_at (place_of h n v ∷ []))
+        (unlike ++ unlike_at (place_of h n v ∷ [])) (ones ++ alone_at (place_of h n v ∷ []))
         others) }
 {
     let row = number_at(&variables.rows, index);
-    match counterpart_of(variables, places, left_out, index) {
-        Counterpart::Unselected => Ok(()),
-        Counterpart::Missing => {
+    match counterpart_of(variables, places, index) {
+        None => {
             pairs.alone_one.push(row)?;
             Ok(())
         }
-        Counterpart::At(other) => {
-            add_pair(view, row, number_at(&variables.rows, other), keys, pairs)
-        }
+        Some(other) => add_pair(view, row, number_at(&variables.rows, other), keys, pairs),
     }
 }
 
-/// Adds the variables that a name selects and that have no counterpart to `alone`.
+/// Adds the variables that a name selects and that have no counterpart to `alone`. The name selects
+/// those with the indexes `below`.
 fn add_alone(
     variables: &Variables,
-    places: &[Counterpart],
-    left_out: &[bool],
+    places: &[Option<usize>],
+    below: &[usize],
     alone: &mut Vec<usize>,
 ) -> Result<(), AllocError>
     ensures { IfOk result (λ _. (q : Asked) (h : Header) (n : Names) (texts : List (List ℕ))
-        (others : List Named) → AreApart texts → AreVariables h texts variables.now
-        → AreCounterparts texts n (length texts) places.now
-        → AreLeftOut texts q.exceptions (length texts) left_out.now
-        → AllZip (IsNamedAt h) alone.old.items others
+        (others : List Named) → FindPlaces q h n texts variables.now places.now
+        → AreSelected q h n below.now → AllZip (IsNamedAt h) alone.old.items others
         → AllZip (IsNamedAt h) alone.new.items (others ++ alone_in q h n)) }
 {
-    for index in 0..variables.rows.len() {
-        if let Counterpart::Missing = counterpart_of(variables, places, left_out, index) {
-            alone.push(number_at(&variables.rows, index))?;
+    for index in below {
+        if counterpart_of(variables, places, *index).is_none() {
+            alone.push(number_at(&variables.rows, *index))?;
         }
     }
     Ok(())
