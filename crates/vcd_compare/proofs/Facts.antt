@@ -10,10 +10,10 @@ pub use Rattle.vcd_compare.proofs.NeededLemmas.{HasRead, given_past, needed_befo
 pub use Rattle.vcd_compare.proofs.PairLoops.{AloneBefore, HeldBefore, HeldNames, alone_all, alone_one, alone_same, held_all, held_next, names_next, places_before}
 pub use Rattle.vcd_compare.proofs.PairSteps.{fits_as, held_alone, held_unlike, kind_apart, kind_same, named_row, pair_more, place_both, place_missing}
 pub use Rattle.vcd_compare.proofs.PathTexts.{IsEntering, entering_more, path_entered, text_entered, text_found}
-pub use Rattle.vcd_compare.proofs.PlaceLemmas.{found_places, found_within, keys_within, listed_paths, listed_variables, marked_is, nth_within, placing_first, placing_last, placing_next, same_len, variable_place, zip_from}
+pub use Rattle.vcd_compare.proofs.PlaceLemmas.{found_places, keys_within, listed_paths, listed_variables, same_len, zip_from}
 pub use Rattle.vcd_compare.proofs.RowPaths.{NumbersSome, around_at, around_joined, names_more, ok_then, some_row, variables_stay, zip_stays}
 pub use Rattle.vcd_compare.proofs.RunSteps.{begins_none, change_given, close_fails, come_passed, ends_whole, goes_quiet, not_over, pass_fails, section_come, stopped, time_ends, time_fails, time_forth, time_on}
-pub use Rattle.vcd_compare.proofs.SelectedLemmas.{both_one, both_zip, chosen_at, nearest_more, nodes_within, put_all, put_none, putting_first, putting_next}
+pub use Rattle.vcd_compare.proofs.SelectedLemmas.{both_one}
 pub use Rattle.vcd_compare.proofs.StartLemmas.{come_first, compares_first, open_first}
 pub use Rattle.vcd_compare.proofs.StatesNow.{all_from_last, apart_at, bits_real, bits_there, both_real, held_state, lengths_match, next_digit, shown_digits, some_unset, told_same, triggered_now, unset_some}
 pub use Rattle.vcd_compare.proofs.TimeSteps.{counted_none, differs_none, differs_some, left_due, none_now, puts_now, settles_due, settles_none, tells_again, tells_first, tells_later, tells_none}

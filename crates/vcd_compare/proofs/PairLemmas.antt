@@ -1,5 +1,5 @@
 -- The pair of a class, and what its codes have in common.
-use Rattle.vcd_compare.proofs.Cited.{zero, ◌≡◌, ◌≢◌, ℕ, suc, ◌<◌, ◌==◌, Bool, true, false, cond, ◌||◌, List, [], ◌∷◌, length, filter, filter_map, flat_map, codes, slice_get, get_or, Option, Some, None, refl, sym, ap, subst, ◌∙◌, MatchOption, bytes_eq, slice_set, IsSomeAnd, eqb-true, get_or-set_other, get_or-set_same, same_Some, bytes_eq-Decides, AllZip-left, IdCode, Variable, code_of, Header, Asked, Kind, Pair, is_fit, kind_of, same_kind, Event, Real, Digits, Names, compared_in, pair_at, places_of, marked, ArePairs, IsClassOf, IsPairAt, End, PairRow, Pairs}
+use Rattle.vcd_compare.proofs.Cited.{◌≡◌, ◌≢◌, ℕ, ◌<◌, ◌==◌, Bool, true, false, cond, ◌||◌, List, length, filter_map, flat_map, codes, slice_get, get_or, Option, Some, None, refl, sym, ap, subst, ◌∙◌, MatchOption, bytes_eq, slice_set, IsSomeAnd, eqb-true, get_or-set_other, get_or-set_same, same_Some, bytes_eq-Decides, AllZip-left, IdCode, Variable, code_of, Header, Asked, Kind, Pair, is_fit, kind_of, same_kind, Event, Real, Digits, Names, compared_in, pair_at, places_of, marked, ArePairs, IsClassOf, IsPairAt, End, PairRow, Pairs}
 use Rattle.std.proofs.Math.ListN.{length-set}
 use Rattle.vcd_compare.proofs.PlaceLemmas.{kept}
 

@@ -1,6 +1,5 @@
 -- The pairs of all variables, one after the other.
-use Rattle.vcd_compare.proofs.Cited.{◌≡◌, ℕ, suc, ◌≤◌, ◌&&◌, not, cond, Bool, true, false, List, [], ◌∷◌, ◌++◌, length, take, drop, map, map-append, filter, filter_map, flat_map, slice_get, Option, Some, None, refl, sym, ap, subst, ◌∙◌, is_none, option_map, Vec, AllZip, flat_map_more, take_all, flat_map-append, filter-append, filter_map-append, same_Some, Header, Asked, Named, Pair, all_named, is_fit, is_left_in, Names, alone_in, at_path, compared_in, pair_at, pairs_in, places_of, turned, unlike_in, all_zip_push, selects_path, IsPlace, place_of, selected_in, HasPairs, alone_at, compared_at, unlike_at, Pairs, IsNamedAt}
-use Rattle.std.proofs.Common.{zero}
+use Rattle.vcd_compare.proofs.Cited.{◌≡◌, ℕ, suc, ◌≤◌, ◌&&◌, not, cond, Bool, true, false, List, [], ◌∷◌, ◌++◌, length, take, drop, map, map-append, filter, filter_map, flat_map, slice_get, Option, Some, None, refl, sym, ap, subst, ◌∙◌, is_none, option_map, Vec, AllZip, flat_map_more, take_all, flat_map-append, filter-append, filter_map-append, Header, Asked, Named, Pair, all_named, is_fit, is_left_in, Names, alone_in, at_path, compared_in, pair_at, pairs_in, places_of, turned, unlike_in, all_zip_push, selects_path, IsPlace, place_of, selected_in, HasPairs, alone_at, compared_at, unlike_at, Pairs, IsNamedAt}
 use Rattle.std.proofs.lemmas.List.{append_assoc, append-nil}
 use Rattle.vcd_compare.proofs.PairSteps.{held_other}
 use Rattle.vcd_compare.proofs.VariableLemmas.{take_next}

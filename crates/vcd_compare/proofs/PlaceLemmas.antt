@@ -1,5 +1,5 @@
 -- What has another name in place of a first one: paths, and variables.
-use Rattle.vcd_compare.proofs.Cited.{◌≡◌, ◌≢◌, ℕ, suc, ◌+◌, ◌<◌, ◌≤◌, ◌==◌, ◌&&◌, ◌||◌, not, nat_eq, Bool, true, false, cond, List, [], ◌∷◌, ◌++◌, length, drop, set, get_or, slice_get, filter, find, position, bytes_eq, Option, Some, None, inl, inr, refl, sym, ap, subst, ◌∙◌, arith, option_map, AllZip, list_any, position_or_len, find_at, take_all, eq-eqb, eqb-false, eqb-true, ne_eqb, false_from_ne_true, and_parts, or-false, length-append, length-set, get_or-set_other, get_or-set_same, get_or_from_slice_get, same_Some, slice_get-get_or, slice_get_past, slice_get_within, bytes_eq-Decides, ◌⊎◌, Header, selects_path, Asked, Named, all_named, Names, at_path, bytes_flip, there, selected_begins, ArePlaces, AreSelected, AreWithin, FindPlaces, IsCounterpart, IsNth, IsPlace, looked_up, place_of_node, replaced, selected_in, AreApart, AreTexts, IsNumberOf, has_dot, joined, both_names, chosen, is_inside, is_kept, is_one_of, lists_in, AreVariables, IsKeyOf, same_key, HasSelected, Paths, Selections, Variables, Vec}
+use Rattle.vcd_compare.proofs.Cited.{◌≡◌, ◌≢◌, ℕ, suc, ◌+◌, ◌<◌, ◌≤◌, ◌==◌, ◌&&◌, ◌||◌, not, nat_eq, Bool, true, false, cond, List, [], ◌∷◌, ◌++◌, length, drop, set, get_or, slice_get, filter, find, position, bytes_eq, Option, Some, None, inl, inr, refl, sym, ap, subst, ◌∙◌, arith, option_map, AllZip, list_any, position_or_len, find_at, take_all, eq-eqb, eqb-false, eqb-true, ne_eqb, false_from_ne_true, and_parts, or-false, length-append, length-set, get_or-set_other, get_or-set_same, get_or_from_slice_get, same_Some, slice_get-get_or, slice_get_past, slice_get_within, bytes_eq-Decides, ◌⊎◌, Header, selects_path, Asked, Named, all_named, Names, bytes_flip, there, selected_begins, ArePlaces, AreSelected, AreWithin, FindPlaces, IsCounterpart, IsNth, IsPlace, looked_up, place_of_node, replaced, selected_in, AreApart, AreTexts, IsNumberOf, has_dot, joined, both_names, chosen, is_inside, is_kept, is_one_of, lists_in, AreVariables, IsKeyOf, same_key, HasSelected, Paths, Selections, Variables, Vec}
 use Rattle.std.proofs.Common.{zero}
 use Rattle.std.proofs.lemmas.List.{append_assoc, append-nil, drop-append-le}
 use Rattle.std.proofs.lemmas.List.Folds.{list_any-append}
@@ -177,11 +177,6 @@ zip_from R [] ys i x all at = cc
 zip_from R (w ∷ xs) [] i x all at = absurd all
 zip_from R (w ∷ xs) (y ∷ ys) zero x all at = (y, refl, subst (λ z. R z y) (same_Some w x at) all.0)
 zip_from R (w ∷ xs) (y ∷ ys) (suc i) x all at = zip_from R xs ys i x all.1 at
-
--- what is found is there
-pub found_within : (keys : List (ℕ × ℕ)) (second f : ℕ) (place : Option ℕ) → Some f ≡ looked_up keys second place → f < length keys
-found_within keys second f None e = cc
-found_within keys second f (Some m) e = let found = position_passes (same_key (m, second)) keys f (sym e) in slice_get_within keys f found.0 found.1
 
 -- a number is among those of the exceptions if and only if its text is one
 pub marked_is : (texts : List (List ℕ)) (n : ℕ) (t : List ℕ) (ns : List ℕ) (es : List (List ℕ)) → AreApart texts → IsNumberOf texts n t → AllZip (IsNumberOf texts) ns es → list_any (λ m. m == n) ns ≡ list_any (λ e. bytes_eq t e) es

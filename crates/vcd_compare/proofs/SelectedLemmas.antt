@@ -1,5 +1,5 @@
 -- What names select, by number: the nearest of them, path by path, and what is inside of each.
-use Rattle.vcd_compare.proofs.Cited.{◌≡◌, ◌≢◌, ℕ, suc, ◌+◌, ◌<◌, ◌≤◌, ◌==◌, ◌&&◌, ◌||◌, not, nat_eq, nat_lt, Bool, true, false, cond, List, [], ◌∷◌, ◌++◌, length, map, set, take, drop, get_or, slice_get, filter, flat_map, bytes_eq, Option, Some, None, inl, inr, refl, sym, ap, subst, ◌∙◌, arith, Vec, AllZip, list_any, starts_with, eqb-false, eqb-true, ne_eqb, lt-ltb, ltb-true, ltb-false, false_from_ne_true, or_left, or_parts, or_right, length-append, length-map, length-set, get_or-set_other, get_or-set_same, get_or_from_slice_get, same_Some, slice_get-get_or, slice_get_within, bytes_eq-Decides, filter-append, selects_path, Names, all_zip_push, slice_get-front, slice_get-seam, there, selected_begins, selects_behind_byte, selects-front, selects-longer, selects_split, AreApart, AreTexts, IsNumberOf, has_dot, joined, AreNumbersOf}
+use Rattle.vcd_compare.proofs.Cited.{◌≡◌, ◌≢◌, ℕ, suc, ◌<◌, ◌≤◌, ◌==◌, ◌&&◌, ◌||◌, not, nat_eq, nat_lt, Bool, true, false, cond, List, [], ◌∷◌, ◌++◌, length, set, take, get_or, slice_get, filter, flat_map, bytes_eq, Some, inl, inr, refl, sym, ap, subst, ◌∙◌, arith, Vec, AllZip, list_any, starts_with, eqb-false, eqb-true, ne_eqb, lt-ltb, ltb-true, ltb-false, false_from_ne_true, or_left, or_parts, or_right, length-append, length-map, length-set, get_or-set_other, get_or-set_same, get_or_from_slice_get, same_Some, slice_get-get_or, slice_get_within, bytes_eq-Decides, filter-append, selects_path, Names, all_zip_push, there, selected_begins, selects_behind_byte, selects-front, selects-longer, selects_split, AreTexts, IsNumberOf, has_dot, joined, AreNumbersOf}
 use Rattle.std.proofs.Common.{zero}
 use Rattle.std.proofs.Math.ListN.{get_or-append}
 use Rattle.std.proofs.Math.Seq.{get_or-append_seam, take-append_seam}
@@ -134,13 +134,6 @@ module _ (parts : List (List ℕ)) (nodes : List (ℕ × ℕ)) (texts : List (Li
             let last : suc j ≡ length nearest = omega (arith, same, len) in
             let text = ap (slice_get texts) (sym same) ∙ there in
             subst (IsNearest texts names t) (sym (ap (λ y. get_or (nearest ++ n ∷ []) y 0) last ∙ get_or-append_seam nearest n [] 0)) (nearest_next i node t nearest mark at text (marks t text) old)
-
-pub no_nearest : (texts names : List (List ℕ)) → AreNearest texts names 0 (0 ∷ [])
-no_nearest texts names = record { len = refl; none = refl; within = within; each = λ i t l at. absurd (omega (arith, l)) }
-  where
-    within : (i : ℕ) → get_or (0 ∷ []) i 0 ≤ i
-    within zero = omega arith
-    within (suc i) = omega arith
 
 -- ---- what is left out
 
@@ -322,10 +315,10 @@ module _ (parts : List (List ℕ)) (nodes : List (ℕ × ℕ)) (texts : List (Li
           ∙ sym (ap (λ b. get_or (lists_in old) m [] ++ cond (selects_number texts w around && not b) (index ∷ []) []) (itself w one q) ∙ ap (λ b. get_or (lists_in old) m [] ++ cond (b && true) (index ∷ []) []) around_is ∙ ap (λ x. get_or (lists_in old) x [] ++ index ∷ []) m_is)
       by_name m w number_is one false q =
           let apart : m ≢ suc k = λ e.
-              let index_is : number_is.0 ≡ k = let f = number_is.1 in omega (arith, e, f) in
-              let same : u ≡ w = same_Some u w (sym text ∙ ap (slice_get texts) (sym index_is) ∙ number_is.2) in
-              let yes = (bytes_eq-Decides u w).1 same in
-              absurd (cc) in
+          let index_is : number_is.0 ≡ k = let f = number_is.1 in omega (arith, e, f) in
+          let same : u ≡ w = same_Some u w (sym text ∙ ap (slice_get texts) (sym index_is) ∙ number_is.2) in
+          let yes = (bytes_eq-Decides u w).1 same in
+          absurd (cc) in
           ap (λ l. get_or l m []) puts ∙ get_or-set_other (lists_in mid) (suc k) m (get_or (lists_in mid) (suc k) [] ++ index ∷ []) [] apart ∙ s.each m w number_is one
           ∙ ap (λ b. get_or (lists_in old) m [] ++ cond (selects_number texts w around && not b) (index ∷ []) []) (sym (other w one q))
 

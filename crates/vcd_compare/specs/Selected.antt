@@ -1,5 +1,5 @@
 -- What names select, by number: which of them is nearest to a path, and what is inside of each.
-use Rattle.std.specs.Prelude.{◌≡◌, ℕ, zero, suc, ◌+◌, ◌-◌, ◌<◌, ◌≤◌, ◌==◌, ◌&&◌, not, nat_lt, bytes_eq, Bool, true, false, cond, List, [], ◌∷◌, ◌++◌, flat_map, get_or, length, map, slice_get, Some}
+use Rattle.std.specs.Prelude.{◌≡◌, ℕ, zero, suc, ◌<◌, ◌≤◌, ◌==◌, ◌&&◌, not, nat_lt, bytes_eq, Bool, true, false, cond, List, [], ◌∷◌, ◌++◌, flat_map, get_or, length, map, slice_get, Some}
 use Rattle.std.specs.List.{list_any}
 use Rattle.std.specs.Global.{Vec}
 use Rattle.vcd_model.specs.Selection.{selects_path}

@@ -72,7 +72,8 @@ pub struct Pairs {
 }
 
 /// Returns the pairs that these names make of the variables of a header. The variables that one of
-/// `exceptions` selects are left out. Fails if there is no memory.
+/// `exceptions` selects are left out. The time grows with the header, the names, and the paths and
+/// variables that each name selects. Fails if there is no memory.
 pub fn pairs_of(
     alloc: Global,
     view: HeadView<'_>,
@@ -112,10 +113,12 @@ fn pairs_between(
     let mut pairs = no_pairs(alloc, view.codes.len())?;
     let mut keys = IndexSet::with_hasher(alloc, view.seed);
     for (one, other) in numbers {
-        place_paths(paths, *one, *other, list_at(&selected.paths, *one), &mut places);
+        let inside = list_at(&selected.paths, *one);
+        place_paths(paths, *one, *other, inside, &mut places);
         let below = list_at(&selected.variables, *one);
         add_pairs(view, variables, &places, below, &mut keys, &mut pairs)?;
-        place_paths(paths, *other, *one, list_at(&selected.paths, *other), &mut places);
+        let inside = list_at(&selected.paths, *other);
+        place_paths(paths, *other, *one, inside, &mut places);
         let below = list_at(&selected.variables, *other);
         add_alone(variables, &places, below, &mut pairs.alone_other)?;
     }

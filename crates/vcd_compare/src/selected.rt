@@ -183,8 +183,8 @@ fn number_above(paths: &Paths, nearest: &[usize], number: usize) -> usize
 
 /// Appends a number to the list at this index, if there is one.
 fn push_at(lists: &mut Vec<Vec<usize>>, at: usize, number: usize) -> Result<(), AllocError>
-    ensures { IfOk result (λ _. lists_in lists.new.items
-        ≡ set (lists_in lists.old.items) at (get_or (lists_in lists.old.items) at [] ++ number ∷ [])) }
+    ensures { IfOk result (λ _. lists_in lists.new.items ≡ set (lists_in lists.old.items) at
+        (get_or (lists_in lists.old.items) at [] ++ number ∷ [])) }
 {
     if at < lists.len() {
         lists[at].push(number)?;

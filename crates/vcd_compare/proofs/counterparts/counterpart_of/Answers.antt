@@ -1,4 +1,4 @@
-use Rattle.vcd_compare.proofs.Cited.{◌≡◌, sym, ◌∙◌, arith}
+use Rattle.vcd_compare.proofs.Cited.{arith}
 use Rattle.vcd_compare.proofs.PlaceLemmas.{nth_within, variable_place}
 use Rattle.vcd_compare.proofs.counterparts.counterpart_of.Goals as goal
 

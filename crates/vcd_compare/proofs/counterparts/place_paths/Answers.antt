@@ -1,4 +1,4 @@
-use Rattle.vcd_compare.proofs.Cited.{◌≡◌, ◌+◌, ◌++◌, ◌∷◌, [], ℕ, List, length, get_or, take, sym, ap, subst, ◌∙◌, length-set, take_all, take_more, arith, slice_get-get_or, texts_in, slice_get, chosen, Some}
+use Rattle.vcd_compare.proofs.Cited.{◌≡◌, length, get_or, take, sym, ap, subst, ◌∙◌, length-set, take_all, take_more, arith, slice_get-get_or, texts_in, slice_get, chosen, Some}
 use Rattle.vcd_compare.proofs.PlaceLemmas.{IsPlacing, node_inside, placing_first, placing_last, placing_next}
 use Rattle.vcd_compare.proofs.SelectedLemmas.{chosen_at}
 use Rattle.vcd_compare.proofs.counterparts.place_paths.Goals as goal

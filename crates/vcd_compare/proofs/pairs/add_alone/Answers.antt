@@ -1,4 +1,4 @@
-use Rattle.vcd_compare.proofs.Cited.{◌≡◌, ◌≤◌, not, ℕ, suc, List, length, get_or, slice_get-get_or, sym, ap, subst, ◌∙◌, add-one, arith, Vec, IsNth, selected_in}
+use Rattle.vcd_compare.proofs.Cited.{◌≤◌, not, ℕ, suc, List, length, get_or, slice_get-get_or, sym, ap, subst, ◌∙◌, add-one, arith, Vec, IsNth, selected_in}
 use Rattle.vcd_compare.proofs.Facts.{AloneBefore, alone_all, alone_one, alone_same, named_row, same_len, zip_from}
 use Rattle.vcd_compare.proofs.pairs.add_alone.Goals as goal
 use Rattle.vcd_compare.proofs.pairs.add_alone.Goals.{else-is_none, then-is_none+in_ok-push}

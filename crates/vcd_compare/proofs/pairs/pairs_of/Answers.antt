@@ -1,4 +1,4 @@
-use Rattle.vcd_compare.proofs.Cited.{◌≡◌, ◌≤◌, ◌++◌, [], ℕ, List, length, map, sym, ap, subst, ◌∙◌, arith, length-append, Vec, AllZip, AreInside, AreNumbersOf, AreNumbered, AreWithin, HasSelected, IsNumberOf, both_names, names_in}
+use Rattle.vcd_compare.proofs.Cited.{◌≡◌, ◌≤◌, ◌++◌, [], ℕ, length, map, sym, subst, ◌∙◌, arith, length-append, Vec, AllZip, AreInside, AreNumbersOf, AreNumbered, AreWithin, IsNumberOf, both_names, names_in}
 use Rattle.vcd_compare.proofs.Facts.{keys_within, ok_then, variables_stay, zip_stays}
 use Rattle.vcd_compare.proofs.pairs.pairs_of.Goals as goal
 

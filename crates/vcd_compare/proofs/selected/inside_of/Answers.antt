@@ -1,4 +1,4 @@
-use Rattle.vcd_compare.proofs.Cited.{◌≡◌, ◌++◌, ◌∷◌, [], ℕ, suc, List, cond, length, min, get_or, sym, ap, subst, ◌∙◌, add-one, arith, slice_get-get_or, AreInside, chosen, is_inside, lists_in}
+use Rattle.vcd_compare.proofs.Cited.{◌≡◌, ◌++◌, ◌∷◌, [], cond, length, min, get_or, sym, ap, subst, ◌∙◌, add-one, arith, slice_get-get_or, AreInside, is_inside}
 use Rattle.vcd_compare.proofs.selected.inside_of.Goals as goal
 
 pub loop-index-preserved : goal.loop-index-preserved

@@ -1,4 +1,4 @@
-use Rattle.vcd_compare.proofs.Cited.{◌≡◌, ◌==◌, ◌+◌, ◌∷◌, ◌++◌, [], ℕ, suc, List, Bool, false, cond, length, get_or, refl, sym, ap, subst, ◌∙◌, add-one, arith, list_any, slice_get, Some, slice_get-get_or, texts_in, AreNearest, is_one_of}
+use Rattle.vcd_compare.proofs.Cited.{◌≡◌, ◌∷◌, ◌++◌, [], ℕ, suc, List, Bool, false, cond, get_or, refl, sym, ap, subst, ◌∙◌, add-one, arith, slice_get, Some, slice_get-get_or, texts_in, AreNearest}
 use Rattle.vcd_compare.proofs.PlaceLemmas.{marked_is}
 use Rattle.vcd_compare.proofs.SelectedLemmas.{nearest_more}
 use Rattle.vcd_compare.proofs.selected.nearest_of.Goals as goal

@@ -1,4 +1,4 @@
-use Rattle.vcd_compare.proofs.Cited.{◌≡◌, ◌++◌, ◌∷◌, [], ℕ, List, get_or, set, sym, ap, ◌∙◌, Vec, arith, lists_in}
+use Rattle.vcd_compare.proofs.Cited.{◌++◌, ◌∷◌, [], ℕ, List, set, sym, ap, ◌∙◌, Vec, arith, lists_in}
 use Rattle.std.proofs.lemmas.List.{get_or-map, map-set}
 use Rattle.vcd_compare.proofs.selected.push_at.Goals as goal
 

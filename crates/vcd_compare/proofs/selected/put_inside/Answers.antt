@@ -1,4 +1,4 @@
-use Rattle.vcd_compare.proofs.Cited.{◌≡◌, ℕ, List, length, sym, ap, subst, ◌∙◌, arith, get_or, texts_in}
+use Rattle.vcd_compare.proofs.Cited.{sym, subst, ◌∙◌, arith, texts_in}
 use Rattle.vcd_compare.proofs.PathTexts.{number_within}
 use Rattle.vcd_compare.proofs.SelectedLemmas.{IsPutting, put_all, put_none, putting_first, putting_next}
 use Rattle.vcd_compare.proofs.selected.put_inside.Goals as goal

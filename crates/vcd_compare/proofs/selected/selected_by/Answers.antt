@@ -1,4 +1,4 @@
-use Rattle.vcd_compare.proofs.Cited.{◌≡◌, ℕ, List, length, min, sym, ap, subst, ◌∙◌, arith, AllZip, AreInside, AreNearest, AreWithin, IsNumberOf, both_names, texts_in}
+use Rattle.vcd_compare.proofs.Cited.{◌≡◌, length, min, sym, subst, ◌∙◌, arith, AllZip, AreInside, AreNearest, AreWithin, IsNumberOf, both_names, texts_in}
 use Rattle.vcd_compare.proofs.SelectedLemmas.{both_zip, nodes_within}
 use Rattle.vcd_compare.proofs.selected.selected_by.Goals as goal
 
