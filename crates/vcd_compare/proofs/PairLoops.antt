@@ -4,7 +4,7 @@ use Rattle.std.proofs.lemmas.List.{append_assoc, append-nil}
 use Rattle.vcd_compare.proofs.PairSteps.{held_other}
 use Rattle.vcd_compare.proofs.VariableLemmas.{take_next}
 
--- the places of so many first variables that the name selects
+-- the places of the first variables that the name selects
 abbrev pub places_before : Asked → Header → Names → ℕ → List (Named × Option Named)
 places_before q h n i = map (place_of h n) (take i (selected_in q h n))
 
@@ -28,7 +28,7 @@ last_place q h n i all =
     ∙ sym (mapped (λ (v : Named). is_left_in q v.path) (λ (v : Named). selects_path v.path n.0) (λ (v : Named). drop (length n.0) v.path) (λ v r. (v, at_path h (n.1 ++ r) v.nth)) (all_named h))
 
 module _ (keys : List (ℕ × ℕ)) (ps : Pairs) (q : Asked) (h : Header) (n : Names) (compared other_kinds : List Pair) (ones others : List Named) where
-  -- what is held after so many variables
+  -- what is held after the first variables
   abbrev pub HeldBefore : ℕ → Type 0
   HeldBefore i = let before = places_before q h n i in HasPairs keys ps h (compared ++ compared_at before) (other_kinds ++ unlike_at before) (ones ++ alone_at before) others
 
@@ -58,7 +58,7 @@ module _ (keys : List (ℕ × ℕ)) (ps : Pairs) (q : Asked) (h : Header) (n : N
       subst (λ l. HasPairs keys ps h (compared ++ filter is_fit l) (other_kinds ++ filter (λ p. not (is_fit p)) l) (ones ++ alone_in q h n) others) (sym (append-nil (filter_map pair_at (places_of q h n)))) placed
 
 module _ (q : Asked) (h : Header) (n : Names) (others : List Named) where
-  -- the variables without a counterpart among so many
+  -- the variables without a counterpart among the first
   abbrev pub AloneBefore : List ℕ → ℕ → Type 0
   AloneBefore alone i = AllZip (IsNamedAt h) alone (others ++ alone_at (places_before q h n i))
 
@@ -90,7 +90,7 @@ module _ (q : Asked) (h : Header) (n : Names) (others : List Named) where
 -- ---- the pairs of all names
 
 module _ (q : Asked) (h : Header) (ns : List Names) where
-  -- what is held after so many names
+  -- what is held after the first names
   abbrev pub HeldNames : List (ℕ × ℕ) → Pairs → ℕ → Type 0
   HeldNames keys ps i = HasPairs keys ps h (compared_in q h (take i ns)) (unlike_in q h (take i ns)) (flat_map (alone_in q h) (take i ns)) (flat_map (λ n. alone_in q h (turned n)) (take i ns))
 

@@ -19,8 +19,8 @@ abbrev pub IsCounterpart : List (List ℕ) → Names → List ℕ → Option ℕ
 IsCounterpart texts n t None = (i : ℕ) → slice_get texts i ≢ Some (replaced n t)
 IsCounterpart texts n t (Some m) = IsNumberOf texts m (replaced n t)
 
--- by number, the counterparts of those of so many first paths that the first name selects, and no
--- exception
+-- by number, the counterparts of those of the first `count` paths that the first name selects, and
+-- no exception
 abbrev pub ArePlaces : (texts es : List (List ℕ)) → Names → ℕ → List (Option ℕ) → Type 0
 ArePlaces texts es n count places = (i : ℕ) (t : List ℕ) → i < count → slice_get texts i ≡ Some t → is_kept es t ≡ true → selects_path t n.0 ≡ true → IsCounterpart texts n t (get_or places (suc i) None)
 

@@ -6,7 +6,7 @@ use Rattle.vcd_model.specs.Selection.{selects_path}
 use Rattle.vcd_model.specs.Within.{Names}
 use Rattle.vcd_compare.specs.Paths.{IsNumberOf}
 
--- of so many numbers, and of 0, whether they are among these
+-- of each number up to `count` whether it is among these
 abbrev pub AreMarks : List ℕ → ℕ → List Bool → Type 0
 AreMarks numbers count marks = (m : ℕ) → m ≤ count → get_or marks m false ≡ list_any (λ x. x == m) numbers
 
@@ -19,7 +19,7 @@ abbrev pub IsNearest : (texts names : List (List ℕ)) → List ℕ → ℕ → 
 IsNearest texts names t zero = (w : List ℕ) → is_one_of names w ≡ true → selects_path t w ≡ false
 IsNearest texts names t (suc j) = (u : List ℕ) × (slice_get texts j ≡ Some u) × (is_one_of names u ≡ true) × (selects_path t u ≡ true) × ((w : List ℕ) → is_one_of names w ≡ true → selects_path t w ≡ selects_path u w)
 
--- these are the numbers of the names that are nearest to so many first paths, by number
+-- the numbers of the names that are nearest to the first `count` paths, by number
 pub record AreNearest (texts names : List (List ℕ)) (count : ℕ) (nearest : List ℕ) : Type 0 where
   pub len : length nearest ≡ suc count
   pub none : get_or nearest 0 0 ≡ 0
@@ -43,12 +43,12 @@ chosen f (suc i) = chosen f i ++ cond (f i) (i ∷ []) []
 abbrev pub lists_in : List (Vec ℕ) → List (List ℕ)
 lists_in ls = map (λ l. l.items) ls
 
--- the list of each name has the indexes of the items inside its path, of so many
+-- the list of each name has those indexes below `count` whose items are inside its path
 abbrev pub AreInside : (texts names es : List (List ℕ)) → List (ℕ × ℕ) → ℕ → List (Vec ℕ) → Type 0
 AreInside texts names es items count lists = (m : ℕ) (w : List ℕ) → IsNumberOf texts m w → is_one_of names w ≡ true
     → get_or (lists_in lists) m [] ≡ chosen (λ i. is_inside texts es w (get_or items i (0, 0)).0) count
 
--- the items are inside of so many first paths, by number
+-- the items are inside of the first `count` paths, by number
 abbrev pub AreWithin : List (ℕ × ℕ) → ℕ → Type 0
 AreWithin items count = (i : ℕ) (x : ℕ × ℕ) → slice_get items i ≡ Some x → x.0 ≤ count
 

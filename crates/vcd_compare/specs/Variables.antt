@@ -20,7 +20,7 @@ pub record IsAt (h : Header) (row : ℕ) (path : List ℕ) (v : Variable) : Type
 abbrev pub IsNamedAt : Header → ℕ → Named → Type 0
 IsNamedAt h row v = IsAt h row v.path v.variable
 
--- so many first declarations have the paths with these numbers
+-- the declarations in the first `rows` rows have the paths with these numbers
 pub record AreNumbered (h : Header) (texts : List (List ℕ)) (numbers : List ℕ) (rows : ℕ) : Type 0 where
   pub len : length numbers ≡ rows
   pub each : (i : ℕ) (d : Declaration) → i < rows → slice_get h.declarations i ≡ Some d
@@ -58,7 +58,7 @@ pub record AreCounted (counts : List ℕ) (keys : List (ℕ × ℕ)) : Type 0 wh
   pub counted : (n : ℕ) → n < length counts → get_or counts n 0 ≡ count_by (λ (k : ℕ × ℕ). k.0 == n) keys
   pub below : (i : ℕ) (k : ℕ × ℕ) → slice_get keys i ≡ Some k → k.1 < count_by (λ (j : ℕ × ℕ). j.0 == k.0) keys
 
--- the variables of so many first rows, and a count for each path
+-- the variables before this row, and a count for each path
 pub record HasSome (h : Header) (texts : List (List ℕ)) (row : ℕ) (vs : Variables) (counts : List ℕ) : Type 0 where
   pub rows : AllZip (IsNamedAt h) vs.rows.items (named_in (take row h.declarations))
   pub keys : AllZip (IsKeyOf texts) vs.keys.keys (named_in (take row h.declarations))

@@ -12,7 +12,7 @@ use vcd_view::HeadView;
 pub(crate) enum VariableKind {
     Event,
     Real,
-    // Digits, so many.
+    // It has this many digits.
     Digits(usize),
 }
 

@@ -125,7 +125,7 @@ fn pairs_between(
     Ok(pairs)
 }
 
-/// Returns no pairs, of a header with so many codes.
+/// Returns no pairs of a header that has `codes` codes.
 fn no_pairs(alloc: Global, codes: usize) -> Result<Pairs, AllocError>
     ensures { IfOk result (λ ps. (h : Header) → codes ≡ length h.codes
         → HasPairs [] ps h [] [] [] []) }

@@ -80,7 +80,7 @@ pub(crate) fn nearest_of(
     Ok(nearest)
 }
 
-/// Returns for each of so many numbers, and for 0, whether it is one of these.
+/// Returns for 0 and each number up to `count` whether it is one of these.
 fn marks_of(alloc: Global, numbers: &[usize], count: usize) -> Result<Vec<bool>, AllocError>
     requires { count < 2 ^ 63 }
     ensures { IfOk result (λ marks. AreMarks numbers.now count marks.items) }
@@ -128,7 +128,7 @@ pub(crate) fn inside_of(
     Ok(lists)
 }
 
-/// Returns so many empty lists.
+/// Returns `count` empty lists.
 fn no_lists(alloc: Global, count: usize) -> Result<Vec<Vec<usize>>, AllocError>
     ensures { IfOk result (λ lists. lists_in lists.items ≡ replicate count []) }
 {
