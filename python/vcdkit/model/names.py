@@ -16,6 +16,12 @@ def bare(path: str) -> str:
     return RANGE.sub("", path) if path[-1:] == "]" else path
 
 
+def plain(path: str) -> str:
+    """Returns a path without the range and as if no name in it were escaped: tb.u.q of
+    tb.\\u.q[3:0], and of tb.\\u/q."""
+    return re.sub(r"(?<![^.])\\", "", bare(path)).replace("/", ".")
+
+
 def field_of(name: str) -> Tuple[int, ...]:
     """Returns the range with which a name ends, of one bit its number twice; nothing if there is
     none."""

@@ -11,7 +11,7 @@ from typing import (Callable, Dict, Generator, Iterator, List, NamedTuple, Optio
                     Tuple, Union)
 
 from ..errors import UnknownName, UsageError
-from ..model.names import bare, fronts, full_names, hint, names_for, places_of
+from ..model.names import bare, fronts, full_names, hint, names_for, places_of, plain
 from ..model.signals import Signal
 from ..model.times import LAST_TICK, Timescale
 from ..model.values import full, real_of
@@ -117,12 +117,13 @@ class Side:
         """Returns the names of what the other one does not have, and how many signals each has. A
         name is a path, or the outermost scope around it of which the other one has nothing."""
         paths = [name for name in self.of_name if name not in self.common]
-        has = {one for name in other.names for one in fronts(name)} if paths else set()
+        names = [*other.names, *self.common] if paths else []
+        has = {one for name in names for one in fronts(name)}
         count: Dict[str, int] = {}
         for path in paths:
             name = path
             for scope in self._scopes(self.of_name[path][0]):
-                if scope in has or scope in self.common:
+                if scope in has:
                     break
                 name = scope
             count[name] = count.get(name, 0) + len(self.of_name[path])
@@ -146,14 +147,14 @@ def _renamed(path: str, front: str, new: str) -> str:
 
 
 def _groups(sides: Sides) -> Iterator[Tuple[str, str]]:
-    """Returns the names that both have; of those that one alone has, names that differ by a range
-    alone."""
+    """Returns the names that both have; of those that one alone has, names that differ only in how
+    a range or an escaped name is written."""
     yield from ((name, name) for name in sides[0].of_name if name in sides[1].of_name)
     loose: List[Dict[str, List[str]]] = [{}, {}]
     for found, side, other in zip(loose, sides, sides[::-1]):
         for name in side.of_name:
             if name not in other.of_name:
-                found.setdefault(bare(name), []).append(name)
+                found.setdefault(plain(name), []).append(name)
     for name, mine in loose[0].items():
         its = loose[1].get(name, [])
         if len(mine) == len(its) == 1:

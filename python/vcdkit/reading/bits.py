@@ -9,6 +9,7 @@ from . import header
 from .body import BIT
 
 Name = Tuple[Tuple[bytes, ...], bytes]  # the scopes around it, and the name
+Places = List[Tuple[bytes, int]]
 NO_BITS = (b"real", b"shortreal", b"event", b"string")
 
 
@@ -34,7 +35,8 @@ def joined(blocks: Iterator[bytes]) -> Iterator[bytes]:
 def _of_header(text: bytes, vectors: "_Vectors") -> Iterator[bytes]:
     """Returns a header with vectors."""
     made: Dict[int, bytes] = {}  # of the begin of a command what is there instead
-    for bits in _vectors_in(text):
+    found, vectors.others = _vectors_in(text)
+    for bits in found:
         made.update((bit.command.begin, b"") for bit in bits)
         made[bits[0].command.begin] = vectors.declare(sorted(bits, key=lambda bit: -bit.number))
     at = 0
@@ -45,8 +47,9 @@ def _of_header(text: bytes, vectors: "_Vectors") -> Iterator[bytes]:
     yield text[at:]
 
 
-def _vectors_in(text: bytes) -> Iterator[List[Bit]]:
-    """Returns the bits that make a vector, for each one in the order of declaration."""
+def _vectors_in(text: bytes) -> Tuple[List[List[Bit]], Set[bytes]]:
+    """Returns the bits that make a vector, for each one in the order of declaration, and the codes
+    of all other variables."""
     scopes: List[bytes] = []
     uses: Dict[bytes, int] = Counter()  # of each code
     found: Dict[Name, List[Bit]] = {}
@@ -64,12 +67,15 @@ def _vectors_in(text: bytes) -> Iterator[List[Bit]]:
                 found.setdefault((tuple(scopes), bit.name), []).append(bit)
             else:
                 others.add((tuple(scopes), words[3]))
+    vectors = []
     for name, bits in found.items():
         numbers = {bit.number for bit in bits}
         if (name not in others and len({bit.kind for bit in bits}) == 1 < len(bits)
-                and max(numbers) - min(numbers) + 1 == len(numbers) == len(bits)
-                and all(uses[bit.code] == 1 for bit in bits)):
-            yield bits
+                and max(numbers) - min(numbers) + 1 == len(numbers) == len(bits)):
+            vectors.append(bits)
+            for bit in bits:
+                uses[bit.code] -= 1
+    return vectors, {code for code, count in uses.items() if count}
 
 
 def _bit_of(text: bytes, one: header.Command) -> Optional[Bit]:
@@ -85,25 +91,29 @@ def _bit_of(text: bytes, one: header.Command) -> Optional[Bit]:
 
 
 class _Vectors:
-    """The vectors that were made: of each code of a bit the first code of its vector and its
-    place, and of each vector its digits."""
+    """The vectors that were made: of each code of a bit the codes of its vectors and its places in
+    them, of each vector its digits, and the codes that other variables have."""
 
     def __init__(self) -> None:
-        self.places: Dict[bytes, Tuple[bytes, int]] = {}
+        self.places: Dict[bytes, Places] = {}
+        self.others: Set[bytes] = set()
         self._digits: Dict[bytes, List[bytes]] = {}
         self._changed: Dict[bytes, bool] = {}
-        # Of each line that changes a bit of a vector, the vector, the place and the digit.
-        self._lines: Dict[bytes, Tuple[bytes, int, bytes]] = {}
+        # Of each line that changes a bit of vectors, its code and the digit.
+        self._lines: Dict[bytes, Tuple[bytes, bytes]] = {}
 
     def declare(self, bits: List[Bit]) -> bytes:
         """Returns the line of a vector of bits, the first of which is the leftmost."""
-        first = bits[0].code
-        self._digits[first] = [b"x"] * len(bits)
-        self.places.update((bit.code, (first, place)) for place, bit in enumerate(bits))
-        self._lines.update((digit + bit.code + b"\n", (first, place, digit)) for place, bit in
-                           enumerate(bits) for digit in (b"0", b"1", b"x", b"z", b"X", b"Z"))
+        code = bits[0].code
+        while code in self.others or code in self._digits:
+            code += b"~"
+        self._digits[code] = [b"x"] * len(bits)
+        for place, bit in enumerate(bits):
+            self.places.setdefault(bit.code, []).append((code, place))
+            self._lines.update((digit + bit.code + b"\n", (bit.code, digit)) for digit in (
+                b"0", b"1", b"x", b"z", b"X", b"Z"))
         return b"$var %s %d %s %s [%d:%d] $end\n" % (
-            bits[0].kind, len(bits), first, bits[0].name, bits[0].number, bits[-1].number)
+            bits[0].kind, len(bits), code, bits[0].name, bits[0].number, bits[-1].number)
 
     def of_blocks(self, blocks: Iterable[bytes]) -> Iterator[bytes]:
         """Returns the lines of a body."""
@@ -111,23 +121,22 @@ class _Vectors:
         for block in blocks:
             out = []
             for line in io.BytesIO(block):
-                found = get(line) or self._odd(line)
-                if found:
-                    first, place, digit = found
-                    digits[first][place] = digit
-                    changed[first] = True
-                else:
+                code, digit = get(line) or self._odd(line)
+                for vector, place in self.places.get(code, ()):
+                    digits[vector][place] = digit
+                    changed[vector] = True
+                if not code or code in self.others:
                     if changed and line.lstrip()[:1] in (b"#", b"$"):
                         out += self._due()
                     out.append(line)
             yield b"".join(out)
         yield b"".join(self._due())
 
-    def _odd(self, line: bytes) -> Optional[Tuple[bytes, int, bytes]]:
-        """Returns what a line changes that is not as most are; `None` if that is no such bit."""
+    def _odd(self, line: bytes) -> Tuple[bytes, bytes]:
+        """Returns what a line changes that is not as most are; no code if that is no such bit."""
         change = None if line[:1] in b"#$" else BIT.match(line)
-        found = self.places.get(change.group(2)) if change else None
-        return (*found, change.group(1)) if found and change else None
+        is_bit = change and change.group(2) in self.places
+        return (change.group(2), change.group(1)) if change and is_bit else (b"", b"")
 
     def _due(self) -> List[bytes]:
         """Returns the lines of the vectors that changed."""
