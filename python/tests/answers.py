@@ -647,9 +647,9 @@ class Compare(NamedTuple):
     end: Optional[Fraction] = None
 
     def codes(self, dump: Dump) -> Set[str]:
-        """The code of the clock in a dump, also if it has a range in only one of them; none
-        without a clock."""
-        its = [one for one in dump.variables if bare(one.path) == bare(self.clock)]
+        """The code of the clock in a dump, also if it has a range or is escaped in only one of
+        them; none without a clock."""
+        its = [one for one in dump.variables if plain(one.path) == plain(self.clock)]
         its = named(dump.variables, self.clock) or its
         return {one.code for one in its} if self.edge else set()
 
@@ -659,6 +659,12 @@ def bare(path: str) -> str:
     return re.sub(r"\[-?\d+:-?\d+\]\Z", "", path)
 
 
+def plain(path: str) -> str:
+    """A path without its range, in which no name is escaped. Decided: a backslash that begins a
+    name is no part of it, as Verilog has it, and a slash is the dot of a flattened netlist."""
+    return re.sub(r"(\A|[.])\\", r"\1", bare(path)).replace("/", ".")
+
+
 def kind(one: Variable) -> str:
     """What the values of two variables must have in common."""
     return "event" if is_event(one) else "real" if is_real(one) else str(one.size)
@@ -666,14 +672,14 @@ def kind(one: Variable) -> str:
 
 def pairs(one: Sequence[Variable], other: Sequence[Variable]) -> List[Tuple[str, str]]:
     """The paths that are compared: those that both dumps have; and of the others each two that
-    differ only by a range, if each dump has only one of them."""
+    differ only by a range or by escaped names, if each dump has only one of them."""
     paths = [list(dict.fromkeys(one.path for one in side)) for side in (one, other)]
     mine, its = [[path for path in side if path not in against]
                  for side, against in zip(paths, paths[::-1])]
     return [(path, path) for path in paths[0] if path in paths[1]] + [
-        (a, b) for a in mine for b in its if bare(a) == bare(b) and
-        [bare(path) for path in mine].count(bare(a)) == 1 and
-        [bare(path) for path in its].count(bare(a)) == 1]
+        (a, b) for a in mine for b in its if plain(a) == plain(b) and
+        [plain(path) for path in mine].count(plain(a)) == 1 and
+        [plain(path) for path in its].count(plain(a)) == 1]
 
 
 def compared(sides: Sequence[Sequence[Variable]], names: Sequence[str], exceptions: Sequence[str]
@@ -693,14 +699,15 @@ def alone(others: Sequence[Variable], its: Sequence[Variable], common: Set[str]
           ) -> List[Tuple[str, int]]:
     """What only one dump has: a path, or the outermost scope around it of which the other dump has
     nothing, neither a variable in it nor one of this path; and how many variables it has there.
-    Decided: the other dump has what it declares, also if no name selects it. A path that both have
-    with another range is in both."""
+    Decided: the other dump has what it declares, also if no name selects it. What is compared is in
+    both, whatever its path is in the other one."""
     lines: Dict[str, int] = {}
     for one in its:
         words = one.path.split(".")
         names = [".".join(words[:at]) for at in range(1, len(words) + 1)]
-        name = next(name for name in names if name == one.path or name not in common and not any(
-            (other.path + ".").startswith(name + ".") for other in others))
+        name = next(name for name in names if name == one.path or not any(
+            (path + ".").startswith(name + ".")
+            for path in [*common, *(other.path for other in others)]))
         if one.path not in common:
             lines[name] = lines.get(name, 0) + 1
     return list(lines.items())

@@ -146,6 +146,10 @@ def bare(path):
     return re.sub(r"\[\d+:\d+\]$", "", path)
 
 
+def plain(path):
+    return re.sub(r"(^|[.])\\", r"\1", bare(path)).replace("/", ".")
+
+
 def selected(sides, names):
     """The paths of each that names select: those that are the name, or in its scope; else the one
     that is the name with a range. Paths that are compared are selected together."""
@@ -168,7 +172,7 @@ def groups_of(sides):
     exact = [(one, one) for one in paths[0] if one in paths[1]]
     loose = [[one for one in its if one not in other] for its, other in (paths, paths[::-1])]
     for one in loose[0]:
-        mine, its = ([path for path in of if bare(path) == bare(one)] for of in loose)
+        mine, its = ([path for path in of if plain(path) == plain(one)] for of in loose)
         if len(mine) == len(its) == 1:
             exact.append((mine[0], its[0]))
     return exact
@@ -177,8 +181,8 @@ def groups_of(sides):
 def alone(side, others, common):
     """What one has and the other has not, each with its count: the outermost scope or path that is
     none of those of the other one."""
-    known = {*common, *(path[:at] for path in (one[0] + "." for one in others)
-                        for at, letter in enumerate(path) if letter == ".")}
+    known = {path[:at] for path in (one + "." for one in [*common, *(one[0] for one in others)])
+             for at, letter in enumerate(path) if letter == "."}
     lines = {}
     for path in dict.fromkeys(one[0] for one in side if one[0] not in common):
         fronts = [path[:at] for at, letter in enumerate(path) if letter == "."]
@@ -268,7 +272,7 @@ def expected(texts, scales, asked):
                       for a, b in zip(mine, its)]
     spans = [{"1ns": 10, "100ps": 1, "10ns": 100}[scale] for scale in scales]
     factors = [span // math.gcd(*spans) for span in spans]
-    clocks = [next((one[3] for one in side if bare(one[0]) == "t.c"), "") for side in every]
+    clocks = [next((one[3] for one in side if plain(one[0]) == "t.c"), "") for side in every]
     looks = [looks_of(side[1], {pair[2][at] for pair in pairs} | {clocks[at]} if asked["edge"] else
                       {pair[2][at] for pair in pairs}, clocks[at] if asked["edge"] else "",
                       asked["edge"], factors[at]) for at, side in enumerate(read_sides)]
@@ -305,6 +309,10 @@ def other_variables(of):
             for one in VARIABLES if of.random() > .06 or one[1] == "c"]
     if of.random() < .2:
         made = [(scope, name.replace("p", "o"), *rest) for scope, name, *rest in made]
+    if of.random() < .2:  # as in a flattened netlist
+        sign = of.choice("./")
+        made = [(scope[:1], "\\%s" % sign.join([*scope.split(".")[1:], name]), *rest)
+                if of.random() < .8 else (scope, name, *rest) for scope, name, *rest in made]
     if of.random() < .3:
         made.sort(key=lambda one: (one[0], of.random()))
     found = []

@@ -25,6 +25,13 @@ def bare(path: str) -> str:
     return RANGE.sub("", path)
 
 
+def plain(path: str) -> str:
+    """Returns a path without a range and without the marks of escaped names: the backslashes at
+    their beginnings, and slashes, where the tool that flattened a design could not write dots."""
+    return ".".join(word[1:] if word[:1] == "\\" else word
+                    for word in bare(path).split(".")).replace("/", ".")
+
+
 def is_inside(path: str, name: str) -> bool:
     """Whether a path is a name, or is in the scope of this name."""
     return path == name or path.startswith(name + ".")

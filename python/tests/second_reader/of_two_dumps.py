@@ -7,7 +7,7 @@ from typing import Any, Dict, List, NamedTuple, Optional, Sequence, Set, Tuple
 import xml.etree.ElementTree as xml
 
 from asker import Asker, Said, Skip, Window, run
-from dumps import LAST, Dump, Value, Variable, bare, is_inside
+from dumps import LAST, Dump, Value, Variable, bare, is_inside, plain
 from looks import Edges, Look, looks_at_edges
 from of_pages import same_page_of_two
 from other_dumps import Changed, OtherDump
@@ -77,15 +77,15 @@ class Sides:
         return [one for one in found if self.asked.renamed(of.path).startswith(one + ".")]
 
     def _groups(self) -> List[Tuple[str, str]]:
-        """Returns the names that belong together: equal ones, and two that differ only by a range,
-        if each dump has only one of these."""
+        """Returns the names that belong together: equal ones, and two that differ only by a range
+        or escaped names, if each dump has only one of these."""
         one, other = self.of_name
         found = [(name, name) for name in one if name in other]
         rest: List[Dict[str, List[str]]] = [{}, {}]
         for its, mine, theirs in ((rest[0], one, other), (rest[1], other, one)):
             for name in mine:
                 if name not in theirs:
-                    its.setdefault(bare(name), []).append(name)
+                    its.setdefault(plain(name), []).append(name)
         return found + [(rest[0][name][0], rest[1][name][0]) for name in rest[0]
                         if len(rest[0][name]) == len(rest[1].get(name, ())) == 1]
 
@@ -106,7 +106,7 @@ class Sides:
     def clocks(self) -> List[Pair]:
         """Returns the pairs of which the name can be that of a clock."""
         def is_clear(name: str) -> bool:
-            return all(sum(bare(other) == bare(name) or other.startswith(name + ".")
+            return all(sum(plain(other) == plain(name) or other.startswith(name + ".")
                            for other in names) == 1 for names in self.all_names)
         return [pair for pair in self.pairs if pair[1].kind == 1 and is_clear(pair[0])
                 and len(self.of_name[0][pair[0]]) == 1]
@@ -117,7 +117,9 @@ class Sides:
         found: Dict[Tuple[str, str], int] = {}
         for at, letter in enumerate("AB"):
             paired = {group[at] for group in self.groups}
-            theirs = self.all_names[1 - at] | self.all_scopes[1 - at] | paired
+            theirs = self.all_names[1 - at] | self.all_scopes[1 - at] | paired | {
+                scope for name in paired for one in self.of_name[at][name]
+                for scope in self._scopes(one)}
             for one in [one for name, its in self.of_name[at].items() if name not in paired
                         for one in its]:
                 name = next((scope for scope in self._scopes(one) if scope not in theirs),

@@ -106,7 +106,7 @@ class Side:
         full = self.full(name)
         pairs: List[Tuple[Signal, str]] = list(zip(self.signals, self.names))
         its = ([signal for signal, its in pairs if its == full]
-               or [signal for signal, its in pairs if bare(its) == bare(name)])
+               or [signal for signal, its in pairs if plain(its) == plain(name)])
         if not its:
             raise self.unknown(name)
         if len({one.code for one in its}) > 1 or kind(its[0]) != 1:
