@@ -11,7 +11,7 @@ from vcdkit.commands import diff, find, info, values
 
 # The lines of a header. A variable has a size and a reference.
 SCOPES = ["$scope module a $end", "$upscope $end"]
-VARIABLES = ["1 a", "2 a[1:0]", "2 a[3:2]", "2 a [1:0]", "1 a[0]", "1 b"]
+VARIABLES = ["1 a", "2 a[1:0]", "2 a[3:2]", "2 a [1:0]", "1 a[0]", "1 b", "1 \\a/b"]
 NAMES = ["a", "a[1:0]", "a[3:2]", "a[0]", "b", "a.a", "a.a[1:0]", "a.a[0]", "a.b"]
 CODES = "!\"%"
 PATTERNS: List[List[str]] = [["a"], ["^a[.]", "b"], [r"\[", "^a$"], []]

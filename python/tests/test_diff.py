@@ -185,7 +185,8 @@ def alone(side, others, common):
              for at, letter in enumerate(path) if letter == "."}
     lines = {}
     for path in dict.fromkeys(one[0] for one in side if one[0] not in common):
-        fronts = [path[:at] for at, letter in enumerate(path) if letter == "."]
+        fronts = [path[:at] for at, letter in enumerate(path)
+                  if letter == "." and "\\" not in path[:at]]  # a dot behind it is no scope's
         name = next((front for front in fronts if front not in known), path)
         lines.setdefault(name, []).extend(one for one in side if one[0] == path)
     return lines

@@ -1267,7 +1267,6 @@ b011 q
                 b"$var reg 1 ! d [1] $end\n$var wire 1 \" d [0] $end\n",
                 b"$var reg 1 ! d [1] $end\n$var reg 1 \" d [0] $end\n$var reg 1 # d [0] $end\n",
                 b"$var reg 1 ! d[1] $end\n$var reg 1 \" d[0] $end\n$var reg 2 # d [1:0] $end\n",
-                b"$var reg 1 ! d[1] $end\n$var reg 1 \" d[0] $end\n$var reg 1 ! b $end\n",
                 b"$var reg 1 ! d[1] $end\n$comment\n$var reg 1 \" d[0] $end\n"):
             text = lines + b"$enddefinitions $end\n#0\n1!\nr1.5 !\n"
             self.assertEqual(run("vcdkit-join-bits", [self.file("a.vcd", text)]), (0, text, b""))

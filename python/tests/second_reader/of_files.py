@@ -242,8 +242,8 @@ def ask_close_sections(of: Asker) -> None:
 # ---- vcdkit-join-bits.
 
 def bit_by_bit(of: Asker, its: List[Variable]) -> Tuple[bytes, Dict[str, List[str]]]:
-    """Returns the dump with some vectors declared bit by bit, in any order, and the codes of their
-    bits."""
+    """Returns the dump with some vectors declared bit by bit, in any order, of which some bits have
+    a second name that begins with `pin~`, and the codes of their bits."""
     lines, end = plain_lines(of)
     declared = r"\s*\$var\s+(\S+)\s+\d+\s+(\S+)\s"
     codes = {one.code: ["~%s_%d" % (one.code, place) for place in one.bits] for one in its}
@@ -259,6 +259,8 @@ def bit_by_bit(of: Asker, its: List[Variable]) -> Tuple[bytes, Dict[str, List[st
         if at < end:
             bits = ["$var wire 1 %s %s%s[%d] $end" % (code, one.name, space, place)
                     for code, place in zip(codes[one.code], one.bits)][::order or 1]
+            bits += ["$var wire 1 %s pin~%s $end" % (code, code)
+                     for code in codes[one.code] if of.happens(.2)]
         else:
             digits = found[1].lower()
             digits = digits.rjust(one.size, digits[0] if digits[0] in "xz" else "0")
@@ -292,14 +294,15 @@ def ask_join_bits(of: Asker) -> None:
     its = of.random.sample(its, min(len(its), 3))
     if not its:
         raise Skip
-    text, _ = bit_by_bit(of, its)
+    text, codes = bit_by_bit(of, its)
     path = of.write(of.path + ".bits.vcd", text)
     said = run("join-bits", [path])
     got = Dump(said.output)
+    pins = {one.code for one in got.variables if one.name.startswith("pin~")}
     # Other bits of the dump may be joined too.
     of.same("join-bits, the rest", [path], *([
-        one.row for one in side.variables
-        if one.path not in [each.path for each in its] and not is_bit(one)
+        one.row for one in side.variables if not one.name.startswith("pin~")
+        and one.path not in [each.path for each in its] and not is_bit(one)
         and not is_joined(one, dump)] for side in (got, dump)))
     for one in its:
         found = got.of_path.get(one.path, [])
@@ -310,13 +313,18 @@ def ask_join_bits(of: Asker) -> None:
             of.same("join-bits, the values", [path, one], [
                 str(got.at(each.time).get(found[0].code, "-"))[::step] for each in dump.steps],
                 [str(each.end.get(one.code, "-")) for each in dump.steps])
+            for place, code in enumerate(codes[one.code]):
+                if code in pins:
+                    of.same("join-bits, a second name", [path, code], [
+                        got.at(each.time).get(code, "-") for each in dump.steps],
+                        [str(each.end.get(one.code, "-" * one.size))[place] for each in dump.steps])
 
 
 def ask_bits_that_stay(of: Asker) -> None:
     """Asks for a header whose bits are no vector: what is not joined stays as it is."""
     choice, name = of.random.choice, of.random.choice(["q", "d", "w"])
     places = list(range(choice([0, 1, -2]), choice([4, 5])))
-    why = choice(["a gap", "twice", "a type", "a second name", "a vector", "real", "event"])
+    why = choice(["a gap", "twice", "a type", "a vector", "real", "event"])
     kinds = {"real": "real", "event": "event"}.get(why, "wire")
     rows = ["$var %s 1 %d %s [%d] $end" % (kinds, at, name, place)
             for at, place in enumerate(places)]
@@ -325,7 +333,6 @@ def ask_bits_that_stay(of: Asker) -> None:
         rows = ["$var wire 1 a %s [%d] $end" % (name, place) for place in places[::2]][:3]
     rows += {"twice": ["$var wire 1 a %s [%d] $end" % (name, places[0])],
              "a type": ["$var reg 1 a %s [%d] $end" % (name, places[-1] + 1)],
-             "a second name": ["$var wire 1 1 pin $end"],
              "a vector": ["$var wire 4 v %s [3:0] $end" % name]}.get(why, [])
     header = "\n".join(["$scope module tb $end", *rows, "$upscope $end", "$enddefinitions $end"])
     text = (header + "\n#0\n" + "1v\n" * (why == "a vector") + "#5\n").encode()
