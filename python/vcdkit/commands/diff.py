@@ -20,11 +20,11 @@ Values are compared at the end of each time step, up to the end of the shorter d
 first edge of B's clock, and so on, at whatever times the edges are. The following do not matter:
 dates and versions, identifier codes, types such as reg and wire, the order of changes within a time
 step, repeated values, and whether a value is in a section. Real numbers are compared as numbers,
-and NaN equals NaN. tb.q in one dump matches tb.q[3:0] in the other. With --from and --to, only this
-window of both dumps is compared, and a number of ticks counts ticks of A. If you give NAMEs, only
-these are compared. With --map, use the new names in NAMEs; the lines show them too. If a scope has
-two names, as in the lines `alone A tb.rtl 9` and `alone B tb.gate 9`, --map tb.gate=tb.rtl compares
-what is in it.
+and NaN equals NaN. tb.q in one dump matches tb.q[3:0] in the other, and tb.u.q matches tb.\\u.q and
+tb.\\u/q, as a flattened netlist has it. With --from and --to, only this window of both dumps is
+compared, and a number of ticks counts ticks of A. If you give NAMEs, only these are compared. With
+--map, use the new names in NAMEs; the lines show them too. If a scope has two names, as in the
+lines `alone A tb.rtl 9` and `alone B tb.gate 9`, --map tb.gate=tb.rtl compares what is in it.
 
 examples:
   vcdkit-diff golden.vcd.gz sim.vcd
