@@ -67,7 +67,7 @@ class Side:
         self.keys = list(keys_in(one.path for one in self.signals))
         self.found: Set[str] = set()
         self.mapped: Set[str] = set()
-        self._bare = {front for front, _ in maps if not any(  # of no scope: for what has a range too
+        self._bare = {front for front, _ in maps if not any(  # no scopes: for what has a range too
             one.path.startswith(front + ".") for one in self.signals)}
         self.names = [self._mapped(one.path, maps) for one in self.signals]
         self._known, self._maps = frozenset(self.names), maps
@@ -121,11 +121,9 @@ class Side:
         has = {one for name in names for one in fronts(name)}
         count: Dict[str, int] = {}
         for path in paths:
-            name = path
-            for scope in self._scopes(self.of_name[path][0]):
-                if scope in has:
-                    break
-                name = scope
+            alone = itertools.takewhile(lambda scope: scope not in has,
+                                        self._scopes(self.of_name[path][0]))
+            name = [path, *alone][-1]
             count[name] = count.get(name, 0) + len(self.of_name[path])
         return list(count.items())
 

@@ -1,16 +1,17 @@
 """Bits that are declared one by one, which become vectors."""
 import io
 import itertools
+import re
 from collections import Counter
 from typing import Dict, Iterable, Iterator, List, NamedTuple, Optional, Set, Tuple
 
-from ..model.names import FIELD, field_of
 from . import header
 from .body import BIT
 
-Name = Tuple[Tuple[bytes, ...], bytes]  # the scopes around it, and the name
+Path = Tuple[Tuple[bytes, ...], bytes]  # the scopes around it, and the name
 Places = List[Tuple[bytes, int]]
-NO_BITS = (b"real", b"shortreal", b"event", b"string")
+NAME = re.compile(rb"(.+)\[(-?\d+)\]\Z")  # of a bit
+NO_BITS = re.compile(rb"real|(?:shortreal|event|string)\Z")  # types
 
 
 class Bit(NamedTuple):
@@ -52,8 +53,8 @@ def _vectors_in(text: bytes) -> Tuple[List[List[Bit]], Set[bytes]]:
     of all other variables."""
     scopes: List[bytes] = []
     uses: Dict[bytes, int] = Counter()  # of each code
-    found: Dict[Name, List[Bit]] = {}
-    others: Set[Name] = set()  # that no bits have
+    found: Dict[Path, List[Bit]] = {}
+    others: Set[Path] = set()  # that no bits have
     for one in header.commands(text):
         words = one.words
         if one.keyword == b"$scope":
@@ -81,13 +82,11 @@ def _vectors_in(text: bytes) -> Tuple[List[List[Bit]], Set[bytes]]:
 def _bit_of(text: bytes, one: header.Command) -> Optional[Bit]:
     """Returns the bit that a line declares; `None` if it is none."""
     kind, size, code, *rest = one.words
-    name = b"".join(rest).decode("utf-8", "surrogateescape")
-    field, base = field_of(name), FIELD.sub("", name)
-    is_bit = (size == b"1" and len(rest) < 3 and len(field) == 2 and not name.endswith(
-        ":%d]" % field[1]) and base and kind not in NO_BITS and not kind.startswith(b"real"))
-    if not is_bit or not header.is_alone(text, one):
+    found = NAME.match(b"".join(rest))
+    if (not found or size != b"1" or len(rest) > 2 or NO_BITS.match(kind)
+            or not header.is_alone(text, one)):
         return None
-    return Bit(one, kind, code, base.encode("utf-8", "surrogateescape"), field[0])
+    return Bit(one, kind, code, found.group(1), int(found.group(2)))
 
 
 class _Vectors:
