@@ -103,7 +103,7 @@ def ask_rows_before(of: Asker) -> None:
     chosen = of.conditions.make() if of.happens(.4) else None
     if chosen:
         words += ["--if", chosen.text]
-        rows = [row for row in rows if chosen.test(row[0].values, row[0].events) is True]
+        rows = [row for row in rows if chosen.test(row[0])]
     said = run("table", ["--unit", "tick", *words, bad.path, "--", *names])
     of.same("rows before a fault", [bad, *words, *names], (said.status, list(csv.reader(
         io.StringIO(said.text, newline="")))[1:], bad.fault in said.message), (1, [
