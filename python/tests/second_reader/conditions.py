@@ -66,6 +66,11 @@ def quoted(name: str, is_free: bool = False) -> str:
 
 # ---- Random conditions.
 
+def _names(text: str, name: str) -> bool:
+    """Whether a condition has this name in it."""
+    return bool(re.search(r"(?<![\w'.])%s(?![\w.$\[])" % re.escape(name), text))
+
+
 class Conditions:
     """Makes conditions on the variables of a dump, most of them on busy ones."""
 
@@ -101,17 +106,19 @@ class Conditions:
     def make(self, depth: int = 2, is_clocked: bool = False) -> Optional[Condition]:
         """Returns a condition; None if the dump has no suitable variable."""
         if self.plain and self.random.random() < .35:
-            its = [self._operand() for _ in range(3)]
+            before, its = set(self.codes), [self._operand() for _ in range(3)]
             leaves = [one.expression() for one in its if not one.of.is_real]
             reals = [one.expression() for one in its if one.of.is_real]
             if leaves:
                 of = expressions.Random(self.random, leaves, reals, is_clocked, 300)
                 made = iter(lambda: of.make(depth), None)
-                return Condition(next(one for one in made
-                                      if any(re.search(r"(?<![\w'])" + re.escape(name), one.text)
-                                             for name in of.names)))
-        found = self._any(depth)
-        return Condition(found) if found else None
+                found = next(one for one in made if any(_names(one.text, name)
+                                                        for name in of.names))
+                self.codes = before | {one.of.code for one in its
+                                       if _names(found.text, one.expression().text)}
+                return Condition(found)
+        one = self._any(depth)
+        return Condition(one) if one else None
 
     def _any(self, depth: int) -> Optional[Expression]:
         """Returns what is joined by ! & |."""
