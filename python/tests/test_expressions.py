@@ -172,7 +172,7 @@ def wrong_of(seed: int, folder: str, count: int) -> Iterator[Tuple[str, str]]:
     rules = [("", "%s($unsigned(%s) === t.y%d)" % ("!" * (at % 50 > 0), text, at))
              for at, text in enumerate(texts)]
     asking = Questions(dump, rules, clock, None, False)
-    held = {number for number, _ in asking.outcomes()}
+    held = {number for _, numbers in asking.times() for number in numbers}
     for at, text in enumerate(texts):  # each 50th has to hold, so that it is known that they can
         if (at in held) == (at % 50 > 0):
             yield "vcdkit", "%s of y%d" % (text, at)

@@ -14,7 +14,7 @@ examples:
   vcdkit-when --never --rules rules.txt --junit rules.xml --rise tb.clk sim.vcd"""
 import argparse
 import sys
-from typing import Callable, Iterable, List, Tuple
+from typing import Callable, Dict, Iterable, List, Tuple
 
 from ..errors import UsageError, VcdkitError
 from ..forms.junit import Test, write_tests
@@ -123,20 +123,20 @@ def list_rules(asking: Questions, rules: List[Rule], text: Callable[[int], str],
                asked: argparse.Namespace) -> bool:
     """Writes a line for each rule that holds: its name, the first time, and how many there are;
     returns whether the rules are as they have to be: all hold, or with --never none."""
-    found: List[List[int]] = [[] for _ in rules]  # of each rule the first time, and the count
+    found: Dict[int, List[int]] = {}  # of each rule that held the first time, and the count
     fault = ""
     try:
-        for number, one in asking.outcomes():
-            if asking.is_listed(number, one):
-                its = found[number]
-                its += [] if its else [one.begin, 0]
+        for time, numbers in asking.times():
+            for number in numbers:
+                its = found.setdefault(number, [time, 0])
                 its[1] += 1
     except VcdkitError as error:
         fault = str(error)
         raise
     finally:
         tests = []
-        for (name, condition), its in zip(rules, found):
+        for number, (name, condition) in enumerate(rules):
+            its = found.get(number, [])
             line = "%s, %d time%s" % (text(its[0]), its[1], "s" * (its[1] != 1)) if its else ""
             if its and asked.json:
                 write_json({"rule": name, "first": its[0], "count": its[1]})
@@ -149,7 +149,7 @@ def list_rules(asking: Questions, rules: List[Rule], text: Callable[[int], str],
             tests.append(Test(asking.dump.name, "fault", "error", fault, ""))
         if asked.junit is not None:
             write_tests(asked.junit, "vcdkit-when", tests)
-    return all(bool(its) != asked.never for its in found)
+    return not found if asked.never else len(found) == len(rules)
 
 
 @command
@@ -168,5 +168,5 @@ def main(words: List[str]) -> int:
     if asked.rules is not None:
         return int(not list_rules(asking, rules, text, asked))
     count = (list_latencies(asking, dump, text, asked) if asked.latency
-             else list_times(asking.times(), text, asked))
+             else list_times((time for time, _ in asking.times()), text, asked))
     return int((count > 0) == asked.never)

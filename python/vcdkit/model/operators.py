@@ -203,3 +203,8 @@ OPERATORS: Dict[str, Operate] = {
     "||": lambda _, one, other: _or(BIT, truth(one), truth(other)), "?:": _chosen, "{": _joined,
     **dict.fromkeys(("signed", "unsigned"), lambda kind, one: one if isinstance(one, str)
                     else kind.of(one)), **_each(_became, {"rose": "1", "fell": "0"})}
+# In Python, what some operators make of values that are all numbers.
+OF_NUMBERS = {
+    **{sign: "1 if {0} %s {1} else 0" % sign for sign in COMPARISONS},
+    **{sign: "{0} %s {1}" % sign for sign in "&|^"}, "&&": "1 if {0} and {1} else 0",
+    "||": "1 if {0} or {1} else 0", "unary !": "0 if {0} else 1"}

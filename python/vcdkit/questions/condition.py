@@ -9,15 +9,16 @@ from typing import (Any, Callable, Deque, Dict, Iterable, List, NamedTuple, Opti
                     Tuple)
 
 from ..model.names import FIELD, field_of, full_names
-from ..model.operators import (ARITHMETIC, BIT, BITWISE, COMPARISONS, OPERATORS, REAL, REDUCTIONS,
-                               SHIFTS, Kind, Value, converted, kind_of, value_of_digits)
+from ..model.operators import (ARITHMETIC, BIT, BITWISE, COMPARISONS, OF_NUMBERS, OPERATORS, REAL,
+                               REDUCTIONS, SHIFTS, Kind, Value, converted, kind_of,
+                               value_of_digits)
 from ..model.signals import Signal
 from ..model.values import extension, real_of
 from ..reading.body import Changes
 from ..reading.source import Source
 from .expression import Node, ConditionText, Span, bad
 
-Test = Callable[[], Any]
+GROUP = 30  # bits of which Python is fast
 Read = Callable[[bytes], Value]
 SAME = ("===", "!==", "stable", "changed")
 OF_BITS = ("%", "===", "!==", "{", "signed", "unsigned", "rose", "fell", *BITWISE, *SHIFTS,
@@ -164,90 +165,142 @@ def _place(node: Node) -> Any:
     return works
 
 
-class Condition:
-    """A condition over the signals of a dump, and the last value of each of them."""
+class Condition(NamedTuple):
+    """A condition among others: its bit; the bit of the answer that it asks for, else 0; how long
+    that may take; and whether it holds if none comes."""
 
-    def __init__(self, text: str, dump: Source, has_clock: bool):
+    bit: int
+    answer: int
+    span: Optional[Span]
+    is_refusal: bool
+
+
+class Conditions:
+    """Conditions over the signals of a dump, and the last value of each of these. Each condition
+    is a bit, and so is each answer."""
+
+    def __init__(self, dump: Source, has_clock: bool):
+        self._dump, self._has_clock = dump, has_clock
+        self.paths: Dict[str, None] = {}  # of the signals
+        self.over: Dict[bytes, int] = {}  # of the code of each signal the conditions that name it
+        self.with_more = 0  # those over more than values: events, earlier edges, an answer
+        self._values: List[Value] = []
+        self._readers: Dict[bytes, List[Tuple[int, Read]]] = {}
+        self._places: Dict[Tuple[_Name, Kind, Kind], int] = {}
+        self._events: Dict[bytes, None] = {}
+        self._pasts: List[Tuple[Node, Deque[Value]]] = []  # of the last condition
+        self._samples: List[Tuple[Deque[Value], Callable[..., Value]]] = []
+        self._known: Dict[str, Any] = {"v": self._values, "converted": converted}
+        self._tests: List[List[str]] = []  # the lines of each bit
+
+    def add(self, text: str) -> Condition:
+        """Adds a condition."""
         parser = ConditionText(text)
         tree = parser.tree()
         if not parser.names:
             raise bad("it names no signal")
-        its = _names(dump, dict.fromkeys(node.value for node in parser.names))
-        self.paths = list(dict.fromkeys(name.signal.path for name in its.values()))
+        its = _names(self._dump, dict.fromkeys(node.value for node in parser.names))
         for node in parser.names:
             node.value = its[node.value]
             node.kind = node.value.kind
-        self.values: List[Value] = []
-        self.readers: Dict[bytes, List[Tuple[int, Read]]] = {}
-        self._places: Dict[Tuple[_Name, Kind, Kind], int] = {}
-        self._pasts: List[Tuple[Node, Deque[Value]]] = []
-        self.answer: Optional[Test] = None  # whether it has its answer, if it asks for one
-        self.span: Optional[Span] = None
-        self.is_refusal = tree.sign == "unary !" and tree.parts[0].sign == "->"
-        whole = tree.parts[0] if self.is_refusal else tree
+        self._pasts, answer, span = [], 0, None
+        is_refusal = tree.sign == "unary !" and tree.parts[0].sign == "->"
+        whole = tree.parts[0] if is_refusal else tree
         if whole.sign == "->":
-            self.span, (whole, answer) = whole.value, whole.parts
-            self.answer = self._test(answer)
-        self.holds = self._test(whole)  # whether it holds at the values that there are
-        self.codes = self.readers.keys()  # of its signals
-        self._samples = [(kept, self._compiled(one, "{}")) for one, kept in self._pasts]
-        if self._pasts and not has_clock:
+            span, (whole, wanted) = whole.value, whole.parts
+            answer = self._test(wanted)
+        found = Condition(self._test(whole), answer, span, is_refusal)
+        for one, kept in self._pasts:
+            lines, result = self._lines(one)
+            self._samples.append((kept, self._function([*lines, "return " + result])))
+        if self._pasts and not self._has_clock:
             raise bad("past, rose, fell, stable and changed look at edges: name a clock by rise or "
                       "fall")
-        self._events = [place for (name, _, _), place in self._places.items()
-                        if name.signal.type == "event"]
-        self.has_more = bool(self._events or self._pasts)  # than values: events, earlier edges
+        bits = found.bit | answer
+        self.with_more |= bits if answer or self._pasts else 0
+        for signal in (name.signal for name in its.values()):
+            self.paths[signal.path] = None
+            code = signal.code.encode()
+            self.over[code] = self.over.get(code, 0) | bits
+            if signal.type == "event":
+                self._events[code] = None
+                self.with_more |= bits
+        return found
 
-    def take(self, changes: Changes) -> None:
-        """Takes changes, of which some may be of other signals."""
+    def take(self, changes: Changes) -> int:
+        """Takes changes, of which some may be of other signals; returns the conditions that name
+        those of the others."""
+        found, values, readers, over = 0, self._values, self._readers, self.over
         for code, raw in changes:
-            for place, read in self.readers.get(code, ()):
-                self.values[place] = read(raw)
+            if code in over:
+                found |= over[code]
+                for place, read in readers[code]:
+                    values[place] = read(raw)
+        return found
 
-    def end(self) -> bool:
+    def end(self) -> int:
         """Takes it that a time is over: what it has then is the past, and no event is triggered;
-        returns whether one was."""
-        values = [sample() for _, sample in self._samples]
+        returns the conditions that name those that were."""
+        values, found = [sample() for _, sample in self._samples], 0
         for (kept, _), value in zip(self._samples, values):
             kept.append(value)
-        were_some = any(self.values[place] for place in self._events)
-        for place in self._events:
-            self.values[place] = 0
-        return were_some
+        for code in self._events:
+            for place, _ in self._readers[code]:
+                found |= self.over[code] if self._values[place] else 0
+                self._values[place] = 0
+        return found
 
-    def _test(self, tree: Node) -> Test:
-        """Returns what says whether an expression is true."""
+    def compiled(self) -> Callable[..., int]:
+        """Returns what returns those of some conditions that hold at the values that there are."""
+        lines = ["now = 0"]
+        for begin in range(0, len(self._tests), GROUP):
+            lines += ["some = due >> %d & %d" % (begin, (1 << GROUP) - 1), "if some:"]
+            for at, its in enumerate(self._tests[begin:begin + GROUP]):
+                lines += [" if some & %d:" % (1 << at), *("  " + line for line in its),
+                          "   now |= %#x" % (1 << begin + at)]
+        return self._function([*lines, "return now"])
+
+    def _function(self, lines: List[str]) -> Callable[..., Any]:
+        exec("\n ".join(["def found(due=-1):", *lines]), self._known)
+        found: Callable[..., Any] = self._known["found"]
+        return found
+
+    def _test(self, tree: Node) -> int:
+        """Adds an expression that may be true; returns its bit."""
         order = [tree]
         for node in order:
             order += node.parts
         for node in reversed(order):
             _type(node)
-        return self._compiled(tree, "'1' in {0} if {0}.__class__ is str else {0} != 0")
+        lines, result = self._lines(tree)
+        lines.append("if '1' in {0} if {0}.__class__ is str else {0}:".format(result))
+        self._tests.append(lines)
+        return 1 << len(self._tests) - 1
 
-    def _compiled(self, tree: Node, result: str) -> Test:
-        """Returns a function of the values, with a line for each operator."""
-        tree.to, order, lines = tree.kind, [tree], ["def test():"]
-        known: Dict[str, Any] = {"v": self.values, "converted": converted}
-        works = {}
+    def _lines(self, tree: Node) -> Tuple[List[str], str]:
+        """Returns an expression in Python: a line for each operator, and what has its value."""
+        tree.to, order, works = tree.kind, [tree], {}
+        lines: List[str] = []
         for node in order:  # from the top down
             node.text, works[node] = "", _place(node)
             order += node.parts if node.sign != "past" else []
         for node in reversed(order):
             if not node.text:
-                node.text = self._text(node, works[node], known)
+                node.text = self._text(node, works[node])
                 if node.parts:
-                    lines.append(" t%d = %s" % (len(lines), node.text))
+                    lines.append("t%d = %s" % (len(lines), node.text))
                     node.text = "t%d" % (len(lines) - 1)
-        exec("\n".join([*lines, " return " + result.format(tree.text)]), known)
-        test: Test = known["test"]
-        return test
+        return lines, tree.text
 
-    def _text(self, node: Node, works: Any, known: Dict[str, Any]) -> str:
-        """Returns a node in Python; `known` gets what it names."""
-        def named(value: Any) -> str:
-            known["c%d" % len(known)] = value
-            return "c%d" % (len(known) - 1)
-        sign, value = node.sign, node.value
+    def _named(self, value: Any) -> str:
+        """Returns a name that lines may use for a value."""
+        name = "c%d" % len(self._known)
+        self._known[name] = value
+        return name
+
+    def _text(self, node: Node, works: Any) -> str:
+        """Returns a node in Python."""
+        sign, value, named = node.sign, node.value, self._named
         if sign == "name":
             return "v[%d]" % self._value(node)
         if sign == "number" and not isinstance(value, str):
@@ -261,19 +314,24 @@ class Condition:
             found = named(kept) + "[0]"
         else:
             its = "real /" if sign == "/" and not works.width else sign
-            found = "%s(%s)" % (named(OPERATORS[its]), ", ".join(
-                [named(works), *(one.text for one in node.parts)]))
+            operands = [one.text for one in node.parts]
+            found = "%s(%s)" % (named(OPERATORS[its]), ", ".join([named(works), *operands]))
+            if sign in OF_NUMBERS:
+                are_numbers = " and ".join("%s.__class__ is not str" % one for one in operands
+                                           if not isinstance(self._known.get(one), (int, float)))
+                found = "(%s) if %s else %s" % (OF_NUMBERS[sign].format(*operands),
+                                                are_numbers or "True", found)
         own = works if sign in IN_CONTEXT else node.kind
         return found if own == node.to else "converted(%s, %s, %s)" % (
             found, named(own), named(node.to))
 
     def _value(self, node: Node) -> int:
         """Returns the place of the value of a name in a kind."""
-        name, place = node.value, len(self.values)
+        name, place = node.value, len(self._values)
         found = self._places.setdefault((name, node.kind, node.to), place)
         if found == place:
             read = functools.lru_cache(maxsize=1 << 10)(
                 functools.partial(name.value, node.kind, node.to))
-            self.readers.setdefault(name.signal.code.encode(), []).append((place, read))
-            self.values.append(read(b""))
+            self._readers.setdefault(name.signal.code.encode(), []).append((place, read))
+            self._values.append(read(b""))
         return found

@@ -8,7 +8,7 @@ from ..model.signals import Signal
 from ..model.values import Cell, Row, same, value_in, value_of
 from ..reading import body
 from ..reading.source import Source
-from .condition import Condition
+from .condition import Conditions
 
 TIMES_OF_A_CALL = 5000  # a word of Linux has at most 131,071 bytes
 RISE, FALL = (b"0", b"1"), (b"1", b"0")
@@ -36,7 +36,7 @@ def sampled(source: Source, times: Iterable[int], names: List[str]) -> Dict[int,
 
 
 def at_times(source: Source, columns: Collection[int], times: List[int], names: List[str],
-             only: Optional[Condition] = None) -> Iterator[Row]:
+             only: Optional[Conditions] = None) -> Iterator[Row]:
     """Returns a row for each of some times, with the values of the signals at some places, which
     full names select; only those at which a condition holds, if there is one."""
     if only:
@@ -47,21 +47,22 @@ def at_times(source: Source, columns: Collection[int], times: List[int], names: 
         yield Row(time, [found[time][place] for place in columns])
 
 
-def _holding(source: Source, condition: Condition, times: Iterable[int]) -> Set[int]:
+def _holding(source: Source, condition: Conditions, times: Iterable[int]) -> Set[int]:
     """Returns those of some times at whose end a condition holds."""
     waiting, found = sorted(set(times), reverse=True), set()
-    held = condition.holds()
-    part = source.cut(0, max(waiting, default=0)).part(condition.paths)
-    for time, before, changes in body.steps(part, condition.codes):
+    holds = condition.compiled()
+    held = holds()
+    part = source.cut(0, max(waiting, default=0)).part([*condition.paths])
+    for time, before, changes in body.steps(part, condition.over):
         condition.take(before + changes)
         while waiting and waiting[-1] <= time:
             if waiting[-1] == time:
-                held = condition.holds()
+                held = holds()
             one = waiting.pop()
             if held:
                 found.add(one)
         condition.end()
-        held = condition.holds()
+        held = holds()
     return found.union(waiting if held else ())
 
 
@@ -111,12 +112,12 @@ class _Cells:
 
 
 def as_they_come(source: Source, names: List[str], columns: Sequence[Signal],
-                 edges: Set[body.Edge], only: Optional[Condition]) -> Iterator[Row]:
+                 edges: Set[body.Edge], only: Optional[Conditions]) -> Iterator[Row]:
     """Returns a row for each time that has one of some edges, with the values just before it; if
     there is no edge, for each time at whose end a value of a column is another one than before it,
     with the values at its end. With a condition, it returns only the rows at which that holds. The
     names select all these signals."""
-    codes = {one.code.encode() for one in columns}.union(only.codes if only else ())
+    codes = {one.code.encode() for one in columns}.union(only.over if only else ())
     pairs = (body.at_edges(source, names, codes, edges) if edges
              else ((time, before + changes if before else changes)
                    for time, before, changes in body.steps(source.part(names), codes)))
@@ -127,15 +128,15 @@ def as_they_come(source: Source, names: List[str], columns: Sequence[Signal],
 
 
 def _rows(pairs: Iterable[Tuple[int, body.Changes]], columns: Sequence[Signal], is_every: bool,
-          only: Optional[Condition]) -> Iterator[Pair]:
+          only: Optional[Conditions]) -> Iterator[Pair]:
     """Returns a row for each time with its changes, unless no value of a column is another one, if
     not every one is asked for."""
-    cells = _Cells(columns)
+    cells, holds = _Cells(columns), only.compiled() if only else None
     for time, changes in pairs:
         is_other = cells.take(changes)
         if only:
             only.take(changes)
-        if (is_other or is_every) and (only is None or only.holds()):
+        if (is_other or is_every) and (holds is None or holds()):
             yield time, cells.row[:]
         if only:
             only.end()

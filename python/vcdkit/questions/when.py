@@ -1,16 +1,18 @@
 """The times at which a condition holds, and how long answers take."""
 import collections
-from typing import (Any, Callable, Collection, Deque, Dict, Iterator, List, NamedTuple, Optional,
-                    Sequence, Set, Tuple)
+import functools
+from typing import (Callable, Collection, Deque, Iterator, List, NamedTuple, Optional, Sequence,
+                    Tuple)
 
 from ..errors import DumpFault, UnknownName, UsageError
 from ..reading import body
 from ..reading.source import Source
-from .condition import Condition
+from .condition import Condition, Conditions
 from .expression import Span
 from .rows import edges_of
 
 MAX_WAITING = 1_000_000  # starts without an answer
+Numbers = Tuple[int, ...]  # of conditions
 
 
 class Outcome(NamedTuple):
@@ -30,44 +32,27 @@ class _Request(NamedTuple):
 
 
 class _Question:
-    """A condition that is asked, and what is known of it up to now."""
+    """A condition that is asked, and its requests that wait for an answer."""
 
-    def __init__(self, dump: Source, text: str, has_clock: bool, every: bool, in_order: bool):
-        self.condition = Condition(text, dump, has_clock)
-        self.every, self.in_order = every, in_order
-        self.has_clock, self.span = has_clock, self.condition.span
-        self.ticks = _ticks_of(self.span, dump, has_clock)
+    def __init__(self, condition: Condition, ticks: int, in_order: bool):
+        self.condition, self.span, self.in_order = condition, condition.span, in_order
+        self.ticks = ticks
         self.overlaps = 0  # requests that began before the answer of the one before
         self._waiting: Deque[_Request] = collections.deque()
         self._late = 0  # of them, how many wait for an answer that would come too late
-        self._held, self._looks = False, 0
-        self._is_plain = not self.condition.answer and not self.condition.has_more
+        self._looks = 0
 
-    def look(self, time: int) -> List[Outcome]:
-        """Takes the values at a time as those at which the condition is looked at. Returns what is
-        known then: of a condition without an answer, that it begins to hold."""
-        condition = self.condition
-        holds = condition.holds()
-        is_start, self._held = holds and (self.every or not self._held), holds
-        found = [Outcome(time, time, 0)] if is_start else []
-        if self._is_plain:
-            return found
-        if condition.answer:
-            found = self._outcomes(time, is_start)
-        if condition.end() and not self.has_clock:  # they are over
-            self._held = condition.holds()
-        return found
-
-    def _outcomes(self, time: int, is_start: bool) -> List[Outcome]:
-        """Returns the requests that get their answer at a time, and those that get none."""
-        condition, waiting = self.condition, self._waiting
+    def look(self, time: int, starts: int, holding: int) -> List[Outcome]:
+        """Returns the requests that get their answer at a time, and those that get none. Of all
+        conditions, some begin to hold there, and some hold."""
+        waiting, bits = self._waiting, self.condition
         now = time if self.span and self.span.unit else self._looks
         self._looks += 1
         found = self.late(now)
-        if is_start:
+        if starts & bits.bit:
             self.overlaps += bool(waiting)
             waiting.append(_Request(time, now + self.ticks))
-        if waiting and condition.answer and condition.answer():
+        if waiting and holding & bits.answer:
             its = [waiting.popleft() for _ in range(1 if self.in_order else len(waiting))]
             found += [Outcome(begin, time, now - until + self.ticks) for begin, until in its
                       if until >= now]
@@ -90,11 +75,6 @@ class _Question:
             else:
                 self._waiting.popleft()
         return found
-
-    @property
-    def is_asking(self) -> bool:
-        """Whether it may say something at an edge at which no value of it is another one."""
-        return self.every or not self._is_plain
 
     @property
     def has_latency(self) -> bool:
@@ -127,25 +107,26 @@ class Questions:
         if (every or in_order) and not self.clocks:
             raise UsageError("%s: name a clock by rise or fall" % (
                 "every edge" if every else "in order"))
+        self.every = every or in_order
+        self.conditions = Conditions(dump, bool(self.clocks))
         self.each: List[_Question] = []
         for name, text in rules:
             try:
-                self.each.append(_Question(dump, text, bool(self.clocks), every or in_order,
-                                           in_order))
+                one = self.conditions.add(text)
+                ticks = _ticks_of(one.span, dump, bool(self.clocks))
             except (UsageError, UnknownName) as error:
                 if not name:
                     raise
                 raise UsageError("%s: %s" % (name, error)) from None
+            self.each.append(_Question(one, ticks, in_order))
         self.edges = edges_of(dump, rise, fall)
 
-    def outcomes(self) -> Iterator[Tuple[int, Outcome]]:
-        """Returns what becomes of each condition, with its number, as soon as that is known."""
+    def outcomes(self) -> Iterator[Tuple[Numbers, Outcome]]:
+        """Returns what becomes of each condition, with its number, as soon as that is known. Those
+        without an answer that begin to hold at a time come as one."""
         fault: Optional[DumpFault] = None
         try:
-            for time, numbers in self._looks():
-                for number in numbers:
-                    for one in self.each[number].look(time):
-                        yield number, one
+            yield from self._known()
         except DumpFault as error:
             fault = error
         waiting = [number for number, its in enumerate(self.each) if its.waits_for_a_time]
@@ -153,42 +134,53 @@ class Questions:
         for number in waiting:
             for one in self.each[number].late_at_end(
                     lambda time: self.dump.is_finished(time, fault) if fault else time <= last):
-                yield number, one
+                yield (number,), one
         if fault:
             raise fault
 
-    def times(self) -> Iterator[int]:
-        """Returns the times at which the only condition holds."""
-        return (one.begin for _, one in self.outcomes() if self.is_listed(0, one))
+    def times(self) -> Iterator[Tuple[int, Numbers]]:
+        """Returns the times at which conditions hold, with their numbers: a request has its answer
+        in time, or has none, as is asked for."""
+        return ((one.begin, numbers) for numbers, one in self.outcomes()
+                if (one.answer is None) == self.each[numbers[0]].condition.is_refusal)
 
-    def is_listed(self, number: int, one: Outcome) -> bool:
-        """Whether a condition holds by an outcome: a request has its answer in time, or none."""
-        return (one.answer is None) == self.each[number].condition.is_refusal
+    def _known(self) -> Iterator[Tuple[Numbers, Outcome]]:
+        """Returns the outcomes that are known before the end of the dump."""
+        conditions, holding, held = self.conditions, self.conditions.compiled(), 0
+        with_answer = [(number, one) for number, one in enumerate(self.each)
+                       if one.condition.answer]
+        plain = ~sum(one.condition.bit | one.condition.answer for _, one in with_answer)
+        numbers_of = functools.lru_cache(maxsize=1 << 12)(self._numbers)
+        for time, due in self._looks():
+            now = holding(due)
+            starts = now if self.every else now & ~held
+            held = held & ~due | now
+            if starts & plain:
+                yield numbers_of(starts & plain), Outcome(time, time, 0)
+            for number, one in with_answer:
+                for outcome in one.look(time, starts, now) if due & one.condition.bit else ():
+                    yield (number,), outcome
+            over = conditions.end() if conditions.with_more else 0
+            if over and not self.edges:  # the events are over
+                held = held & ~over | holding(over)
 
-    def _looks(self) -> Iterator[Tuple[int, Set[int]]]:
-        """Returns each time at which conditions are looked at, and the numbers of those of which a
-        value is another one there, or that say something at each time; they have the values
-        there."""
-        conditions = [one.condition for one in self.each]
-        # Of each code the numbers of its conditions, their values, its place there, and its reader.
-        readers: Dict[bytes, List[Tuple[int, List[Any], int, Callable[[bytes], Any]]]] = {}
-        for number, one in enumerate(conditions):
-            for code, its in one.readers.items():
-                readers.setdefault(code, []).extend((number, one.values, *each) for each in its)
-        names = [*dict.fromkeys(path for one in conditions for path in one.paths), *self.clocks]
-        begin = self.dump.begin()
-        always = {number for number, one in enumerate(self.each) if self.edges and one.is_asking}
-        times = (body.at_edges(self.dump, names, readers, self.edges) if self.edges
-                 else _with_begin(self.dump.part(names), readers, begin))
+    def _numbers(self, bits: int) -> Numbers:
+        """Returns the numbers of some conditions."""
+        return tuple(number for number, one in enumerate(self.each) if bits & one.condition.bit)
+
+    def _looks(self) -> Iterator[Tuple[int, int]]:
+        """Returns each time at which conditions are looked at, and those of which a value is
+        another one there, or that may say something at each edge; they have the values there."""
+        conditions, begin = self.conditions, self.dump.begin()
+        names = [*dict.fromkeys([*conditions.paths, *self.clocks])]
+        always = (-1 if self.every else conditions.with_more) if self.edges else 0
+        times = (body.at_edges(self.dump, names, conditions.over, self.edges) if self.edges
+                 else _with_begin(self.dump.part(names), conditions.over, begin))
         is_first = True
         for time, changes in times:
-            due = set(always)
-            for code, raw in changes:
-                for number, values, place, read in readers.get(code, ()):
-                    values[place] = read(raw)
-                    due.add(number)
+            due = conditions.take(changes) | always
             if is_first and (self.edges or 0 < begin == time):
-                due.update(range(len(conditions)))
+                due = -1
             is_first = False
             yield time, due
 
@@ -216,15 +208,15 @@ def _with_begin(part: Source, codes: Collection[bytes], begin: int
 def when(dump: Source, text: str, rise: Optional[str], fall: Optional[str],
          every: bool) -> Iterator[int]:
     """Returns the times of Dump.when."""
-    return Questions(dump, [("", text)], rise, fall, every).times()
+    return (time for time, _ in Questions(dump, [("", text)], rise, fall, every).times())
 
 
-def state(dump: Source, text: str, has_clock: bool) -> Condition:
+def state(dump: Source, text: str, has_clock: bool) -> Conditions:
     """Returns a condition that holds at a time or does not."""
-    condition = Condition(text, dump, has_clock)
-    if condition.answer is not None:
+    found = Conditions(dump, has_clock)
+    if found.add(text).answer:
         raise UsageError("bad condition: -> is of several times, and a row has one")
-    return condition
+    return found
 
 
 def _ticks_of(span: Optional[Span], dump: Source, has_clock: bool) -> int:
