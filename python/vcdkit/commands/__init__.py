@@ -6,7 +6,7 @@ import os
 import re
 import shlex
 import sys
-from typing import Any, Callable, List, Optional, TextIO, Tuple
+from typing import Any, Callable, Iterator, List, Optional, TextIO, Tuple
 
 from .. import __version__
 from ..errors import DumpFault, RunFailed, UsageError, VcdkitError
@@ -17,6 +17,7 @@ from ..questions.dump import Dump
 from ..questions.saved import names_of
 from ..reading import program
 from ..reading.files import text_of_file
+from ..reading.filtering import blocks_of
 from ..reading.formats import ENDINGS
 from ..reading.source import Source
 
@@ -163,12 +164,15 @@ def parser(name: str, text: str, done: str = "everything was written", failed: s
     return made
 
 
-def filter_of(name: str, text: str, words: List[str]) -> argparse.Namespace:
-    """Reads the words of a filter."""
+def filtered(name: str, text: str, words: List[str],
+             made: Callable[[Iterator[bytes]], Iterator[bytes]]) -> int:
+    """Runs a filter, which makes blocks of its output of those of its input; returns its
+    status."""
     options = parser(name, text, failed="")
     options.add_argument("file", metavar="FILE", nargs="?", default="-", help="the dump, which may "
                          "be compressed [default: standard input, uncompressed]")
-    return options.parse_args(words)
+    sys.stdout.buffer.writelines(made(blocks_of(options.parse_args(words).file)))
+    return 0
 
 
 def dump_of(asked: argparse.Namespace, file: Optional[str] = None,
@@ -208,11 +212,11 @@ def window_of(dump: Dump, asked: argparse.Namespace) -> Window:
     return Window(dump.ticks(asked.begin, is_up=True), dump.ticks(asked.end) + 1)
 
 
-def check_begin(dump: Dump, asked: argparse.Namespace) -> None:
-    """Refuses a --from after the end of the dump."""
-    is_late = after_end(dump, asked.begin, True)
+def check_begin(dump: Dump, time: str, option: str = "--from", is_up: bool = True) -> None:
+    """Refuses the time of an option if it is after the end of the dump."""
+    is_late = after_end(dump, time, is_up)
     if is_late:
-        raise UsageError("--from: " + is_late)
+        raise UsageError("%s: %s" % (option, is_late))
 
 
 def after_end(dump: Dump, time: str, is_up: bool = False) -> str:

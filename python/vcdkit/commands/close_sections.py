@@ -6,16 +6,12 @@ without such a fault stays as it is. The filter reads its input once and does no
 
 example:
   vcdkit-close-sections < sim.vcd | vcdkit check"""
-import sys
 from typing import List
 
-from ..reading.filtering import blocks_of
 from ..reading.sections import closed
-from . import command, filter_of
+from . import command, filtered
 
 
 @command
 def main(words: List[str]) -> int:
-    asked = filter_of("vcdkit-close-sections", __doc__, words)
-    sys.stdout.buffer.writelines(closed(blocks_of(asked.file)))
-    return 0
+    return filtered("vcdkit-close-sections", __doc__, words, closed)

@@ -52,8 +52,8 @@ from ..questions.compare import (ALWAYS, EACH_PAIR, FIRST, Comparison, Differenc
                                  Sides, choose, in_common, kind, same_within)
 from ..questions.dump import Dump
 from ..reading.files import check_outputs, write
-from . import (FAULT, LAST, after_end, check_begin, command, dump_of, is_part, parser, part_of,
-               question, times_of)
+from . import (FAULT, LAST, check_begin, command, dump_of, is_part, parser, part_of, question,
+               times_of)
 
 MAX_LINES = 20
 
@@ -174,16 +174,14 @@ def parts_of(dumps: Sequence[Dump], asked: argparse.Namespace) -> List[Dump]:
     scales = [dump.timescale for dump in dumps if dump.timescale]
     if len(set(scales)) < 2:
         for dump in dumps:
-            check_begin(dump, asked)
+            check_begin(dump, asked.begin)
         return [part_of(dump, asked) for dump in dumps]
     longest = max(scale.femtoseconds for scale in scales)
     begin = -(-scales[0].span(asked.begin) // longest) * longest
     end = scales[0].span(asked.end) // longest * longest if asked.end != LAST else None
     parts = []
     for dump, span in zip(dumps, (scale.femtoseconds for scale in scales)):
-        is_late = after_end(dump, dump.time(begin // span))
-        if is_late:
-            raise UsageError("--from: " + is_late)
+        check_begin(dump, dump.time(begin // span), is_up=False)
         parts.append(dump.cut(begin // span, LAST_TICK if end is None else
                               min(end // span, LAST_TICK)))
     return parts

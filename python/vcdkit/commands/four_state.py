@@ -8,16 +8,12 @@ you can run the simulation again, use an option of the simulator instead, such a
 
 example:
   vcdkit-four-state < tb.vcd | vcdkit check"""
-import sys
 from typing import List
 
-from ..reading.filtering import blocks_of
 from ..reading.states import four_states
-from . import command, filter_of
+from . import command, filtered
 
 
 @command
 def main(words: List[str]) -> int:
-    asked = filter_of("vcdkit-four-state", __doc__, words)
-    sys.stdout.buffer.writelines(four_states(blocks_of(asked.file)))
-    return 0
+    return filtered("vcdkit-four-state", __doc__, words, four_states)

@@ -11,16 +11,12 @@ not run vcdkit.
 
 example:
   vcdkit-join-bits < sim.vcd | vcdkit sample --at 15ns tb.q"""
-import sys
 from typing import List
 
-from ..reading.filtering import blocks_of
 from ..reading.bits import joined
-from . import command, filter_of
+from . import command, filtered
 
 
 @command
 def main(words: List[str]) -> int:
-    asked = filter_of("vcdkit-join-bits", __doc__, words)
-    sys.stdout.buffer.writelines(joined(blocks_of(asked.file)))
-    return 0
+    return filtered("vcdkit-join-bits", __doc__, words, joined)

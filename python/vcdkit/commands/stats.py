@@ -130,7 +130,7 @@ def main(words: List[str]) -> int:
     dump = dump_of(asked)
     times_of(dump, asked)  # a unit needs a time scale
     dump.select(asked.names)
-    check_begin(dump, asked)
+    check_begin(dump, asked.begin)
     window = window_of(dump, asked)
     if asked.toggle or asked.saif is not None:
         write_bits(dump, window, asked)

@@ -55,7 +55,7 @@ def main(words: List[str]) -> int:
     scale = whole.timescale
     in_unit = asked.unit or (scale.unit if scale else "tick")
     whole.ticks("0" if in_unit == "tick" else "0" + in_unit)  # a unit needs a time scale
-    check_begin(whole, asked)
+    check_begin(whole, asked.begin)
     # Values at the begin of a cut are a section, and none that changed.
     dump = part_of(whole, asked)
     rows = dump.rows(asked.names, times, asked.rise, asked.fall, asked.condition)

@@ -27,7 +27,7 @@ from ..model.times import Window
 from ..questions.dump import Dump
 from ..questions.lanes import lanes_of
 from ..questions.streams import Reader
-from . import after_end, check_begin, command, dump_of, is_part, parser, window_of
+from . import check_begin, command, dump_of, is_part, parser, window_of
 
 LEAST_WIDTH, MAX_WIDTH = 100, 20000  # pixels: room for a time of the axis; that of lanes
 MAX_SIGNALS = 200  # rows of a picture
@@ -36,14 +36,12 @@ MAX_SIGNALS = 200  # rows of a picture
 def shown_window(dump: Dump, asked: argparse.Namespace) -> Window:
     """Returns the window that the words ask for, which ends with the dump if that is earlier."""
     if asked.around is None:
-        check_begin(dump, asked)
+        check_begin(dump, asked.begin)
         return dump.window_to_end(window_of(dump, asked))
     if asked.context is None:
         raise UsageError("--around needs --context TIME, how much before and after it")
     begin, last = dump.window(asked.around, asked.context)
-    is_late = after_end(dump, dump.time(begin))
-    if is_late:
-        raise UsageError("--around: " + is_late)
+    check_begin(dump, dump.time(begin), "--around", False)
     return dump.window_to_end(Window(begin, last + 1))
 
 

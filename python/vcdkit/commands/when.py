@@ -164,7 +164,7 @@ def main(words: List[str]) -> int:
                        asked.in_order)
     if asked.latency and not asking.each[0].has_latency:
         raise UsageError("latencies are those of a condition such as req -> ack within 50")
-    check_begin(dump, asked)
+    check_begin(dump, asked.begin)
     if asked.rules is not None:
         return int(not list_rules(asking, rules, text, asked))
     count = (list_latencies(asking, dump, text, asked) if asked.latency

@@ -40,7 +40,7 @@ def main(words: List[str]) -> int:
     for one in dump.select(asked.names) if asked.names else dump.signals:
         if not one.is_real and one.type != "event":
             signals.setdefault(one.code.encode(), []).append(one)
-    check_begin(dump, asked)
+    check_begin(dump, asked.begin)
     part = dump.cut(asked.begin, asked.end).part(asked.names)
     count = 0
     traced: Set[str] = set()  # paths

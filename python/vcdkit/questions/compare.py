@@ -87,10 +87,6 @@ class Side:
         found = [self._mapped(one.path, self._maps) for one in self.dump.declarations[at].scopes]
         return [one for one in reversed(found) if self.names[at].startswith(one + ".")]
 
-    def full(self, name: str) -> str:
-        """Returns the name for which another one stands, as tb.q[3:0] for tb.q."""
-        return full_names([name], self.names, self._known)[name]
-
     def selected(self, asked: Sequence[str]) -> Dict[str, Set[str]]:
         """Returns of each name that is asked for the names of the signals that it selects."""
         full = full_names(asked, self.names, self._known)
@@ -103,7 +99,7 @@ class Side:
 
     def clock(self, name: str) -> Signal:
         """Returns the signal of one bit that has a name."""
-        full = self.full(name)
+        full = full_names([name], self.names, self._known)[name]
         pairs: List[Tuple[Signal, str]] = list(zip(self.signals, self.names))
         its = ([signal for signal, its in pairs if its == full]
                or [signal for signal, its in pairs if plain(its) == plain(name)])

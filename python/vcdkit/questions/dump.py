@@ -15,8 +15,8 @@ from ..reading import arrays, body, library
 from ..reading.files import write
 from ..reading.source import Names, Source, merge, way
 from ..reading.texts import Bytes, File, Text
-from . import when
 from .rows import as_they_come, at_times, edges_of, sampled, states
+from .when import Questions, state
 
 __all__ = ["Dump", "merge", "way"]
 
@@ -156,7 +156,7 @@ class Dump(Source):
         edges = edges_of(self, rise, fall)
         if at is not None and edges:
             raise UsageError("rows are at times or at edges: give `at`, or `rise` and `fall`")
-        only = None if condition is None else when.state(
+        only = None if condition is None else state(
             self, condition, rise is not None or fall is not None)
         if at is not None:
             return at_times(self, columns, [self.ticks(time) for time in _each(at)], its, only)
@@ -186,7 +186,8 @@ class Dump(Source):
         falls, with the values just before that time, with both at each of these edges; with
         `every`, each such time counts at which it holds. UsageError if it is no condition,
         UnknownName if a name of it selects nothing."""
-        return when.when(self, condition, rise, fall, every)
+        asking = Questions(self, [("", condition)], rise, fall, every)
+        return (time for time, _ in asking.times())
 
 
 def compiled(pattern: str, flags: int = 0) -> "re.Pattern[str]":

@@ -13,15 +13,9 @@ from .rows import edges_of
 
 MAX_WAITING = 1_000_000  # starts without an answer
 Numbers = Tuple[int, ...]  # of conditions
-
-
-class Outcome(NamedTuple):
-    """What becomes of a request: when it begins, when its answer comes (`None` if none comes in
-    time), and how long that is: in edges if the condition counts them, else in ticks."""
-
-    begin: int
-    answer: Optional[int]
-    length: int
+# When a request begins, when its answer comes, `None` if none comes in time, and how long that is:
+# in edges if the condition counts them, else in ticks.
+Outcome = Tuple[int, Optional[int], int]
 
 
 class _Request(NamedTuple):
@@ -54,7 +48,7 @@ class _Question:
             waiting.append(_Request(time, now + self.ticks))
         if waiting and holding & bits.answer:
             its = [waiting.popleft() for _ in range(1 if self.in_order else len(waiting))]
-            found += [Outcome(begin, time, now - until + self.ticks) for begin, until in its
+            found += [(begin, time, now - until + self.ticks) for begin, until in its
                       if until >= now]
             self._late = max(self._late - len(its), 0)
         if self.span and not self.span.unit:  # each edge is looked at once
@@ -67,9 +61,9 @@ class _Question:
     def late(self, now: int) -> List[Outcome]:
         """Returns the requests that waited until a time before this one. In order, they still get
         their answers, which are too late."""
-        found = []
+        found: List[Outcome] = []
         while self._late < len(self._waiting) and self._waiting[self._late].until < now:
-            found.append(Outcome(self._waiting[self._late].begin, None, 0))
+            found.append((self._waiting[self._late].begin, None, 0))
             if self.in_order:
                 self._late += 1
             else:
@@ -141,26 +135,29 @@ class Questions:
     def times(self) -> Iterator[Tuple[int, Numbers]]:
         """Returns the times at which conditions hold, with their numbers: a request has its answer
         in time, or has none, as is asked for."""
-        return ((one.begin, numbers) for numbers, one in self.outcomes()
-                if (one.answer is None) == self.each[numbers[0]].condition.is_refusal)
+        refusals = [one.condition.is_refusal for one in self.each]
+        for numbers, (begin, answer, _) in self.outcomes():
+            if (answer is None) == refusals[numbers[0]]:
+                yield begin, numbers
 
     def _known(self) -> Iterator[Tuple[Numbers, Outcome]]:
         """Returns the outcomes that are known before the end of the dump."""
         conditions, holding, held = self.conditions, self.conditions.compiled(), 0
+        again = -1 if self.every else 0
         with_answer = [(number, one) for number, one in enumerate(self.each)
                        if one.condition.answer]
         plain = ~sum(one.condition.bit | one.condition.answer for _, one in with_answer)
         numbers_of = functools.lru_cache(maxsize=1 << 12)(self._numbers)
         for time, due in self._looks():
             now = holding(due)
-            starts = now if self.every else now & ~held
+            starts = now & (~held | again)
             held = held & ~due | now
             if starts & plain:
-                yield numbers_of(starts & plain), Outcome(time, time, 0)
+                yield numbers_of(starts & plain), (time, time, 0)
             for number, one in with_answer:
                 for outcome in one.look(time, starts, now) if due & one.condition.bit else ():
                     yield (number,), outcome
-            over = conditions.end() if conditions.with_more else 0
+            over = conditions.with_more and conditions.end()
             if over and not self.edges:  # the events are over
                 held = held & ~over | holding(over)
 
@@ -203,12 +200,6 @@ def _with_begin(part: Source, codes: Collection[bytes], begin: int
         yield begin, []
     if fault:
         raise fault
-
-
-def when(dump: Source, text: str, rise: Optional[str], fall: Optional[str],
-         every: bool) -> Iterator[int]:
-    """Returns the times of Dump.when."""
-    return (time for time, _ in Questions(dump, [("", text)], rise, fall, every).times())
 
 
 def state(dump: Source, text: str, has_clock: bool) -> Conditions:
