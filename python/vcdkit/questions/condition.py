@@ -261,6 +261,7 @@ class Conditions:
         return self._function([*lines, "return now"])
 
     def _function(self, lines: List[str]) -> Callable[..., Any]:
+        """Returns a function of these lines."""
         exec("\n ".join(["def found(due=-1):", *lines]), self._known)
         found: Callable[..., Any] = self._known["found"]
         return found

@@ -1,6 +1,5 @@
 """Bits that are declared one by one, which become vectors."""
 import io
-import itertools
 import re
 from collections import Counter
 from typing import Dict, Iterable, Iterator, List, NamedTuple, Optional, Set, Tuple
@@ -26,10 +25,9 @@ class Bit(NamedTuple):
 
 def joined(blocks: Iterator[bytes]) -> Iterator[bytes]:
     """Returns a dump, which comes in blocks of whole lines, with its bits in vectors, in pieces."""
-    text, rest = header.parted(blocks)
+    text, body = header.parted(blocks)
     vectors = _Vectors()
     yield from _of_header(text, vectors)
-    body = itertools.chain([rest], blocks)
     yield from vectors.of_blocks(body) if vectors.places else body
 
 

@@ -1,7 +1,8 @@
 """The header of a dump: its commands, one after the other, and what they declare. Filters read
 headers here too, so that a command may be on several lines, and several commands on one."""
+import itertools
 import re
-from typing import Collection, Dict, Iterable, Iterator, List, NamedTuple, Optional, Tuple
+from typing import Collection, Dict, Iterator, List, NamedTuple, Optional, Tuple
 
 from ..model.names import RANGE, field_of
 from ..model.signals import Declaration, Header, Scope, Signal
@@ -31,9 +32,9 @@ def commands(text: bytes) -> Iterator[Command]:
             break
 
 
-def parted(blocks: Iterable[bytes]) -> Tuple[bytes, bytes]:
-    """Reads up to the end of a header. Returns the header, and what was read behind it. A header
-    without an end has all that there is."""
+def parted(blocks: Iterator[bytes]) -> Tuple[bytes, Iterator[bytes]]:
+    """Reads blocks of whole lines up to the end of a header. Returns the header, and the blocks
+    behind it. A header without an end has all that there is."""
     text, is_near = bytearray(), False
     for block in blocks:
         begin = max(len(text) - len(LAST), 0)
@@ -42,8 +43,8 @@ def parted(blocks: Iterable[bytes]) -> Tuple[bytes, bytes]:
         for one in commands(bytes(text)) if is_near else ():
             if one.keyword == LAST:
                 end = BLANK.match(text, one.end).end()  # type: ignore[union-attr]
-                return bytes(text[:end]), bytes(text[end:])
-    return bytes(text), b""
+                return bytes(text[:end]), itertools.chain([bytes(text[end:])], blocks)
+    return bytes(text), blocks
 
 
 def facts(text: bytes) -> Header:

@@ -1,5 +1,4 @@
 """The sections of a dump, of which each gets its $end."""
-import itertools
 from typing import Iterable, Iterator, List
 
 from . import header
@@ -9,9 +8,9 @@ from .body import NO_CHANGE, NO_CHANGE_OR_TIME
 def closed(blocks: Iterator[bytes]) -> Iterator[bytes]:
     """Returns a dump, which comes in blocks of whole lines, in pieces, with each $end that is
     missing, and without those that end nothing."""
-    text, rest = header.parted(blocks)
+    text, body = header.parted(blocks)
     yield text
-    yield from _Sections().of_blocks(itertools.chain([rest], blocks))
+    yield from _Sections().of_blocks(body)
 
 
 class _Sections:

@@ -1,6 +1,5 @@
 """The nine states of VHDL in a dump, which become the four of VCD."""
 import io
-import itertools
 import re
 from typing import Iterable, Iterator
 
@@ -13,7 +12,7 @@ FOUR = bytes.maketrans(b"UuWw-LlHh", b"xxxxx0011")
 def four_states(blocks: Iterator[bytes]) -> Iterator[bytes]:
     """Returns a dump, which comes in blocks of whole lines, with four states and without strings,
     in pieces."""
-    text, rest = header.parted(blocks)
+    text, body = header.parted(blocks)
     at = 0
     for one in header.commands(text):
         if one.keyword == b"$var" and one.words[:1] == [b"string"]:
@@ -21,7 +20,7 @@ def four_states(blocks: Iterator[bytes]) -> Iterator[bytes]:
             yield text[at:text.rfind(b"\n", 0, one.begin) + 1 if is_line else one.begin]
             at = (text + b"\n").index(b"\n", one.end) + 1 if is_line else one.end
     yield text[at:]
-    yield from _of_body(itertools.chain([rest], blocks))
+    yield from _of_body(body)
 
 
 def _of_body(blocks: Iterable[bytes]) -> Iterator[bytes]:
