@@ -20,6 +20,7 @@ from .expression import Node, ConditionText, Span, bad
 
 GROUP = 30  # bits of which Python is fast
 Read = Callable[[bytes], Value]
+NONE: Tuple[int, List[Tuple[int, Read]]] = 0, []  # no condition, and nothing that reads
 SAME = ("===", "!==", "stable", "changed")
 OF_BITS = ("%", "===", "!==", "{", "signed", "unsigned", "rose", "fell", *BITWISE, *SHIFTS,
            *REDUCTIONS)
@@ -187,6 +188,7 @@ class Conditions:
         self._values: List[Value] = []
         self._readers: Dict[bytes, List[Tuple[int, Read]]] = {}
         self._places: Dict[Tuple[_Name, Kind, Kind], int] = {}
+        self._of_code: Dict[bytes, Tuple[int, List[Tuple[int, Read]]]] = {}  # both in one
         self._events: Dict[bytes, None] = {}
         self._pasts: List[Tuple[Node, Deque[Value]]] = []  # of the last condition
         self._samples: List[Tuple[Deque[Value], Callable[..., Value]]] = []
@@ -230,12 +232,12 @@ class Conditions:
     def take(self, changes: Changes) -> int:
         """Takes changes, of which some may be of other signals; returns the conditions that name
         those of the others."""
-        found, values, readers, over = 0, self._values, self._readers, self.over
+        found, values, of_code = 0, self._values, self._of_code.get
         for code, raw in changes:
-            if code in over:
-                found |= over[code]
-                for place, read in readers[code]:
-                    values[place] = read(raw)
+            bits, readers = of_code(code, NONE)
+            found |= bits
+            for place, read in readers:
+                values[place] = read(raw)
         return found
 
     def end(self) -> int:
@@ -252,6 +254,7 @@ class Conditions:
 
     def compiled(self) -> Callable[..., int]:
         """Returns what returns those of some conditions that hold at the values that there are."""
+        self._of_code = {code: (bits, self._readers[code]) for code, bits in self.over.items()}
         lines = ["now = 0"]
         for begin in range(0, len(self._tests), GROUP):
             lines += ["some = due >> %d & %d" % (begin, (1 << GROUP) - 1), "if some:"]
