@@ -67,7 +67,8 @@ class Side:
         self.keys = list(keys_in(one.path for one in self.signals))
         self.found: Set[str] = set()
         self.mapped: Set[str] = set()
-        self._bare = {front for front, _ in maps if not any(  # no scopes: for what has a range too
+        # Those of no scope are for what has a range too.
+        self._bare = {front for front, _ in maps if not any(
             one.path.startswith(front + ".") for one in self.signals)}
         self.names = [self._mapped(one.path, maps) for one in self.signals]
         self._known, self._maps = frozenset(self.names), maps
