@@ -8,7 +8,7 @@ import signal
 import subprocess
 import tempfile
 import threading
-from typing import BinaryIO, Dict, Iterator, List, Optional, Sequence, Union, cast
+from typing import IO, BinaryIO, Dict, Iterator, List, Optional, Sequence, Union, cast
 
 from ..errors import RunFailed, UnknownName, VcdkitError, error_of
 from . import header, progress
@@ -131,6 +131,7 @@ class _Pipe:
         self.parts: List[_Part] = []
         self.threads: List[threading.Thread] = []
         self.errors: List[Exception] = []  # of threads
+        self.copies: List[IO[bytes]] = []  # they are removed with this object
         progress.running.append(self.part_read)
 
     def start(self, words: Sequence[str], stdin: Optional[BinaryIO], names: Dict[str, str],
@@ -176,8 +177,7 @@ class _Pipe:
         if text.command != "merge":
             return self.start([program, text.command, *text.words], files[0],
                               {"(stdin)": text.of[0].name}, text.of[0], (), is_merged)
-        # The first one is standard input: a system without /proc has no /dev/fd.
-        names = ["/dev/fd/%d" % file.fileno() for file in files[1:]]
+        names = [self._name_of(file) for file in files[1:]]  # the first one is standard input
         try:
             return self.start([program, "merge", *text.words, "--", "-", *names], files[0],
                               dict(zip(["(stdin)", *names], (one.name for one in text.of))),
@@ -185,6 +185,17 @@ class _Pipe:
         finally:
             for file in files[1:]:
                 file.close()
+
+    def _name_of(self, file: BinaryIO) -> str:
+        """Returns a name by which a program can open a file. A system without /proc has no /dev/fd:
+        there, the file is copied first."""
+        name = "/dev/fd/%d" % file.fileno()
+        if os.path.exists(name):
+            return name
+        self.copies.append(tempfile.NamedTemporaryFile())
+        shutil.copyfileobj(file, self.copies[-1])
+        self.copies[-1].flush()
+        return self.copies[-1].name
 
     def head(self, text: Headed, is_merged: bool) -> BinaryIO:
         """Returns a file from which a text with another header can be read."""
