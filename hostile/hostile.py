@@ -11,7 +11,8 @@ memory   Each request of a run is refused in turn. The run must end without outp
          asked for more than it needs, or if the request is for the key of a code that was declared
          with another size. A dump with 5,000 comments at its end makes as many requests, of as many
          bytes, as one with five. All requests together stay below a bound: the windows, four times
-         what is kept of the headers, and 64 KB for the command line and the two buffers.
+         what is kept of the headers (for vcdkit-compare, five times), and 64 KB for the command
+         line and the two buffers.
 large    There is plenty of memory: the whole outcome, below the same bound.
 devices  Each read and write transfers 1, 2, 3, 5 or 7 bytes: the whole outcome. Read number 1, 2,
          3, .. of a file or of standard input fails: the outcome of the bytes until then. Write
@@ -77,12 +78,11 @@ def say(case, what, want, got):
 COMMAND_LINE = 65_536
 
 
-def bound(inputs, limit=1_048_576):
-    """The bytes that a run over these inputs may ask for in all. Windows are asked for once. What
-    is kept of a header grows with it: its sizes double, so all of them together are at most four
-    times the last one."""
+def bound(case, limit=1_048_576):
+    """The bytes that a run may ask for in all. Windows are asked for once. What is kept of a header
+    grows with it: its sizes double, so all of them together are at most four times the last one."""
     windows = held = 0
-    for text in inputs:
+    for text in case.inputs:
         try:
             head = evaluator.read_head(evaluator.Tokens(text, limit), evaluator.MOST_DECLARATIONS)
         except evaluator.Fault:
@@ -90,12 +90,12 @@ def bound(inputs, limit=1_048_576):
         windows += 65_536 + 512 + 2 * limit
         # Texts, declarations and codes are parts of the input.
         held += len(text) + 64 * len(head.rows) + sum(size + 192 for size, _ in head.codes.values())
-    return windows + 4 * held + COMMAND_LINE
+    return windows + case.times_kept * held + COMMAND_LINE
 
 
 def too_much(case, asked):
     """Returns what to say if a run asks for more bytes than it may."""
-    most = bound(case.inputs)
+    most = bound(case)
     return [say(case, "bytes asked for in all", "at most %d" % most, asked)] if asked > most else []
 
 
