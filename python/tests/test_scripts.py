@@ -959,6 +959,13 @@ class Conditions(Case):
         self.assertIn(b"cannot be read at x, after a[1]is\n",
                       run("vcdkit-when", [dump, "a[1]is x"])[2])
 
+    def test_no_value_in_a_wider_expression(self):
+        dump = self.file("a.vcd", b"$var wire 2 ! a $end $var wire 4 \" b $end $enddefinitions $end"
+                                  b" #0 b101 \" #5 b1 !\n")
+        for condition, times in (("(a | b) >> 2 == 1", ["0"]), ("(a | b) == 5", ["5"]),
+                                 ("a === 1", ["5"]), ("a !== 9 & b === 5", ["5"])):
+            self.assertEqual(said("vcdkit-when", dump, condition), [*times, "status 0"])
+
     def test_late_before_a_fault(self):
         body = b"#0 1! 0\" #10 1# #20 0#\n"
         asked, latency = "!(req -> ack within %s)", ["0 in time, 1 late", "status 1"]

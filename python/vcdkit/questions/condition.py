@@ -51,7 +51,8 @@ class _Name(NamedTuple):
             return 1 if raw else 0
         if not raw or raw[:1] == b"r":
             number = real_of(raw) if raw and not own.width else ""
-            return number if isinstance(number, float) else "-" * (to.width or 1)
+            return number if isinstance(number, float) else converted(
+                "-" * (own.width or 1), own, to)
         text = raw.decode()
         digits = text.rjust(self.signal.size, extension(text))[self.begin:self.end]
         return converted(value_of_digits(digits, own if own.width else kind_of(len(digits))), own,
