@@ -148,7 +148,7 @@ def ask_when_before(of: Asker) -> None:
             words += ["--latency"]
             its = [one for one in its if one.answer is not None]
             wanted = ["%d %s %d" % one for one in sorted(its, key=lambda one: (one[1], one[0]))]
-    said = run("when", ["--unit", "tick", *words, bad.path, text])
+    said = run("when", ["--unit", "tick", *words, "--", bad.path, text])
     of.same("when before a fault", [bad, *words, text], (said.status, said.lines, bad.fault in
                                                          said.message), (2, wanted, True))
 

@@ -117,7 +117,7 @@ class Sides:
         found: Dict[Tuple[str, str], int] = {}
         for at, letter in enumerate("AB"):
             paired = {group[at] for group in self.groups}
-            theirs = self.all_names[1 - at] | self.all_scopes[1 - at] | paired | {
+            theirs = _fronts(self.all_names[1 - at]) | self.all_scopes[1 - at] | paired | {
                 scope for name in paired for one in self.of_name[at][name]
                 for scope in self._scopes(one)}
             for one in [one for name, its in self.of_name[at].items() if name not in paired
@@ -126,6 +126,12 @@ class Sides:
                             self.asked.renamed(one.path))
                 found[letter, name] = found.get((letter, name), 0) + 1
         return [(*key, count) for key, count in found.items()]
+
+
+def _fronts(names: Set[str]) -> Set[str]:
+    """Returns the names, and what is before each dot in them: a name selects what is inside it, be
+    it a scope or not."""
+    return {name[:at] for name in names for at, letter in enumerate(name + ".") if letter == "."}
 
 
 # ---- What is asked.
