@@ -705,7 +705,8 @@ class Rules(Case):
             v % ("15ns", "0011", "0100"), "status 1"])
 
     def test_two_dumps_of_other_ticks(self):
-        head = b"$timescale %s $end $var wire 1 ! c $end $var real 64 r r $end $enddefinitions $end "
+        head = (b"$timescale %s $end $var wire 1 ! c $end $var real 64 r r $end "
+                b"$enddefinitions $end ")
         body = b"#0 0! r1 r #5 1! #9 r1.50 r #20\n"
         one = self.file("a.vcd", head % b"1ns" + body)
         other = self.file("b.vcd", head[19:] + body.replace(b"1.50", b"1.5"))
