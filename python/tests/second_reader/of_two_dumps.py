@@ -164,7 +164,9 @@ def random_asked(of: Asker, changed: Changed, other: Dump) -> Asked:
     if of.happens(.15):
         scope = of.random.choice(of.dump.variables).scope
         if scope and not any(is_inside(one.path, "NEW") for one in of.dump.variables):
-            maps += [(scope, "NEW.s")] + [(changed.top + "." + scope, "NEW.s")] * bool(changed.top)
+            its = changed.top + "." + scope if changed.top else scope
+            is_there = any(is_inside(one.path, its) for one in other.variables)
+            maps += [(scope, "NEW.s")] + [(its, "NEW.s")] * (is_there and its != scope)
     window = of.window(.3) if of.happens(.3) else Window([], 0, LAST, False)
     if other.tick != of.dump.tick and window.words:
         window = Window([], 0, LAST, False)  # a number of ticks is another time in each dump
