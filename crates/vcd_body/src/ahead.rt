@@ -10,10 +10,10 @@ use crate::phrases::{has_room, real_text, scalar_code, vector_text};
 use crate::values::bits::Bits;
 use crate::words::{
     KeywordUse, PhraseKind, after_first, are_binary_or_known, bits_at, first_byte_of, is_comment,
-    is_end, keyword_use_of, kind_by, kind_of, rest_of,
+    keyword_use_of, kind_by, kind_of, rest_of,
 };
 use vcd_text::{Ahead, Feed, Sink, Source, WriteFailed, decimal_at};
-use vcd_view::{Found, HeadView, find_in_entry, find_sized};
+use vcd_view::{Found, HeadView, find_in_entry, find_sized, is_end};
 
 /// An item that was taken ahead, and the bytes of the chunk in which it lies. Only a change has a
 /// text, a size and `bits`: of any other item `code_at` is `at`, the offset after its first byte.

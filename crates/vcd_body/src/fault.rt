@@ -4,33 +4,33 @@
 #[derive(Clone, Copy, PartialEq, Eq, Debug)]
 pub enum BodyFault {
     /// A token has more bytes than its window (fault 1).
-    TokenTooLong,
+    TokenTooLong = 1,
     /// The input ends inside a section, or inside a phrase (fault 2).
-    EndOfInput,
+    EndOfInput = 2,
     /// A phrase begins with none of the body's tokens (fault 3).
-    UnknownCommand,
+    UnknownCommand = 3,
     /// A keyword that belongs into the header, a section inside a section, or an `$end` outside of
     /// one (fault 4).
-    OutOfPlace,
+    OutOfPlace = 4,
     /// No decimal number below 2^64 after `#` (fault 13).
-    BadTime,
+    BadTime = 13,
     /// A timestamp below one that was read (fault 14).
-    TimeBack,
+    TimeBack = 14,
     /// Digits are missing or other bytes than `0 1 x X z Z`; or no code follows a digit, or no text
     /// follows `r` (fault 15).
-    BadValue,
+    BadValue = 15,
     /// No variable has this code (fault 16).
-    UnknownCode,
+    UnknownCode = 16,
     /// A value has more digits than its code's size, and the code is no event (fault 17).
-    TooWide,
+    TooWide = 17,
     /// The text of a real number has more than 64 bytes (fault 18).
-    RealTooLong,
+    RealTooLong = 18,
     /// A timestamp inside a section (fault 19).
-    TimeInSection,
+    TimeInSection = 19,
     /// Byte number 2^63, counted from 1, would be looked at (fault 21).
-    InputTooLong,
+    InputTooLong = 21,
     /// The source failed (fault 31).
-    ReadFailed,
+    ReadFailed = 31,
 }
 
 impl BodyFault {
@@ -41,20 +41,6 @@ impl BodyFault {
     pub fn number(self) -> u8
         ensures { result ≡ fault_number self }
     {
-        match self {
-            BodyFault::TokenTooLong => 1,
-            BodyFault::EndOfInput => 2,
-            BodyFault::UnknownCommand => 3,
-            BodyFault::OutOfPlace => 4,
-            BodyFault::BadTime => 13,
-            BodyFault::TimeBack => 14,
-            BodyFault::BadValue => 15,
-            BodyFault::UnknownCode => 16,
-            BodyFault::TooWide => 17,
-            BodyFault::RealTooLong => 18,
-            BodyFault::TimeInSection => 19,
-            BodyFault::InputTooLong => 21,
-            BodyFault::ReadFailed => 31,
-        }
+        self as u8
     }
 }

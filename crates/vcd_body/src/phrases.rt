@@ -5,9 +5,9 @@ ghost use Rattle.vcd_body.specs.Names.{Advances, AreBinaryIf, AreRegsWith, Begin
 use crate::fault::BodyFault;
 use crate::item::Regs;
 use crate::tokens::next_inner;
-use crate::words::{after_first, are_binary, are_digits_or_binary, is_end, rest_of};
+use crate::words::{after_first, are_binary, are_digits_or_binary, rest_of};
 use vcd_text::{Ahead, Feed, Source, decimal_of};
-use vcd_view::{Code, Found, HeadView, find_sized};
+use vcd_view::{Code, Found, HeadView, find_sized, is_end};
 
 /// Returns the time that the token of a timestamp spells. `None` if it has other bytes than digits
 /// after the `#`, or none, or if the time is 2^64 or more.

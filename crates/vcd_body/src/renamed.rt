@@ -9,7 +9,7 @@ use crate::id::Id;
 use crate::item::Form;
 use crate::lines::{is_lower, left_out_of_front};
 use crate::put_line::{is_bit, put_line};
-use vcd_text::{Sink, WriteFailed, put, put_few, put_parts};
+use vcd_text::{Few, Sink, WriteFailed, put, put_few, put_parts};
 use vcd_view::NewCode;
 
 /// Returns the first byte of the code that a merged dump has for this number: its lowest digit in
@@ -21,26 +21,18 @@ fn code_byte(number: u64) -> u8
     (number % 94) as u8 + 33
 }
 
-/// The end of a line: the first `len` of these bytes are written.
-#[derive(Clone, Copy)]
-struct End {
-    bytes: [u8; 8],
-    len: usize,
-}
-
 /// Returns the byte `first`, the code that a merged dump has for this number, and a line feed, if
 /// the number is below 830,584, so that the code has up to three bytes. `None` for a greater
 /// number.
 // Eight bytes in a number, so that `write_few` copies them without a length.
 #[inline(always)]
-fn short_end(first: u8, number: u64) -> Option<End>
-    ensures few { IfSome result (λ end. end.len ≤ 8) }
-    ensures text { IfSome result (λ end.
+fn short_end(first: u8, number: u64) -> Option<Few>
+    ensures { IfSome result (λ end.
         take end.len end.bytes ≡ first ∷ new_code number ++ 10 ∷ []) }
 {
     if number < 94 {
         let low = number as u8 + 33;
-        return Some(End {
+        return Some(Few {
             bytes: [first, low, b'\n', 0, 0, 0, 0, 0],
             len: 3,
         });
@@ -49,7 +41,7 @@ fn short_end(first: u8, number: u64) -> Option<End>
     let rest = number / 94;
     if rest < 94 {
         let high = rest as u8 + 33;
-        return Some(End {
+        return Some(Few {
             bytes: [first, low, high, b'\n', 0, 0, 0, 0],
             len: 4,
         });
@@ -58,7 +50,7 @@ fn short_end(first: u8, number: u64) -> Option<End>
     if high < 94 {
         let middle = code_byte(rest);
         let high = high as u8 + 33;
-        return Some(End {
+        return Some(Few {
             bytes: [first, low, middle, high, b'\n', 0, 0, 0],
             len: 5,
         });
@@ -85,7 +77,7 @@ pub fn put_code_line<W: Sink>(first: u8, number: u64, w: &mut W) -> Result<(), W
     ensures { Puts (W.device w.old) (W.device w.new) (first ∷ new_code number ++ 10 ∷ []) result }
 {
     match short_end(first, number) {
-        Some(end) => put_few(w, end.bytes, end.len),
+        Some(end) => put_few(w, end),
         None => put_any_code(first, number, w),
     }
 }
@@ -156,14 +148,7 @@ fn put_copied<W: Sink>(
         return put_copied_slowly(bytes, from, end, left_out, number, w);
     };
     let rest = from + 1 + left_out;
-    put_parts(
-        w,
-        bytes[from],
-        &bytes[rest..],
-        end - rest,
-        code.bytes,
-        code.len,
-    )
+    put_parts(w, bytes[from], &bytes[rest..], end - rest, code)
 }
 
 /// Writes the line of a change under the code that a merged dump has for this number, by a look at

@@ -3,7 +3,7 @@ ghost use Rattle.std.specs.Prelude.{◌-◌, ◌^◌, ◌<◌};
 ghost use Rattle.vcd_body.specs.Names.{Puts, time_due, time_line};
 
 use itoa::write_digits;
-use vcd_text::{Sink, WriteFailed, put_parts};
+use vcd_text::{LINE_FEED, Sink, WriteFailed, put_parts};
 
 /// Writes the line of a timestamp with this time: `#`, the digits and a line feed. If a write
 /// fails, a prefix was written.
@@ -17,8 +17,7 @@ pub fn put_time<W: Sink>(time: u64, out: &mut W) -> Result<(), WriteFailed>
 {
     let mut digits = [0; 84];
     let start = write_digits(time, &mut digits, 20);
-    let end = [b'\n', 0, 0, 0, 0, 0, 0, 0];
-    put_parts(out, b'#', &digits[start..], 20 - start, end, 1)
+    put_parts(out, b'#', &digits[start..], 20 - start, LINE_FEED)
 }
 
 /// Writes the line of a timestamp with this time, unless `written`, the time of the last line of

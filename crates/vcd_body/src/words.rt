@@ -1,6 +1,6 @@
 // What tokens of a body are.
 ghost use Rattle.std.specs.Prelude.{◌≡◌, ◌≢◌, slice_index, ℕ, ◌+◌, ◌<◌, ◌≤◌, length, true, List, drop, take, ◌∷◌, ◌^◌, ◌&&◌, not, Some, None, ◌-◌, ◌/◌, ◌%◌, IfSome};
-ghost use Rattle.vcd_body.specs.Names.{AreBinary, AreBinaryIf, AreBitsAt, Begins, InClear, IsBinaryAt, IsDigitAt, MayBe, StandsAt, StandsFor, binary_digits, bit_at, bit_in, byte, command_is, is_comment, is_empty, is_end as ends, is_value_digit as is_digit, list_all};
+ghost use Rattle.vcd_body.specs.Names.{AreBinary, AreBinaryIf, AreBitsAt, Begins, InClear, IsBinaryAt, IsDigitAt, MayBe, StandsAt, StandsFor, binary_digits, bit_at, bit_in, byte, command_is, is_comment, is_empty, is_value_digit as is_digit, list_all};
 
 use crate::item::Section;
 use crate::values::bits::Bits;
@@ -93,13 +93,6 @@ pub(crate) fn first_byte_of(token: &[u8]) -> &[u8]
     ensures { result.now ≡ take 1 token.now }
 {
     &token[..token.len().min(1)]
-}
-
-/// Returns whether the token is `$end`.
-pub(crate) fn is_end(token: &[u8]) -> bool
-    ensures { result ≡ ends token.now }
-{
-    token == b"$end".as_slice()
 }
 
 /// Returns whether the token is `$comment`.

@@ -172,9 +172,11 @@ fn read_changes<B: BuildHasher>(
         return Ok(NO_CODE);
     };
     let from = reading.place;
+    // No call has left a place yet: the changes begin right after the header.
     if from.limit == 0 {
         return Ok(read_on(limit, &mut feed, shown, index, Regs::new(), reading, rows));
     }
+    // A feed cannot go back or skip bytes, so another one begins at the place.
     source.rest = after(dump, from.offset.bytes);
     match Feed::at(&mut source, &mut chunk, &mut token, &mut value, from.offset) {
         Some(mut feed) => Ok(read_on(limit, &mut feed, shown, index, regs_of(from), reading, rows)),

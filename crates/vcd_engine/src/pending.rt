@@ -4,7 +4,7 @@ ghost use Rattle.std.specs.Prelude.{◌≡◌, ℕ, ◌+◌, ◌-◌, ◌^◌, �
 ghost use Rattle.vcd_engine.specs.Names.{bytes_without, pending_in, IsLine, IsPart, line_without, Puts, PutsBehind, time_line};
 
 use vcd_body::put_time;
-use vcd_text::{Sink, WriteFailed, put_few, put_front, put_parts};
+use vcd_text::{Few, LINE_FEED, Sink, WriteFailed, put_few, put_front, put_parts};
 
 /// Writes the bytes from `from` up to `to` (exclusive). Fails if a write does.
 // Not inlined, so that a loop in which the piece grows has all registers.
@@ -35,8 +35,7 @@ fn put_line<W: Sink>(
         (bytes_without bytes.now from to n ++ 10 ∷ []) result }
 {
     let rest = from + 1 + n;
-    let end = [b'\n', 0, 0, 0, 0, 0, 0, 0];
-    put_parts(out, bytes[from], &bytes[rest..], to - rest, end, 1)
+    put_parts(out, bytes[from], &bytes[rest..], to - rest, LINE_FEED)
 }
 
 /// The pending text: the bytes of the chunk from `from` up to `to`.
@@ -154,8 +153,11 @@ impl PendingCopy {
         self.flush(bytes, out)?;
         // With CR LF, this is each change of a scalar that has a code of one byte.
         if n == 0 && to == from + 3 {
-            let line = [bytes[from], bytes[from + 1], b'\n', 0, 0, 0, 0, 0];
-            return put_few(out, line, 3);
+            let line = Few {
+                bytes: [bytes[from], bytes[from + 1], b'\n', 0, 0, 0, 0, 0],
+                len: 3,
+            };
+            return put_few(out, line);
         }
         put_line(bytes, from, last, n, out)
     }

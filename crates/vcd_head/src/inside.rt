@@ -7,8 +7,8 @@ use crate::names::{GROUP_NAMES, Group, NameRun};
 use crate::selection::selects;
 use vcd_view::{HeadView, Kind};
 
-// How many scopes may be open, and one more for what is outside of all scopes.
-pub(crate) const MAX_OPEN: usize = 1001;
+// One level for each scope that may be open, and one for what is outside of all scopes.
+pub(crate) const LEVELS: usize = 1001;
 
 // The names that continue inside a scope.
 #[derive(Clone, Copy)]
@@ -38,7 +38,7 @@ impl Inside {
 // name that selects a whole scope costs nothing at its other rows.
 #[derive(Drop)]
 pub(crate) struct Open<'o> {
-    inside: &'o mut [Inside; MAX_OPEN],
+    inside: &'o mut [Inside; LEVELS],
     // How many are open.
     depth: usize,
     // How many of them, the outermost, were entered.
@@ -49,7 +49,7 @@ impl<'o> Open<'o> {
     /// Returns the open scopes before the first row of a header: none, so that all names of `group`
     /// can select something. `inside` is the memory for them, and its elements need not be set
     /// before.
-    pub(crate) fn new(group: &Group<'_>, inside: &'o mut [Inside; MAX_OPEN]) -> Self
+    pub(crate) fn new(group: &Group<'_>, inside: &'o mut [Inside; LEVELS]) -> Self
         ensures { (h : Header) (flags : List Bool) → IsOrder (names_of group.now) group.now.order.now
             → AreSame (names_of group.now) flags → IsOpen h group.now flags result }
     {
@@ -166,7 +166,7 @@ impl<'o> Open<'o> {
         ensures { StaysOpen inner self.old self.new }
     {
         let next = self.entered.saturating_add(1);
-        if next < MAX_OPEN {
+        if next < LEVELS {
             self.inside[next] = inner;
             self.entered = next;
         }

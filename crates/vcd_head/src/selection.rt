@@ -3,7 +3,7 @@ ghost use Rattle.std.specs.Prelude.{◌≡◌, ◌≢◌, false, ◌+◌, ◌<�
 ghost use Rattle.vcd_head.specs.Names.{AnyDeclared, AnyHeader, AnyRow, AnyVariable, AreClosed, Declaration, GoesOnAfter, Header, IsFirstFalse, IsViewOf, Marked, RefusesUnmatched, first_unmatched, is_variable, marked_places, marks_of, row_and_scopes, row_path, selects_after, selects_path};
 
 use crate::enclosing::Enclosing;
-use crate::inside::{Inside, MAX_OPEN, Open};
+use crate::inside::{Inside, LEVELS, Open};
 use crate::names::{GROUP_NAMES, Group, put_names};
 use vcd_view::{HeadView, Kind};
 
@@ -133,7 +133,7 @@ fn mark_selected(view: HeadView<'_>, names: &[String], marks: &mut [u8]) -> Opti
     let mut order = [0; GROUP_NAMES];
     put_names(&mut order, names);
     let group = Group::new(names, &order);
-    let mut inside = [Inside::outermost(&group); MAX_OPEN];
+    let mut inside = [Inside::outermost(&group); LEVELS];
     let mut open = Open::new(&group, &mut inside);
     let mut matched = [false; GROUP_NAMES];
     for row in 0..view.rows.len() {

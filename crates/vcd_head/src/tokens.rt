@@ -3,7 +3,6 @@ ghost use Rattle.std.specs.Prelude.{◌≡◌, ◌-◌, ◌^◌, ◌<◌, IfOk};
 ghost use Rattle.vcd_head.specs.Names.{IsFound, MovesFurther, MovesOn, ReadsEnd, ReadsNext, ReadsWord, is_end, source_of, token_of, value_of};
 
 use crate::fault::HeadFault;
-use crate::words;
 use vcd_text::{Feed, Halt, Next, Source};
 
 /// Reads the next token; `Feed::token` then returns it. Fails with `EndOfInput` if the input has
@@ -34,7 +33,7 @@ pub(crate) fn next_ends<S: Source>(feed: &mut Feed<'_, '_, '_, '_, S>) -> Result
     ensures goes { MovesFurther S.failures feed.old feed.new result }
 {
     next_token(feed)?;
-    Ok(words::is_end(feed.token()))
+    Ok(vcd_view::is_end(feed.token()))
 }
 
 /// Reads the next token, which must not be `$end`. Fails with `fault` if it is, and as `next_token`

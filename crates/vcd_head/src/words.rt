@@ -1,14 +1,6 @@
 // Tests of whole tokens of a header.
 ghost use Rattle.std.specs.Prelude.{◌≡◌, codes, bytes_eq, option_map, pos, ◌≤ℤ◌, ◌+ℤ◌};
-ghost use Rattle.vcd_head.specs.Names.{begins_change as changes, exponent_of as exponent_is, is_code_byte, is_command as commands, is_end as ends, list_all, power_in, size_in, unit_in};
-
-/// Returns whether the token is `$end`.
-#[inline(always)]
-pub(crate) fn is_end(token: &[u8]) -> bool
-    ensures { result ≡ ends token.now }
-{
-    matches!(token, [b'$', b'e', b'n', b'd'])
-}
+ghost use Rattle.vcd_head.specs.Names.{begins_change as changes, exponent_of as exponent_is, is_code_byte, is_command as commands, list_all, power_in, size_in, unit_in};
 
 /// Returns whether the word, the type of a variable, is `event`.
 #[inline(always)]

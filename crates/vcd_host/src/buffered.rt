@@ -3,11 +3,10 @@ ghost use Rattle.std.specs.Prelude.{◌≡◌, ◌+◌, ◌-◌, ◌^◌, ◌<�
 ghost use Rattle.std.specs.Io.{WritesAtMost};
 ghost use Rattle.std.specs.Io.KnownBytes.{Appends, Keeps, WriteAppends};
 
-use crate::buffer::{Buffer, FEW, ROOM};
+use crate::buffer::Buffer;
 use crate::host::Output;
-use std::alloc::{AllocError, Global};
 use std::io::Write;
-use vcd_text::{Sink, WriteFailed};
+use vcd_text::{Few, Sink, WriteFailed};
 
 /// A sink whose bytes wait in a buffer until it is full or flushed. It counts the writes that
 /// failed. When it is dropped, it writes what is in the buffer to the device, and ignores a
@@ -16,10 +15,14 @@ use vcd_text::{Sink, WriteFailed};
 /// A write of the device fails if it returns any error, also that it was interrupted, or if it
 /// takes nothing. The bytes that such a write does not take stay in the buffer.
 // A write that fits is inlined: with a `BufWriter` `merge` of 27,505 codes takes 17 % more.
-pub struct Buffered<D: Write + Drop> {
+pub struct Buffered<'b, D: Write + Drop> {
     device: D,
-    buffer: Buffer,
+    buffer: Buffer<'b>,
     failures: u64,
+    // At most 1 more than the bytes that waited when the last write failed. A byte that is taken
+    // later is beyond it, so no call that copies has to note that it succeeded.
+    failed_at: usize,
+    ghost failed: { failed_at ≤ buffer.len + 1 },
 }
 
 /// Writes some of these bytes to the device, from the first one on, and returns how many it took:
@@ -54,24 +57,24 @@ fn write_out<D: Write>(bytes: &[u8], device: &mut D) -> usize
     written
 }
 
-impl<D: Write + Drop> Buffered<D> {
+impl<'b, D: Write + Drop> Buffered<'b, D> {
     ghost use Rattle.vcd_host.specs.Buffer.{kept};
     ghost use Rattle.vcd_host.specs.Buffered.{has_just_failed, taken};
 
-    /// Returns a sink that writes to the device through an empty buffer, and has counted no
-    /// failure. Fails if memory runs out.
-    pub fn new(alloc: Global, device: D) -> Result<Buffered<D>, AllocError>
-        ensures device { IfOk result (λ sink. sink.device ≡ device) }
-        ensures empty { IfOk result (λ sink. kept sink.buffer ≡ []) }
-        ensures failures { IfOk result (λ sink. sink.failures ≡ 0) }
-        ensures last { IfOk result (λ sink. has_just_failed sink ≡ false) }
+    /// Returns a sink that writes to the device, has counted no failure, and keeps bytes back in
+    /// `bytes`, none yet.
+    pub fn new(bytes: &'b mut [u8], device: D) -> Buffered<'b, D>
+        ensures device { result.device ≡ device }
+        ensures empty { kept result.buffer ≡ [] }
+        ensures failures { result.failures ≡ 0 }
+        ensures last { has_just_failed result ≡ false }
     {
-        let buffer = Buffer::new(alloc)?;
-        Ok(Buffered {
+        Buffered {
             device,
-            buffer,
+            buffer: Buffer::new(bytes),
             failures: 0,
-        })
+            failed_at: 0,
+        }
     }
 
     /// Writes all bytes in the buffer to the device, and removes them from the buffer. Fails if a
@@ -82,8 +85,9 @@ impl<D: Write + Drop> Buffered<D> {
         ensures room { OnOk result (self.new.buffer.len ≡ 0) }
         ensures bytes { Keeps (taken D.contents self.old) (taken D.contents self.new) }
         ensures failures { self.new.failures ≡ self.old.failures }
-        ensures goes_on { self.new.buffer.failed_at ≡ 0 }
+        ensures goes_on { self.new.failed_at ≡ 0 }
     {
+        self.failed_at = 0;
         let written = write_out(self.buffer.as_slice(), &mut self.device);
         self.buffer.remove_front(written);
         if self.buffer.len > 0 {
@@ -92,15 +96,15 @@ impl<D: Write + Drop> Buffered<D> {
         Ok(())
     }
 
-    /// Makes room in the buffer for `n` bytes, at most 8,192: if it has too little, writes what is
-    /// in it. Fails if that write fails; it does not count the failure.
+    /// Makes room in the buffer for `n` bytes, which it has: if less is free, writes what is in it.
+    /// Fails if that write fails; it does not count the failure.
     fn make_room(&mut self, n: usize) -> Result<(), WriteFailed>
-        requires { n ≤ 8192 }
-        ensures room { OnOk result (self.new.buffer.len + n ≤ 8192) }
+        requires { n ≤ length self.old.buffer.bytes.now }
+        ensures room { OnOk result (self.new.buffer.len + n ≤ length self.new.buffer.bytes.now) }
         ensures bytes { Keeps (taken D.contents self.old) (taken D.contents self.new) }
         ensures failures { self.new.failures ≡ self.old.failures }
     {
-        if n > ROOM - self.buffer.len {
+        if n > self.buffer.room() {
             return self.write_kept();
         }
         Ok(())
@@ -116,9 +120,9 @@ impl<D: Write + Drop> Buffered<D> {
             result from.now }
         ensures failures { self.new.failures ≡ self.old.failures }
         ensures goes_on { 0 < length from.now
-            → OnOk result (self.new.buffer.failed_at < self.new.buffer.len + 1) }
+            → OnOk result (self.new.failed_at < self.new.buffer.len + 1) }
     {
-        if from.len() >= ROOM {
+        if from.len() >= self.buffer.bytes.len() {
             self.write_kept()?;
             return write_some(from, &mut self.device);
         }
@@ -140,22 +144,22 @@ impl<D: Write + Drop> Buffered<D> {
         ensures bytes { Appends (taken D.contents self.old) (taken D.contents self.new)
             (take result from.now) }
         ensures failed { result ≡ 0 → self.new.failures ≡ self.old.failures + 1 }
-        ensures last { result ≡ 0 → self.new.buffer.failed_at ≡ self.new.buffer.len + 1 }
+        ensures last { result ≡ 0 → self.new.failed_at ≡ self.new.buffer.len + 1 }
         ensures done { 0 < result → self.new.failures ≡ self.old.failures }
-        ensures goes_on { 0 < result → self.new.buffer.failed_at < self.new.buffer.len + 1 }
+        ensures goes_on { 0 < result → self.new.failed_at < self.new.buffer.len + 1 }
     {
         match self.take_long(from) {
             Ok(n) => n,
             Err(_) => {
                 self.failures += 1;
-                self.buffer.note_failure();
+                self.failed_at = self.buffer.len + 1;
                 0
             }
         }
     }
 }
 
-impl<D: Write + Drop> Sink for Buffered<D> {
+impl<D: Write + Drop> Sink for Buffered<'_, D> {
     ghost use Rattle.vcd_host.specs.Buffered.{has_just_failed, taken};
 
     ghost device = { λ sink. record {
@@ -171,7 +175,7 @@ impl<D: Write + Drop> Sink for Buffered<D> {
     /// device fails; then it takes none of these bytes.
     #[inline(always)]
     fn write(&mut self, from: &[u8]) -> Result<usize, WriteFailed> {
-        if from.is_empty() || from.len() < ROOM - self.buffer.len {
+        if from.is_empty() || from.len() < self.buffer.room() {
             self.buffer.push(from);
             return Ok(from.len());
         }
@@ -181,14 +185,14 @@ impl<D: Write + Drop> Sink for Buffered<D> {
         }
     }
 
-    /// Takes the first `n` of these bytes into the buffer, and returns true. Returns false, and
-    /// takes none, if it has no room for all 8.
+    /// Takes these bytes into the buffer, and returns true. Returns false, and takes none, if it
+    /// has no room for 8.
     #[inline(always)]
-    fn write_few(&mut self, bytes: [u8; 8], n: usize) -> bool {
-        if self.buffer.len > ROOM - FEW {
+    fn write_few(&mut self, few: Few) -> bool {
+        if !self.buffer.has_room_for_few() {
             return false;
         }
-        self.buffer.push_few(bytes, n);
+        self.buffer.push_few(few);
         true
     }
 
@@ -204,15 +208,15 @@ impl<D: Write + Drop> Sink for Buffered<D> {
         true
     }
 
-    /// Takes `first`, the first `n` bytes of `from` and the first `m` of `end` into the buffer, and
-    /// returns true. Returns false, and takes none, if `n` is above 64, if `from` has fewer than 64
-    /// bytes, or if the buffer has no room for 73 bytes.
+    /// Takes `first`, the first `n` bytes of `from` and those of `end` into the buffer, and returns
+    /// true. Returns false, and takes none, if `n` is above 64, if `from` has fewer than 64 bytes,
+    /// or if the buffer has no room for 73 bytes.
     #[inline(always)]
-    fn write_parts(&mut self, first: u8, from: &[u8], n: usize, end: [u8; 8], m: usize) -> bool {
+    fn write_parts(&mut self, first: u8, from: &[u8], n: usize, end: Few) -> bool {
         if !self.buffer.has_room(from, n) {
             return false;
         }
-        self.buffer.push_parts(first, from, n, end, m);
+        self.buffer.push_parts(first, from, n, end);
         true
     }
 
@@ -223,7 +227,7 @@ impl<D: Write + Drop> Sink for Buffered<D> {
             Ok(()) => Ok(()),
             Err(failed) => {
                 self.failures += 1;
-                self.buffer.note_failure();
+                self.failed_at = self.buffer.len + 1;
                 Err(failed)
             }
         }
@@ -235,7 +239,7 @@ impl<D: Write + Drop> Sink for Buffered<D> {
     }
 }
 
-impl<D: Write + Drop> Output for Buffered<D> {
+impl<D: Write + Drop> Output for Buffered<'_, D> {
     ghost use Rattle.std.specs.Prelude.{◌≡◌, true, []};
     ghost use Rattle.vcd_host.specs.Buffer.{kept};
 
@@ -250,14 +254,12 @@ impl<D: Write + Drop> Output for Buffered<D> {
     }
 }
 
-impl<D: Write + Drop> Drop for Buffered<D> {
+impl<D: Write + Drop> Drop for Buffered<'_, D> {
     /// Writes what is in the buffer to the device. A failure is ignored.
-    fn drop(mut self) {
-        let _ = self.write_kept();
+    fn drop(self) {
         let Buffered {
-            device: _device,
-            buffer: _,
-            failures: _,
+            mut device, buffer, ..
         } = self;
+        let _ = write_out(buffer.as_slice(), &mut device);
     }
 }

@@ -74,8 +74,9 @@ pub fn merge_run_keeps()
     ensures { MergeRunKeeps }
 {}
 
-/// A written head is read again as what it was written from, if as many declarations are allowed as
-/// it may have.
+/// The head that `pick` or `cut` writes of a header has no fault when it is read, declares the same
+/// variables as the header, of those selected, and ends where the text that follows it begins. The
+/// reader must allow as many declarations as such a head may have.
 pub fn head_is_read_back()
     ensures { HeadIsReadBack }
 {}
@@ -337,8 +338,8 @@ pub fn settled_merge_is_final()
     ensures { SettledMergeIsFinal }
 {}
 
-/// If what is known of each input settles what this input adds to a merge, what is known of all of
-/// them settles the merge. An input of which everything is known counts as settled.
+/// A merge is settled once each of its inputs is settled without the others: all of it is known, or
+/// its first tokens settle it, with as many declarations as the inputs before it leave.
 pub fn settled_alone_settles_merge()
     ensures { SettledAloneSettlesMerge }
 {}

@@ -1,6 +1,6 @@
 // The keywords of a dump.
 ghost use Rattle.std.specs.Prelude.{◌≡◌, false, bytes_eq, codes, option_map};
-ghost use Rattle.vcd_view.specs.Names.{keyword_of as keyword_is, model_keyword};
+ghost use Rattle.vcd_view.specs.Names.{is_end as ends, keyword_of as keyword_is, model_keyword};
 
 /// A keyword (clause 18, keyword commands).
 #[derive(Clone, Copy, PartialEq, Eq, Debug)]
@@ -26,6 +26,14 @@ fn is(token: &[u8], word: &[u8]) -> bool
     ensures { result ≡ bytes_eq word.now token.now }
 {
     word == token
+}
+
+/// Returns whether the token is `$end`.
+#[inline(always)]
+pub fn is_end(token: &[u8]) -> bool
+    ensures { result ≡ ends token.now }
+{
+    matches!(token, [b'$', b'e', b'n', b'd'])
 }
 
 /// Returns the keyword that has exactly the bytes of the token, such as `$var`; `None` if it is no

@@ -236,23 +236,21 @@ pub(crate) fn count_in_slot(slots: &mut [Slot], code: usize, way: usize) -> bool
     count_step(&mut slots[code].steps, way)
 }
 
-/// What became of a change that may need only the slot of its code.
+/// What became of a change for which the slot of its code may be enough.
 #[derive(Clone, Copy, PartialEq, Eq)]
 pub(crate) enum Stepped {
     /// The slot is not enough, and nothing changed.
     Not,
-    /// The value was set, and its step was counted if it differs.
+    /// The value is set. If it is another one, the slot has counted the step.
     Counted,
-    /// The value was set. 256 of its steps are left to count, since the slot had no room for one
-    /// more. This step rises or falls if a test holds.
+    /// The value is set. The slot's counter of such steps was at 255 and is 0 now, so the caller has
+    /// to add 256 to the counters of the share. They rise, or fall, as this step does.
     Uncounted { rises: bool, falls: bool },
 }
 
-/// Sets the value of the code at index `code` to a digit, if it holds the same digit, or if the two
-/// are `0` and `1`. It changes only the slot. Returns `Stepped::Counted` if it held the same digit,
-/// or if the slot has counted the change; `Stepped::Uncounted` if the caller has to count 256
-/// changes, for which the slot has no room. Returns `Stepped::Not`, and changes nothing, if there
-/// is no such code, or if it holds anything else.
+/// Sets the value of the code at index `code` to a digit, if it holds this digit, or `0` where this
+/// is `1`, or `1` where this is `0`. It changes only the slot. Returns `Stepped::Not`, and changes
+/// nothing, if there is no such code, or if it holds anything else.
 // A digit is a state of the slot, so no byte of values is touched: held as a number of one digit,
 // `edges` of scalars takes 31 % more.
 #[inline(always)]
@@ -286,10 +284,8 @@ pub(crate) fn flip_at(slots: &mut [Slot], code: usize, digit: u8) -> Stepped
 }
 
 /// Sets the value of the code at index `code` to these binary digits, if it holds binary digits. It
-/// changes only the slot. Returns `Stepped::Counted` if the two numbers are the same, or if the
-/// slot has counted the change; `Stepped::Uncounted` if the caller has to count 256 changes, for
-/// which the slot has no room. Returns `Stepped::Not`, and changes nothing, if there is no such
-/// code, if it holds no such digits, or if the held or the new ones are more than `size`.
+/// changes only the slot. Returns `Stepped::Not`, and changes nothing, if there is no such code, if
+/// it holds no such digits, or if the held or the new ones are more than `size`.
 #[inline(always)]
 pub(crate) fn step_at(slots: &mut [Slot], code: usize, size: usize, bits: Bits) -> Stepped
     ensures counted { result ≡ Stepped.Counted → StepsTo code size bits slots.old slots.new }

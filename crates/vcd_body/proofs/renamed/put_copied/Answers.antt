@@ -13,5 +13,5 @@ returns g c =
     let first = one_byte bytes from (omega (arith, few, within)) in
     let copied = ap (take (end - rest)) (end_is bytes rest) in
     let line = 32 ∷ new_code c.args.number ++ 10 ∷ [] in
-    let all = ap₂ (λ (l r : List ℕ). slice_index bytes from ∷ l ++ r) copied c.in-Some.ensures.text ∙ ap (λ (l : List ℕ). (l ++ slice_range bytes rest end) ++ line) (sym first) in
+    let all = ap₂ (λ (l r : List ℕ). slice_index bytes from ∷ l ++ r) copied c.in-Some.ensures ∙ ap (λ (l : List ℕ). (l ++ slice_range bytes rest end) ++ line) (sym first) in
     subst (λ l. Puts (g.W.Sink.device c.args.w.now) (g.W.Sink.device c.put_parts.new.w) l c.put_parts.result) all c.put_parts.ensures
