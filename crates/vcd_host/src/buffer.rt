@@ -59,6 +59,30 @@ fn as_word(bytes: [u8; 8]) -> [u8; 8]
     u64::from_le_bytes(bytes).to_le_bytes()
 }
 
+/// Copies the 8 bytes of `from` into `to` from offset `position` on, in one step. `to` must have
+/// room for them, and its other bytes stay as they are.
+#[inline(always)]
+fn copy_eight(to: &mut [u8], position: usize, from: [u8; 8])
+    requires room { position + 8 ≤ length to.old }
+    ensures long { length to.new ≡ length to.old }
+    ensures copied { take (position + 8) to.new ≡ take position to.old ++ from }
+{
+    to[position..position + FEW].copy_from_slice(&as_word(from));
+}
+
+/// Copies the first 64 bytes of `from` into `to` from offset `position` on. Both must have as many.
+/// The other bytes of `to` stay as they are.
+// A copy of an unknown length is a call.
+#[inline(always)]
+fn copy_short(to: &mut [u8], position: usize, from: &[u8])
+    requires room { position + 64 ≤ length to.old }
+    requires there { 64 ≤ length from.now }
+    ensures long { length to.new ≡ length to.old }
+    ensures copied { take (position + 64) to.new ≡ take position to.old ++ take 64 from.now }
+{
+    u8x64::from_slice(from).copy_to_slice(&mut to[position..]);
+}
+
 impl<'a> Buffer<'a> {
     /// Returns an empty buffer, which is to be filled with as many bytes as these.
     pub(crate) fn new(bytes: &'a mut [u8]) -> Buffer<'a>
@@ -108,8 +132,7 @@ impl<'a> Buffer<'a> {
         requires { self.old.len + 8 ≤ length self.old.bytes.now }
         ensures { Gains self.old self.new (take few.len few.bytes) }
     {
-        let end = self.len + FEW;
-        self.bytes[self.len..end].copy_from_slice(&as_word(few.bytes));
+        copy_eight(self.bytes, self.len, few.bytes);
         self.len += few.len;
     }
 
@@ -127,7 +150,6 @@ impl<'a> Buffer<'a> {
 
     /// Appends the first `n` bytes of `from`, at most 64, by one copy of 64 bytes, which `from`
     /// must have, and for which there must be room.
-    // A copy of an unknown length is a call.
     #[inline(always)]
     pub(crate) fn push_front(&mut self, from: &[u8], n: usize)
         requires few { n ≤ 64 }
@@ -135,7 +157,7 @@ impl<'a> Buffer<'a> {
         requires room { self.old.len + 64 ≤ length self.old.bytes.now }
         ensures { Gains self.old self.new (take n from.now) }
     {
-        u8x64::from_slice(from).copy_to_slice(&mut self.bytes[self.len..]);
+        copy_short(self.bytes, self.len, from);
         self.len += n;
     }
 
@@ -149,9 +171,12 @@ impl<'a> Buffer<'a> {
         requires room { self.old.len + 73 ≤ length self.old.bytes.now }
         ensures { Gains self.old self.new (first ∷ take n from.now ++ take end.len end.bytes) }
     {
-        self.push(&[first]);
-        self.push_front(from, n);
-        self.push_few(end);
+        let to = &mut *self.bytes;
+        let next = self.len + 1;
+        to[self.len] = first;
+        copy_short(to, next, from);
+        copy_eight(to, next + n, end.bytes);
+        self.len = next + n + end.len;
     }
 
     /// Removes the first `n` bytes, of which there are at least as many.

@@ -8,6 +8,10 @@ use crate::host::Output;
 use std::io::Write;
 use vcd_text::{Few, Sink, WriteFailed};
 
+/// How many bytes may wait for standard output, and for standard error.
+// 65,536 are no faster, and whoever reads a live pipe would wait longer.
+pub const BUFFER_SIZE: usize = 8_192;
+
 /// A sink whose bytes wait in a buffer until it is full or flushed. It counts the writes that
 /// failed. When it is dropped, it writes what is in the buffer to the device, and ignores a
 /// failure.
@@ -258,7 +262,10 @@ impl<D: Write + Drop> Drop for Buffered<'_, D> {
     /// Writes what is in the buffer to the device. A failure is ignored.
     fn drop(self) {
         let Buffered {
-            mut device, buffer, ..
+            mut device,
+            buffer,
+            failures: _,
+            failed_at: _,
         } = self;
         let _ = write_out(buffer.as_slice(), &mut device);
     }

@@ -2,8 +2,8 @@
 use std::alloc::{AllocError, Global};
 use std::io;
 use std::io::Write;
-use vcd_host::{Buffered, Output};
-use vcd_text::{Sink, put, put_few, put_parts};
+use vcd_host::{BUFFER_SIZE, Buffered, Output};
+use vcd_text::{Few, Sink, put, put_few, put_parts};
 
 // Notes how many bytes each write brings. It takes at most 3,000 of them if it is `narrow`, and
 // fails at one write, given by its number.
@@ -62,10 +62,14 @@ fn follow<W: Output>(out: &mut W, order: Order) {
         return;
     }
     let bytes = [b'x'; 9_000];
+    let few = Few {
+        bytes: [b'x'; 8],
+        len: 5,
+    };
     let _ = match order {
         Order::Put(len) => put(out, &bytes[..len.min(9_000)]),
-        Order::PutFew => put_few(out, [b'x'; 8], 5),
-        Order::PutParts => put_parts(out, b'x', &bytes, 40, [b'x'; 8], 5),
+        Order::PutFew => put_few(out, few),
+        Order::PutParts => put_parts(out, b'x', &bytes, 40, few),
         Order::Flush => out.flush(),
         Order::PassOn => out.pass_on(),
     };
@@ -80,8 +84,9 @@ fn blocks_of(
     orders: &[Order],
 ) -> Result<(Vec<usize>, u64), AllocError> {
     let mut device = Noted::new(alloc, narrow, failing);
+    let mut kept = vec![in alloc; 0u8; BUFFER_SIZE]?;
     let failures = {
-        let mut out = Buffered::new(alloc, &mut device)?;
+        let mut out = Buffered::new(&mut kept, &mut device);
         for order in orders {
             follow(&mut out, *order);
         }

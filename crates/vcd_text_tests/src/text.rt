@@ -7,7 +7,7 @@ use itoa::Buffer;
 use std::io;
 use vcd_text::doubles::{Narrow, Pieces, parked_after};
 use vcd_text::{
-    Ahead, Feed, Halt, Next, Sink, Source, Watch, WriteFailed, decimal_at, decimal_of, put,
+    Ahead, Feed, Few, Halt, Next, Sink, Source, Watch, WriteFailed, decimal_at, decimal_of, put,
     put_few, put_number, put_parts, text_of,
 };
 
@@ -448,10 +448,18 @@ fn a_watch_counts_a_write_that_takes_nothing(rt: HostRuntime) {
 fn put_by(by: usize, sink: &mut Watch<Narrow>) -> Result<(), WriteFailed>
     requires { failed_calls sink.old < 2 ^ 64 - 1 }
 {
+    let line = Few {
+        bytes: *b"#1234\n#5",
+        len: 5,
+    };
+    let end = Few {
+        bytes: *b" !\n00000",
+        len: 3,
+    };
     match by {
         0 => put(sink, b"#1234"),
-        1 => put_few(sink, *b"#1234\n#5", 5),
-        2 => put_parts(sink, b'b', b"10 x", 2, *b" !\n00000", 3),
+        1 => put_few(sink, line),
+        2 => put_parts(sink, b'b', b"10 x", 2, end),
         3 => put_number(sink, 0),
         _ => put_number(sink, u64::MAX),
     }
