@@ -10,4 +10,4 @@ taken contents sink = append_known (contents sink.device) (kept sink.buffer)
 
 -- whether the last write failed, and no byte was taken since
 abbrev pub has_just_failed : {D : Type 0} → Buffered D → Bool
-has_just_failed sink = sink.failed_at == sink.buffer.len + 1
+has_just_failed sink = sink.buffer.failed_at == sink.buffer.len + 1

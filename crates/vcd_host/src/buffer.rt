@@ -1,29 +1,41 @@
-//! Bytes that were lent, and are filled from the front.
-ghost use Rattle.std.specs.Prelude.{◌≡◌, ◌+◌, ◌-◌, ◌<◌, ◌≤◌, ◌∷◌, ◌++◌, [], true, length, take, drop};
-ghost use Rattle.vcd_host.specs.Buffer.{Gains, kept};
+//! Bytes that wait, in memory that is taken only once.
+ghost use Rattle.std.specs.Prelude.{◌≡◌, ◌+◌, ◌-◌, ◌<◌, ◌≤◌, ◌∷◌, ◌++◌, [], true, length, take, drop, vec_len, IfOk};
 
+use std::alloc::{AllocError, Global};
 use std::simd::prelude::*;
 use vcd_text::Few;
 
+/// How many bytes may wait.
+// 65,536 are no faster, and whoever reads a live pipe would wait longer.
+pub(crate) const ROOM: usize = 8_192;
+
 /// How many bytes a copy of a fixed length copies at most.
-const SHORT: usize = 64;
+pub(crate) const SHORT: usize = 64;
 
 /// How many bytes a copy as one number copies.
-const FEW: usize = 8;
+pub(crate) const FEW: usize = 8;
 
-/// Bytes that were lent. The first `len` of them are filled, and the others may have any values.
+/// How many bytes `push_parts` may copy.
+pub(crate) const PARTS: usize = 1 + SHORT + FEW;
+
+/// The bytes that a sink has taken and its device has not, one after the other.
 #[derive(Drop)]
-pub(crate) struct Buffer<'a> {
-    pub(crate) bytes: &'a mut [u8],
+pub(crate) struct Buffer {
+    bytes: Vec<u8>,
     pub(crate) len: usize,
-    ghost within: { len ≤ length bytes.now },
+    // At most 1 more than the bytes that waited when the last write failed. A byte that is taken
+    // later is beyond it, so no call that copies has to note that it succeeded.
+    pub(crate) failed_at: usize,
+    ghost size: { vec_len bytes ≡ 8192 },
+    ghost room: { len ≤ 8192 },
+    ghost failed: { failed_at ≤ len + 1 },
 }
 
 /// Copies all of `from` to `to`, which has the same length.
 // Short copies have arms of their own: without them, `cut` inside its window takes 6 % more over
 // scalars, and `pick` of all takes 3 % more (but `pick` of five variables 8 % less).
 #[inline(always)]
-fn copy(from: &[u8], to: &mut [u8])
+pub(crate) fn copy(from: &[u8], to: &mut [u8])
     requires { length to.old ≡ length from.now }
     ensures { to.new ≡ from.now }
 {
@@ -51,6 +63,18 @@ fn copy(from: &[u8], to: &mut [u8])
     }
 }
 
+/// Copies the first 64 bytes of `from` into `to` from offset `position` on. Both must have as many.
+/// The other bytes of `to` stay as they are.
+#[inline(always)]
+pub(crate) fn copy_short(to: &mut [u8], position: usize, from: &[u8])
+    requires room { position + 64 ≤ length to.old }
+    requires there { 64 ≤ length from.now }
+    ensures long { length to.new ≡ length to.old }
+    ensures copied { take (position + 64) to.new ≡ take position to.old ++ take 64 from.now }
+{
+    u8x64::from_slice(from).copy_to_slice(&mut to[position..]);
+}
+
 /// Returns the same bytes, by way of one number, so that the compiler copies them in one step.
 #[inline(always)]
 fn as_word(bytes: [u8; 8]) -> [u8; 8]
@@ -62,129 +86,145 @@ fn as_word(bytes: [u8; 8]) -> [u8; 8]
 /// Copies the 8 bytes of `from` into `to` from offset `position` on, in one step. `to` must have
 /// room for them, and its other bytes stay as they are.
 #[inline(always)]
-fn copy_eight(to: &mut [u8], position: usize, from: [u8; 8])
+pub(crate) fn copy_eight(to: &mut [u8], position: usize, from: [u8; 8])
     requires room { position + 8 ≤ length to.old }
     ensures long { length to.new ≡ length to.old }
     ensures copied { take (position + 8) to.new ≡ take position to.old ++ from }
 {
-    to[position..position + FEW].copy_from_slice(&as_word(from));
+    to[position..position + 8].copy_from_slice(&as_word(from));
 }
 
-/// Copies the first 64 bytes of `from` into `to` from offset `position` on. Both must have as many.
-/// The other bytes of `to` stay as they are.
-// A copy of an unknown length is a call.
+/// Copies the byte `first`, the first `n` bytes of `from` and the 8 of `end`, one after another,
+/// into `to` from offset `position` on. `n` is at most 64, `from` has at least 64 bytes, and `to`
+/// has room for 73. The bytes of `to` after these may get any values.
+// The copy of `from` always has 64 bytes: a copy of an unknown length is a call.
 #[inline(always)]
-fn copy_short(to: &mut [u8], position: usize, from: &[u8])
-    requires room { position + 64 ≤ length to.old }
+pub(crate) fn copy_parts(
+    to: &mut [u8],
+    position: usize,
+    first: u8,
+    from: &[u8],
+    n: usize,
+    end: [u8; 8],
+)
+    requires few { n ≤ 64 }
     requires there { 64 ≤ length from.now }
+    requires room { position + 73 ≤ length to.old }
     ensures long { length to.new ≡ length to.old }
-    ensures copied { take (position + 64) to.new ≡ take position to.old ++ take 64 from.now }
+    ensures copied { take (position + 1 + n + 8) to.new
+        ≡ take position to.old ++ (first ∷ take n from.now ++ end) }
 {
-    u8x64::from_slice(from).copy_to_slice(&mut to[position..]);
+    to[position] = first;
+    copy_short(to, position + 1, from);
+    copy_eight(to, position + 1 + n, end);
 }
 
-impl<'a> Buffer<'a> {
-    /// Returns an empty buffer, which is to be filled with as many bytes as these.
-    pub(crate) fn new(bytes: &'a mut [u8]) -> Buffer<'a>
-        ensures loan { result.bytes.ghost_name ≡ bytes.entry.ghost_name }
-        ensures empty { result.len ≡ 0 }
+impl Buffer {
+    ghost use Rattle.vcd_host.specs.Buffer.{kept};
+
+    /// Returns an empty buffer with room for 8,192 bytes. Fails if memory runs out.
+    pub(crate) fn new(alloc: Global) -> Result<Buffer, AllocError>
+        ensures bytes { IfOk result (λ buffer. kept buffer ≡ []) }
+        ensures failed { IfOk result (λ buffer. buffer.failed_at ≡ 0) }
     {
-        Buffer { bytes, len: 0 }
+        let bytes = vec![in alloc; 0u8; ROOM]?;
+        Ok(Buffer {
+            bytes,
+            len: 0,
+            failed_at: 0,
+        })
     }
 
-    /// Returns how many bytes may still be appended.
-    #[inline(always)]
-    pub(crate) fn room(&self) -> usize
-        ensures { result ≡ length self.now.bytes.now - self.now.len }
-    {
-        self.bytes.len() - self.len
-    }
-
-    /// Returns the bytes that are filled.
+    /// Returns the bytes in the buffer, which are not written yet.
     pub(crate) fn as_slice(&self) -> &[u8]
         ensures { result.now ≡ kept self.now }
     {
         &self.bytes[..self.len]
     }
 
-    /// Appends all of these bytes, for which there must be room.
+    /// Appends all of these bytes to the buffer, which must have room for them.
     #[inline(always)]
     pub(crate) fn push(&mut self, from: &[u8])
-        requires { self.old.len + length from.now ≤ length self.old.bytes.now }
-        ensures { Gains self.old self.new from.now }
+        requires { self.old.len + length from.now ≤ 8192 }
+        ensures bytes { kept self.new ≡ kept self.old ++ from.now }
+        ensures goes_on { 0 < length from.now → self.new.failed_at < self.new.len + 1 }
     {
         let end = self.len + from.len();
         copy(from, &mut self.bytes[self.len..end]);
         self.len = end;
     }
 
-    /// Returns whether there is room for `push_few`.
-    #[inline(always)]
-    pub(crate) fn has_room_for_few(&self) -> bool
-        ensures { result ≡ true → self.now.len + 8 ≤ length self.now.bytes.now }
-    {
-        self.room() >= FEW
-    }
-
-    /// Appends these bytes, by one copy of eight, for which there must be room.
+    /// Appends these bytes to the buffer, by one copy of 8, for which it must have room.
     #[inline(always)]
     pub(crate) fn push_few(&mut self, few: Few)
-        requires { self.old.len + 8 ≤ length self.old.bytes.now }
-        ensures { Gains self.old self.new (take few.len few.bytes) }
+        requires { self.old.len + 8 ≤ 8192 }
+        ensures bytes { kept self.new ≡ kept self.old ++ take few.len few.bytes }
+        ensures goes_on { 0 < few.len → self.new.failed_at < self.new.len + 1 }
     {
-        copy_eight(self.bytes, self.len, few.bytes);
+        copy_eight(&mut self.bytes, self.len, few.bytes);
         self.len += few.len;
     }
 
     /// Returns whether `push_front` and `push_parts` may append the first `n` bytes of `from`: `n`
-    /// is at most 64, `from` has at least 64 bytes, and there is room for the 73 that `push_parts`
-    /// may copy.
+    /// is at most 64, `from` has at least 64 bytes, and the buffer has room for the 73 that
+    /// `push_parts` may copy.
     #[inline(always)]
     pub(crate) fn has_room(&self, from: &[u8], n: usize) -> bool
         ensures few { result ≡ true → n ≤ 64 }
         ensures there { result ≡ true → 64 ≤ length from.now }
-        ensures room { result ≡ true → self.now.len + 73 ≤ length self.now.bytes.now }
+        ensures room { result ≡ true → self.now.len + 73 ≤ 8192 }
     {
-        n <= SHORT && from.len() >= SHORT && self.room() >= 1 + SHORT + FEW
+        n <= SHORT && from.len() >= SHORT && self.len <= ROOM - PARTS
     }
 
-    /// Appends the first `n` bytes of `from`, at most 64, by one copy of 64 bytes, which `from`
-    /// must have, and for which there must be room.
+    /// Appends the first `n` bytes of `from` to the buffer, by one copy of 64, for which it must
+    /// have room. `n` is at most 64, and `from` has at least 64 bytes.
     #[inline(always)]
     pub(crate) fn push_front(&mut self, from: &[u8], n: usize)
         requires few { n ≤ 64 }
         requires there { 64 ≤ length from.now }
-        requires room { self.old.len + 64 ≤ length self.old.bytes.now }
-        ensures { Gains self.old self.new (take n from.now) }
+        requires room { self.old.len + 64 ≤ 8192 }
+        ensures bytes { kept self.new ≡ kept self.old ++ take n from.now }
+        ensures goes_on { 0 < n → self.new.failed_at < self.new.len + 1 }
     {
-        copy_short(self.bytes, self.len, from);
+        copy_short(&mut self.bytes, self.len, from);
         self.len += n;
     }
 
-    /// Appends the byte `first`, the first `n` bytes of `from` and those of `end`, by copies of
-    /// fixed lengths. `n` is at most 64, `from` has at least 64 bytes, and there must be room for
-    /// 73.
+    /// Appends the byte `first`, the first `n` bytes of `from` and those of `end` to the buffer, by
+    /// copies of fixed lengths. `n` is at most 64, `from` has at least 64 bytes, and the buffer must
+    /// have room for 73.
     #[inline(always)]
     pub(crate) fn push_parts(&mut self, first: u8, from: &[u8], n: usize, end: Few)
         requires few { n ≤ 64 }
         requires there { 64 ≤ length from.now }
-        requires room { self.old.len + 73 ≤ length self.old.bytes.now }
-        ensures { Gains self.old self.new (first ∷ take n from.now ++ take end.len end.bytes) }
+        requires room { self.old.len + 73 ≤ 8192 }
+        ensures bytes { kept self.new ≡ kept self.old ++ (first ∷ take n from.now ++ take end.len end.bytes) }
+        ensures goes_on { self.new.failed_at < self.new.len + 1 }
     {
-        let to = &mut *self.bytes;
-        let next = self.len + 1;
-        to[self.len] = first;
-        copy_short(to, next, from);
-        copy_eight(to, next + n, end.bytes);
-        self.len = next + n + end.len;
+        let position = self.len;
+        copy_parts(&mut self.bytes, position, first, from, n, end.bytes);
+        self.len = position + 1 + n + end.len;
     }
 
-    /// Removes the first `n` bytes, of which there are at least as many.
+    /// Notes that a write has failed after the last byte that was appended.
+    pub(crate) fn note_failure(&mut self)
+        ensures kept { kept self.new ≡ kept self.old }
+        ensures len { self.new.len ≡ self.old.len }
+        ensures failed { self.new.failed_at ≡ self.new.len + 1 }
+    {
+        self.failed_at = self.len + 1;
+    }
+
+    /// Removes the first `n` bytes from the buffer, which were written, and forgets that a write
+    /// failed before. The buffer has at least `n` bytes.
     pub(crate) fn remove_front(&mut self, n: usize)
         requires { n ≤ self.old.len }
         ensures kept { kept self.new ≡ drop n (kept self.old) }
         ensures len { self.new.len ≡ self.old.len - n }
+        ensures goes_on { self.new.failed_at ≡ 0 }
     {
+        self.failed_at = 0;
         self.bytes.copy_within(n..self.len, 0);
         self.len -= n;
     }

@@ -3,14 +3,11 @@ ghost use Rattle.std.specs.Prelude.{◌≡◌, ◌+◌, ◌-◌, ◌^◌, ◌<�
 ghost use Rattle.std.specs.Io.{WritesAtMost};
 ghost use Rattle.std.specs.Io.KnownBytes.{Appends, Keeps, WriteAppends};
 
-use crate::buffer::Buffer;
+use crate::buffer::{Buffer, FEW, ROOM};
 use crate::host::Output;
+use std::alloc::{AllocError, Global};
 use std::io::Write;
 use vcd_text::{Few, Sink, WriteFailed};
-
-/// How many bytes may wait for standard output, and for standard error.
-// 65,536 are no faster, and whoever reads a live pipe would wait longer.
-pub const BUFFER_SIZE: usize = 8_192;
 
 /// A sink whose bytes wait in a buffer until it is full or flushed. It counts the writes that
 /// failed. When it is dropped, it writes what is in the buffer to the device, and ignores a
@@ -19,14 +16,10 @@ pub const BUFFER_SIZE: usize = 8_192;
 /// A write of the device fails if it returns any error, also that it was interrupted, or if it
 /// takes nothing. The bytes that such a write does not take stay in the buffer.
 // A write that fits is inlined: with a `BufWriter` `merge` of 27,505 codes takes 17 % more.
-pub struct Buffered<'b, D: Write + Drop> {
+pub struct Buffered<D: Write + Drop> {
     device: D,
-    buffer: Buffer<'b>,
+    buffer: Buffer,
     failures: u64,
-    // At most 1 more than the bytes that waited when the last write failed. A byte that is taken
-    // later is beyond it, so no call that copies has to note that it succeeded.
-    failed_at: usize,
-    ghost failed: { failed_at ≤ buffer.len + 1 },
 }
 
 /// Writes some of these bytes to the device, from the first one on, and returns how many it took:
@@ -61,24 +54,24 @@ fn write_out<D: Write>(bytes: &[u8], device: &mut D) -> usize
     written
 }
 
-impl<'b, D: Write + Drop> Buffered<'b, D> {
+impl<D: Write + Drop> Buffered<D> {
     ghost use Rattle.vcd_host.specs.Buffer.{kept};
     ghost use Rattle.vcd_host.specs.Buffered.{has_just_failed, taken};
 
-    /// Returns a sink that writes to the device, has counted no failure, and keeps bytes back in
-    /// `bytes`, none yet.
-    pub fn new(bytes: &'b mut [u8], device: D) -> Buffered<'b, D>
-        ensures device { result.device ≡ device }
-        ensures empty { kept result.buffer ≡ [] }
-        ensures failures { result.failures ≡ 0 }
-        ensures last { has_just_failed result ≡ false }
+    /// Returns a sink that writes to the device through an empty buffer, and has counted no
+    /// failure. Fails if memory runs out.
+    pub fn new(alloc: Global, device: D) -> Result<Buffered<D>, AllocError>
+        ensures device { IfOk result (λ sink. sink.device ≡ device) }
+        ensures empty { IfOk result (λ sink. kept sink.buffer ≡ []) }
+        ensures failures { IfOk result (λ sink. sink.failures ≡ 0) }
+        ensures last { IfOk result (λ sink. has_just_failed sink ≡ false) }
     {
-        Buffered {
+        let buffer = Buffer::new(alloc)?;
+        Ok(Buffered {
             device,
-            buffer: Buffer::new(bytes),
+            buffer,
             failures: 0,
-            failed_at: 0,
-        }
+        })
     }
 
     /// Writes all bytes in the buffer to the device, and removes them from the buffer. Fails if a
@@ -89,9 +82,8 @@ impl<'b, D: Write + Drop> Buffered<'b, D> {
         ensures room { OnOk result (self.new.buffer.len ≡ 0) }
         ensures bytes { Keeps (taken D.contents self.old) (taken D.contents self.new) }
         ensures failures { self.new.failures ≡ self.old.failures }
-        ensures goes_on { self.new.failed_at ≡ 0 }
+        ensures goes_on { self.new.buffer.failed_at ≡ 0 }
     {
-        self.failed_at = 0;
         let written = write_out(self.buffer.as_slice(), &mut self.device);
         self.buffer.remove_front(written);
         if self.buffer.len > 0 {
@@ -100,15 +92,15 @@ impl<'b, D: Write + Drop> Buffered<'b, D> {
         Ok(())
     }
 
-    /// Makes room in the buffer for `n` bytes, which it has: if less is free, writes what is in it.
-    /// Fails if that write fails; it does not count the failure.
+    /// Makes room in the buffer for `n` bytes, at most 8,192: if it has too little, writes what is
+    /// in it. Fails if that write fails; it does not count the failure.
     fn make_room(&mut self, n: usize) -> Result<(), WriteFailed>
-        requires { n ≤ length self.old.buffer.bytes.now }
-        ensures room { OnOk result (self.new.buffer.len + n ≤ length self.new.buffer.bytes.now) }
+        requires { n ≤ 8192 }
+        ensures room { OnOk result (self.new.buffer.len + n ≤ 8192) }
         ensures bytes { Keeps (taken D.contents self.old) (taken D.contents self.new) }
         ensures failures { self.new.failures ≡ self.old.failures }
     {
-        if n > self.buffer.room() {
+        if n > ROOM - self.buffer.len {
             return self.write_kept();
         }
         Ok(())
@@ -124,9 +116,9 @@ impl<'b, D: Write + Drop> Buffered<'b, D> {
             result from.now }
         ensures failures { self.new.failures ≡ self.old.failures }
         ensures goes_on { 0 < length from.now
-            → OnOk result (self.new.failed_at < self.new.buffer.len + 1) }
+            → OnOk result (self.new.buffer.failed_at < self.new.buffer.len + 1) }
     {
-        if from.len() >= self.buffer.bytes.len() {
+        if from.len() >= ROOM {
             self.write_kept()?;
             return write_some(from, &mut self.device);
         }
@@ -148,22 +140,22 @@ impl<'b, D: Write + Drop> Buffered<'b, D> {
         ensures bytes { Appends (taken D.contents self.old) (taken D.contents self.new)
             (take result from.now) }
         ensures failed { result ≡ 0 → self.new.failures ≡ self.old.failures + 1 }
-        ensures last { result ≡ 0 → self.new.failed_at ≡ self.new.buffer.len + 1 }
+        ensures last { result ≡ 0 → self.new.buffer.failed_at ≡ self.new.buffer.len + 1 }
         ensures done { 0 < result → self.new.failures ≡ self.old.failures }
-        ensures goes_on { 0 < result → self.new.failed_at < self.new.buffer.len + 1 }
+        ensures goes_on { 0 < result → self.new.buffer.failed_at < self.new.buffer.len + 1 }
     {
         match self.take_long(from) {
             Ok(n) => n,
             Err(_) => {
                 self.failures += 1;
-                self.failed_at = self.buffer.len + 1;
+                self.buffer.note_failure();
                 0
             }
         }
     }
 }
 
-impl<D: Write + Drop> Sink for Buffered<'_, D> {
+impl<D: Write + Drop> Sink for Buffered<D> {
     ghost use Rattle.vcd_host.specs.Buffered.{has_just_failed, taken};
 
     ghost device = { λ sink. record {
@@ -179,7 +171,7 @@ impl<D: Write + Drop> Sink for Buffered<'_, D> {
     /// device fails; then it takes none of these bytes.
     #[inline(always)]
     fn write(&mut self, from: &[u8]) -> Result<usize, WriteFailed> {
-        if from.is_empty() || from.len() < self.buffer.room() {
+        if from.is_empty() || from.len() < ROOM - self.buffer.len {
             self.buffer.push(from);
             return Ok(from.len());
         }
@@ -189,11 +181,11 @@ impl<D: Write + Drop> Sink for Buffered<'_, D> {
         }
     }
 
-    /// Takes these bytes into the buffer, and returns true. Returns false, and takes none, if it
-    /// has no room for 8.
+    /// Takes these bytes into the buffer, and returns true. Returns false, and takes none, if it has
+    /// no room for 8.
     #[inline(always)]
     fn write_few(&mut self, few: Few) -> bool {
-        if !self.buffer.has_room_for_few() {
+        if self.buffer.len > ROOM - FEW {
             return false;
         }
         self.buffer.push_few(few);
@@ -231,7 +223,7 @@ impl<D: Write + Drop> Sink for Buffered<'_, D> {
             Ok(()) => Ok(()),
             Err(failed) => {
                 self.failures += 1;
-                self.failed_at = self.buffer.len + 1;
+                self.buffer.note_failure();
                 Err(failed)
             }
         }
@@ -243,7 +235,7 @@ impl<D: Write + Drop> Sink for Buffered<'_, D> {
     }
 }
 
-impl<D: Write + Drop> Output for Buffered<'_, D> {
+impl<D: Write + Drop> Output for Buffered<D> {
     ghost use Rattle.std.specs.Prelude.{◌≡◌, true, []};
     ghost use Rattle.vcd_host.specs.Buffer.{kept};
 
@@ -258,15 +250,14 @@ impl<D: Write + Drop> Output for Buffered<'_, D> {
     }
 }
 
-impl<D: Write + Drop> Drop for Buffered<'_, D> {
+impl<D: Write + Drop> Drop for Buffered<D> {
     /// Writes what is in the buffer to the device. A failure is ignored.
-    fn drop(self) {
+    fn drop(mut self) {
+        let _ = self.write_kept();
         let Buffered {
-            mut device,
-            buffer,
+            device: _device,
+            buffer: _,
             failures: _,
-            failed_at: _,
         } = self;
-        let _ = write_out(buffer.as_slice(), &mut device);
     }
 }

@@ -1,7 +1,7 @@
 //! An output into bytes that were lent.
 ghost use Rattle.std.specs.Prelude.{◌≡◌, ◌-◌, ◌^◌, ◌<◌, ◌≤◌, ◌++◌, [], IfSome, Some, length, take, false, true};
 
-use crate::buffer::Buffer;
+use crate::buffer::{FEW, PARTS, SHORT, copy, copy_eight, copy_parts, copy_short};
 use crate::gone::Gone;
 use crate::host::Output;
 use vcd_text::{Few, Sink, WriteFailed};
@@ -13,13 +13,15 @@ const UNCOUNTED: u64 = 9_223_372_036_854_775_808;
 /// and dropped. No write fails.
 #[derive(Drop)]
 pub struct LentOutput<'a> {
-    buffer: Buffer<'a>,
+    bytes: &'a mut [u8],
+    used: usize,
     // How many bytes found no room, if fewer than 2^63.
     dropped: u64,
     gone: Gone,
+    ghost within: { used ≤ length bytes.now },
     ghost number: { dropped < 2 ^ 63 → dropped ≡ length gone.bytes },
     // Bytes are dropped only once there is no room.
-    ghost order: { 0 < dropped → buffer.len ≡ length buffer.bytes.now },
+    ghost order: { 0 < dropped → used ≡ length bytes.now },
 }
 
 impl<'a> LentOutput<'a> {
@@ -29,11 +31,12 @@ impl<'a> LentOutput<'a> {
     /// Returns an output that writes into these bytes, from the first one on. Nothing was written
     /// yet.
     pub fn new(bytes: &'a mut [u8]) -> LentOutput<'a>
-        ensures loan { result.buffer.bytes.ghost_name ≡ bytes.entry.ghost_name }
+        ensures loan { result.bytes.ghost_name ≡ bytes.entry.ghost_name }
         ensures empty { written result ≡ [] }
     {
         LentOutput {
-            buffer: Buffer::new(bytes),
+            bytes,
+            used: 0,
             dropped: 0,
             gone: Gone::new(),
         }
@@ -43,12 +46,12 @@ impl<'a> LentOutput<'a> {
     /// room. `None` if there was no room for 2^63 or more. The others are the first bytes of the
     /// slice.
     pub fn len(&self) -> Option<u64>
-        ensures { IfSome result (λ n. Fills self.now.buffer.bytes.now n (written self.now)) }
+        ensures { IfSome result (λ n. Fills self.now.bytes.now n (written self.now)) }
     {
         if self.dropped >= UNCOUNTED {
             return None;
         }
-        Some(self.buffer.len as u64 + self.dropped)
+        Some(self.used as u64 + self.dropped)
     }
 
     /// Takes some of these bytes, from the first one on, and returns how many: as many as the slice
@@ -57,14 +60,15 @@ impl<'a> LentOutput<'a> {
     #[cold]
     #[inline(never)]
     fn write_over(&mut self, from: &[u8]) -> usize
-        requires { length self.old.buffer.bytes.now - self.old.buffer.len ≤ length from.now }
+        requires { length self.old.bytes.now - self.old.used ≤ length from.now }
         ensures bound { result ≤ length from.now }
         ensures takes { 0 < length from.now → 0 < result }
         ensures bytes { held self.new ≡ held self.old ++ take result from.now }
     {
-        let room = self.buffer.room();
+        let room = self.bytes.len() - self.used;
         if room > 0 {
-            self.buffer.push(&from[..room]);
+            self.bytes[self.used..].copy_from_slice(&from[..room]);
+            self.used += room;
             return room;
         }
         self.dropped = self.dropped.saturating_add(from.len() as u64);
@@ -88,44 +92,50 @@ impl Sink for LentOutput<'_> {
     /// for, or all of them if it is full; then they are only counted, and dropped. It never fails.
     #[inline(always)]
     fn write(&mut self, from: &[u8]) -> Result<usize, WriteFailed> {
-        if from.len() >= self.buffer.room() {
+        if from.len() >= self.bytes.len() - self.used {
             return Ok(self.write_over(from));
         }
-        self.buffer.push(from);
+        let end = self.used + from.len();
+        copy(from, &mut self.bytes[self.used..end]);
+        self.used = end;
         Ok(from.len())
     }
 
     /// Writes these bytes, and returns true. Returns false, and writes none, if the slice has no
-    /// room for 8.
+    /// room for more than 8.
     #[inline(always)]
     fn write_few(&mut self, few: Few) -> bool {
-        if !self.buffer.has_room_for_few() {
+        if self.bytes.len() - self.used <= FEW {
             return false;
         }
-        self.buffer.push_few(few);
+        copy_eight(self.bytes, self.used, few.bytes);
+        self.used += few.len;
         true
     }
 
     /// Writes the first `n` bytes of `from`, and returns true. Returns false, and writes none, if
-    /// `n` is above 64, if `from` has fewer than 64 bytes, or if the slice has no room for 73.
+    /// `n` is above 64, if `from` has fewer than 64 bytes, or if the slice has no room for more
+    /// than 64.
     #[inline(always)]
     fn write_front(&mut self, from: &[u8], n: usize) -> bool {
-        if !self.buffer.has_room(from, n) {
+        if n > SHORT || from.len() < SHORT || self.bytes.len() - self.used <= SHORT {
             return false;
         }
-        self.buffer.push_front(from, n);
+        copy_short(self.bytes, self.used, from);
+        self.used += n;
         true
     }
 
     /// Writes `first`, the first `n` bytes of `from` and those of `end`, and returns true. Returns
     /// false, and writes none, if `n` is above 64, if `from` has fewer than 64 bytes, or if the
-    /// slice has no room for 73.
+    /// slice has no room for more than 73.
     #[inline(always)]
     fn write_parts(&mut self, first: u8, from: &[u8], n: usize, end: Few) -> bool {
-        if !self.buffer.has_room(from, n) {
+        if n > SHORT || from.len() < SHORT || self.bytes.len() - self.used <= PARTS {
             return false;
         }
-        self.buffer.push_parts(first, from, n, end);
+        copy_parts(self.bytes, self.used, first, from, n, end.bytes);
+        self.used += 1 + n + end.len;
         true
     }
 

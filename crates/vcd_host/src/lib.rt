@@ -9,7 +9,7 @@
 //! - `host`: `Host` and `Output`
 //! - `asked`: which inputs the words ask for
 //! - `opened`: inputs that are opened one by one
-//! - `buffer`: bytes that were lent, and are filled from the front
+//! - `buffer`: bytes that wait, in memory that is taken once
 //! - `buffered`: an output whose bytes wait in a buffer
 //! - `lent_output`: an output that is bytes that were lent
 //! - `gone`: what found no room there, which only contracts read
@@ -27,7 +27,7 @@ mod lent_output;
 mod opened;
 
 pub use asked::inputs_of;
-pub use buffered::{BUFFER_SIZE, Buffered};
+pub use buffered::Buffered;
 pub use host::{Host, OpenFault, Output};
 pub use lent_output::LentOutput;
 pub use opened::{OpenInputs, OpenStop, called, max_bytes_of_all, open_inputs};

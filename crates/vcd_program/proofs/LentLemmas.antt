@@ -90,19 +90,19 @@ module _ (n n' m m' status : ℕ) (ws vs : List ℕ) where
 -- what is left in the end: the same loans, and in them what the program leaves
 pub left-in-outputs : (words : List Text) (files : List MemoryFile) (input : Text) (host after : Memory) (status : ℕ) (out out' err err' : LentOutput) → host.files.now ≡ files → host.input.now ≡ input → noted host ≡ [] → written out ≡ [] → written err ≡ []
     → Finishes output_device flushes (λ now err_now n. RunsOn words OpensIn known bytes_of no_failures none_failed host after (output_device out) (output_device now) (output_device err) err_now n (KeepsNoneBack nothing_kept out now)) out' (output_device err') status
-    → (out'.buffer.bytes.ghost_name ≡ out.buffer.bytes.ghost_name) × (err'.buffer.bytes.ghost_name ≡ err.buffer.bytes.ghost_name) × IsLeftAs words files input (written out') (written err') status
+    → (out'.bytes.ghost_name ≡ out.bytes.ghost_name) × (err'.bytes.ghost_name ≡ err.bytes.ghost_name) × IsLeftAs words files input (written out') (written err') status
 left-in-outputs words files input host after status out out' err err' f i n no_out no_err (Finishes.Flushed before left flushed held same) =
     let now = subst (λ (sink : LentOutput). RunsOn words OpensIn known bytes_of no_failures none_failed host after (output_device out) (output_device sink) (output_device err) (output_device err') status (KeepsNoneBack nothing_kept out sink)) (sym flushed.1) left in
-    let from_out = subst (λ l. RunsOn words OpensIn known bytes_of no_failures none_failed host after (holding false (out.buffer.bytes.ghost_name ∷ l)) (output_device out') (output_device err) (output_device err') status (KeepsNoneBack nothing_kept out out')) no_out now in
-    let from_err = subst (λ l. RunsOn words OpensIn known bytes_of no_failures none_failed host after (holding false (out.buffer.bytes.ghost_name ∷ [])) (output_device out') (holding false (err.buffer.bytes.ghost_name ∷ l)) (output_device err') status (KeepsNoneBack nothing_kept out out')) no_err from_out in
-    let bare = words-after out.buffer.bytes.ghost_name out'.buffer.bytes.ghost_name err.buffer.bytes.ghost_name err'.buffer.bytes.ghost_name status (written out') (written err') words host after _ from_err in
+    let from_out = subst (λ l. RunsOn words OpensIn known bytes_of no_failures none_failed host after (holding false (out.bytes.ghost_name ∷ l)) (output_device out') (output_device err) (output_device err') status (KeepsNoneBack nothing_kept out out')) no_out now in
+    let from_err = subst (λ l. RunsOn words OpensIn known bytes_of no_failures none_failed host after (holding false (out.bytes.ghost_name ∷ [])) (output_device out') (holding false (err.bytes.ghost_name ∷ l)) (output_device err') status (KeepsNoneBack nothing_kept out out')) no_err from_out in
+    let bare = words-after out.bytes.ghost_name out'.bytes.ghost_name err.bytes.ghost_name err'.bytes.ghost_name status (written out') (written err') words host after _ from_err in
     (bare.0, bare.1, (noted after, left-by false false words files input host after _ (written out') (written err') status _ f i n (refl, refl, refl, refl) bare.2))
 left-in-outputs words files input host after status out out' err err' f i n no_out no_err (Finishes.Failed before left machine fails held same) = let bad : false ≡ true = fails.0 in cc
 left-in-outputs words files input host after status out out' err err' f i n no_out no_err (Finishes.Unflushed before shown was left below fails held same then status_is) = let bad : false ≡ true = fails.0 in cc
 
 -- the same in the bytes that were lent, once the outputs are given up
-pub left-in-lent : (words : List Text) (files : List MemoryFile) (input : Text) (out err : LentOutput) (filled_out : List ℕ) (used_out : ℕ) (filled_err : List ℕ) (used_err status : ℕ) → filled_out ≡ out.buffer.bytes.now → filled_err ≡ err.buffer.bytes.now
-    → IsLeftAs words files input (written out) (written err) status → Fills out.buffer.bytes.now used_out (written out) → Fills err.buffer.bytes.now used_err (written err) → IsLeftIn words files input filled_out used_out filled_err used_err status
+pub left-in-lent : (words : List Text) (files : List MemoryFile) (input : Text) (out err : LentOutput) (filled_out : List ℕ) (used_out : ℕ) (filled_err : List ℕ) (used_err status : ℕ) → filled_out ≡ out.bytes.now → filled_err ≡ err.bytes.now
+    → IsLeftAs words files input (written out) (written err) status → Fills out.bytes.now used_out (written out) → Fills err.bytes.now used_err (written err) → IsLeftIn words files input filled_out used_out filled_err used_err status
 left-in-lent words files input out err filled_out used_out filled_err used_err status is_out is_err left fills_out fills_err =
     record {
       left = record { opened = left.0; output = written out; message = written err; status = status };

@@ -9,7 +9,7 @@ use std::hash::RandomState;
 use std::io::{ErrorKind, Stdin};
 use std::os::fd::AsRawFd;
 use std::{env, fs, io};
-use vcd_host::{BUFFER_SIZE, Buffered};
+use vcd_host::Buffered;
 use vcd_text::{Sink, Watch};
 use vcd_words::UseFault;
 use vcdkit::{Again, use_fault};
@@ -107,11 +107,8 @@ pub fn run_words_on_machine<E: Sink>(rt: &HostRuntime, words: &[String], err: &m
     ensures { result ≤ 3 }
 {
     let mut process = OwnProcess { rt };
-    match vec![in rt.alloc(); 0u8; BUFFER_SIZE] {
-        Ok(mut kept) => {
-            let mut out = Buffered::new(&mut kept, Again::new(rt.stdout()));
-            run_words(rt.alloc(), &mut process, words, &mut out, err)
-        }
+    match Buffered::new(rt.alloc(), Again::new(rt.stdout())) {
+        Ok(mut out) => run_words(rt.alloc(), &mut process, words, &mut out, err),
         Err(_) => use_fault(UseFault::OutOfMemory, err),
     }
 }
@@ -144,16 +141,14 @@ pub fn run_on_machine(rt: &HostRuntime) -> u8
 {
     let _stand_ins = [stand_in(rt), stand_in(rt), stand_in(rt)];
     let mut process = OwnProcess { rt };
-    let (Ok(mut output), Ok(mut messages)) = (
-        vec![in rt.alloc(); 0u8; BUFFER_SIZE],
-        vec![in rt.alloc(); 0u8; BUFFER_SIZE],
+    let (Ok(mut out), Ok(mut err)) = (
+        Buffered::new(rt.alloc(), Again::new(rt.stdout())),
+        Buffered::new(rt.alloc(), Again::new(rt.stderr())),
     ) else {
         return use_fault(
             UseFault::OutOfMemory,
             &mut Watch::new(Again::new(rt.stderr())),
         );
     };
-    let mut out = Buffered::new(&mut output, Again::new(rt.stdout()));
-    let mut err = Buffered::new(&mut messages, Again::new(rt.stderr()));
     run_process(rt.alloc(), &mut process, &mut out, &mut err)
 }

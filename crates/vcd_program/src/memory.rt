@@ -174,8 +174,8 @@ fn run_into_lent<B: BuildHasher>(
     requires memory { noted memory.old ≡ [] }
     requires out { written out.old ≡ [] }
     requires err { written err.old ≡ [] }
-    ensures out_loan { out.new.buffer.bytes.ghost_name ≡ out.old.buffer.bytes.ghost_name }
-    ensures err_loan { err.new.buffer.bytes.ghost_name ≡ err.old.buffer.bytes.ghost_name }
+    ensures out_loan { out.new.bytes.ghost_name ≡ out.old.bytes.ghost_name }
+    ensures err_loan { err.new.bytes.ghost_name ≡ err.old.bytes.ghost_name }
     ensures left { IsLeftAs (map string_bytes words.now) memory.old.files.now memory.old.input.now
         (written out.new) (written err.new) result }
 {

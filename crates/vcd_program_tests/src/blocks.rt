@@ -2,7 +2,7 @@
 use std::alloc::{AllocError, Global};
 use std::io;
 use std::io::Write;
-use vcd_host::{BUFFER_SIZE, Buffered, Output};
+use vcd_host::{Buffered, Output};
 use vcd_text::{Few, Sink, put, put_few, put_parts};
 
 // Notes how many bytes each write brings. It takes at most 3,000 of them if it is `narrow`, and
@@ -84,9 +84,8 @@ fn blocks_of(
     orders: &[Order],
 ) -> Result<(Vec<usize>, u64), AllocError> {
     let mut device = Noted::new(alloc, narrow, failing);
-    let mut kept = vec![in alloc; 0u8; BUFFER_SIZE]?;
     let failures = {
-        let mut out = Buffered::new(&mut kept, &mut device);
+        let mut out = Buffered::new(alloc, &mut device)?;
         for order in orders {
             follow(&mut out, *order);
         }

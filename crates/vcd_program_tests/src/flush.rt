@@ -2,7 +2,7 @@
 use super::command_lines::words_of;
 use std::alloc::{AllocError, Global};
 use std::hash::{BuildHasherDefault, FoldHasher};
-use vcd_host::{BUFFER_SIZE, Buffered};
+use vcd_host::Buffered;
 use vcd_program::{Memory, run_program};
 use vcd_text::Watch;
 use vcd_text::doubles::Narrow;
@@ -15,8 +15,7 @@ fn run_unflushed(alloc: Global, word: &str, input: &[u8]) -> Result<(u8, Vec<u8>
         input,
         opened: Vec::new(alloc),
     };
-    let mut kept = vec![in alloc; 0u8; BUFFER_SIZE]?;
-    let mut out = Buffered::new(&mut kept, Narrow::new(0));
+    let mut out = Buffered::new(alloc, Narrow::new(0))?;
     let mut err = Watch::new(Vec::new(alloc));
     let hasher: BuildHasherDefault<FoldHasher> = BuildHasherDefault::new();
     let status = run_program(

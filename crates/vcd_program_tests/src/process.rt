@@ -10,7 +10,7 @@ use std::cell::RefCell;
 use std::hash::{BuildHasherDefault, FoldHasher};
 use std::io;
 use std::io::{ErrorKind, Write};
-use vcd_host::{BUFFER_SIZE, Buffered};
+use vcd_host::Buffered;
 use vcd_program::Process;
 use vcd_words::UseFault;
 
@@ -289,10 +289,8 @@ fn is_as(alloc: Global, row: &Row) -> Result<bool, AllocError> {
         both: &both,
         has_room: true,
     };
-    let mut kept = vec![in alloc; 0u8; BUFFER_SIZE]?;
-    let mut kept_messages = vec![in alloc; 0u8; BUFFER_SIZE]?;
-    let mut out = Buffered::new(&mut kept, output);
-    let mut err = Buffered::new(&mut kept_messages, messages);
+    let mut out = Buffered::new(alloc, output)?;
+    let mut err = Buffered::new(alloc, messages)?;
     let status = run_relied_on(alloc, &mut process, &mut out, &mut err);
     Ok(
         are(process.opened.as_slice(), row.opened)

@@ -8,7 +8,7 @@ use std::cell::Cell;
 use std::hash::{BuildHasherDefault, FoldHasher};
 use std::io;
 use std::io::{Read, Write};
-use vcd_host::{BUFFER_SIZE, Buffered, Host, OpenFault};
+use vcd_host::{Buffered, Host, OpenFault};
 use vcd_program::run_program;
 use vcd_text::Watch;
 
@@ -109,8 +109,7 @@ impl<'a> Host for Live<'a> {
 fn run_live(alloc: Global, words: &[&str], steps: &[Step], log: &Log) -> Result<u8, AllocError> {
     let words = words_of(alloc, words)?;
     let mut host = Live { steps, log };
-    let mut kept = vec![in alloc; 0u8; BUFFER_SIZE]?;
-    let mut out = Buffered::new(&mut kept, Written { log });
+    let mut out = Buffered::new(alloc, Written { log })?;
     let mut err = Watch::new(Vec::new(alloc));
     let hasher: BuildHasherDefault<FoldHasher> = BuildHasherDefault::new();
     Ok(run_program(

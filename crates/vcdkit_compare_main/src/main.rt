@@ -19,7 +19,7 @@ use std::fs::File;
 use std::hash::RandomState;
 use std::io::Read;
 use std::process::ExitCode;
-use vcd_host::{BUFFER_SIZE, Buffered, Output};
+use vcd_host::{Buffered, Output};
 use vcd_text::{Sink, Watch, put};
 use vcdkit::{Again, parse_status};
 
@@ -146,15 +146,13 @@ fn run_process<W: Output, E: Sink>(rt: &HostRuntime, out: &mut W, err: &mut E) -
 }
 
 fn main(rt: HostRuntime) -> ExitCode {
-    let (Ok(mut output), Ok(mut messages)) = (
-        vec![in rt.alloc(); 0u8; BUFFER_SIZE],
-        vec![in rt.alloc(); 0u8; BUFFER_SIZE],
+    let (Ok(mut out), Ok(mut err)) = (
+        Buffered::new(rt.alloc(), Again::new(rt.stdout())),
+        Buffered::new(rt.alloc(), Again::new(rt.stderr())),
     ) else {
         let mut err = Watch::new(Again::new(rt.stderr()));
         return ExitCode::from(report(Failure::OutOfMemory, &mut err));
     };
-    let mut out = Buffered::new(&mut output, Again::new(rt.stdout()));
-    let mut err = Buffered::new(&mut messages, Again::new(rt.stderr()));
     let status = run_process(&rt, &mut out, &mut err);
     let _ = err.flush();
     ExitCode::from(status)

@@ -5,10 +5,10 @@ pub returns-clause-bytes : goal.returns-clause-bytes
 returns-clause-bytes c =
     let b = c.args.self.now in
     let xs = c.deref_mut.result.now in
-    let bytes = c.args.bytes in
-    let n = c.args.n in
-    let few = c.requires.few in
-    let room = c.requires.room in
+    let bytes = c.args.few.bytes in
+    let n = c.args.few.len in
+    let few = c.args.few.few in
+    let room = c.requires in
     let value = c.deref_mut.ensures.value in
     let held : length (take b.len xs) ≡ b.len = length-take-le b.len xs (omega (arith, ap length value, b.size, room)) in
     let new = c.copy_eight.new.to in

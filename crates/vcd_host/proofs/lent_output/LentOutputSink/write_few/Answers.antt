@@ -8,5 +8,5 @@ returns-clause-all c = λ _.
     let xs = sink.bytes.now in
     let fits : sink.used + 8 < length xs = omega (arith, c.if-self-le-FEW.false, sink.within) in
     let none = none-gone sink.gone.bytes sink.used (length xs) sink.dropped sink.number (omega (arith, fits)) sink.order in
-    let front = front-copied xs c.copy_eight.new.to c.args.bytes sink.used 8 c.args.n sink.within c.requires c.copy_eight.ensures.copied in
-    (gained sink.bytes.ghost_name xs c.copy_eight.new.to sink.gone.bytes (take c.args.n c.args.bytes) sink.used c.args.n none front, refl)
+    let front = front-copied xs c.copy_eight.new.to c.args.few.bytes sink.used 8 c.args.few.len sink.within c.args.few.few c.copy_eight.ensures.copied in
+    (gained sink.bytes.ghost_name xs c.copy_eight.new.to sink.gone.bytes (take c.args.few.len c.args.few.bytes) sink.used c.args.few.len none front, refl)
