@@ -33,7 +33,7 @@ pub use Rattle.vcd_body.specs.Ahead.{AreWords, EndsAhead, GaveAhead, GaveLast, H
 pub use Rattle.vcd_body.specs.Asked.{HaveJust}
 pub use Rattle.vcd_body.specs.Binary.{binary_digits, bit_of, count_in, is_proper, number_in}
 pub use Rattle.vcd_body.specs.Calls.{NeedsOneToken}
-pub use Rattle.vcd_body.specs.Changes.{AreBinary, AreBinaryIf, IsBinaryAt, IsDigitAt, line_under}
+pub use Rattle.vcd_body.specs.Changes.{AreBinary, AreBinaryIf, IsBinaryAt, IsDigitAt, Serves, line_under}
 pub use Rattle.vcd_body.specs.Contents.{ChangesCode, GivesValue, IsLaidOut, KeepsTable, SetsCode, codes_shown, held_at, kept_at, line_of, new_at, shown_as, shown_code, value_in}
 pub use Rattle.vcd_body.specs.Counters.{counts_of}
 pub use Rattle.vcd_body.specs.Current.{AreHeld, HasShares, table_bytes}

@@ -1,42 +1,8 @@
 -- Lines that are in some bytes but for digits on the left that are not needed.
-use Rattle.vcd_body.proofs.Cited.{◌≡◌, ◌≢◌, ℕ, zero, suc, ◌+◌, ◌-◌, ◌≤◌, ◌<◌, ◌==◌, false, List, [], ◌∷◌, ◌++◌, length, replicate, take, drop, Option, Some, None, IfSome, sym, ap, ap₂, subst, ◌∙◌, append_assoc, arith, slice_range, to_ascii_lowercase, str_to_ascii_lowercase, drop-append-le, drop-drop, drop-map, drop-take, length-append, length-drop, length-map, length-replicate, drop-append_seam, take-append_seam, take-length, extend, extension, short, short_is_shortest, slice_range-append, length-slice_range, HasChange, bytes_without}
+use Rattle.vcd_body.proofs.Cited.{◌≡◌, ℕ, zero, suc, ◌+◌, ◌-◌, ◌≤◌, ◌<◌, List, [], ◌∷◌, ◌++◌, length, take, drop, Option, Some, None, IfSome, sym, ap, ap₂, subst, ◌∙◌, append_assoc, arith, slice_range, drop-append-le, drop-drop, drop-take, length-append, length-drop, take-append_seam, take-length, slice_range-append, length-slice_range, HasChange, bytes_without}
 use Rattle.vcd_body.specs.declared.item.Form.TheVariants as form
-use Rattle.vcd_body.proofs.Shortest.{extend_wide}
-use Rattle.vcd_body.proofs.WordLemmas.{some_bytes}
 
 -- ---- digits
-
-not_empty : (l : List ℕ) → 0 < length l → l ≢ []
-not_empty [] h = absurd (omega arith)
-not_empty (x ∷ l) h = λ e. cc
-
--- the shortest digits are the end of those that they extend to
-short_is_end : (v : List ℕ) → v ≢ [] → (length (short v) ≤ length v) × (drop (length v - length (short v)) v ≡ short v)
-short_is_end v some =
-    let y = short v in
-    let n = length v - length y in
-    let back = (short_is_shortest v some).1 in
-    let same = ap length back in
-    let parts = length-append (replicate n (extension y)) y in
-    let front = length-replicate n (extension y) in
-    (omega arith, ap (drop n) (sym back) ∙ ap (λ m. drop m (replicate n (extension y) ++ y)) (sym front) ∙ drop-append_seam (replicate n (extension y)) y)
-
--- so are the shortest ones of digits in either case
-module _ (l rest : List ℕ) (s : (size : ℕ) → str_to_ascii_lowercase rest ≡ short (extend (str_to_ascii_lowercase l) size)) (some : (length l == 0) ≡ false) where
-  pub shortest_end : (length rest ≤ length l) × ((size : ℕ) → str_to_ascii_lowercase (drop (length l - length rest) l) ≡ short (extend (str_to_ascii_lowercase l) size))
-  shortest_end =
-      let low = str_to_ascii_lowercase l in
-      let more = some_bytes l some in
-      let size = length-map l to_ascii_lowercase in
-      let size' = length-map rest to_ascii_lowercase in
-      let e : str_to_ascii_lowercase rest ≡ short low = s (length low) ∙ ap short (extend_wide low (length low) (omega arith)) in
-      let p = short_is_end low (not_empty low (omega arith)) in
-      let few = p.0 in
-      let same = ap length e in
-      let n : length low - length (short low) ≡ length l - length rest = omega arith in (
-        omega arith,
-        λ z. sym (drop-map to_ascii_lowercase (length l - length rest) l) ∙ ap (λ m. drop m low) (sym n) ∙ p.1 ∙ sym e ∙ s z,
-      )
 
 -- a slice from there on
 pub end_is : (l : List ℕ) (k : ℕ) → take (length l - k) (drop k l) ≡ drop k l

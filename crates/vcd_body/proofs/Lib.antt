@@ -21,7 +21,6 @@ pub mod LayoutLemmas
 pub mod HeldLemmas
 pub mod TableLemmas
 pub mod Pieces
-pub mod HeldShort
 pub mod HeldLines
 pub mod SetLemmas
 pub mod CurrentLemmas

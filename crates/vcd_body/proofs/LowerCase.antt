@@ -1,5 +1,5 @@
 -- Bytes that are written in lower case, piece by piece.
-use Rattle.vcd_body.proofs.Cited.{◌≡◌, ◌≢◌, ◌⊎◌, inl, inr, ℕ, ◌+◌, ◌<◌, Bool, true, false, ◌||◌, ◌==◌, List, [], ◌∷◌, ◌++◌, get_or, length, take, drop, take-append-drop, ap, ap₂, sym, refl, ◌∙◌, subst, append_assoc, add-one, agree_below_at, eqb-true, take-map, drop-map, map-append, take-suc, Option, bit_and, Appends, to_ascii_lowercase, str_to_ascii_lowercase, AppendsSome, appends-first, appends-more, appends-some}
+use Rattle.vcd_body.proofs.Cited.{◌≡◌, ◌≢◌, ◌⊎◌, inl, inr, ℕ, ◌+◌, ◌<◌, Bool, true, false, ◌||◌, ◌==◌, List, [], ◌∷◌, ◌++◌, get_or, length, take, ap, ap₂, refl, ◌∙◌, add-one, agree_below_at, eqb-true, map-append, take-suc, bit_and, to_ascii_lowercase, str_to_ascii_lowercase}
 
 -- ---- bit 5 of bytes, which is set where they are no capital letters
 
@@ -36,20 +36,3 @@ low_more bytes i all inside fit (inr set, low) = by_bit (bit_5 (get_or bytes i 0
       inr (same ∙ e),
       λ _. rw (add-one, take-suc bytes i 0 inside, map-append) (ap₂ (λ (a b : List ℕ). a ++ b) (low some) (ap (λ d. d ∷ []) is)),
     )
-
--- ---- pieces
-
-lower_front : (bytes rest front : List ℕ) (n m : ℕ) → rest ≡ drop n bytes → front ≡ take m rest → str_to_ascii_lowercase front ≡ take m (drop n (str_to_ascii_lowercase bytes))
-lower_front bytes rest front n m e f = ap str_to_ascii_lowercase (f ∙ ap (take m) e) ∙ sym (take-map to_ascii_lowercase m (drop n bytes)) ∙ ap (take m) (sym (drop-map to_ascii_lowercase n bytes))
-
-pub lower-more : (old mid new : Option (List ℕ)) (bytes rest front : List ℕ) (n m : ℕ) → rest ≡ drop n bytes → front ≡ take m rest → Appends old mid (take n (str_to_ascii_lowercase bytes)) → Appends mid new (str_to_ascii_lowercase front)
-    → Appends old new (take (n + m) (str_to_ascii_lowercase bytes))
-lower-more old mid new bytes rest front n m e f p q = appends-more old mid new (str_to_ascii_lowercase bytes) (drop n (str_to_ascii_lowercase bytes)) n m refl p (subst (Appends mid new) (lower_front bytes rest front n m e f) q)
-
-pub lower-some : (old mid new : Option (List ℕ)) (bytes rest front : List ℕ) (n m : ℕ) → rest ≡ drop n bytes → front ≡ take m rest → Appends old mid (take n (str_to_ascii_lowercase bytes)) → AppendsSome mid new (str_to_ascii_lowercase front)
-    → AppendsSome old new (str_to_ascii_lowercase bytes)
-lower-some old mid new bytes rest front n m e f p q =
-    let all = str_to_ascii_lowercase bytes in
-    let some = appends-some old mid new (take n all) (take m (drop n all)) p (subst (AppendsSome mid new) (lower_front bytes rest front n m e f) q) in
-    subst (AppendsSome old new) (append_assoc (take n all) (take m (drop n all)) (drop m (drop n all)) ∙ ap (λ l. take n all ++ l) (take-append-drop m (drop n all)) ∙ take-append-drop n all)
-    (appends-first old new (take n all ++ take m (drop n all)) (drop m (drop n all)) some)

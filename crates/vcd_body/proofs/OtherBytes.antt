@@ -1,6 +1,6 @@
 -- A mask of the bytes that are another one, and digits that are left out where they are not.
-use Rattle.vcd_body.proofs.Cited.{◌≡◌, ◌≢◌, ℕ, zero, suc, ◌+◌, ◌<◌, ◌≤◌, ◌%◌, ◌^◌, ◌==◌, ◌⊎◌, inl, inr, Bool, true, false, cond, not, List, [], ◌∷◌, length, map, replicate, drop, get_or, w8, refl, sym, ap, ap₂, ◌∙◌, arith, slice_index, to_ascii_lowercase, bit_at, str_to_ascii_lowercase, agree_below_at, eq-eqb, eqb-true, ne_eqb, get_or-replicate, length-replicate, bit_mask_l, get_or-chunk, get_or-zip2, length-chunk, length-zip2, mask_l-mod, tops_compared, chunk, mask_l, top, zip2, extension, AreBinary}
-use Rattle.vcd_body.proofs.Shortest.{Suffices, one_of_two, one_out}
+use Rattle.vcd_body.proofs.Cited.{◌≡◌, ◌≢◌, ℕ, zero, suc, ◌+◌, ◌<◌, ◌≤◌, ◌%◌, ◌^◌, ◌==◌, ◌⊎◌, inl, inr, Bool, true, false, cond, not, List, [], ◌∷◌, length, map, replicate, drop, get_or, w8, refl, sym, ap, ap₂, ◌∙◌, arith, slice_index, to_ascii_lowercase, bit_at, str_to_ascii_lowercase, agree_below_at, eq-eqb, eqb-true, ne_eqb, get_or-map, get_or-replicate, length-map, length-replicate, bit_mask_l, get_or-chunk, get_or-zip2, length-chunk, length-zip2, mask_l-mod, tops_compared, chunk, mask_l, top, zip2, extension, AreBinary, Serves}
+use Rattle.vcd_body.proofs.Shortest.{lead_out, one_of_two}
 
 pub differ_bit : (xs ys : List ℕ) (n : ℕ) → length xs ≡ n → length ys ≡ n → n ≤ 64 → (k : ℕ) → k < n
     → bit_at (mask_l (map (top 7) (zip2 (λ x y. cond (not (x == y)) 255 0) xs ys)) % 2 ^ 64) k ≡ cond {A = ℕ} (not (get_or xs k 0 == get_or ys k 0)) 1 0
@@ -61,10 +61,8 @@ again d fit other =
     sym (ap (λ (t : Bool). cond t 48 (to_ascii_lowercase d)) (same ∙ ne_eqb d 49 other))
 
 -- all but the last of them are left out
-pub same_lead : (k d : ℕ) (l digits : List ℕ) → k < length l → ((j : ℕ) → j ≤ k → get_or l j 0 ≡ d) → d < 256 → d ≢ 49 → Suffices l digits → Suffices (drop k l) digits
-same_lead zero d l digits less same fit other s = s
-same_lead (suc k) d [] digits less same fit other s = absurd (omega arith)
-same_lead (suc k) d (x ∷ l) digits less same fit other s =
-    let first = ap to_ascii_lowercase (same 0 (omega arith)) in
-    let second = ap (λ y. extension (to_ascii_lowercase y ∷ [])) (same 1 (omega arith)) in
-    same_lead k d l digits (omega arith) (λ j few. same (suc j) (omega arith)) fit other (one_out (x ∷ l) l digits refl (omega arith) (first ∙ again d fit other ∙ sym second) s)
+pub same_lead : (k d : ℕ) (l : List ℕ) → k < length l → ((j : ℕ) → j ≤ k → get_or l j 0 ≡ d) → d < 256 → d ≢ 49 → Serves k (str_to_ascii_lowercase l)
+same_lead k d l less same fit other =
+    let m = length-map l to_ascii_lowercase in
+    let at : (j : ℕ) → j ≤ k → get_or (str_to_ascii_lowercase l) j 0 ≡ to_ascii_lowercase d = λ j le. get_or-map to_ascii_lowercase l j 0 0 (omega (arith, le, less)) ∙ ap to_ascii_lowercase (same j le) in
+    lead_out k (str_to_ascii_lowercase l) (omega (arith, less, m)) (λ j few. at j (omega (arith, few)) ∙ again d fit other ∙ ap (λ x. extension (x ∷ [])) (sym (at (j + 1) (omega (arith, few)))))

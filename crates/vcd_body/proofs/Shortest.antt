@@ -1,5 +1,5 @@
 -- The shortest digits of a value are those from which no digit can be left out on the left.
-use Rattle.vcd_body.proofs.Cited.{◌≡◌, ◌≢◌, ◌⊎◌, inl, inr, ℕ, zero, suc, ◌+◌, ◌-◌, ◌/◌, ◌%◌, ◌^◌, max, ◌≤◌, ◌<◌, Bool, true, false, cond, ◌==◌, List, [], ◌∷◌, ◌++◌, length, replicate, drop, get_or, refl, sym, ap, subst, ◌∙◌, arith, to_ascii_lowercase, str_to_ascii_lowercase, cases_lt, eqb-true, length-append, length-map, length-replicate, extend, extension, short, binary_digits, bit_of, AreBinary, short_is_shortest}
+use Rattle.vcd_body.proofs.Cited.{◌≡◌, ◌≢◌, ◌⊎◌, inl, inr, ℕ, zero, suc, ◌+◌, ◌-◌, ◌/◌, ◌%◌, ◌^◌, max, ◌≤◌, ◌<◌, Bool, true, false, cond, ◌==◌, List, [], ◌∷◌, ◌++◌, length, replicate, drop, get_or, refl, sym, ap, subst, ◌∙◌, arith, to_ascii_lowercase, str_to_ascii_lowercase, cases_lt, eqb-true, drop-cons, length-append, length-drop, length-replicate, extend, extension, short, binary_digits, bit_of, AreBinary, Serves, short_is_shortest}
 
 -- one digit, or more of which the first is not what the others are extended by
 abbrev pub IsBare : List ℕ → Type 0
@@ -75,48 +75,63 @@ bare_is_short s n b h =
     let z = not_bare (length s - length y) y s q.0 b c in
     sym (ap (λ m. replicate m (extension y) ++ y) (sym z) ∙ c)
 
--- ---- digits in either case
+-- ---- the digits from an index on
 
-pub one_bare : (l : List ℕ) → 0 < length l → length l ≤ 1 → IsBare (str_to_ascii_lowercase l)
-one_bare [] some few = absurd (omega arith)
-one_bare (x ∷ []) some few = tt
-one_bare (x ∷ y ∷ l) some few = absurd (omega arith)
+-- what digits are extended by is known by the first of them
+pub extension_at : (ds : List ℕ) (from : ℕ) → from < length ds → extension (drop from ds) ≡ extension (get_or ds from 0 ∷ [])
+extension_at [] from h = absurd (omega arith)
+extension_at (d ∷ ds) zero h = refl
+extension_at (d ∷ ds) (suc from) h = extension_at ds from (omega arith)
 
-pub more_bare : (l : List ℕ) → 1 < length l → (to_ascii_lowercase (get_or l 0 0) ≡ extension (to_ascii_lowercase (get_or l 1 0) ∷ []) → ⊥) → IsBare (str_to_ascii_lowercase l)
-more_bare [] more n = absurd (omega arith)
-more_bare (x ∷ []) more n = absurd (omega arith)
-more_bare (x ∷ y ∷ l) more n = n
+-- a first digit that the next one extends to is left out
+pub one_less : (ds : List ℕ) (from : ℕ) → from + 1 < length ds → get_or ds from 0 ≡ extension (get_or ds (from + 1) 0 ∷ []) → Serves from ds → Serves (from + 1) ds
+one_less ds from more same (within, serves) = (
+  omega arith,
+  λ size fits.
+      let next : suc from ≡ from + 1 = omega arith in
+      let two = drop-cons ds from 0 within ∙ ap (λ i. get_or ds from 0 ∷ drop i ds) next in
+      let rest = drop (from + 1) ds in
+      let l = length-drop (from + 1) ds in
+      let e : get_or ds from 0 ≡ extension rest = same ∙ sym (extension_at ds (from + 1) more) in
+      left_out (get_or ds from 0) rest size e (omega arith) ∙ ap (λ r. extend r size) (sym two) ∙ serves size fits,
+)
 
-pub first_out : (l : List ℕ) (size : ℕ) → 1 < length l → to_ascii_lowercase (get_or l 0 0) ≡ extension (to_ascii_lowercase (get_or l 1 0) ∷ []) → length l ≤ size → extend (str_to_ascii_lowercase (drop 1 l)) size ≡ extend (str_to_ascii_lowercase l) size
-first_out [] size more e h = absurd (omega arith)
-first_out (x ∷ []) size more e h = absurd (omega arith)
-first_out (x ∷ y ∷ l) size more e h = left_out (to_ascii_lowercase x) (str_to_ascii_lowercase (y ∷ l)) size e (let n = length-map (x ∷ y ∷ l) to_ascii_lowercase in omega arith)
+-- no digits are extended by 0
+pub none_extended : (ds : List ℕ) → length ds ≡ 0 → 48 ≡ extension ds
+none_extended [] h = refl
+none_extended (d ∷ ds) h = absurd (omega (arith, h))
 
--- bare digits that extend to the same as some digits, wherever these fit, are the shortest of these
--- at each size
-pub shortest_of : (l digits : List ℕ) → IsBare (str_to_ascii_lowercase l) → length l ≤ length digits → ((n : ℕ) → length digits ≤ n → extend (str_to_ascii_lowercase l) n ≡ extend (str_to_ascii_lowercase digits) n) → (size : ℕ) → str_to_ascii_lowercase l ≡ short (extend (str_to_ascii_lowercase digits) size)
-shortest_of l digits b few e size =
-    let n = max size (length digits) in
-    bare_is_short (str_to_ascii_lowercase l) n b (let m = length-map l to_ascii_lowercase in omega arith) ∙ ap short (e n (omega arith) ∙ sym (extend_where_fits (str_to_ascii_lowercase digits) size n (let m = length-map digits to_ascii_lowercase in omega arith)))
+-- first digits that the next ones extend to are
+pub lead_out : (from : ℕ) (ds : List ℕ) → from < length ds → ((k : ℕ) → k < from → get_or ds k 0 ≡ extension (get_or ds (k + 1) 0 ∷ [])) → Serves from ds
+lead_out zero ds less same = (less, λ size fits. refl)
+lead_out (suc from) ds less same =
+    let next : from + 1 ≡ suc from = omega arith in
+    subst (λ i. Serves i ds) next (one_less ds from (omega arith) (same from (omega arith)) (lead_out from ds (omega arith) (λ k few. same k (omega arith))))
 
--- some last digits that extend to the same, wherever all of them fit
-abbrev pub Suffices : List ℕ → List ℕ → Type 0
-Suffices rest digits = (0 < length rest) × (length rest ≤ length digits)
-    × ((size : ℕ) → length digits ≤ size → extend (str_to_ascii_lowercase rest) size ≡ extend (str_to_ascii_lowercase digits) size)
+bare_here : (ds : List ℕ) (from next : ℕ) → next ≡ suc from → next < length ds → get_or ds from 0 ≢ extension (get_or ds next 0 ∷ []) → IsBare (drop from ds)
+bare_here [] from next e h n = absurd (omega arith)
+bare_here (d ∷ []) from next e h n = absurd (omega arith)
+bare_here (d ∷ f ∷ ds) zero next e h n = λ x. n (x ∙ ap (λ i. extension (get_or (d ∷ f ∷ ds) i 0 ∷ [])) (sym e))
+bare_here (d ∷ f ∷ ds) (suc from) zero e h n = absurd (omega arith)
+bare_here (d ∷ f ∷ ds) (suc from) (suc next) e h n = bare_here (f ∷ ds) from next (omega arith) (omega arith) n
 
--- a first digit that the next one extends to is left out of them
-pub one_out : (l rest digits : List ℕ) → rest ≡ drop 1 l → 1 < length l → to_ascii_lowercase (get_or l 0 0) ≡ extension (to_ascii_lowercase (get_or l 1 0) ∷ []) → Suffices l digits → Suffices rest digits
-one_out l rest digits e more same (some, few, value) =
-    let n = length_drop l in
-    let m = ap length e in (
-      omega arith,
-      omega arith,
-      λ size fits. ap (λ r. extend (str_to_ascii_lowercase r) size) e ∙ first_out l size more same (omega arith) ∙ value size fits,
-    )
-  where
-    length_drop : (l : List ℕ) → length (drop 1 l) ≡ length l - 1
-    length_drop [] = omega arith
-    length_drop (x ∷ l) = omega arith
+last_bare : (ds : List ℕ) (from : ℕ) → from < length ds → length ds ≤ from + 1 → IsBare (drop from ds)
+last_bare [] from h l = absurd (omega arith)
+last_bare (d ∷ []) zero h l = tt
+last_bare (d ∷ e ∷ ds) zero h l = absurd (omega arith)
+last_bare (d ∷ ds) (suc from) h l = last_bare ds from (omega arith) (omega arith)
+
+shortest : (ds : List ℕ) (from : ℕ) → IsBare (drop from ds) → Serves from ds → (size : ℕ) → drop from ds ≡ short (extend ds size)
+shortest ds from bare (within, serves) size =
+    let n = max size (length ds) in
+    let l = length-drop from ds in
+    bare_is_short (drop from ds) n bare (omega arith) ∙ ap short (serves n (omega arith) ∙ sym (extend_where_fits ds size n refl))
+
+pub short_here : (ds : List ℕ) (from : ℕ) → from + 1 < length ds → get_or ds from 0 ≢ extension (get_or ds (from + 1) 0 ∷ []) → Serves from ds → (size : ℕ) → drop from ds ≡ short (extend ds size)
+short_here ds from more other serves size = shortest ds from (bare_here ds from (from + 1) (omega arith) more other) serves size
+
+pub short_last : (ds : List ℕ) (from : ℕ) → length ds ≤ from + 1 → Serves from ds → (size : ℕ) → drop from ds ≡ short (extend ds size)
+short_last ds from last serves size = shortest ds from (last_bare ds from serves.0 last) serves size
 
 -- ---- digits that are 0 and 1 alone
 
@@ -128,10 +143,10 @@ one_of_two d e = by_one (d == 49) refl
     by_one false h = inl (e ∙ ap (λ b. 48 + cond b 1 0) h)
 
 -- both are extended by 0
-two_extended : (d : ℕ) → d ≡ 48 + bit_of d → extension (to_ascii_lowercase d ∷ []) ≡ 48
+two_extended : (d : ℕ) → d ≡ 48 + bit_of d → extension (d ∷ []) ≡ 48
 two_extended d e = elim (one_of_two d e) [
-  | inl h ↦ ap (λ x. extension (to_ascii_lowercase x ∷ [])) h
-  | inr h ↦ ap (λ x. extension (to_ascii_lowercase x ∷ [])) h
+  | inl h ↦ ap (λ x. extension (x ∷ [])) h
+  | inr h ↦ ap (λ x. extension (x ∷ [])) h
 ]
 
 two_lower : (d : ℕ) → d ≡ 48 + bit_of d → to_ascii_lowercase d ≡ d
@@ -155,30 +170,13 @@ lower_two : (l : List ℕ) → AreBinary l → str_to_ascii_lowercase l ≡ l
 lower_two [] two = refl
 lower_two (d ∷ l) two = rw (two_lower d (two 0 (omega arith)), lower_two l (λ k less. two (suc k) (omega arith))) refl
 
--- some first zeros are left out
-zeros_lead : (k : ℕ) (l digits : List ℕ) → k < length l → ((j : ℕ) → j < k → get_or l j 0 ≡ 48) → AreBinary l → Suffices l digits → Suffices (drop k l) digits
-zeros_lead zero l digits less zeros two s = s
-zeros_lead (suc k) [] digits less zeros two s = absurd (omega arith)
-zeros_lead (suc k) (d ∷ l) digits less zeros two s =
-    let same = ap to_ascii_lowercase (zeros 0 (omega arith)) ∙ sym (two_extended (get_or l 0 0) (two 1 (omega arith))) in
-    zeros_lead k l digits (omega arith) (λ j few. zeros (suc j) (omega arith)) (λ j few. two (suc j) (omega arith)) (one_out (d ∷ l) l digits refl (omega arith) same s)
-
--- what a 1 begins, or one digit, is bare
-bare_from : (k : ℕ) (l : List ℕ) → k < length l → (k + 1 < length l → get_or l k 0 ≢ 48) → AreBinary l → IsBare (str_to_ascii_lowercase (drop k l))
-bare_from zero l less first two = elim (cases_lt 1 (length l)) [
-  | inl more ↦ more_bare l more (λ e. first (omega (arith, more)) (sym (two_lower (get_or l 0 0) (two 0 less)) ∙ e ∙ two_extended (get_or l 1 0) (two 1 more)))
-  | inr few ↦ one_bare l less few
-]
-bare_from (suc k) [] less first two = absurd (omega arith)
-bare_from (suc k) (d ∷ l) less first two = bare_from k l (omega arith) (λ more. first (omega arith)) (λ j few. two (suc j) (omega arith))
-
-two_from : (k : ℕ) (l : List ℕ) → AreBinary l → AreBinary (drop k l)
-two_from zero l two = two
-two_from (suc k) [] two = λ j less. absurd (omega arith)
-two_from (suc k) (d ∷ l) two = two_from k l (λ j less. two (suc j) (omega arith))
-
 -- so the digits after the zeros that lead are the shortest
 pub short_behind_zeros : (k : ℕ) (l : List ℕ) → k < length l → ((j : ℕ) → j < k → get_or l j 0 ≡ 48) → (k + 1 < length l → get_or l k 0 ≢ 48) → AreBinary l → (size : ℕ) → drop k l ≡ short (extend (str_to_ascii_lowercase l) size)
 short_behind_zeros k l less zeros first two size =
-    let s = zeros_lead k l l less zeros two (omega arith, omega arith, λ n fits. refl) in
-    sym (lower_two (drop k l) (two_from k l two)) ∙ shortest_of (drop k l) l (bare_from k l less first two) s.1 s.2 size
+    let extended : (j : ℕ) → j < length l → extension (get_or l j 0 ∷ []) ≡ 48 = λ j few. two_extended (get_or l j 0) (two j few) in
+    let serves = lead_out k l less (λ j few. zeros j few ∙ sym (extended (j + 1) (omega (arith, few, less)))) in
+    let all : drop k l ≡ short (extend l size) = elim (cases_lt (k + 1) (length l)) [
+      | inl more ↦ short_here l k more (λ e. first more (e ∙ extended (k + 1) more)) serves size
+      | inr last ↦ short_last l k last serves size
+    ] in
+    all ∙ ap (λ ds. short (extend ds size)) (sym (lower_two l two))

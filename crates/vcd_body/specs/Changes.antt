@@ -22,6 +22,10 @@ id_line id size event form text = line_under (id_text id) size event form text
 abbrev pub extended : List ℕ → ℕ → List ℕ
 extended digits size = extend (str_to_ascii_lowercase digits) size
 
+-- these digits from an index on, at least one, extend to the same, wherever all of them fit
+abbrev pub Serves : ℕ → List ℕ → Type 0
+Serves from ds = (from < length ds) × ((size : ℕ) → length ds ≤ size → extend (drop from ds) size ≡ extend ds size)
+
 -- without this many, the digits are the shortest of their value at each size
 abbrev pub IsNeedless : List ℕ → ℕ → Type 0
 IsNeedless digits k = (k ≤ length digits) × ((size : ℕ) → drop k digits ≡ short (extend (str_to_ascii_lowercase digits) size))

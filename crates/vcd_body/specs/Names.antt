@@ -33,7 +33,7 @@ pub use Rattle.vcd_body.specs.Ahead.{GivesAhead, GivesNoItem, GivesToLast, HasBi
 pub use Rattle.vcd_body.specs.Answer.{stop_of_body}
 pub use Rattle.vcd_body.specs.Binary.{binary_digits, bit_of, is_proper}
 pub use Rattle.vcd_body.specs.Calls.{EndsUnread, HasGoodValue, NeedsOneToken, OpensOrRefuses, ReadsCode, ReadsCommand, ReadsComment, ReadsInner, ReadsItem, ReadsTimestamp, ReadsOne, ReadsRest, ReadsToken, RefusesIn, TakesToken}
-pub use Rattle.vcd_body.specs.Changes.{AreBinary, AreBinaryIf, AreBitsAt, IsBinaryAt, IsDigitAt, IsLowerAt, IsNeedless, bit_in, extended, id_line, line_under}
+pub use Rattle.vcd_body.specs.Changes.{AreBinary, AreBinaryIf, AreBitsAt, IsBinaryAt, IsDigitAt, IsLowerAt, IsNeedless, Serves, bit_in, extended, id_line, line_under}
 pub use Rattle.vcd_body.specs.Contents.{ChangesCode, GivesShares, GivesText, GivesValue, IsLaidOut, KeepsTable, SetsCode, SetsNumber, bytes_in, codes_in, codes_shown, counts_at, held_at, is_chosen, kept_at, line_of, new_at, shown_as, value_in}
 pub use Rattle.vcd_body.specs.Current.{AreHeld}
 pub use Rattle.vcd_body.specs.Counters.{count_of, counts_of}

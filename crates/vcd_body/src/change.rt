@@ -1,26 +1,11 @@
 // Value changes as they are written.
-ghost use Rattle.std.specs.Prelude.{◌≡◌, ◌≢◌, ℕ, ◌-◌, ◌^◌, ◌<◌, ◌≤◌, ◌++◌, ◌∷◌, ◌==◌, List, [], false, get_or, take, length, slice_index};
-ghost use Rattle.vcd_body.specs.Names.{Puts, PutsTo, PutsWhere, extended, extension, line_under, short, str_to_ascii_lowercase, to_ascii_lowercase as lower};
+ghost use Rattle.std.specs.Prelude.{◌≡◌, ◌≢◌, ℕ, ◌-◌, ◌^◌, ◌<◌, ◌≤◌, ◌++◌, ◌∷◌, [], false, drop, get_or, length};
+ghost use Rattle.vcd_body.specs.Names.{Puts, PutsTo, Serves, extended, line_under, short, str_to_ascii_lowercase};
 
+use crate::digits::{Digits, Lower, first_needed, put_from};
 use crate::item::Form;
-use crate::words::{clear_bits, first_marked, others_32, rest_of};
+use crate::words::{clear_bits, first_marked, others_32};
 use vcd_text::{Sink, WriteFailed, put};
-
-/// Returns the digit by which a value that begins with `digit` is extended on the left: `0` for a
-/// `1`, otherwise the same digit. `digit` is in lower case.
-pub(crate) fn extension_of(digit: u8) -> u8
-    ensures { result ≡ extension (digit ∷ []) }
-{
-    if digit == b'1' { b'0' } else { digit }
-}
-
-/// Returns the digit, in lower case, by which a value that begins with `digit` is extended on the
-/// left: `0` for a `1`, otherwise the same digit.
-pub(crate) fn extended_by(digit: u8) -> u8
-    ensures { result ≡ extension (lower digit ∷ []) }
-{
-    extension_of(digit.to_ascii_lowercase())
-}
 
 /// Returns how many bytes at the front equal the first one, which counts too. If all bytes are
 /// equal, the result is one less. There must be at least 32 bytes, and it compares 32 in one step.
@@ -34,93 +19,30 @@ fn same_as_first(bytes: &[u8]) -> usize
     at + clear_bits(others, 32)
 }
 
-/// Returns a shorter end of `digits`, of which there is at least one, that extends to the same
-/// value, if that is easy to find: if there are at least 32 digits and the first is not `1`, it
-/// leaves out those on the left that equal the first, except one or two of them. Otherwise it
-/// returns all digits.
+/// Returns how many digits on the left can be left out if that is easy to find: if there are at
+/// least 32 digits and the first is not `1`, those that equal the first, except one or two of them.
+/// Otherwise it returns 0. There has to be a digit.
 // Without it `pick` of all of `samples/verilator.vcd` takes 5 % more.
-fn without_same(digits: &[u8]) -> &[u8]
+fn lead_left_out(digits: &[u8]) -> usize
     requires { 0 < length digits.now }
-    ensures some { 0 < length result.now }
-    ensures few { length result.now ≤ length digits.now }
-    ensures value { (size : ℕ) → length digits.now ≤ size
-        → extended result.now size ≡ extended digits.now size }
+    ensures { Serves result (str_to_ascii_lowercase digits.now) }
 {
     if digits.len() < 32 || digits[0] == b'1' {
-        return digits;
+        return 0;
     }
-    &digits[same_as_first(digits).saturating_sub(1)..]
+    same_as_first(digits).saturating_sub(1)
 }
 
-/// Returns the shortest end of `digits`, of which there is at least one, that extends to the same
-/// value: `0010` becomes `10`.
-pub(crate) fn shortest(digits: &[u8]) -> &[u8]
-    requires { 0 < length digits.now }
-    ensures { (size : ℕ) → str_to_ascii_lowercase result.now ≡ short (extended digits.now size) }
-{
-    let mut rest = without_same(digits);
-    'digits: while rest.len() > 1 {
-        if rest[0].to_ascii_lowercase() != extended_by(rest[1]) {
-            return rest;
-        }
-        rest = rest_of(rest);
-    }
-    rest
-}
-
-/// Returns whether one of these digits may be a capital letter: whether some byte has bit 5 clear.
-/// Capital letters have it clear; `0`, `1`, `x` and `z` have it set.
-// With two comparisons of each digit instead, `merge` of wide vectors takes 9 % more.
-pub(crate) fn may_have_capital(bytes: &[u8]) -> bool
-    ensures { result ≡ false → str_to_ascii_lowercase bytes.now ≡ bytes.now }
-{
-    let mut all = 0x20;
-    for byte in bytes {
-        all &= *byte;
-    }
-    all == 0
-}
-
-/// Copies `bytes` to the first bytes of `to`, which has to be at least as long, and turns capital
-/// letters into small ones. The other bytes of `to` stay as they are.
-fn lower_into(to: &mut [u8], bytes: &[u8])
-    requires { length bytes.now ≤ length to.old }
-    ensures { take (length bytes.now) to.new ≡ str_to_ascii_lowercase bytes.now }
-{
-    for (index, byte) in bytes.iter().enumerate() {
-        to[index] = byte.to_ascii_lowercase();
-    }
-}
-
-/// Writes the bytes with capital letters turned into small ones, at most 64 bytes in each write. If
-/// a write fails, a prefix was written.
-#[cold]
+/// Returns how many digits on the left can be left out without a change of the value that the rest
+/// extends to. There has to be a digit.
 #[inline(never)]
-fn put_lowered<W: Sink>(w: &mut W, bytes: &[u8]) -> Result<(), WriteFailed>
-    requires { (W.device w.old).failures < 2 ^ 64 - 1 }
-    ensures { Puts (W.device w.old) (W.device w.new) (str_to_ascii_lowercase bytes.now) result }
+pub(crate) fn needless(digits: &[u8]) -> usize
+    requires { 0 < length digits.now }
+    ensures few { result ≤ length digits.now }
+    ensures rest { (size : ℕ)
+        → str_to_ascii_lowercase (drop result digits.now) ≡ short (extended digits.now size) }
 {
-    let mut lower = [0u8; 64];
-    let mut rest = bytes;
-    while !rest.is_empty() {
-        let (front, back) = rest.split_at(rest.len().min(64));
-        lower_into(&mut lower, front);
-        put(w, &lower[..front.len()])?;
-        rest = back;
-    }
-    Ok(())
-}
-
-/// Writes the bytes with capital letters turned into small ones. If there are none, it writes them
-/// without a copy. If a write fails, a prefix was written.
-fn put_lower<W: Sink>(w: &mut W, bytes: &[u8]) -> Result<(), WriteFailed>
-    requires { (W.device w.old).failures < 2 ^ 64 - 1 }
-    ensures { Puts (W.device w.old) (W.device w.new) (str_to_ascii_lowercase bytes.now) result }
-{
-    if may_have_capital(bytes) {
-        return put_lowered(w, bytes);
-    }
-    put(w, bytes)
+    first_needed(Lower { text: digits }, lead_left_out(digits))
 }
 
 /// Writes the byte `first`, the identifier code `id` and a line feed. If a write fails, a prefix
@@ -135,16 +57,19 @@ pub(crate) fn put_end<W: Sink>(w: &mut W, first: u8, id: &[u8]) -> Result<(), Wr
     put(w, b"\n")
 }
 
-/// Writes a line of all of `digits`, in lower case, and the identifier code `id` right after them.
-/// It is for a code of one bit. If a write fails, a prefix was written.
+/// Writes a line of all of these digits, and the identifier code `id` right after them. It is for a
+/// code of one bit. If a write fails, a prefix was written.
 #[cold]
 #[inline(never)]
-fn put_all<W: Sink>(w: &mut W, digits: &[u8], id: &[u8]) -> Result<(), WriteFailed>
+pub(crate) fn put_all<D: Digits, W: Sink>(
+    digits: D,
+    id: &[u8],
+    w: &mut W,
+) -> Result<(), WriteFailed>
     requires { (W.device w.old).failures < 2 ^ 64 - 1 }
-    ensures { Puts (W.device w.old) (W.device w.new)
-        (str_to_ascii_lowercase digits.now ++ (id.now ++ 10 ∷ [])) result }
+    ensures { PutsTo W.device w.old w.new (D.digits digits ++ (id.now ++ 10 ∷ [])) result }
 {
-    put_lower(w, digits)?;
+    put_from(digits, 0, w)?;
     put(w, id)?;
     put(w, b"\n")
 }
@@ -159,19 +84,6 @@ pub(crate) fn put_real<W: Sink>(w: &mut W, text: &[u8], id: &[u8]) -> Result<(),
     put(w, b"r")?;
     put(w, text)?;
     put_end(w, b' ', id)
-}
-
-/// Writes a `b` and the shortest digits, in lower case, that extend to the same value as `digits`.
-/// There has to be at least one digit. If a write fails, a prefix was written.
-#[inline(always)]
-pub(crate) fn put_shortest<W: Sink>(w: &mut W, digits: &[u8]) -> Result<(), WriteFailed>
-    requires failures { (W.device w.old).failures < 2 ^ 64 - 1 }
-    requires digits { 0 < length digits.now }
-    ensures { PutsWhere W.device w.old w.new result (λ takes. (size : ℕ)
-        → takes (98 ∷ short (extended digits.now size))) }
-{
-    put(w, b"b")?;
-    put_lower(w, shortest(digits))
 }
 
 /// Writes the line of a change of an event (as `1`, whatever the text is), of a real number, or of
@@ -195,6 +107,6 @@ pub(crate) fn put_other<W: Sink>(
     }
     match form {
         Form::RealText => put_real(w, text, id),
-        Form::Scalar | Form::Vector => put_all(w, text, id),
+        Form::Scalar | Form::Vector => put_all(Lower { text }, id, w),
     }
 }

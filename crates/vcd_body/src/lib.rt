@@ -62,7 +62,8 @@
 //! Lines are written:
 //!
 //! - `id`: `put_change`, under an `Id`; `put_line`: the line of a change from its form and text;
-//!   `change`: its digits, and a code's own bytes at its end; `renamed`: a new code at its end
+//!   `digits`: its digits, or those that are held, and how they are extended; `change`: which of
+//!   them are needed, and a code's own bytes at its end; `renamed`: a new code at its end
 //! - `lines`: `left_out`: how the bytes of a change are its line; `time_line`: `put_time`
 //!
 //! A run ends:
@@ -89,6 +90,7 @@ mod ahead;
 mod answer;
 mod change;
 mod current;
+mod digits;
 mod fault;
 mod id;
 mod item;

@@ -4,16 +4,22 @@ ghost use Rattle.vcd_body.specs.Names.{AreBinaryIf, BodyItem, HasChange, HasTime
 ghost use Rattle.vcd_body.specs.declared.item.Item.TheVariants as item;
 
 use crate::ahead::ScannedItem;
-use crate::change::{may_have_capital, shortest};
+use crate::change::needless;
 use crate::item::{Form, Item};
 use crate::words::{clear_bits, others_32, others_64};
 use std::simd::prelude::*;
 
-/// Returns whether none of these digits is a capital letter.
+/// Returns whether none of these digits can be a capital letter: whether bit 5 is set in all bytes.
+/// Capital letters have it clear; `0`, `1`, `x` and `z` have it set.
+// With two comparisons of each digit instead, `merge` of wide vectors takes 9 % more.
 fn are_lower(digits: &[u8]) -> bool
     ensures { result ≡ true → str_to_ascii_lowercase digits.now ≡ digits.now }
 {
-    !may_have_capital(digits)
+    let mut all = 0x20;
+    for digit in digits {
+        all &= *digit;
+    }
+    all != 0
 }
 
 /// Returns whether a digit is no capital letter: whether bit 5 is set, as in `0`, `1`, `x` and `z`.
@@ -56,18 +62,6 @@ fn has_one_blank(
 {
     let text_end = from + 1 + text.len();
     (text_end + 1 == code_at) & (bytes[from] == first) & (bytes[text_end] == b' ')
-}
-
-/// Returns how many digits on the left can be left out without a change of the value that the rest
-/// extends to. There has to be a digit.
-#[inline(never)]
-fn needless(digits: &[u8]) -> usize
-    requires { 0 < length digits.now }
-    ensures few { result ≤ length digits.now }
-    ensures rest { (size : ℕ)
-        → str_to_ascii_lowercase (drop result digits.now) ≡ short (extended digits.now size) }
-{
-    digits.len() - shortest(digits).len()
 }
 
 /// Returns how many digits on the left can be left out without a change of the value that the rest

@@ -1,8 +1,9 @@
 // Changes as they are written, from their form and text.
-ghost use Rattle.std.specs.Prelude.{◌≡◌, ◌≢◌, ℕ, ◌-◌, ◌^◌, ◌<◌, ◌++◌, ◌∷◌, [], false, true, length};
-ghost use Rattle.vcd_body.specs.Names.{Puts, PutsTo, PutsWhere, extended, id_line, id_text, short};
+ghost use Rattle.std.specs.Prelude.{◌≡◌, ◌≢◌, ℕ, ◌-◌, ◌^◌, ◌<◌, ◌++◌, ◌∷◌, [], false, true, drop, length};
+ghost use Rattle.vcd_body.specs.Names.{Puts, PutsTo, id_line, id_text};
 
-use crate::change::{put_end, put_other, put_shortest};
+use crate::change::{needless, put_end, put_other};
+use crate::digits::{Digits, Lower, put_from};
 use crate::id::Id;
 use crate::item::Form;
 use crate::renamed::put_code_line;
@@ -22,17 +23,21 @@ fn put_end_under<W: Sink>(first: u8, id: Id<'_>, w: &mut W) -> Result<(), WriteF
     }
 }
 
-/// Writes the line of a vector change: `b`, the shortest digits that extend to the same value as
-/// `digits`, a blank and the identifier code `id`. There has to be at least one digit. If a write
-/// fails, a prefix was written.
+/// Writes the line of a vector: `b`, the digits from index `from` on, a blank and the identifier
+/// code `id`. If a write fails, a prefix was written.
 #[inline(never)]
-fn put_shortened<W: Sink>(digits: &[u8], id: Id<'_>, w: &mut W) -> Result<(), WriteFailed>
-    requires failures { (W.device w.old).failures < 2 ^ 64 - 1 }
-    requires digits { 0 < length digits.now }
-    ensures { PutsWhere W.device w.old w.new result (λ takes. (size : ℕ)
-        → takes (98 ∷ short (extended digits.now size) ++ (32 ∷ id_text id.entry ++ 10 ∷ []))) }
+pub(crate) fn put_vector<D: Digits, W: Sink>(
+    digits: D,
+    from: usize,
+    id: Id<'_>,
+    w: &mut W,
+) -> Result<(), WriteFailed>
+    requires { (W.device w.old).failures < 2 ^ 64 - 1 }
+    ensures { PutsTo W.device w.old w.new
+        (98 ∷ drop from (D.digits digits) ++ (32 ∷ id_text id.entry ++ 10 ∷ [])) result }
 {
-    put_shortest(w, digits)?;
+    put(w, b"b")?;
+    put_from(digits, from, w)?;
     put_end_under(b' ', id, w)
 }
 
@@ -99,7 +104,7 @@ pub(crate) fn put_line<W: Sink>(
 {
     match text {
         [digit] if is_bit(size, event, form) => put_end_under(digit.to_ascii_lowercase(), id, w),
-        _ if is_vector(size, event, form) => put_shortened(text, id, w),
+        _ if is_vector(size, event, form) => put_vector(Lower { text }, needless(text), id, w),
         _ => put_other_under(event, form, text, id, w),
     }
 }

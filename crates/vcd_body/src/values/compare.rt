@@ -2,47 +2,10 @@
 ghost use Rattle.std.specs.Prelude.{◌≡◌, ◌≤◌, ◌<◌, length, true, get_or};
 ghost use Rattle.vcd_body.specs.Names.{AreTwo, Decides, HasDigits, are_two, differs, digits_of, extend, extended, extension, held_in, model_form, str_to_ascii_lowercase, value_at_size, value_with};
 
-use crate::change::extended_by;
+use crate::digits::{Digits, Lower, extended_digit};
 use crate::item::Form;
-use crate::values::held::{digit_count, digit_or, digit_shown, last_held};
+use crate::values::held::last_held;
 use crate::values::slot::{HeldValue, State};
-
-/// Returns the digit, in lower case, by which a text of digits is extended on the left. It is `0`
-/// if the text is empty.
-fn extension_of_text(text: &[u8]) -> u8
-    ensures { result ≡ extension (str_to_ascii_lowercase text.now) }
-{
-    match text.first() {
-        Some(digit) => extended_by(*digit),
-        None => b'0',
-    }
-}
-
-/// Returns the digit at `index`, counted from the left, of a text of digits that is extended to
-/// `size` digits, in lower case. It is the byte 0 after the last.
-#[inline(always)]
-fn text_digit(text: &[u8], size: usize, index: usize) -> u8
-    ensures { result ≡ get_or (extend (str_to_ascii_lowercase text.now) size) index 0 }
-{
-    let missing = size.saturating_sub(text.len());
-    if index < missing {
-        return extension_of_text(text);
-    }
-    match text.get(index - missing) {
-        Some(digit) => digit.to_ascii_lowercase(),
-        None => 0,
-    }
-}
-
-/// Returns the digit at `index`, counted from the left, of a held value that is extended to `size`
-/// digits. It is the byte 0 after the last. The value has to be one of digits.
-#[inline(always)]
-fn shown_digit(held: HeldValue<'_>, size: usize, index: usize) -> u8
-    requires digits { HasDigits held }
-    ensures { result ≡ get_or (extend (digits_of held.entry) size) index 0 }
-{
-    digit_shown(held, size, index).unwrap_or(0)
-}
 
 /// Returns true only if some held digit differs from that of a text at the same place, counted from
 /// the last digit. If it returns false, the values may still differ, in digits that only one of
@@ -52,10 +15,10 @@ fn shown_digit(held: HeldValue<'_>, size: usize, index: usize) -> u8
 fn places_differ(held: HeldValue<'_>, text: &[u8]) -> bool
     ensures { result ≡ true → AreTwo (digits_of held.entry) text.now }
 {
-    let count = digit_count(held);
+    let count = held.count();
     for back in 0..count.min(text.len()) {
         let digit = text[text.len() - 1 - back].to_ascii_lowercase();
-        if digit_or(held, count - 1 - back) != digit {
+        if held.digit(count - 1 - back) != digit {
             return true;
         }
     }
@@ -76,7 +39,7 @@ fn are_same(held: HeldValue<'_>, text: &[u8], size: usize) -> bool
     let mut index = size;
     while index > 0 {
         index -= 1;
-        if shown_digit(held, size, index) != text_digit(text, size, index) {
+        if extended_digit(held, size, index) != extended_digit(Lower { text }, size, index) {
             return false;
         }
     }
@@ -91,7 +54,7 @@ fn several_differ(held: HeldValue<'_>, size: usize, text: &[u8]) -> bool
     requires digits { HasDigits held }
     ensures { result ≡ are_two size (digits_of held.entry) text.now }
 {
-    let count = digit_count(held);
+    let count = held.count();
     if size.max(count) != size.max(text.len()) {
         return true;
     }

@@ -2,7 +2,7 @@
 ghost use Rattle.std.specs.Prelude.{◌≡◌, ℕ, IfSome, length, true};
 ghost use Rattle.vcd_body.specs.Names.{Decides, IsLaidOut, digits_held, held_at, value_at_size};
 
-use crate::values::held::digit_count;
+use crate::digits::Digits;
 use crate::values::slot::{BITS, HIGH};
 use crate::values::table::Table;
 
@@ -51,7 +51,7 @@ impl<'a> Table<'a> {
             → result ≡ length (digits_held (held_at self.now code)) }
     {
         match self.held(code) {
-            Some(held) => digit_count(held),
+            Some(held) => held.count(),
             None => 0,
         }
     }

@@ -1,20 +1,21 @@
-use Rattle.vcd_body.proofs.Cited.{◌≡◌, ◌-◌, length, slice_get, sym, ap, Some, ◌∙◌, arith, digits_held, held_by, len_of}
-use Rattle.vcd_body.proofs.Facts.{no_digits, shown_before, shown_behind}
+use Rattle.vcd_body.proofs.Cited.{sym, ap, Some, ◌∙◌, arith, slice_get-get_or, slice_get_past, extend, held_in, digits_of, len_of}
+use Rattle.vcd_body.proofs.Facts.{length_extended, no_digits, shown_at}
 use Rattle.vcd_body.proofs.values.held.digit_shown.Goals as goal
+use Rattle.vcd_body.proofs.values.held.digit_shown.Goals.{then-count-eq0-via-then-count-eq0, then-count-eq0-via-else-count-eq0+then-index-max}
 
-pub returns-in_err-first : goal.returns-in_err-first
-returns-in_err-first c = c.from_residual.ensures ∙ sym (no_digits c.args.held.holding.state (len_of c.args.held.holding) c.args.size c.args.index c.args.held.bytes.now c.args.held.some (sym c.digit_held.ensures ∙ c.in_err-first.was))
-
-pub returns-then-index-missing : goal.returns-then-index-missing
-returns-then-index-missing c =
-    let h = held_by c.args.held.holding.state (len_of c.args.held.holding) c.args.held.bytes.now in
-    sym (shown_before h c.args.size c.args.index c.in_ok-first.first (sym c.digit_held.ensures ∙ c.in_ok-first.was) (omega (arith, c.if-index-missing.true, c.saturating_sub-missing.ensures, c.digit_count.ensures)) ∙ ap (λ d. Some d) (sym c.extension_of.ensures))
+pub returns-then-count-eq0 : goal.returns-then-count-eq0
+returns-then-count-eq0 c =
+    let ds = digits_of c.args.held in
+    let l = length_extended ds c.args.size in
+    elim c.then-count-eq0.branch [
+      | then-count-eq0-via-then-count-eq0 w ↦ sym (no_digits c.args.held.holding.state (len_of c.args.held.holding) c.args.size c.args.index c.args.held.bytes.now c.args.held.some (omega (arith, c.count-count.ensures, w.if-count-eq0.true)))
+      | then-count-eq0-via-else-count-eq0+then-index-max w ↦ sym (shown_at (held_in c.args.held) c.args.size c.args.index (omega (arith, c.count-count.ensures, w.if-count-eq0.false)) ∙ slice_get_past (extend ds c.args.size) c.args.index (omega (arith, l, c.count-count.ensures, w.max.ensures, w.if-index-max.true)))
+    ]
 
 pub returns : goal.returns
 returns c =
-    let h = held_by c.args.held.holding.state (len_of c.args.held.holding) c.args.held.bytes.now in
-    let size = c.args.size in
-    let position = c.args.index in
-    let same : position - c.saturating_sub-missing.result ≡ position - (size - length (digits_held h)) = omega (arith, c.saturating_sub-missing.ensures, c.digit_count.ensures) in
-    c.digit_held-2.ensures ∙ ap (slice_get (digits_held h)) same
-    ∙ sym (shown_behind h size position c.in_ok-first.first (sym c.digit_held.ensures ∙ c.in_ok-first.was) (omega (arith, c.if-index-missing.false, c.saturating_sub-missing.ensures, c.digit_count.ensures)))
+    let ds = digits_of c.args.held in
+    let l = length_extended ds c.args.size in
+    ap (λ d. Some d) c.extended_digit.ensures
+    ∙ sym (slice_get-get_or (extend ds c.args.size) c.args.index 0 (omega (arith, l, c.count-count.ensures)))
+    ∙ sym (shown_at (held_in c.args.held) c.args.size c.args.index (omega (arith, c.count-count.ensures)))

@@ -1,12 +1,6 @@
 use Rattle.vcd_body.proofs.Cited.{subst, Puts, digits_with, held_with, len_of}
-use Rattle.vcd_body.proofs.Facts.{all_digits, full_is, some_digits}
+use Rattle.vcd_body.proofs.Facts.{all_digits, full_is}
 use Rattle.vcd_body.proofs.values.held_text.put_value.Goals as goal
-
-pub put_extended-requires : goal.put_extended-requires
-put_extended-requires g c = record {
-  failures = c.requires.failures;
-  some = some_digits c.args.held.holding.state (len_of c.args.held.holding) c.args.held.bytes.now c.args.held.some c.in_default.not-Unset c.in_default.not-Real;
-}
 
 pub returns-in_default : goal.returns-in_default
 returns-in_default g c =

@@ -1,0 +1,132 @@
+//! Digits in lower case, of a text or held, and their extension on the left.
+ghost use Rattle.std.specs.Prelude.{◌≡◌, ℕ, ◌+◌, ◌-◌, ◌^◌, ◌<◌, ◌≤◌, ◌∷◌, List, [], drop, get_or, length, take};
+ghost use Rattle.vcd_body.specs.Names.{Puts, Serves, extend, extension, short, str_to_ascii_lowercase};
+
+use vcd_text::{Sink, WriteFailed, put};
+
+// How many digits one call writes at most.
+pub(crate) const BLOCK: usize = 64;
+
+/// Digits in lower case.
+pub(crate) trait Digits: Copy {
+    // They, from the left.
+    ghost digits: { Self → List ℕ };
+
+    /// Returns how many digits there are.
+    fn count(self) -> usize
+        ensures { result ≡ length (digits self) };
+
+    /// Returns the digit at `index`, counted from the left. It is the byte 0 after the last.
+    fn digit(self, index: usize) -> u8
+        ensures { result ≡ get_or (digits self) index 0 };
+}
+
+/// The digits of a text, in lower case.
+#[derive(Clone, Copy)]
+pub(crate) struct Lower<'a> {
+    pub(crate) text: &'a [u8],
+}
+
+impl Digits for Lower<'_> {
+    ghost digits = { λ lower. str_to_ascii_lowercase lower.text.now };
+
+    /// Returns how many digits there are.
+    #[inline(always)]
+    fn count(self) -> usize {
+        self.text.len()
+    }
+
+    /// Returns the digit at `index`, counted from the left. It is the byte 0 after the last.
+    #[inline(always)]
+    fn digit(self, index: usize) -> u8 {
+        match self.text.get(index) {
+            Some(digit) => digit.to_ascii_lowercase(),
+            None => 0,
+        }
+    }
+}
+
+/// Returns the digit by which a value that begins with `digit` is extended on the left: `0` for a
+/// `1`, otherwise the same digit.
+fn extension_of(digit: u8) -> u8
+    ensures { result ≡ extension (digit ∷ []) }
+{
+    if digit == b'1' { b'0' } else { digit }
+}
+
+/// Returns the digit by which these are extended on the left. It is `0` if there are none.
+pub(crate) fn extension<D: Digits>(digits: D) -> u8
+    ensures { result ≡ extension (D.digits digits) }
+{
+    if digits.count() == 0 {
+        return b'0';
+    }
+    extension_of(digits.digit(0))
+}
+
+/// Returns the digit at `index`, counted from the left, of these extended to `size` digits. It is
+/// the byte 0 after the last.
+#[inline(always)]
+pub(crate) fn extended_digit<D: Digits>(digits: D, size: usize, index: usize) -> u8
+    ensures { result ≡ get_or (extend (D.digits digits) size) index 0 }
+{
+    let missing = size.saturating_sub(digits.count());
+    if index < missing {
+        return extension(digits);
+    }
+    digits.digit(index - missing)
+}
+
+/// Returns the index, counted from the left, of the digit at which the shortest digits begin that
+/// extend to the same value. Those before index `least` must not be needed.
+pub(crate) fn first_needed<D: Digits>(digits: D, least: usize) -> usize
+    requires { Serves least (D.digits digits) }
+    ensures within { result < length (D.digits digits) }
+    ensures value { (size : ℕ) → drop result (D.digits digits)
+        ≡ short (extend (D.digits digits) size) }
+{
+    let count = digits.count();
+    let mut from = least;
+    'digits: while from + 1 < count {
+        if digits.digit(from) != extension_of(digits.digit(from + 1)) {
+            return from;
+        }
+        from += 1;
+    }
+    from
+}
+
+/// Fills `to` with the digits from index `from` on, counted from the left. There have to be at
+/// least as many as `to` has bytes.
+fn fill<D: Digits>(digits: D, from: usize, to: &mut [u8])
+    requires within { from + length to.old ≤ length (D.digits digits) }
+    requires few { length (D.digits digits) < 2 ^ 64 }
+    ensures { to.new ≡ take (length to.old) (drop from (D.digits digits)) }
+{
+    for index in 0..to.len() {
+        to[index] = digits.digit(from + index);
+    }
+}
+
+/// Writes the digits from index `from` on, counted from the left; nothing if that is after the
+/// last. If a write fails, a prefix was written.
+#[inline(never)]
+pub(crate) fn put_from<D: Digits, W: Sink>(
+    digits: D,
+    from: usize,
+    w: &mut W,
+) -> Result<(), WriteFailed>
+    requires { (W.device w.old).failures < 2 ^ 64 - 1 }
+    ensures { Puts (W.device w.old) (W.device w.new) (drop from (D.digits digits)) result }
+{
+    let count = digits.count();
+    let mut block = [0u8; BLOCK];
+    let mut at = from;
+    while at < count {
+        let some = (count - at).min(BLOCK);
+        fill(digits, at, &mut block[..some]);
+        put(w, &block[..some])?;
+        at += some;
+    }
+    Ok(())
+}
