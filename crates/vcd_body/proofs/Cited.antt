@@ -2,12 +2,12 @@
 pub use Rattle.std.proofs.Common.{Bool, Err, Fits, IfOk, IfSome, List, None, Ok, Option, Result, Some, T, [], add-one, ap, append-nil, append_assoc, ap₂, arith, cond, count_by, decimal, drop, false, filter_map, fold, get_or, inl, inr, is_some, length, ltb, ltb→lt, map, max, min, nat_le, nat_lt, not, refl, replicate, rules, slice_get, slice_set, subst, suc, sym, take, take-append-drop, true, w64, w8, zero, ℕ, ◌%◌, ◌&&◌, ◌*◌, ◌++◌, ◌+◌, ◌-◌, ◌/◌, ◌<◌, ◌==◌, ◌^◌, ◌||◌, ◌∙◌, ◌∷◌, ◌≡◌, ◌≢◌, ◌≤◌, ◌⊎◌}
 pub use Rattle.std.proofs.Math.ListN.{length-set}
 pub use Rattle.std.proofs.Math.Nat.{div-div-eq-div-mul, div-eq_of_lt, div-lt_iff_lt-mul, div-one, lt-div-mul-add, mod-eq_of_lt, pow-le-pow_right, zero-mul}
-pub use Rattle.std.proofs.Math.Seq.{drop-append_seam, drop-cons, take-append_seam, take-length, take-suc}
+pub use Rattle.std.proofs.Math.Seq.{drop-cons, take-append_seam, take-length, take-suc}
 pub use Rattle.std.proofs.lemmas.Bool.{agree_below, agree_below_at, and_from, and_parts, and_right, cases_lt, eq-eqb, eqb-false, eqb-true, false≢true, le-leb, le-ltb, leb-true, lt-leb, lt-ltb, ltb-true, ne_eqb}
 pub use Rattle.std.proofs.lemmas.Bool.Decides.{Decides-eqb, nat_tests, same_from_decides}
 pub use Rattle.std.proofs.lemmas.Fmt.{decimal-digits_value, length-decimal-le}
 pub use Rattle.std.proofs.lemmas.Grind.{div_ceil_times, same_number_lists}
-pub use Rattle.std.proofs.lemmas.List.{drop-append-le, drop-drop, drop-map, drop-take, ext_get_or, get_or-drop, get_or-map, get_or-replicate, get_or-take, get_or_append_left, length-append, length-drop, length-map, length-replicate, length-take, length-take-le, map-append, take-append-le, take-map, take-take, take_all, take_at}
+pub use Rattle.std.proofs.lemmas.List.{drop-append-le, drop-drop, drop-map, drop-take, ext_get_or, get_or-drop, get_or-map, get_or-replicate, get_or-take, get_or_append_left, length-append, length-drop, length-map, length-replicate, length-take, length-take-le, map-append, take-append-le, take-take, take_all, take_at}
 pub use Rattle.std.proofs.lemmas.List.Elements.{filter_map-append}
 pub use Rattle.std.proofs.lemmas.List.FromFn.{get_or-map-range_with_len, length-map-range_with_len}
 pub use Rattle.std.proofs.lemmas.List.Sums.{sum_by-append, sum_by-cons, sum_by_more, sum_by_more_le}
@@ -112,12 +112,12 @@ pub use Rattle.vcd_text.proofs.Known.{near-more}
 pub use Rattle.vcd_text.proofs.PassedLemmas.{pass_far}
 pub use Rattle.vcd_text.proofs.Places.{length-slice_range}
 pub use Rattle.vcd_text.proofs.ShownLemmas.{read_to_shown}
-pub use Rattle.vcd_text.proofs.Writes.{AppendsSome, appends-first, appends-more, appends-none, appends-some, both-written, counted, puts-twice, some-behind, some-first, takes-twice}
+pub use Rattle.vcd_text.proofs.Writes.{AppendsSome, appends-first, appends-more, appends-none, appends-some, both-written, puts-twice, some-behind, some-first}
 pub use Rattle.vcd_text.specs.Advances.{Advances, CallEnd}
 pub use Rattle.vcd_text.specs.Ahead.{TakesToken, ahead_of, bytes_of, lines_of, longest_of, passed_of, start_of}
 pub use Rattle.vcd_text.specs.Answer.{Ends, failed_after}
 pub use Rattle.vcd_text.specs.Calls.{LieAhead, StandsStill}
-pub use Rattle.vcd_text.specs.Device.{Counts, Device, Puts, Supply, Takes, Writes, WritesSome}
+pub use Rattle.vcd_text.specs.Device.{Counts, Device, Puts, Supply, Takes, Writes}
 pub use Rattle.vcd_text.specs.Digits.{spelled_below}
 pub use Rattle.vcd_text.specs.Feed.{HasGiven, HasReadTo, chunk_len_of, limit_of, seen, source_of, supply_of, token_of, value_of}
 pub use Rattle.vcd_text.specs.Passed.{AreFirst, AreWhite, Passed, line_ahead}

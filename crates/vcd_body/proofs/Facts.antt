@@ -17,12 +17,12 @@ pub use Rattle.vcd_body.proofs.LeftOut.{bit_within, end_is, front_there, if_some
 pub use Rattle.vcd_body.proofs.LineLemmas.{begins_after, bit_item, bit_line_there, both_line_there, both_places, both_there, flip, found_named, mark_there, of_found, of_sized, one_byte, real_item, rest_there, text_there, token_begun, token_there, vector_item}
 pub use Rattle.vcd_body.proofs.LowerCase.{AreLowBy, low_more}
 pub use Rattle.vcd_body.proofs.MarkLine.{mark_line_there}
-pub use Rattle.vcd_body.proofs.NumberLemmas.{binary_get, bits_kept, bits_some, held_few}
+pub use Rattle.vcd_body.proofs.NumberLemmas.{binary_get, bits_kept, bits_some}
 pub use Rattle.vcd_body.proofs.OnesLemmas.{front_bit, front_fits, ones_bits, ones_few, written}
 pub use Rattle.vcd_body.proofs.OtherBytes.{clear_is, differ_bit, lower_behind, others_bit, same_lead, set_is}
 pub use Rattle.vcd_body.proofs.PackedLemmas.{digit_among, last_code, lower_digits, none_behind, packs_by, padded_is}
 pub use Rattle.vcd_body.proofs.PhraseLemmas.{bad_digits, bad_time, begin_inside, begin_passes, comment_goes_on, comment_open, comment_whole, digits_ask, digits_begin, end_outside, end_passes, first_byte, mark_misplaced, mark_own, mark_refused, no_code, no_number, no_phrase, number_asks, number_begins, number_too_long, of_header, real_passes, scalar_passes, time_passes, too_wide, unknown_code, vector_passes}
-pub use Rattle.vcd_body.proofs.Pieces.{front_part, piece-more, piece-some, repeated_part, same_part}
+pub use Rattle.vcd_body.proofs.Pieces.{front_part, piece-more, piece-some, same_part}
 pub use Rattle.vcd_body.proofs.ReadLemmas.{comment_begun, fault_given, known_begin, known_end, known_so_far, none_given, own_given, refused_first}
 pub use Rattle.vcd_body.proofs.RegsLemmas.{real_read, real_sound, same_room, vector_read, vector_sound}
 pub use Rattle.vcd_body.proofs.RenamedLemmas.{three_digits, two_digits}

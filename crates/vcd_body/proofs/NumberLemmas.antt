@@ -1,11 +1,10 @@
 -- Binary digits tell their number, at each size.
-use Rattle.vcd_body.proofs.Cited.{◌≡◌, ℕ, zero, suc, ◌+◌, ◌-◌, ◌*◌, ◌/◌, ◌%◌, ◌^◌, ◌<◌, ◌≤◌, ◌==◌, ◌&&◌, max, nat_lt, get_or, Bool, true, false, not, cond, List, ◌∷◌, ◌++◌, length, map, replicate, Option, Some, None, refl, sym, ap, ◌∙◌, arith, Decides, to_ascii_lowercase, last_or, bytes_eq, str_to_ascii_lowercase, div-eq_of_lt, div-one, lt-div-mul-add, mod-eq_of_lt, pow-le-pow_right, zero-mul, eq-eqb, eqb-true, lt-ltb, Decides-eqb, same_from_decides, div_ceil_times, mod-pow-add, mod_below, pow_pos, bytes_eq-Decides, extend, extension, value_with, binary_digits, count_in, is_proper, number_in, model_form, Held, IsStep, Kept, bytes_for, goes_from, room_for, value_at_size, with_held, with_number, with_text, held_digit, Whole, digits_held, held_by, kept_with, set_whole, some_by, State, Step}
+use Rattle.vcd_body.proofs.Cited.{◌≡◌, ℕ, zero, suc, ◌+◌, ◌-◌, ◌*◌, ◌/◌, ◌%◌, ◌^◌, ◌<◌, ◌≤◌, ◌==◌, ◌&&◌, max, nat_lt, get_or, Bool, true, false, not, cond, List, ◌∷◌, ◌++◌, length, map, replicate, Option, Some, None, refl, sym, ap, ◌∙◌, arith, Decides, to_ascii_lowercase, last_or, bytes_eq, str_to_ascii_lowercase, div-eq_of_lt, div-one, lt-div-mul-add, mod-eq_of_lt, pow-le-pow_right, zero-mul, eq-eqb, eqb-true, lt-ltb, Decides-eqb, same_from_decides, div_ceil_times, mod-pow-add, mod_below, pow_pos, bytes_eq-Decides, extend, extension, value_with, binary_digits, count_in, is_proper, number_in, model_form, Held, IsStep, Kept, bytes_for, goes_from, room_for, value_at_size, with_held, with_number, with_text, held_digit, Whole, kept_with, set_whole, some_by, State, Step}
 use Rattle.vcd_body.specs.declared.item.Form.TheVariants as form
 use Rattle.vcd_body.specs.declared.values.slot.State.TheVariants as state
 use Rattle.vcd_body.proofs.BinaryLemmas.{binary_at, length_binary}
 use Rattle.vcd_body.proofs.CompareLemmas.{last_at, last_extended}
 use Rattle.vcd_body.proofs.StoreLemmas.{text_fits}
-use Rattle.vcd_body.proofs.PackedLemmas.{length_digits}
 
 -- digits that are left out in front are 0
 pub padded : (k l m n : ℕ) → m ≡ k + l → n < 2 ^ l → replicate k 48 ++ binary_digits l n ≡ binary_digits m n
@@ -186,17 +185,6 @@ bits_some p l n count number some small =
     let is : is_proper p ≡ true = rw (count, number, lt-ltb 0 l some, eq-eqb (n / 2 ^ l) 0 zero_left) refl in
     let one : some_by state.Bits p ≡ 1 = ap (λ (b : Bool). cond b 1 0) is in
     omega (arith, one)
-
--- digits that are held are no more than the slot and the bytes allow
-pub held_few : (st : State) (len most : ℕ) (bytes : List ℕ) → len ≤ most → length bytes ≤ most → 32 ≤ most → length (digits_held (held_by st len bytes)) ≤ most
-held_few state.Unset len most bytes a b m = omega arith
-held_few state.Zero len most bytes a b m = omega arith
-held_few state.One len most bytes a b m = omega arith
-held_few state.Unknown len most bytes a b m = omega arith
-held_few state.High len most bytes a b m = omega arith
-held_few state.Packed len most bytes a b m = let l = length_digits len bytes in omega arith
-held_few state.Bits len most bytes a b m = let l = length_binary (count_in len) (number_in len) in omega arith
-held_few state.Real len most bytes a b m = omega arith
 
 -- a number of this many digits
 pub small_number : (l n : ℕ) → n / 2 ^ l ≡ 0 → n < 2 ^ l

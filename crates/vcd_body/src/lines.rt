@@ -1,26 +1,14 @@
 // Changes whose bytes in the chunk are the line that would be written.
-ghost use Rattle.std.specs.Prelude.{◌≡◌, ◌≢◌, ℕ, ◌+◌, ◌-◌, ◌^◌, ◌<◌, ◌≤◌, List, [], true, false, drop, length, slice_range, Some, IfSome};
-ghost use Rattle.vcd_body.specs.Names.{AreBinaryIf, BodyItem, HasChange, HasTimestamp, HeadView, Header, IsDigitLine, IsItem, IsNeedless, IsSizedItem, IsSpelled, IsSpelledAs, IsTextLine, IsViewOf, LeavesFront, LeavesLine, LeavesShortest, LeavesText, StandsAt, bit_at, byte, bytes_without, extend, extended, is_value_digit, is_white_space, item_line, line_without, short, str_to_ascii_lowercase, time_line, to_ascii_lowercase as lower};
+ghost use Rattle.std.specs.Prelude.{◌≡◌, ◌≢◌, ℕ, ◌+◌, ◌-◌, ◌<◌, ◌≤◌, List, true, false, length, slice_range, Some, IfSome};
+ghost use Rattle.vcd_body.specs.Names.{AreBinaryIf, BodyItem, HasChange, HasTimestamp, HeadView, Header, IsDigitLine, IsItem, IsNeedless, IsSizedItem, IsSpelled, IsSpelledAs, IsTextLine, IsViewOf, LeavesFront, LeavesLine, LeavesShortest, LeavesText, StandsAt, byte, is_value_digit, is_white_space, item_line, line_without, time_line, to_ascii_lowercase as lower};
 ghost use Rattle.vcd_body.specs.declared.item.Item.TheVariants as item;
 
 use crate::ahead::ScannedItem;
 use crate::change::needless;
+use crate::digits::are_lower;
 use crate::item::{Form, Item};
 use crate::words::{clear_bits, others_32, others_64};
 use std::simd::prelude::*;
-
-/// Returns whether none of these digits can be a capital letter: whether bit 5 is set in all bytes.
-/// Capital letters have it clear; `0`, `1`, `x` and `z` have it set.
-// With two comparisons of each digit instead, `merge` of wide vectors takes 9 % more.
-fn are_lower(digits: &[u8]) -> bool
-    ensures { result ≡ true → str_to_ascii_lowercase digits.now ≡ digits.now }
-{
-    let mut all = 0x20;
-    for digit in digits {
-        all &= *digit;
-    }
-    all != 0
-}
 
 /// Returns whether a digit is no capital letter: whether bit 5 is set, as in `0`, `1`, `x` and `z`.
 #[inline(always)]

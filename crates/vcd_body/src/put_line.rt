@@ -1,5 +1,5 @@
 // Changes as they are written, from their form and text.
-ghost use Rattle.std.specs.Prelude.{◌≡◌, ◌≢◌, ℕ, ◌-◌, ◌^◌, ◌<◌, ◌++◌, ◌∷◌, [], false, true, drop, length};
+ghost use Rattle.std.specs.Prelude.{◌≡◌, ◌≢◌, ℕ, ◌-◌, ◌^◌, ◌<◌, ◌≤◌, ◌++◌, ◌∷◌, [], false, true, drop, length};
 ghost use Rattle.vcd_body.specs.Names.{Puts, PutsTo, id_line, id_text};
 
 use crate::change::{needless, put_end, put_other};
@@ -23,8 +23,8 @@ fn put_end_under<W: Sink>(first: u8, id: Id<'_>, w: &mut W) -> Result<(), WriteF
     }
 }
 
-/// Writes the line of a vector: `b`, the digits from index `from` on, a blank and the identifier
-/// code `id`. If a write fails, a prefix was written.
+/// Writes the line of a vector: `b`, the digits from index `from` on, which is not after the last, a
+/// blank and the identifier code `id`. If a write fails, a prefix was written.
 #[inline(never)]
 pub(crate) fn put_vector<D: Digits, W: Sink>(
     digits: D,
@@ -32,7 +32,8 @@ pub(crate) fn put_vector<D: Digits, W: Sink>(
     id: Id<'_>,
     w: &mut W,
 ) -> Result<(), WriteFailed>
-    requires { (W.device w.old).failures < 2 ^ 64 - 1 }
+    requires failures { (W.device w.old).failures < 2 ^ 64 - 1 }
+    requires within { from ≤ length (D.digits digits) }
     ensures { PutsTo W.device w.old w.new
         (98 ∷ drop from (D.digits digits) ++ (32 ∷ id_text id.entry ++ 10 ∷ [])) result }
 {

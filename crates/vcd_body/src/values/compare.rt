@@ -1,8 +1,8 @@
 // Whether the value of a change differs from the one that its code has.
-ghost use Rattle.std.specs.Prelude.{◌≡◌, ◌≤◌, ◌<◌, length, true, get_or};
-ghost use Rattle.vcd_body.specs.Names.{AreTwo, Decides, HasDigits, are_two, differs, digits_of, extend, extended, extension, held_in, model_form, str_to_ascii_lowercase, value_at_size, value_with};
+ghost use Rattle.std.specs.Prelude.{◌≡◌, ◌≤◌, length, true};
+ghost use Rattle.vcd_body.specs.Names.{AreTwo, Decides, HasDigits, are_two, differs, digits_of, extend, extended, held_in, model_form, value_at_size, value_with};
 
-use crate::digits::{Digits, Lower, extended_digit};
+use crate::digits::{Digits, Extended, Lower};
 use crate::item::Form;
 use crate::values::held::last_held;
 use crate::values::slot::{HeldValue, State};
@@ -36,10 +36,15 @@ fn are_same(held: HeldValue<'_>, text: &[u8], size: usize) -> bool
     if places_differ(held, text) {
         return false;
     }
+    let own = Extended { digits: held, size };
+    let other = Extended {
+        digits: Lower { text },
+        size,
+    };
     let mut index = size;
     while index > 0 {
         index -= 1;
-        if extended_digit(held, size, index) != extended_digit(Lower { text }, size, index) {
+        if own.digit(index) != other.digit(index) {
             return false;
         }
     }

@@ -2,7 +2,7 @@
 ghost use Rattle.std.specs.Prelude.{◌≡◌, ℕ, slice_get};
 ghost use Rattle.vcd_body.specs.Names.{digit_in, digits_of, held_in, last_digit_in, value_at_size};
 
-use crate::digits::{Digits, extended_digit};
+use crate::digits::{Digits, Extended};
 use crate::values::bits::{binary_digit, count_in, last_binary};
 use crate::values::packed::{digit_at, last_packed};
 use crate::values::slot::{HeldValue, State, digit_of_state};
@@ -48,11 +48,11 @@ impl Digits for HeldValue<'_> {
 pub(crate) fn digit_shown(held: HeldValue<'_>, size: usize, index: usize) -> Option<u8>
     ensures { result ≡ digit_in (value_at_size size (held_in held.entry)) index }
 {
-    let count = held.count();
-    if count == 0 || index >= size.max(count) {
+    let all = Extended { digits: held, size };
+    if held.count() == 0 || index >= all.count() {
         return None;
     }
-    Some(extended_digit(held, size, index))
+    Some(all.digit(index))
 }
 
 /// Returns the last digit of a held value, in lower case. `None` if there is no value, or if it is
