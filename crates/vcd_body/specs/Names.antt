@@ -22,7 +22,7 @@ pub use Rattle.vcd_model.specs.Tokens.{Token}
 pub use Rattle.vcd_model.specs.Values.{Value, extend, extension, short, value_with}
 pub use Rattle.vcd_text.specs.Advances.{Advances, CallEnd, GoesFurther}
 pub use Rattle.vcd_text.specs.Ahead.{TakesToken as MovesPast, ahead_of, bytes_of, lines_of, longest_of, passed_of}
-pub use Rattle.vcd_text.specs.Device.{Counts, Puts, PutsTo, PutsWhere, Takes}
+pub use Rattle.vcd_text.specs.Device.{Counts, Puts, PutsTo, Takes}
 pub use Rattle.vcd_text.specs.Feed.{limit_of, seen, source_of, token_of, value_of}
 pub use Rattle.vcd_text.specs.Passed.{AreWhite, IsRun, Passed}
 pub use Rattle.vcd_view.specs.Finds.{IsSized}

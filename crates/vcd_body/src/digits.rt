@@ -9,7 +9,7 @@ const BLOCK: usize = 64;
 
 /// Digits in lower case.
 pub(crate) trait Digits: Copy {
-    // They, from the left.
+    // The digits, from the left.
     ghost digits: { Self → List ℕ };
 
     /// Returns how many digits there are.
@@ -56,10 +56,7 @@ impl Digits for Lower<'_> {
 
     /// Returns the text if it has no capital letters.
     fn bytes(&self) -> Option<&[u8]> {
-        if are_lower(self.text) {
-            return Some(self.text);
-        }
-        None
+        are_lower(self.text).then_some(self.text)
     }
 }
 
