@@ -1,5 +1,5 @@
 -- Binary digits tell their number, at each size.
-use Rattle.vcd_body.proofs.Cited.{◌≡◌, ℕ, zero, suc, ◌+◌, ◌-◌, ◌*◌, ◌/◌, ◌%◌, ◌^◌, ◌<◌, ◌≤◌, ◌==◌, ◌&&◌, max, nat_lt, get_or, Bool, true, false, not, cond, List, ◌∷◌, ◌++◌, length, map, replicate, Option, Some, None, refl, sym, ap, ◌∙◌, arith, Decides, to_ascii_lowercase, last_or, bytes_eq, str_to_ascii_lowercase, div-eq_of_lt, div-one, lt-div-mul-add, mod-eq_of_lt, pow-le-pow_right, zero-mul, eq-eqb, eqb-true, lt-ltb, Decides-eqb, same_from_decides, div_ceil_times, mod-pow-add, mod_below, pow_pos, bytes_eq-Decides, extend, extension, value_with, binary_digits, count_in, is_proper, number_in, model_form, Held, IsStep, Kept, bytes_for, goes_from, room_for, value_at_size, with_held, with_number, with_text, held_digit, Whole, kept_with, set_whole, some_by, State, Step}
+use Rattle.vcd_body.proofs.Cited.{◌≡◌, ℕ, zero, suc, ◌+◌, ◌-◌, ◌*◌, ◌/◌, ◌%◌, ◌^◌, ◌<◌, ◌≤◌, ◌==◌, ◌&&◌, max, nat_lt, get_or, Bool, true, false, not, cond, List, ◌∷◌, ◌++◌, length, map, replicate, Option, Some, None, refl, sym, ap, ◌∙◌, arith, Decides, to_ascii_lowercase, last_or, bytes_eq, str_to_ascii_lowercase, div-eq_of_lt, div-one, lt-div-mul-add, mod-eq_of_lt, pow-le-pow_right, zero-mul, eq-eqb, eqb-true, lt-ltb, Decides-eqb, same_from_decides, div_ceil_times, mod-pow-add, mod_below, pow_pos, bytes_eq-Decides, extend, extension, value_with, binary_digits, count_in, is_proper, number_in, model_form, Held, IsStep, Kept, bytes_for, goes_from, room_for, value_at_size, with_held, with_number, with_text, held_digit, Whole, kept_with, set_whole, some_by, Step}
 use Rattle.vcd_body.specs.declared.item.Form.TheVariants as form
 use Rattle.vcd_body.specs.declared.values.slot.State.TheVariants as state
 use Rattle.vcd_body.proofs.BinaryLemmas.{binary_at, length_binary}
