@@ -117,7 +117,7 @@ pub use Rattle.vcd_text.specs.Advances.{Advances, CallEnd}
 pub use Rattle.vcd_text.specs.Ahead.{TakesToken, ahead_of, bytes_of, lines_of, longest_of, passed_of, start_of}
 pub use Rattle.vcd_text.specs.Answer.{Ends, failed_after}
 pub use Rattle.vcd_text.specs.Calls.{LieAhead, StandsStill}
-pub use Rattle.vcd_text.specs.Device.{Counts, Device, Puts, Supply, Takes, Writes}
+pub use Rattle.vcd_text.specs.Device.{Counts, Device, Puts, Supply, Takes, Writes, WritesSome}
 pub use Rattle.vcd_text.specs.Digits.{spelled_below}
 pub use Rattle.vcd_text.specs.Feed.{HasGiven, HasReadTo, chunk_len_of, limit_of, seen, source_of, supply_of, token_of, value_of}
 pub use Rattle.vcd_text.specs.Passed.{AreFirst, AreWhite, Passed, line_ahead}

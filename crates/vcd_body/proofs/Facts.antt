@@ -22,7 +22,7 @@ pub use Rattle.vcd_body.proofs.OnesLemmas.{front_bit, front_fits, ones_bits, one
 pub use Rattle.vcd_body.proofs.OtherBytes.{clear_is, differ_bit, lower_behind, others_bit, same_lead, set_is}
 pub use Rattle.vcd_body.proofs.PackedLemmas.{digit_among, last_code, lower_digits, none_behind, packs_by, padded_is}
 pub use Rattle.vcd_body.proofs.PhraseLemmas.{bad_digits, bad_time, begin_inside, begin_passes, comment_goes_on, comment_open, comment_whole, digits_ask, digits_begin, end_outside, end_passes, first_byte, mark_misplaced, mark_own, mark_refused, no_code, no_number, no_phrase, number_asks, number_begins, number_too_long, of_header, real_passes, scalar_passes, time_passes, too_wide, unknown_code, vector_passes}
-pub use Rattle.vcd_body.proofs.Pieces.{front_part, piece-more, piece-some, same_part}
+pub use Rattle.vcd_body.proofs.Pieces.{front_part, piece-more, piece-some, repeated_part, same_part}
 pub use Rattle.vcd_body.proofs.ReadLemmas.{comment_begun, fault_given, known_begin, known_end, known_so_far, none_given, own_given, refused_first}
 pub use Rattle.vcd_body.proofs.RegsLemmas.{real_read, real_sound, same_room, vector_read, vector_sound}
 pub use Rattle.vcd_body.proofs.RenamedLemmas.{three_digits, two_digits}

@@ -1,5 +1,5 @@
 -- A text that is written piece by piece.
-use Rattle.vcd_body.proofs.Cited.{◌≡◌, ℕ, suc, ◌+◌, ◌<◌, ◌≤◌, List, [], ◌∷◌, ◌++◌, length, take, drop, get_or, take-append-drop, ap, sym, refl, ◌∙◌, subst, append_assoc, arith, Option, Appends, drop-cons, take-length, take-append-le, AppendsSome, appends-first, appends-more, appends-some}
+use Rattle.vcd_body.proofs.Cited.{◌≡◌, ℕ, zero, suc, ◌+◌, ◌<◌, ◌≤◌, List, [], ◌∷◌, ◌++◌, length, take, drop, get_or, replicate, take-append-drop, ap, sym, refl, ◌∙◌, subst, append_assoc, arith, Option, Appends, drop-cons, take-length, take-append-le, AppendsSome, appends-first, appends-more, appends-some}
 
 -- a piece after the first n bytes
 pub piece-more : (old mid new : Option (List ℕ)) (all piece : List ℕ) (n m : ℕ) → piece ≡ take m (drop n all) → Appends old mid (take n all) → Appends mid new piece → Appends old new (take (n + m) all)
@@ -20,6 +20,15 @@ same_part (x ∷ xs) ds from within same =
     let rest = same_part xs ds (suc from) (omega arith) (λ k few. same (suc k) (omega arith) ∙ ap (λ i. get_or ds i 0) (omega arith)) in
     let inside : from < length ds = omega arith in
     rw (drop-cons ds from 0) (ap (λ y. y ∷ xs) (first ∙ ap (λ i. get_or ds i 0) there) ∙ ap (λ l. get_or ds from 0 ∷ l) rest)
+
+-- a part of a digit that is repeated
+pub repeated_part : (digit count n m k : ℕ) → n + m ≤ count → m ≤ k → take m (replicate k digit) ≡ take m (drop n (replicate count digit))
+repeated_part digit count zero zero k h l = refl
+repeated_part digit count (suc n) zero k h l = refl
+repeated_part digit zero n (suc m) k h l = absurd (omega arith)
+repeated_part digit count n (suc m) zero h l = absurd (omega arith)
+repeated_part digit (suc count) zero (suc m) (suc k) h l = ap (λ r. digit ∷ r) (repeated_part digit count zero m k (omega arith) (omega arith))
+repeated_part digit (suc count) (suc n) (suc m) (suc k) h l = repeated_part digit count n (suc m) (suc k) (omega arith) l
 
 pub front_part : (a b : List ℕ) (n : ℕ) → length a ≡ n → take n (a ++ b) ≡ a
 front_part a b n e = ap (λ k. take k (a ++ b)) (sym e) ∙ take-append-le (length a) a b (omega arith) ∙ take-length a

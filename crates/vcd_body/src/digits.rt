@@ -5,7 +5,7 @@ ghost use Rattle.vcd_body.specs.Names.{Puts, Serves, extend, extension, short, s
 use vcd_text::{Sink, WriteFailed, put};
 
 // How many digits one call writes at most.
-const BLOCK: usize = 64;
+pub(crate) const BLOCK: usize = 64;
 
 /// Digits in lower case.
 pub(crate) trait Digits: Copy {
@@ -82,7 +82,7 @@ fn extension_of(digit: u8) -> u8
 }
 
 /// Returns the digit by which these are extended on the left. It is `0` if there are none.
-fn extension<D: Digits>(digits: D) -> u8
+pub(crate) fn extension<D: Digits>(digits: D) -> u8
     ensures { result ≡ extension (D.digits digits) }
 {
     if digits.count() == 0 {
