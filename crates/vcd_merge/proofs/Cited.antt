@@ -22,7 +22,7 @@ pub use Rattle.vcd_body.proofs.WalkLemmas.{walk_counts, walk_further, walk_passe
 pub use Rattle.vcd_body.specs.Ahead.{GaveAhead, GaveLast, IsSizedItem, LooksOver}
 pub use Rattle.vcd_body.specs.Answer.{IsLeft, NamesInput, reads_failed, stop_of_body, writes_failed}
 pub use Rattle.vcd_body.specs.Asked.{HaveJust}
-pub use Rattle.vcd_body.specs.Device.{Grows, GrowsSome}
+pub use Rattle.vcd_body.specs.Device.{Grows}
 pub use Rattle.vcd_body.specs.Fault.{call_end}
 pub use Rattle.vcd_body.specs.Given.{GivesItem, IsGoodText, IsItem, text_of}
 pub use Rattle.vcd_body.specs.Items.{AreRegsAfter, model_form, model_section, regs_after}
@@ -90,7 +90,7 @@ pub use Rattle.vcd_model.specs.ItemText.{closing, time_due}
 pub use Rattle.vcd_model.specs.Items.{BodyItem, Change, ChangeForm, Entry, leaves_open, marks, time_after}
 pub use Rattle.vcd_model.specs.Merge.{Dump, Key, Keyed, KeyedFault, by_key, factor, first_fault, greatest_mark, headers_of, is_too_large, key_after, key_lt, merge_close, merge_kept, merge_open, merged_items, placed_is_too_large}
 pub use Rattle.vcd_model.specs.MergeByInput.{due_with, entry_for, keyed_own, keyed_rest, with_item, written_with}
-pub use Rattle.vcd_model.specs.Outcome.{Opened, Outcome, Request, clean_outcome, ends_early, fault_outcome, merge_outcome, name_at}
+pub use Rattle.vcd_model.specs.Outcome.{Opened, Request, clean_outcome, ends_early, fault_outcome, merge_outcome, name_at}
 pub use Rattle.vcd_model.specs.Reading.{Ending, Fault, Placed, phrases_of}
 pub use Rattle.vcd_model.specs.Reading.Ending.{AtEnd, AtFault, AtLast}
 pub use Rattle.vcd_model.specs.Settled.{is_faulty, is_settled_behind}

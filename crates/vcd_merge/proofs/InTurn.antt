@@ -1,6 +1,6 @@
 -- Inputs after one was read on its turn: none of the others comes before the key that it reached.
-use Rattle.vcd_merge.proofs.Cited.{◌≡◌, ◌≢◌, ℕ, true, false, List, [], ◌∷◌, ◌++◌, length, slice_get, Option, Some, ◌⊎◌, inl, inr, refl, sym, ap, subst, ◌∙◌, append-nil, append_assoc, AllByRecursion, slice_get_within, same_Some, Header, Input, BodyItem, Dump, Key, factor, is_too_large, key_after, key_lt, with_item, still_later, IsNext, AreGiven, Standing, GoOn, GoesOn, IsReached, ReadInTurn, Lane, ReadsNoMore, Seat, same_or_not, get_other, get_set}
-use Rattle.vcd_merge.proofs.MergeSteps.{next_first, same_header, seat_spot}
+use Rattle.vcd_merge.proofs.Cited.{◌≡◌, ◌≢◌, ℕ, true, false, List, [], ◌∷◌, ◌++◌, slice_get, Option, Some, ◌⊎◌, inl, inr, refl, sym, ap, subst, ◌∙◌, append-nil, append_assoc, slice_get_within, same_Some, Header, Input, BodyItem, Dump, Key, factor, key_after, key_lt, with_item, still_later, IsNext, Standing, GoOn, GoesOn, IsReached, ReadInTurn, Lane, ReadsNoMore, Seat, same_or_not, get_other, get_set}
+use Rattle.vcd_merge.proofs.MergeSteps.{AtTurn, next_first, same_header, seat_spot}
 
 -- ---- inputs that continue
 
@@ -65,13 +65,10 @@ pub turn_on : (limit chunk : ℕ) (hs : List Header) (ds es : List Dump) (seats 
 turn_on limit chunk hs ds es seats news k l left rest go r = record { items = r.items; small = r.small; reached = reached_on hs ds es seats news k (key_after (factor hs l.header) k r.items) go r.reached; no_more = r.no_more }
 
 -- the input whose turn it is was read
-module _ {X : Type 0} (rest : X → Option (List ℕ)) (hs : List Header) (lanes : List Lane) (ds : List Dump) (s : Standing X) (g : AreGiven rest hs lanes ds s) (k : ℕ) (d : Dump) (l : Lane) (next : IsNext s.seats k) (same : length s.sources ≡ length s.seats)
-    (at_d : slice_get ds k ≡ Some d) (at_l : slice_get lanes k ≡ Some l) where
-  reached : IsReached hs ds s.seats k (key_after (factor hs l.header) k d.items)
-  reached = subst (λ (h : Header). IsReached hs ds s.seats k (key_after (factor hs h) k d.items)) (sym (same_header rest hs lanes ds s g k l d at_l at_d)) (λ j c y other a b on. next_first rest hs lanes ds s g k d l next same at_d at_l j c y other a b on)
-
-  small : AllByRecursion (λ x. is_too_large (factor hs l.header) x ≡ false) d.items
-  small = let p = seat_spot rest s k next.seat same next.there in (g.at k l d p.0 at_l at_d p.1).small
-
-  pub in_turn : (limit chunk : ℕ) (left : Input) (more : Option (List ℕ)) (es : List Dump) (news : List Seat) → GoOn ds s.seats es news → ReadsNoMore limit chunk l d.items left more → ReadInTurn limit chunk hs es news k l left more
-  in_turn limit chunk left more es news go no_more = record { items = d.items; small = small; reached = reached_on hs ds es s.seats news k (key_after (factor hs l.header) k d.items) go reached; no_more = no_more }
+pub in_turn : {X : Type 0} {rest : X → Option (List ℕ)} {hs : List Header} {lanes : List Lane} {ds : List Dump} {s : Standing X} {k : ℕ} {l : Lane} {d : Dump} → AtTurn rest hs lanes ds s k l d
+    → (limit chunk : ℕ) (left : Input) (more : Option (List ℕ)) (es : List Dump) (news : List Seat) → GoOn ds s.seats es news → ReadsNoMore limit chunk l d.items left more → ReadInTurn limit chunk hs es news k l left more
+in_turn {rest = rest} {hs = hs} {lanes = lanes} {ds = ds} {s = s} {k = k} {l = l} {d = d} t limit chunk left more es news go no_more =
+    let g = t.holds.given in
+    let p = seat_spot rest s k t.next.seat g.sources_are t.next.there in
+    let reached : IsReached hs ds s.seats k (key_after (factor hs l.header) k d.items) = rw (same_header rest hs lanes ds s g k l d t.lane_at t.dump_at) (λ j c y other a b on. next_first t j c y other a b on) in
+    record { items = d.items; small = (g.at k l d p.0 t.lane_at t.dump_at p.1).small; reached = reached_on hs ds es s.seats news k (key_after (factor hs l.header) k d.items) go reached; no_more = no_more }

@@ -1,7 +1,7 @@
 -- How a merge has read its inputs, one by one, through its steps.
-use Rattle.vcd_merge.proofs.Cited.{◌≡◌, ◌≢◌, ℕ, zero, suc, ◌+◌, Bool, false, List, [], ◌∷◌, length, map, slice_get, Option, Some, None, Result, refl, sym, ap, subst, ◌∙◌, arith, ◌⊎◌, inl, inr, IfSome, get_or, get_or_from_slice_get, slice_get_within, length-set, Clean, Input, Header, Dump, Token, failed_after, Supply, supply, HasRest, ReadsAsNeeded, Nothing, IsLeft, reads_failed, part_len, AreGiven, ReadsOne, Standing, cut_at, failures_with, GoOn, ReadInTurn, HaveJust, Lane, ReadsNoMore, Seat, Stop, there, same_or_not, get_set, get_mapped}
+use Rattle.vcd_merge.proofs.Cited.{◌≡◌, ◌≢◌, ℕ, zero, suc, ◌+◌, Bool, false, List, [], ◌∷◌, length, map, slice_get, Option, Some, None, Result, refl, sym, ap, subst, ◌∙◌, arith, ◌⊎◌, inl, inr, IfSome, get_or, get_or_from_slice_get, slice_get_within, length-set, Clean, Input, Header, Dump, Token, failed_after, Supply, supply, HasRest, ReadsAsNeeded, Nothing, IsLeft, reads_failed, part_len, Holds, ReadsOne, Standing, cut_at, failures_with, GoOn, ReadInTurn, HaveJust, Lane, ReadsNoMore, Seat, Stop, there, same_or_not, get_set, get_mapped}
 use Rattle.vcd_merge.proofs.InTurn.{in_turn, turn_on}
-use Rattle.vcd_merge.proofs.MergeSteps.{len_map}
+use Rattle.vcd_merge.proofs.MergeSteps.{AtTurn, len_map}
 
 -- ---- lists
 
@@ -89,13 +89,13 @@ module _ {X : Type 0} (rest : X → Option (List ℕ)) (failures : X → ℕ) (h
   left_whole ds seats xs so_far j l old new at_l at_old at_new = let e = so_far.each j l old new at_l at_old at_new in (inl (e.0, refl), e.1)
 
   -- a step, after which the inputs have these items and seats
-  module _ {A : Type 0} (ds es : List Dump) (news : List Seat) (s s' : Standing X) (k : ℕ) (result : Result A Stop) (cut : Option ℕ) (g : AreGiven rest hs lanes ds s) (sources : length s.sources ≡ length s.seats) (go : GoOn ds s.seats es news) (so_far : AreReadSoFar ds s.seats s.sources)
-      (r : ReadsOne rest lanes ds s s' k cut) (counts : map failures s'.sources ≡ failures_with (map failures s.sources) k result) (limit_is : limit ≡ part_len (length s.seats) s.tokens) (chunk_is : chunk ≡ part_len (length s.seats) s.chunks) where
+  module _ {A : Type 0} (ds es : List Dump) (news : List Seat) (s s' : Standing X) (k : ℕ) (result : Result A Stop) (cut : Option ℕ) (holds : Holds rest hs lanes ds s) (go : GoOn ds s.seats es news) (so_far : AreReadSoFar ds s.seats s.sources)
+      (r : ReadsOne rest lanes ds s s' k cut) (counts : map failures s'.sources ≡ failures_with (map failures s.sources) k result) (limit_is : part_len (length s.seats) s.tokens ≡ limit) (chunk_is : part_len (length s.seats) s.chunks ≡ chunk) where
     turn : ReadInTurn limit chunk hs es news k r.lane (cut_at cut r.lane.input) (rest r.source)
     turn =
-        let more = subst (λ (n : ℕ). ReadsNoMore n (part_len (length s.seats) s.chunks) r.lane r.dump.items (cut_at cut r.lane.input) (rest r.source)) (sym limit_is) r.no_more in
-        let more = subst (λ (n : ℕ). ReadsNoMore limit n r.lane r.dump.items (cut_at cut r.lane.input) (rest r.source)) (sym chunk_is) more in
-        in_turn rest hs lanes ds s g k r.dump r.lane r.next sources r.dump_at r.lane_at limit chunk (cut_at cut r.lane.input) (rest r.source) es news go more
+        let more : ReadsNoMore limit chunk r.lane r.dump.items (cut_at cut r.lane.input) (rest r.source) = rw (← limit_is, ← chunk_is) r.no_more in
+        let t : AtTurn rest hs lanes ds s k r.lane r.dump = record { holds = holds; next = r.next; dump_at = r.dump_at; lane_at = r.lane_at } in
+        in_turn t limit chunk (cut_at cut r.lane.input) (rest r.source) es news go more
 
     -- of the input whose turn it was
     own : (l : Lane) (old new : Supply) → slice_get lanes k ≡ Some l → slice_get olds k ≡ Some old → slice_get (supplies s'.sources) k ≡ Some new

@@ -1,7 +1,8 @@
 -- What a merge holds after one item more of the input whose turn it is, and where that input has
 -- finished.
-use Rattle.vcd_merge.proofs.Cited.{◌≡◌, ◌≢◌, ℕ, suc, ◌*◌, ◌<◌, ◌≤◌, true, false, List, [], ◌∷◌, ◌++◌, length, take, map, slice_get, Option, Some, None, refl, sym, ap, subst, ◌∙◌, arith, ◌⊎◌, inl, inr, option_map, AllByRecursion, cases_lt, slice_get_within, Header, first_number, BodyItem, time_after, Dump, key_lt, factor, key_after, IsSorted, Before, before_key, sorted_by_key, all_by_key, AreGiven, Standing, IsNext, part, part_len, spot_at, spot_of, AtSeat, Lane, Spot, Seat, keyed_rest, with_item, later_key, key_chain, all_with_item, headers_stay, there, same_or_not, get_other, get_set, get_mapped}
+use Rattle.vcd_merge.proofs.Cited.{◌≡◌, ◌≢◌, ℕ, suc, ◌*◌, ◌<◌, ◌≤◌, true, false, List, [], ◌∷◌, ◌++◌, length, take, map, slice_get, Option, Some, None, refl, sym, ap, ◌∙◌, arith, ◌⊎◌, inl, inr, option_map, AllByRecursion, cases_lt, slice_get_within, Header, first_number, BodyItem, time_after, Dump, key_lt, factor, headers_of, key_after, Before, before_key, AreGiven, Holds, Standing, IsNext, part, part_len, spot_at, spot_of, AtSeat, Lane, Spot, Seat, keyed_rest, with_item, later_key, key_chain, all_with_item, headers_stay, there, same_or_not, get_other, get_set, get_mapped}
 use Rattle.vcd_model.proofs.MergeOrder as order
+use Rattle.vcd_merge.specs.MergeStep.{GoBefore}
 
 -- ---- positions
 
@@ -54,112 +55,104 @@ module _ {X : Type 0} (rest : X → Option (List ℕ)) (hs : List Header) (lanes
       cc
 
   -- the scaled time of an input
-  pub time_at : (k : ℕ) (d : Dump) (x : Seat) → length s.sources ≡ length s.seats → slice_get ds k ≡ Some d → slice_get s.seats k ≡ Some x → x.time ≡ factor hs d.header * time_after d.items
-  time_at k d x same b c =
+  pub time_at : (k : ℕ) (d : Dump) (x : Seat) → slice_get ds k ≡ Some d → slice_get s.seats k ≡ Some x → x.time ≡ factor hs d.header * time_after d.items
+  time_at k d x b c =
       let w = slice_get_within s.seats k x c in
       let l = lane_at k w in
-      let p = seat_spot rest s k x same c in
+      let p = seat_spot rest s k x g.sources_are c in
       let a = g.at k l.0 d p.0 l.1 b p.1 in
       ap (λ (y : Seat). y.time) (sym p.2) ∙ a.time_is ∙ ap (λ (h : Header). factor hs h * time_after d.items) (same_header k l.0 d l.1 b)
 
-  module _ (k : ℕ) (d : Dump) (l : Lane) (next : IsNext s.seats k) (same : length s.sources ≡ length s.seats) (at_d : slice_get ds k ≡ Some d) (at_l : slice_get lanes k ≡ Some l) where
-    -- all items come before the position where the next one comes
-    pub all_before : AllByRecursion (λ y. key_lt y.key (key_after (factor hs d.header) k d.items) ≡ true) (keyed_rest hs 0 [] ds)
-    all_before = g.before k d next.seat at_d next.there next.unfinished
+-- the input whose turn it is, of a merge
+pub record AtTurn {X : Type 0} (rest : X → Option (List ℕ)) (hs : List Header) (lanes : List Lane) (ds : List Dump) (s : Standing X) (k : ℕ) (l : Lane) (d : Dump) : Type 0 where
+  pub holds : Holds rest hs lanes ds s
+  pub next : IsNext s.seats k
+  pub dump_at : slice_get ds k ≡ Some d
+  pub lane_at : slice_get lanes k ≡ Some l
 
-    -- the position of the next item goes before those of the other inputs
-    pub next_first : (j : ℕ) (c : Dump) (y : Seat) → j ≢ k → slice_get ds j ≡ Some c → slice_get s.seats j ≡ Some y → y.finished ≡ false → key_lt (key_after (factor hs d.header) k d.items) (key_after (factor hs c.header) j c.items) ≡ true
-    next_first j c y other a b on =
-        let t = time_at k d next.seat same at_d next.there in
-        let u = time_at j c y same a b in
-        before_key (key_after (factor hs d.header) k d.items) (key_after (factor hs c.header) j c.items) (by_least (next.least j y b on) t u)
+-- what is left after a step of it: the same but for this input, which is at p
+pub record Leaves {X : Type 0} (rest : X → Option (List ℕ)) (s s' : Standing X) (k : ℕ) (p : Spot) : Type 0 where
+  pub heads : s'.heads ≡ s.heads
+  pub many : length s'.seats ≡ length s.seats
+  pub sources : length s'.sources ≡ length s'.seats
+  pub spot : spot_at rest s'.seats s'.sources s'.chunks s'.tokens k ≡ Some p
+  pub others : (j : ℕ) → j ≢ k → spot_at rest s'.seats s'.sources s'.chunks s'.tokens j ≡ spot_at rest s.seats s.sources s.chunks s.tokens j
+  pub stay : (j : ℕ) → j ≢ k → slice_get s'.sources j ≡ slice_get s.sources j
+  pub token : length p.token ≡ part_len (length s.seats) s.tokens
+  pub chunk : length p.chunk ≡ part_len (length s.seats) s.chunks
+
+module _ {X : Type 0} {rest : X → Option (List ℕ)} {hs : List Header} {lanes : List Lane} {ds : List Dump} {s : Standing X} {k : ℕ} {l : Lane} {d : Dump} (t : AtTurn rest hs lanes ds s k l d) where
+  g : AreGiven rest hs lanes ds s
+  g = t.holds.given
+
+  -- all items come before the position where the next one comes
+  pub all_before : AllByRecursion (λ y. key_lt y.key (key_after (factor hs d.header) k d.items) ≡ true) (keyed_rest hs 0 [] ds)
+  all_before = g.before k d t.next.seat t.dump_at t.next.there t.next.unfinished
+
+  -- the position of the next item goes before those of the other inputs
+  pub next_first : (j : ℕ) (c : Dump) (y : Seat) → j ≢ k → slice_get ds j ≡ Some c → slice_get s.seats j ≡ Some y → y.finished ≡ false → key_lt (key_after (factor hs d.header) k d.items) (key_after (factor hs c.header) j c.items) ≡ true
+  next_first j c y other a b on =
+      before_key (key_after (factor hs d.header) k d.items) (key_after (factor hs c.header) j c.items) (by_least (t.next.least j y b on) (time_at rest hs lanes ds s g k d t.next.seat t.dump_at t.next.there) (time_at rest hs lanes ds s g j c y a b))
+    where
+      by_least : (t.next.seat.time < y.time) ⊎ ((t.next.seat.time ≡ y.time) × (k ≤ j)) → t.next.seat.time ≡ factor hs d.header * time_after d.items → y.time ≡ factor hs c.header * time_after c.items → Before (key_after (factor hs d.header) k d.items) (key_after (factor hs c.header) j c.items)
+      by_least (inl m) x u = inl (omega arith)
+      by_least (inr m) x u = let e = m.0 in inr (omega arith, inl (apart k j other m.1))
+
+  module _ {s' : Standing X} {p : Spot} (v : Leaves rest s s' k p) where
+    other_seat : (j : ℕ) (y : Seat) → j ≢ k → slice_get s'.seats j ≡ Some y → slice_get s.seats j ≡ Some y
+    other_seat j y other b =
+        let q = seat_spot rest s' j y v.sources b in
+        spot_seat rest s j q.0 (sym (v.others j other) ∙ q.1) ∙ ap (λ (z : Seat). Some z) q.2
+
+    -- .. if these are its items then
+    given_by : (es : List Dump) (e : Dump) → slice_get es k ≡ Some e → ((j : ℕ) → j ≢ k → slice_get es j ≡ slice_get ds j) → headers_of es ≡ hs → AtSeat (factor hs l.header) (first_number (take k hs)) l e.items p → GoBefore hs es s'.seats → AreGiven rest hs lanes es s'
+    given_by es e own dumps headers a before = record {
+      lanes_are = g.lanes_are;
+      dumps_are = headers;
+      many = g.many ∙ sym v.many;
+      sources_are = v.sources;
+      views = λ j h m b c. g.views j h m (ap (λ z. slice_get z j) (sym v.heads) ∙ b) c;
+      at = λ j m c q at_m at_c at_q. at_place j m c q (same_or_not j k) at_m at_c at_q;
+      before = before;
+    }
       where
-        by_least : (next.seat.time < y.time) ⊎ ((next.seat.time ≡ y.time) × (k ≤ j)) → next.seat.time ≡ factor hs d.header * time_after d.items → y.time ≡ factor hs c.header * time_after c.items → Before (key_after (factor hs d.header) k d.items) (key_after (factor hs c.header) j c.items)
-        by_least (inl m) t u = inl (omega arith)
-        by_least (inr m) t u = let e = m.0 in inr (omega arith, inl (apart k j other m.1))
+        at_place : (j : ℕ) (m : Lane) (c : Dump) (q : Spot) → (j ≡ k) ⊎ (j ≢ k) → slice_get lanes j ≡ Some m → slice_get es j ≡ Some c → spot_at rest s'.seats s'.sources s'.chunks s'.tokens j ≡ Some q → AtSeat (factor hs m.header) (first_number (take j hs)) m c.items q
+        at_place j m c q (inl here) at_m at_c at_q =
+            let el : l ≡ m = cc (sym t.lane_at ∙ ap (λ i. slice_get lanes i) (sym here) ∙ at_m) in
+            let ec : e ≡ c = cc (sym own ∙ ap (λ i. slice_get es i) (sym here) ∙ at_c) in
+            let eq : p ≡ q = cc (sym v.spot ∙ ap (λ i. spot_at rest s'.seats s'.sources s'.chunks s'.tokens i) (sym here) ∙ at_q) in
+            rw (← el, ← ec, ← eq, here) a
+        at_place j m c q (inr other) at_m at_c at_q = g.at j m c q at_m (sym (dumps j other) ∙ at_c) (sym (v.others j other) ∙ at_q)
 
-    -- what is left: the same but for the input, which is at p
-    module _ (s' : Standing X) (p : Spot) (heads : s'.heads ≡ s.heads) (many : length s'.seats ≡ length s.seats) (sources : length s'.sources ≡ length s'.seats) (at_p : spot_at rest s'.seats s'.sources s'.chunks s'.tokens k ≡ Some p)
-        (others : (j : ℕ) → j ≢ k → spot_at rest s'.seats s'.sources s'.chunks s'.tokens j ≡ spot_at rest s.seats s.sources s.chunks s.tokens j) where
-      other_seat : (j : ℕ) (y : Seat) → j ≢ k → slice_get s'.seats j ≡ Some y → slice_get s.seats j ≡ Some y
-      other_seat j y other b =
-          let q = seat_spot rest s' j y sources b in
-          spot_seat rest s j q.0 (sym (others j other) ∙ q.1) ∙ ap (λ (z : Seat). Some z) q.2
+    -- one item more
+    pub given_more : (x : BodyItem) → AtSeat (factor hs l.header) (first_number (take k hs)) l (d.items ++ x ∷ []) p → AreGiven rest hs lanes (with_item ds k d x) s'
+    given_more x a = given_by (with_item ds k d x) more own (λ j other. get_other ds k j more other) (headers_stay ds k d x t.dump_at ∙ g.dumps_are) a (λ j c y at_c at_y on. before_place j c y (same_or_not j k) at_c at_y on)
+      where
+        more : Dump
+        more = record { header = d.header; items = d.items ++ x ∷ []; fault = d.fault }
 
-      own_seat : (y : Seat) → slice_get s'.seats k ≡ Some y → p.seat ≡ y
-      own_seat y b = let e = spot_seat rest s' k p at_p in cc (sym e ∙ b)
+        own : slice_get (with_item ds k d x) k ≡ Some more
+        own = get_set ds k more (slice_get_within ds k d t.dump_at)
 
-      pub given_more : (x : BodyItem) → AtSeat (factor hs l.header) (first_number (take k hs)) l (d.items ++ x ∷ []) p → AreGiven rest hs lanes (with_item ds k d x) s'
-      given_more x a = record {
-        lanes_are = g.lanes_are;
-        dumps_are = headers_stay ds k d x at_d ∙ g.dumps_are;
-        many = g.many ∙ sym many;
-        sources_are = sources;
-        views = λ j h m b c. g.views j h m (ap (λ z. slice_get z j) (sym heads) ∙ b) c;
-        at = λ j m c q at_m at_c at_q. at_place j m c q (same_or_not j k) at_m at_c at_q;
-        before = λ j c y at_c at_y on. before_place j c y (same_or_not j k) at_c at_y on;
-      }
-        where
-          more : Dump
-          more = record { header = d.header; items = d.items ++ x ∷ []; fault = d.fault }
+        before_place : (j : ℕ) (c : Dump) (y : Seat) → (j ≡ k) ⊎ (j ≢ k) → slice_get (with_item ds k d x) j ≡ Some c → slice_get s'.seats j ≡ Some y → y.finished ≡ false → AllByRecursion (λ z. key_lt z.key (key_after (factor hs c.header) j c.items) ≡ true) (keyed_rest hs 0 [] (with_item ds k d x))
+        before_place j c y (inl here) at_c at_y on =
+            let ec : more ≡ c = cc (sym own ∙ ap (λ i. slice_get (with_item ds k d x) i) (sym here) ∙ at_c) in
+            let later = later_key (factor hs d.header) k d.items x [] in
+            let all = order.all_more (λ z. key_lt z.key (key_after (factor hs d.header) k d.items) ≡ true) (λ z. key_lt z.key (key_after (factor hs d.header) k (d.items ++ x ∷ [])) ≡ true) (keyed_rest hs 0 [] ds)
+            (λ z h. key_chain z.key (key_after (factor hs d.header) k d.items) (key_after (factor hs d.header) k (d.items ++ x ∷ [])) h later) all_before in
+            rw (← ec, here) (all_with_item hs ds k d x g.dumps_are t.dump_at (λ z. key_lt z.key (key_after (factor hs d.header) k (d.items ++ x ∷ [])) ≡ true) all later)
+        before_place j c y (inr other) at_c at_y on =
+            let ac = sym (get_other ds k j more other) ∙ at_c in
+            let ay = other_seat j y other at_y in
+            all_with_item hs ds k d x g.dumps_are t.dump_at (λ z. key_lt z.key (key_after (factor hs c.header) j c.items) ≡ true) (g.before j c y ac ay on) (next_first j c y other ac ay on)
 
-          own : slice_get (with_item ds k d x) k ≡ Some more
-          own = get_set ds k more (slice_get_within ds k d at_d)
-
-          at_place : (j : ℕ) (m : Lane) (c : Dump) (q : Spot) → (j ≡ k) ⊎ (j ≢ k) → slice_get lanes j ≡ Some m → slice_get (with_item ds k d x) j ≡ Some c → spot_at rest s'.seats s'.sources s'.chunks s'.tokens j ≡ Some q
-              → AtSeat (factor hs m.header) (first_number (take j hs)) m c.items q
-          at_place j m c q (inl e) at_m at_c at_q =
-              let el : l ≡ m = cc (sym at_l ∙ ap (λ i. slice_get lanes i) (sym e) ∙ at_m) in
-              let ec : more ≡ c = cc (sym own ∙ ap (λ i. slice_get (with_item ds k d x) i) (sym e) ∙ at_c) in
-              let eq : p ≡ q = cc (sym at_p ∙ ap (λ i. spot_at rest s'.seats s'.sources s'.chunks s'.tokens i) (sym e) ∙ at_q) in
-              subst (λ (y : Lane). AtSeat (factor hs y.header) (first_number (take j hs)) y c.items q) el
-              (subst (λ (y : Dump). AtSeat (factor hs l.header) (first_number (take j hs)) l y.items q) ec
-              (subst (λ (y : Spot). AtSeat (factor hs l.header) (first_number (take j hs)) l more.items y) eq
-              (subst (λ (i : ℕ). AtSeat (factor hs l.header) (first_number (take i hs)) l more.items p) (sym e) a)))
-          at_place j m c q (inr other) at_m at_c at_q = g.at j m c q at_m (sym (get_other ds k j more other) ∙ at_c) (sym (others j other) ∙ at_q)
-
-          before_place : (j : ℕ) (c : Dump) (y : Seat) → (j ≡ k) ⊎ (j ≢ k) → slice_get (with_item ds k d x) j ≡ Some c → slice_get s'.seats j ≡ Some y → y.finished ≡ false
-              → AllByRecursion (λ z. key_lt z.key (key_after (factor hs c.header) j c.items) ≡ true) (keyed_rest hs 0 [] (with_item ds k d x))
-          before_place j c y (inl e) at_c at_y on =
-              let ec : more ≡ c = cc (sym own ∙ ap (λ i. slice_get (with_item ds k d x) i) (sym e) ∙ at_c) in
-              let later = later_key (factor hs d.header) k d.items x [] in
-              let all = order.all_more (λ z. key_lt z.key (key_after (factor hs d.header) k d.items) ≡ true) (λ z. key_lt z.key (key_after (factor hs d.header) k (d.items ++ x ∷ [])) ≡ true) (keyed_rest hs 0 [] ds)
-              (λ z h. key_chain z.key (key_after (factor hs d.header) k d.items) (key_after (factor hs d.header) k (d.items ++ x ∷ [])) h later) all_before in
-              subst (λ (i : ℕ). AllByRecursion (λ z. key_lt z.key (key_after (factor hs c.header) i c.items) ≡ true) (keyed_rest hs 0 [] (with_item ds k d x))) (sym e)
-              (subst (λ (w : Dump). AllByRecursion (λ z. key_lt z.key (key_after (factor hs w.header) k w.items) ≡ true) (keyed_rest hs 0 [] (with_item ds k d x))) ec
-              (all_with_item hs ds k d x g.dumps_are at_d (λ z. key_lt z.key (key_after (factor hs d.header) k (d.items ++ x ∷ [])) ≡ true) all later))
-          before_place j c y (inr other) at_c at_y on =
-              let ac = sym (get_other ds k j more other) ∙ at_c in
-              let ay = other_seat j y other at_y in
-              all_with_item hs ds k d x g.dumps_are at_d (λ z. key_lt z.key (key_after (factor hs c.header) j c.items) ≡ true) (g.before j c y ac ay on) (next_first j c y other ac ay on)
-
-      pub given_still : p.seat.finished ≡ true → AtSeat (factor hs l.header) (first_number (take k hs)) l d.items p → AreGiven rest hs lanes ds s'
-      given_still done a = record {
-        lanes_are = g.lanes_are;
-        dumps_are = g.dumps_are;
-        many = g.many ∙ sym many;
-        sources_are = sources;
-        views = λ j h m b c. g.views j h m (ap (λ z. slice_get z j) (sym heads) ∙ b) c;
-        at = λ j m c q at_m at_c at_q. at_place j m c q (same_or_not j k) at_m at_c at_q;
-        before = λ j c y at_c at_y on. before_place j c y (same_or_not j k) at_c at_y on;
-      }
-        where
-          at_place : (j : ℕ) (m : Lane) (c : Dump) (q : Spot) → (j ≡ k) ⊎ (j ≢ k) → slice_get lanes j ≡ Some m → slice_get ds j ≡ Some c → spot_at rest s'.seats s'.sources s'.chunks s'.tokens j ≡ Some q
-              → AtSeat (factor hs m.header) (first_number (take j hs)) m c.items q
-          at_place j m c q (inl e) at_m at_c at_q =
-              let el : l ≡ m = cc (sym at_l ∙ ap (λ i. slice_get lanes i) (sym e) ∙ at_m) in
-              let ec : d ≡ c = cc (sym at_d ∙ ap (λ i. slice_get ds i) (sym e) ∙ at_c) in
-              let eq : p ≡ q = cc (sym at_p ∙ ap (λ i. spot_at rest s'.seats s'.sources s'.chunks s'.tokens i) (sym e) ∙ at_q) in
-              subst (λ (y : Lane). AtSeat (factor hs y.header) (first_number (take j hs)) y c.items q) el
-              (subst (λ (y : Dump). AtSeat (factor hs l.header) (first_number (take j hs)) l y.items q) ec
-              (subst (λ (y : Spot). AtSeat (factor hs l.header) (first_number (take j hs)) l d.items y) eq
-              (subst (λ (i : ℕ). AtSeat (factor hs l.header) (first_number (take i hs)) l d.items p) (sym e) a)))
-          at_place j m c q (inr other) at_m at_c at_q = g.at j m c q at_m at_c (sym (others j other) ∙ at_q)
-
-          before_place : (j : ℕ) (c : Dump) (y : Seat) → (j ≡ k) ⊎ (j ≢ k) → slice_get ds j ≡ Some c → slice_get s'.seats j ≡ Some y → y.finished ≡ false
-              → AllByRecursion (λ z. key_lt z.key (key_after (factor hs c.header) j c.items) ≡ true) (keyed_rest hs 0 [] ds)
-          before_place j c y (inl e) at_c at_y on =
-              let same_seat = own_seat y (ap (λ i. slice_get s'.seats i) (sym e) ∙ at_y) in
-              let f : true ≡ false = sym done ∙ ap (λ (z : Seat). z.finished) same_seat ∙ on in
-              cc
-          before_place j c y (inr other) at_c at_y on = g.before j c y at_c (other_seat j y other at_y) on
+    -- none, and it has finished
+    pub given_still : p.seat.finished ≡ true → AtSeat (factor hs l.header) (first_number (take k hs)) l d.items p → AreGiven rest hs lanes ds s'
+    given_still done a = given_by ds d t.dump_at (λ j other. refl) g.dumps_are a (λ j c y at_c at_y on. before_place j c y (same_or_not j k) at_c at_y on)
+      where
+        before_place : (j : ℕ) (c : Dump) (y : Seat) → (j ≡ k) ⊎ (j ≢ k) → slice_get ds j ≡ Some c → slice_get s'.seats j ≡ Some y → y.finished ≡ false → AllByRecursion (λ z. key_lt z.key (key_after (factor hs c.header) j c.items) ≡ true) (keyed_rest hs 0 [] ds)
+        before_place j c y (inl here) at_c at_y on =
+            let own : p.seat ≡ y = cc (sym (spot_seat rest s' k p v.spot) ∙ ap (λ i. slice_get s'.seats i) (sym here) ∙ at_y) in
+            let f : true ≡ false = sym done ∙ ap (λ (z : Seat). z.finished) own ∙ on in
+            cc
+        before_place j c y (inr other) at_c at_y on = g.before j c y at_c (other_seat j y other at_y) on

@@ -1,5 +1,9 @@
 -- The parts of the windows, where one of them was written.
-use Rattle.vcd_merge.proofs.Cited.{◌≡◌, ◌≢◌, ℕ, suc, ◌+◌, ◌-◌, ◌*◌, ◌/◌, ◌<◌, ◌≤◌, List, length, take, drop, slice_set, Option, Some, None, refl, sym, ap, subst, ◌∙◌, arith, ◌⊎◌, inl, inr, length-take, length-drop, get_or, All, slice_get-get_or, mul-le-mul_left, length-set, drop-take, take-put_mid_below, drop-put_mid, between-put_mid, cases_lt, put_mid, same_len_mid, AreParts, AreSeated, part, part_len, spot_at, All-set, Spot, IsSeated, Seat, get_other, get_set}
+use Rattle.vcd_merge.proofs.Cited.{◌≡◌, ◌≢◌, ℕ, suc, ◌+◌, ◌-◌, ◌*◌, ◌/◌, ◌<◌, ◌≤◌, List, length, take, drop, slice_set, Option, Some, None, refl, sym, ap, ◌∙◌, arith, ◌⊎◌, inl, inr, length-take, length-drop, get_or, slice_get-get_or, mul-le-mul_left, length-set, drop-take, take-put_mid_below, drop-put_mid, between-put_mid, cases_lt, put_mid, same_len_mid, AreParts, AreSeated, part, part_len, spot_at, All-set, Spot, IsSeated, Seat, get_other, get_set}
+
+-- the windows of n inputs with this part at an index
+abbrev pub lent : (n k : ℕ) → (xs ys : List ℕ) → List ℕ
+lent n k xs ys = put_mid (k * part_len n xs) (k * part_len n xs + part_len n xs - k * part_len n xs) xs ys
 
 -- a part ends where the next begins
 pub part_ends : (len n place : ℕ) → place < n → place * len + len ≤ n * len
@@ -84,50 +88,40 @@ module _ {X : Type 0} (rest : X → Option (List ℕ)) (seats : List Seat) (sour
       let same : s ≡ record { seat = get_or seats k d; rest = rest x; chunk = part (part_len (length seats) chunks) k chunks; token = part (part_len (length seats) tokens) k tokens } = cc (sym at ∙ e) in
       rw (part_of_some (part_len (length seats) chunks) k chunks, part_of_some (part_len (length seats) tokens) k tokens, sym is) same
 
-  module _ (s' : Seat) (x' : X) (cs ts : List ℕ) (h1 : k < length seats) (h2 : k < length sources) (pc : length seats * part_len (length seats) chunks ≡ length chunks) (pt : length seats * part_len (length seats) tokens ≡ length tokens)
-      (lc : length cs ≡ part_len (length seats) chunks) (lt : length ts ≡ part_len (length seats) tokens) where
-    -- the spot of the input whose parts were written
-    pub spot_put : spot_at rest (slice_set seats k s') (slice_set sources k x')
-        (put_mid (k * part_len (length seats) chunks) (k * part_len (length seats) chunks + part_len (length seats) chunks - k * part_len (length seats) chunks) chunks cs)
-        (put_mid (k * part_len (length seats) tokens) (k * part_len (length seats) tokens + part_len (length seats) tokens - k * part_len (length seats) tokens) tokens ts) k
-        ≡ Some (record { seat = s'; rest = rest x'; chunk = cs; token = ts })
-    spot_put =
-        let a = get_set seats k s' h1 in
-        let b = get_set sources k x' h2 in
-        let n = length-set seats k s' in
-        let c = len_put (part_len (length seats) chunks) (length seats) k chunks cs pc h1 lc in
-        let t = len_put (part_len (length seats) tokens) (length seats) k tokens ts pt h1 lt in
-        let c2 = part_put (part_len (length seats) chunks) (length seats) k chunks cs pc h1 lc in
-        let t2 = part_put (part_len (length seats) tokens) (length seats) k tokens ts pt h1 lt in
-        rw (a, b, n, c, t, c2, t2) refl
+-- an input is there, and these are as long as its parts
+pub record AreOwn {X : Type 0} (seats : List Seat) (sources : List X) (chunks tokens : List ℕ) (k : ℕ) (cs ts : List ℕ) : Type 0 where
+  pub in_seats : k < length seats
+  pub in_sources : k < length sources
+  pub chunks_are : length seats * part_len (length seats) chunks ≡ length chunks
+  pub tokens_are : length seats * part_len (length seats) tokens ≡ length tokens
+  pub chunk : length cs ≡ part_len (length seats) chunks
+  pub token : length ts ≡ part_len (length seats) tokens
 
-    -- and those of the others
-    pub spot_other : (j : ℕ) → j ≢ k → spot_at rest (slice_set seats k s') (slice_set sources k x')
-        (put_mid (k * part_len (length seats) chunks) (k * part_len (length seats) chunks + part_len (length seats) chunks - k * part_len (length seats) chunks) chunks cs)
-        (put_mid (k * part_len (length seats) tokens) (k * part_len (length seats) tokens + part_len (length seats) tokens - k * part_len (length seats) tokens) tokens ts) j
-        ≡ spot_at rest seats sources chunks tokens j
-    spot_other j other =
-        let a = get_other seats k j s' other in
-        let b = get_other sources k j x' other in
-        let n = length-set seats k s' in
-        let c = len_put (part_len (length seats) chunks) (length seats) k chunks cs pc h1 lc in
-        let t = len_put (part_len (length seats) tokens) (length seats) k tokens ts pt h1 lt in
-        let c2 = part_other (part_len (length seats) chunks) (length seats) k chunks cs pc h1 lc j other in
-        let t2 = part_other (part_len (length seats) tokens) (length seats) k tokens ts pt h1 lt j other in
-        rw (a, b, n, c, t, c2, t2) refl
+module _ {X : Type 0} {seats : List Seat} {sources : List X} {chunks tokens : List ℕ} {k : ℕ} {cs ts : List ℕ} (own : AreOwn seats sources chunks tokens k cs ts) (s' : Seat) (x' : X) where
+  pub len_chunks : length (lent (length seats) k chunks cs) ≡ length chunks
+  len_chunks = len_put (part_len (length seats) chunks) (length seats) k chunks cs own.chunks_are own.in_seats own.chunk
 
-    -- what holds of all seats holds once one was set
-    pub seated_put : IsSeated (part_len (length seats) chunks) (part_len (length seats) tokens) s' → AreSeated chunks tokens seats
-        → AreSeated (put_mid (k * part_len (length seats) chunks) (k * part_len (length seats) chunks + part_len (length seats) chunks - k * part_len (length seats) chunks) chunks cs)
-        (put_mid (k * part_len (length seats) tokens) (k * part_len (length seats) tokens + part_len (length seats) tokens - k * part_len (length seats) tokens) tokens ts) (slice_set seats k s')
-    seated_put own all =
-        let n = length-set seats k s' in
-        let c = len_put (part_len (length seats) chunks) (length seats) k chunks cs pc h1 lc in
-        let t = len_put (part_len (length seats) tokens) (length seats) k tokens ts pt h1 lt in
-        let ec : part_len (length (slice_set seats k s')) (put_mid (k * part_len (length seats) chunks) (k * part_len (length seats) chunks + part_len (length seats) chunks - k * part_len (length seats) chunks) chunks cs) ≡ part_len (length seats) chunks =
-        ap (λ m. m / length (slice_set seats k s')) c ∙ ap (λ m. length chunks / m) n in
-        let et : part_len (length (slice_set seats k s')) (put_mid (k * part_len (length seats) tokens) (k * part_len (length seats) tokens + part_len (length seats) tokens - k * part_len (length seats) tokens) tokens ts) ≡ part_len (length seats) tokens =
-        ap (λ m. m / length (slice_set seats k s')) t ∙ ap (λ m. length tokens / m) n in
-        let set = All-set (IsSeated (part_len (length seats) chunks) (part_len (length seats) tokens)) seats k s' own all in
-        subst (λ (a : ℕ). All (IsSeated a (part_len (length (slice_set seats k s')) (put_mid (k * part_len (length seats) tokens) (k * part_len (length seats) tokens + part_len (length seats) tokens - k * part_len (length seats) tokens) tokens ts))) (slice_set seats k s')) (sym ec)
-        (subst (λ (b : ℕ). All (IsSeated (part_len (length seats) chunks) b) (slice_set seats k s')) (sym et) set)
+  pub len_tokens : length (lent (length seats) k tokens ts) ≡ length tokens
+  len_tokens = len_put (part_len (length seats) tokens) (length seats) k tokens ts own.tokens_are own.in_seats own.token
+
+  -- the spot of the input whose parts were written
+  pub spot_put : (rest : X → Option (List ℕ)) → spot_at rest (slice_set seats k s') (slice_set sources k x') (lent (length seats) k chunks cs) (lent (length seats) k tokens ts) k ≡ Some (record { seat = s'; rest = rest x'; chunk = cs; token = ts })
+  spot_put rest =
+      let c = part_put (part_len (length seats) chunks) (length seats) k chunks cs own.chunks_are own.in_seats own.chunk in
+      let t = part_put (part_len (length seats) tokens) (length seats) k tokens ts own.tokens_are own.in_seats own.token in
+      rw (get_set seats k s' own.in_seats, get_set sources k x' own.in_sources, length-set seats k s', len_chunks, len_tokens, c, t) refl
+
+  -- and those of the others
+  pub spot_other : (rest : X → Option (List ℕ)) (j : ℕ) → j ≢ k → spot_at rest (slice_set seats k s') (slice_set sources k x') (lent (length seats) k chunks cs) (lent (length seats) k tokens ts) j ≡ spot_at rest seats sources chunks tokens j
+  spot_other rest j other =
+      let c = part_other (part_len (length seats) chunks) (length seats) k chunks cs own.chunks_are own.in_seats own.chunk j other in
+      let t = part_other (part_len (length seats) tokens) (length seats) k tokens ts own.tokens_are own.in_seats own.token j other in
+      rw (get_other seats k j s' other, get_other sources k j x' other, length-set seats k s', len_chunks, len_tokens, c, t) refl
+
+  -- what holds of all seats holds once one was set
+  pub seated_put : IsSeated (part_len (length seats) chunks) (part_len (length seats) tokens) s' → AreSeated chunks tokens seats → AreSeated (lent (length seats) k chunks cs) (lent (length seats) k tokens ts) (slice_set seats k s')
+  seated_put seated all =
+      let set = All-set (IsSeated (part_len (length seats) chunks) (part_len (length seats) tokens)) seats k s' seated all in
+      let c = same_part (length seats) (length (slice_set seats k s')) chunks (lent (length seats) k chunks cs) (length-set seats k s') len_chunks in
+      let t = same_part (length seats) (length (slice_set seats k s')) tokens (lent (length seats) k tokens ts) (length-set seats k s') len_tokens in
+      rw (c, t) set

@@ -104,7 +104,7 @@ module _ {X : Type 0} {g : Ghosts X} (scale first : ℕ) (l : Lane) (behind : Li
           chunk = refl;
           token = refl;
         } in
-        let t = reaches_on g.rest failures scale first l before start from (reaches b so_far) to by in
+        let t = reaches_on (reaches b so_far) to by in
         record { mid = t.mid; trail = t.trail; items_are = t.items_are ∙ append_assoc behind b.items (x ∷ []) ∙ ap (λ xs. behind ++ xs) (sym items_are); written_is = t.written_is; out_is = t.out_is; rest_is = t.rest_is; failures_are = t.failures_are; chunk = t.chunk; token = t.token }
 
     -- once the feed has passed them
@@ -128,11 +128,11 @@ module _ {X : Type 0} {g : Ghosts X} (scale first : ℕ) (l : Lane) (behind : Li
           let x = t.ends.0 in
           let one = t.ends.1 in
           let last = ends m.items x one.ahead.gave one.ahead.known in
-          turns_at g.rest failures scale first l before start (stage_with (behind ++ m.items) m.written s f m.out) (reaches m t.trail) k written (spot_with (seat_with s r time) new) out (Ok true) (inl (x, one_at new m x n r time written out one last, one.writes))
+          turns_at (reaches m t.trail) k written (spot_with (seat_with s r time) new) out (Ok true) (inl (x, one_at new m x n r time written out one last, one.writes))
       ahead_turns (Err e) t =
           let m = t.mid in
           let x = t.ends.0 in
           let a = t.ends.1 in
           let last = ends m.items x a.gave a.known in
-          turns_at g.rest failures scale first l before start (stage_with (behind ++ m.items) m.written s f m.out) (reaches m t.trail) k written (spot_with (seat_with s r time) new) out (Err Write)
+          turns_at (reaches m t.trail) k written (spot_with (seat_with s r time) new) out (Err Write)
           (x, seat_at new _ n (m.items ++ x ∷ []) r time (append_assoc behind m.items (x ∷ [])) a last.gave, t.ends.2, no_more_at_last l l.input (behind ++ m.items) new x r last)

@@ -1,7 +1,7 @@
 -- What belongs to an input of a merge, before a step of it and after.
-use Rattle.vcd_merge.proofs.Cited.{◌≡◌, ℕ, ◌*◌, ◌<◌, ◌≤◌, ◌⊎◌, List, length, take, slice_get, Option, Some, None, refl, sym, ap, subst, ◌∙◌, arith, inl, inr, option_map, slice_get_within, same_Some, Header, first_number, Dump, factor, shown, Views, Head, AreGiven, IsReady, Standing, IsNext, part, part_len, spot_at, spot_of, AtSeat, Lane, Spot, Seat, there}
+use Rattle.vcd_merge.proofs.Cited.{◌≡◌, ℕ, ◌*◌, ◌<◌, ◌≤◌, ◌⊎◌, List, length, take, slice_get, Option, Some, None, refl, sym, ap, subst, ◌∙◌, arith, inl, inr, option_map, slice_get_within, same_Some, Header, first_number, Dump, factor, shown, Views, Head, AreGiven, Holds, IsReady, Standing, IsNext, part, part_len, spot_at, spot_of, AtSeat, Lane, Spot, Seat, there}
 use Rattle.vcd_merge.proofs.PartLemmas.{part_long}
-use Rattle.vcd_merge.proofs.MergeSteps.{dump_at, lane_at, seat_spot, spot_seat}
+use Rattle.vcd_merge.proofs.MergeSteps.{AtTurn, dump_at, lane_at, len_map, same_header, seat_spot, spot_seat}
 use Rattle.vcd_merge.proofs.PartLemmas.{same_part}
 
 -- all that belongs to the input whose turn it is
@@ -10,15 +10,15 @@ pub record Found {X : Type 0} (rest : X → Option (List ℕ)) (hs : List Header
   pub dump : Dump
   pub head : Head
   pub spot : Spot
-  pub lane_there : slice_get lanes k ≡ Some lane
-  pub dump_there : slice_get ds k ≡ Some dump
+  pub turn : AtTurn rest hs lanes ds s k lane dump
   pub head_there : slice_get s.heads k ≡ Some head
   pub spot_there : spot_at rest s.seats s.sources s.chunks s.tokens k ≡ Some spot
   pub views : Views (shown head) lane.header
   pub is : AtSeat (factor hs lane.header) (first_number (take k hs)) lane dump.items spot
 
-pub found : {X : Type 0} (rest : X → Option (List ℕ)) (hs : List Header) (lanes : List Lane) (ds : List Dump) (s : Standing X) (k : ℕ) → AreGiven rest hs lanes ds s → IsReady s → IsNext s.seats k → Found rest hs lanes ds s k
-found rest hs lanes ds s k g ready next =
+pub found : {X : Type 0} (rest : X → Option (List ℕ)) (hs : List Header) (lanes : List Lane) (ds : List Dump) (s : Standing X) (k : ℕ) → Holds rest hs lanes ds s → IsReady s → IsNext s.seats k → Found rest hs lanes ds s k
+found rest hs lanes ds s k holds ready next =
+    let g = holds.given in
     let w = slice_get_within s.seats k next.seat next.there in
     let l = lane_at rest hs lanes ds s g k w in
     let d = dump_at rest hs lanes ds s g k w in
@@ -29,8 +29,7 @@ found rest hs lanes ds s k g ready next =
       dump = d.0;
       head = h.0;
       spot = p.0;
-      lane_there = l.1;
-      dump_there = d.1;
+      turn = record { holds = holds; next = next; dump_at = d.1; lane_at = l.1 };
       head_there = h.1;
       spot_there = p.1;
       views = g.views k h.0 l.0 h.1 l.1;
@@ -68,6 +67,31 @@ module _ {X : Type 0} (rest : X → Option (List ℕ)) (s s' : Standing X) (k : 
       let n = length s'.seats in
       part_in (length s.seats) n k s.tokens s'.tokens p.token seats tokens ready.parts.tokens_are w
       (token_in (slice_get s'.seats k) (option_map rest (slice_get s'.sources k)) (part (part_len n s'.chunks) k s'.chunks) (part (part_len n s'.tokens) k s'.tokens) p at)
+
+-- the parts for tokens have this length
+abbrev pub IsLong : {X : Type 0} → (X → Option (List ℕ)) → ℕ → Standing X → Type 0
+IsLong rest limit s = (k : ℕ) (p : Spot) → spot_at rest s.seats s.sources s.chunks s.tokens k ≡ Some p → length p.token ≡ limit
+
+pub long_of : {X : Type 0} (rest : X → Option (List ℕ)) (s s' : Standing X) (limit : ℕ) → part_len (length s.seats) s.tokens ≡ limit → IsReady s → length s'.seats ≡ length s.seats → length s'.tokens ≡ length s.tokens → IsLong rest limit s'
+long_of rest s s' limit is_limit ready seats tokens = λ k p at. let w = slice_get_within s'.seats k p.seat (spot_seat rest s' k p at) in token_len rest s s' k p ready (omega (arith, w, seats)) seats at tokens ∙ is_limit
+
+-- what is known of the input at an index
+pub record Known {X : Type 0} (hs : List Header) (limit : ℕ) (s : Standing X) (k : ℕ) (l : Lane) (d : Dump) : Type 0 where
+  pub spot : Spot
+  pub there : slice_get s.seats k ≡ Some spot.seat
+  pub at : AtSeat (factor hs l.header) (first_number (take k hs)) l d.items spot
+  pub long : length spot.token ≡ limit
+  pub same : l.header ≡ d.header
+
+pub known : {X : Type 0} {rest : X → Option (List ℕ)} {hs : List Header} {lanes : List Lane} {ds : List Dump} {s : Standing X} → AreGiven rest hs lanes ds s → {limit : ℕ} → IsLong rest limit s → (k : ℕ) (l : Lane) (d : Dump) → slice_get lanes k ≡ Some l → slice_get ds k ≡ Some d → Known hs limit s k l d
+known {rest = rest} {hs = hs} {lanes = lanes} {ds = ds} {s = s} g long k l d at_l at_d =
+    let many = g.many in
+    let a = ap (λ (x : List Header). length x) g.dumps_are in
+    let b = len_map (λ (x : Dump). x.header) ds in
+    let c = slice_get_within ds k d at_d in
+    let seat = there s.seats k (omega (arith, many, a, b, c)) in
+    let p = seat_spot rest s k seat.0 g.sources_are seat.1 in
+    record { spot = p.0; there = seat.1 ∙ ap (λ (x : Seat). Some x) (sym p.2); at = g.at k l d p.0 at_l at_d p.1; long = long k p.0 p.1; same = same_header rest hs lanes ds s g k l d at_l at_d }
 
 rest_in : {X : Type 0} (rest : X → Option (List ℕ)) (o : Option Seat) (x : Option X) (c t : List ℕ) (p : Spot) → spot_of o (option_map rest x) c t ≡ Some p → (y : X) × (x ≡ Some y) × (p.rest ≡ rest y)
 rest_in rest (Some s) (Some y) c t p e = (y, refl, sym (ap (λ (q : Spot). q.rest) (same_Some (record { seat = s; rest = rest y; chunk = c; token = t }) p e)))

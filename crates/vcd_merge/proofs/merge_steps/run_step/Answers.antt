@@ -1,6 +1,26 @@
-use Rattle.vcd_merge.proofs.Cited.{◌≡◌, ◌+◌, ◌∙◌, sym, ap, refl, length, Err, rules, subst, take, arith, inr, add-zero, slice_get_within, first_number, factor, Device, failures_then, Standing, standing, More, Stop, Read, Write}
-use Rattle.vcd_merge.proofs.Facts.{parts_same, found, still_counted, still_named, still_written, has_ended, was_cut, was_stopped, went_on, none_waiting, others_stay, some_waits}
+use Rattle.vcd_merge.proofs.Cited.{◌≡◌, ◌+◌, ◌∙◌, ap, refl, length, Err, rules, arith, inr, add-zero, slice_get_within, standing, Stop, Read, Write, Ok}
+use Rattle.vcd_merge.proofs.Facts.{TookTurn, has_ended, none_waiting, others_stay, some_waits, was_cut, was_stopped, went_on}
+use Rattle.vcd_merge.specs.Order.{AllWait}
+use Rattle.vcd_merge.proofs.merge_steps.run_step.Given.{Over}
+use Rattle.vcd_merge.proofs.merge_steps.run_step.Goals.{After-put, In_ok-run_turn}
 use Rattle.vcd_merge.proofs.merge_steps.run_step.Goals as goal
+
+-- the turn that was taken
+took : (g : Over) (c : In_ok-run_turn g) → TookTurn {A = Unit {0}} g.S.Source.rest g.S.Source.failures (standing c.args.heads.now c.args.seats.now c.args.written.now c.args.sources.now c.args.windows.now)
+    (standing c.args.heads.now c.run_turn.new.seats c.run_turn.new.written c.run_turn.new.sources c.run_turn.new.windows) c.take_next-next.result.input c.take_next-next.result.before c.args.order.now.until (g.W.Sink.device c.args.out.now) (g.W.Sink.device c.run_turn.new.out) (Ok c.in_ok-run_turn.field-0)
+took g c =
+    let en = c.in_ok-run_turn.ensures in
+    let next = c.take_next-next.ensures in
+    record { ready = c.requires.ready; next = next.next; early = next.before; within = next.until; heads = refl; sources = en.sources; touches = en.touches; turns = en.turns }
+
+-- all that have not finished wait again
+waiting : (g : Over) (c : After-put g) → AllWait c.run_turn.new.seats c.put.new.self.inputs c.put.new.self.len
+waiting g c =
+    let next = c.take_next-next.ensures in
+    let en = c.in_ok-run_turn.ensures in
+    let w = slice_get_within c.args.seats.now c.take_next-next.result.input next.next.seat next.next.there in
+    let e = en.touches.seats in
+    c.put.ensures.back (length c.run_turn.new.seats) (others_stay c.args.seats.now c.run_turn.new.seats c.take_next-next.result.input c.take_next-next.new.self.inputs c.take_next-next.new.self.len e en.kept next.others) (omega (arith, w, e))
 
 pub take_next-next-requires-clause-some : goal.take_next-next-requires-clause-some
 take_next-next-requires-clause-some g c =
@@ -24,182 +44,36 @@ pub put-requires-clause-order : goal.put-requires-clause-order
 put-requires-clause-order g c = (length c.run_turn.new.seats, c.take_next-next.result.input, omega arith, others_stay c.args.seats.now c.run_turn.new.seats c.take_next-next.result.input c.take_next-next.new.self.inputs c.take_next-next.new.self.len c.in_ok-run_turn.ensures.touches.seats c.in_ok-run_turn.ensures.kept c.take_next-next.ensures.others, inr refl)
 
 pub returns-then-not-is_empty-clause-order : goal.returns-then-not-is_empty-clause-order
-returns-then-not-is_empty-clause-order g c = λ again.
-    let within = slice_get_within c.args.seats.now c.take_next-next.result.input c.take_next-next.ensures.next.seat c.take_next-next.ensures.next.there in
-    let same = c.in_ok-run_turn.ensures.touches.seats in
-    let order = c.put.ensures.back (length c.run_turn.new.seats) (others_stay c.args.seats.now c.run_turn.new.seats c.take_next-next.result.input c.take_next-next.new.self.inputs c.take_next-next.new.self.len same c.in_ok-run_turn.ensures.kept c.take_next-next.ensures.others) (omega (arith, within, same)) in
-    order
+returns-then-not-is_empty-clause-order g c = λ again. waiting g (goal.at.returns-then-not-is_empty-clause-order g c).After-put
 
 pub returns-in_err-run_turn-clause-runs : goal.returns-in_err-run_turn-clause-runs
 returns-in_err-run_turn-clause-runs g c =
-    let en = c.in_err-run_turn.ensures in
     let stop = c.in_err-run_turn.field-0.0 in
     let e : c.from_residual.result ≡ Err stop = search rules in
-    record {
-      gives = λ alone hs lanes ds by_one holds.
-          let s : Standing g.row.S.Denot = standing c.args.heads.now c.args.seats.now c.args.written.now c.args.sources.now c.args.windows.now in
-          let s' : Standing g.row.S.Denot = standing c.args.heads.now c.run_turn.new.seats c.run_turn.new.written c.run_turn.new.sources c.run_turn.new.windows in
-          let k = c.take_next-next.result.input in
-          let next = c.take_next-next.ensures.next in
-          let least = c.take_next-next.ensures.until in
-          let first = c.take_next-next.ensures.before in
-          let f = found g.S.Source.rest hs lanes ds s k holds.given c.requires.ready next in
-          let en = c.in_err-run_turn.ensures in
-          let t = en.turns (factor hs f.lane.header) (first_number (take k hs)) f.lane f.dump.items f.head f.spot f.head_there f.views f.spot_there f.is in
-          let sources : length c.run_turn.new.sources ≡ length c.run_turn.new.seats = en.sources ∙ c.requires.ready.sources ∙ sym en.touches.seats in
-          let out : Device = g.W.Sink.device c.args.out.now in
-          let mid : Device = g.W.Sink.device c.run_turn.new.out in
-          let stop = c.in_err-run_turn.field-0.0 in
-          let e : c.from_residual.result ≡ Err stop = search rules in
-          rw e (was_stopped g.S.Source.rest g.S.Source.failures hs lanes ds s holds c.requires.ready k c.take_next-next.result.before next first alone (λ e. let z = by_one e in omega (arith, z, least)) s' t.0 refl en.touches.seats sources en.touches.chunks en.touches.tokens t.1 en.touches.others (λ j other. (en.touches.untouched j other).0) f out mid stop t.2);
-      input = c.take_next-next.result.input;
-      next = c.take_next-next.ensures.next;
-      leaves = rw e (record {
-        ready = λ again. cc;
-        touches = record {
-          seats = en.touches.seats;
-          chunks = en.touches.chunks;
-          tokens = en.touches.tokens;
-          values = en.touches.values;
-          reads = still_counted (Unit {0}) More stop _ _ c.take_next-next.result.input en.touches.reads;
-          named = still_named (Unit {0}) More c.take_next-next.result.input stop en.touches.named;
-          others = en.touches.others;
-          untouched = en.touches.untouched;
-          writes = subst (λ n. failures_then n (g.W.Sink.device c.run_turn.new.out) ≡ (g.W.Sink.device c.args.out.now).failures + n) (still_written (Unit {0}) More stop) en.touches.writes;
-        };
-        left = λ again. cc;
-      });
-    }
+    let en = c.in_err-run_turn.ensures in
+    let next = c.take_next-next.ensures in
+    rw e (was_stopped {A = Unit {0}} {k = c.take_next-next.result.input} {before = c.take_next-next.result.before} stop (record { ready = c.requires.ready; next = next.next; early = next.before; within = next.until; heads = refl; sources = en.sources; touches = en.touches; turns = en.turns }))
 
 pub returns-then-not-is_empty-clause-runs : goal.returns-then-not-is_empty-clause-runs
 returns-then-not-is_empty-clause-runs g c =
+    let at = goal.at.returns-then-not-is_empty-clause-runs g c in
     let en = c.in_ok-run_turn.ensures in
-    let within = slice_get_within c.args.seats.now c.take_next-next.result.input c.take_next-next.ensures.next.seat c.take_next-next.ensures.next.there in
-    let same = c.in_ok-run_turn.ensures.touches.seats in
-    let order = c.put.ensures.back (length c.run_turn.new.seats) (others_stay c.args.seats.now c.run_turn.new.seats c.take_next-next.result.input c.take_next-next.new.self.inputs c.take_next-next.new.self.len same c.in_ok-run_turn.ensures.kept c.take_next-next.ensures.others) (omega (arith, within, same)) in
-    record {
-      gives = λ alone hs lanes ds by_one holds.
-          let s : Standing g.row.S.Denot = standing c.args.heads.now c.args.seats.now c.args.written.now c.args.sources.now c.args.windows.now in
-          let s' : Standing g.row.S.Denot = standing c.args.heads.now c.run_turn.new.seats c.run_turn.new.written c.run_turn.new.sources c.run_turn.new.windows in
-          let k = c.take_next-next.result.input in
-          let next = c.take_next-next.ensures.next in
-          let least = c.take_next-next.ensures.until in
-          let first = c.take_next-next.ensures.before in
-          let f = found g.S.Source.rest hs lanes ds s k holds.given c.requires.ready next in
-          let en = c.in_ok-run_turn.ensures in
-          let t = en.turns (factor hs f.lane.header) (first_number (take k hs)) f.lane f.dump.items f.head f.spot f.head_there f.views f.spot_there f.is in
-          let sources : length c.run_turn.new.sources ≡ length c.run_turn.new.seats = en.sources ∙ c.requires.ready.sources ∙ sym en.touches.seats in
-          let out : Device = g.W.Sink.device c.args.out.now in
-          let mid : Device = g.W.Sink.device c.run_turn.new.out in
-          went_on g.S.Source.rest g.S.Source.failures hs lanes ds s holds c.requires.ready k c.take_next-next.result.before next first alone (λ e. let z = by_one e in omega (arith, z, least)) s' t.0 refl en.touches.seats sources en.touches.chunks en.touches.tokens t.1 en.touches.others (λ j other. (en.touches.untouched j other).0) f out mid c.in_ok-run_turn.field-0 t.2;
-      input = c.take_next-next.result.input;
-      next = c.take_next-next.ensures.next;
-      leaves = record {
-        ready = λ again. record {
-          heads = c.requires.ready.heads ∙ sym en.touches.seats;
-          sources = en.sources ∙ c.requires.ready.sources ∙ sym en.touches.seats;
-          parts = parts_same (length c.args.seats.now) (length c.run_turn.new.seats) _ _ _ _ _ _ c.requires.ready.parts en.touches.seats en.touches.chunks en.touches.tokens en.touches.values;
-          seated = en.seated;
-          some = some_waits c.run_turn.new.seats c.put.new.self.inputs c.put.new.self.len order (c.is_empty.ensures.some c.if-not-is_empty.true);
-        };
-        touches = record {
-          seats = en.touches.seats;
-          chunks = en.touches.chunks;
-          tokens = en.touches.tokens;
-          values = en.touches.values;
-          reads = en.touches.reads;
-          named = tt;
-          others = en.touches.others;
-          untouched = en.touches.untouched;
-          writes = en.touches.writes;
-        };
-        left = λ again. en.left;
-      };
-    }
+    went_on (took g at.In_ok-run_turn) en.seated (some_waits c.run_turn.new.seats c.put.new.self.inputs c.put.new.self.len (waiting g at.After-put) (c.is_empty.ensures.some c.if-not-is_empty.true)) en.left
 
 pub returns-in_err-close-clause-runs : goal.returns-in_err-close-clause-runs
 returns-in_err-close-clause-runs g c =
-    let en = c.in_ok-run_turn.ensures in
+    let at = goal.at.returns-in_err-close-clause-runs g c in
+    let close = c.in_err-close.ensures in
+    let all = none_waiting c.run_turn.new.seats c.put.new.self.inputs c.put.new.self.len (waiting g at.After-put) (c.is_empty.ensures.none c.if-not-is_empty.false) in
     let e : c.from_residual-in_err-close.result ≡ Err Write = search rules in
-    record {
-      gives = λ alone hs lanes ds by_one holds.
-          let s : Standing g.row.S.Denot = standing c.args.heads.now c.args.seats.now c.args.written.now c.args.sources.now c.args.windows.now in
-          let s' : Standing g.row.S.Denot = standing c.args.heads.now c.run_turn.new.seats c.run_turn.new.written c.run_turn.new.sources c.run_turn.new.windows in
-          let k = c.take_next-next.result.input in
-          let next = c.take_next-next.ensures.next in
-          let least = c.take_next-next.ensures.until in
-          let first = c.take_next-next.ensures.before in
-          let f = found g.S.Source.rest hs lanes ds s k holds.given c.requires.ready next in
-          let en = c.in_ok-run_turn.ensures in
-          let t = en.turns (factor hs f.lane.header) (first_number (take k hs)) f.lane f.dump.items f.head f.spot f.head_there f.views f.spot_there f.is in
-          let sources : length c.run_turn.new.sources ≡ length c.run_turn.new.seats = en.sources ∙ c.requires.ready.sources ∙ sym en.touches.seats in
-          let out : Device = g.W.Sink.device c.args.out.now in
-          let mid : Device = g.W.Sink.device c.run_turn.new.out in
-          let within = slice_get_within c.args.seats.now c.take_next-next.result.input c.take_next-next.ensures.next.seat c.take_next-next.ensures.next.there in
-          let same = c.in_ok-run_turn.ensures.touches.seats in
-          let order = c.put.ensures.back (length c.run_turn.new.seats) (others_stay c.args.seats.now c.run_turn.new.seats c.take_next-next.result.input c.take_next-next.new.self.inputs c.take_next-next.new.self.len same c.in_ok-run_turn.ensures.kept c.take_next-next.ensures.others) (omega (arith, within, same)) in
-          let all = none_waiting c.run_turn.new.seats c.put.new.self.inputs c.put.new.self.len order (c.is_empty.ensures.none c.if-not-is_empty.false) in
-          let e : c.from_residual-in_err-close.result ≡ Err Write = search rules in
-          rw e (was_cut g.S.Source.rest g.S.Source.failures hs lanes ds s holds c.requires.ready k c.take_next-next.result.before next first alone (λ e. let z = by_one e in omega (arith, z, least)) s' t.0 refl en.touches.seats sources en.touches.chunks en.touches.tokens t.1 en.touches.others (λ j other. (en.touches.untouched j other).0) f out mid all c.in_ok-run_turn.field-0 (g.W.Sink.device c.close.new.out) t.2 (λ es marked w. (c.in_err-close.ensures.takes hs es marked w, c.in_err-close.ensures.counts)));
-      input = c.take_next-next.result.input;
-      next = c.take_next-next.ensures.next;
-      leaves = rw e (record {
-        ready = λ again. cc;
-        touches = record {
-          seats = en.touches.seats;
-          chunks = en.touches.chunks;
-          tokens = en.touches.tokens;
-          values = en.touches.values;
-          reads = en.touches.reads;
-          named = tt;
-          others = en.touches.others;
-          untouched = en.touches.untouched;
-          writes = c.in_err-close.ensures.counts ∙ ap (λ n. n + 1) (en.touches.writes ∙ add-zero _);
-        };
-        left = λ again. cc;
-      });
-    }
+    rw e (was_cut (took g at.In_ok-run_turn) all _ (close.counts ∙ ap (λ n. n + 1) (c.in_ok-run_turn.ensures.touches.writes ∙ add-zero _)) (λ hs es marked w. (close.takes hs es marked w, close.counts)))
 
 pub returns-clause-runs : goal.returns-clause-runs
 returns-clause-runs g c =
-    let en = c.in_ok-run_turn.ensures in
-    record {
-      gives = λ alone hs lanes ds by_one holds.
-          let s : Standing g.row.S.Denot = standing c.args.heads.now c.args.seats.now c.args.written.now c.args.sources.now c.args.windows.now in
-          let s' : Standing g.row.S.Denot = standing c.args.heads.now c.run_turn.new.seats c.run_turn.new.written c.run_turn.new.sources c.run_turn.new.windows in
-          let k = c.take_next-next.result.input in
-          let next = c.take_next-next.ensures.next in
-          let least = c.take_next-next.ensures.until in
-          let first = c.take_next-next.ensures.before in
-          let f = found g.S.Source.rest hs lanes ds s k holds.given c.requires.ready next in
-          let en = c.in_ok-run_turn.ensures in
-          let t = en.turns (factor hs f.lane.header) (first_number (take k hs)) f.lane f.dump.items f.head f.spot f.head_there f.views f.spot_there f.is in
-          let sources : length c.run_turn.new.sources ≡ length c.run_turn.new.seats = en.sources ∙ c.requires.ready.sources ∙ sym en.touches.seats in
-          let out : Device = g.W.Sink.device c.args.out.now in
-          let mid : Device = g.W.Sink.device c.run_turn.new.out in
-          let within = slice_get_within c.args.seats.now c.take_next-next.result.input c.take_next-next.ensures.next.seat c.take_next-next.ensures.next.there in
-          let same = c.in_ok-run_turn.ensures.touches.seats in
-          let order = c.put.ensures.back (length c.run_turn.new.seats) (others_stay c.args.seats.now c.run_turn.new.seats c.take_next-next.result.input c.take_next-next.new.self.inputs c.take_next-next.new.self.len same c.in_ok-run_turn.ensures.kept c.take_next-next.ensures.others) (omega (arith, within, same)) in
-          let all = none_waiting c.run_turn.new.seats c.put.new.self.inputs c.put.new.self.len order (c.is_empty.ensures.none c.if-not-is_empty.false) in
-          has_ended g.S.Source.rest g.S.Source.failures hs lanes ds s holds c.requires.ready k c.take_next-next.result.before next first alone (λ e. let z = by_one e in omega (arith, z, least)) s' t.0 refl en.touches.seats sources en.touches.chunks en.touches.tokens t.1 en.touches.others (λ j other. (en.touches.untouched j other).0) f out mid all c.in_ok-run_turn.field-0 (g.W.Sink.device c.close.new.out) t.2 (λ es marked w. (c.in_ok-close.ensures.takes hs es marked w, c.in_ok-close.ensures.counts));
-      input = c.take_next-next.result.input;
-      next = c.take_next-next.ensures.next;
-      leaves = record {
-        ready = λ again. cc;
-        touches = record {
-          seats = en.touches.seats;
-          chunks = en.touches.chunks;
-          tokens = en.touches.tokens;
-          values = en.touches.values;
-          reads = en.touches.reads;
-          named = tt;
-          others = en.touches.others;
-          untouched = en.touches.untouched;
-          writes = c.in_ok-close.ensures.counts ∙ en.touches.writes;
-        };
-        left = λ again. cc;
-      };
-    }
+    let at = goal.at.returns-clause-runs g c in
+    let close = c.in_ok-close.ensures in
+    let all = none_waiting c.run_turn.new.seats c.put.new.self.inputs c.put.new.self.len (waiting g at.After-put) (c.is_empty.ensures.none c.if-not-is_empty.false) in
+    has_ended (took g at.In_ok-run_turn) all _ (close.counts ∙ c.in_ok-run_turn.ensures.touches.writes) (λ hs es marked w. (close.takes hs es marked w, close.counts))
 
 pub returns-in_err-run_turn-clause-last : goal.returns-in_err-run_turn-clause-last
 returns-in_err-run_turn-clause-last g c = λ input is.

@@ -1,5 +1,5 @@
 use Rattle.vcd_merge.proofs.Cited.{◌≡◌, List, false, map, length, Header, Dump, merge_open, merged_items, Device, Writes, supply, SameLengths, part_len, Holds, IsReady, is_going, standing_of, left_of, IsOrder, Lane}
-use Rattle.vcd_merge.proofs.Facts.{AreReadSoFar}
+use Rattle.vcd_merge.proofs.Facts.{IsSoFar}
 use Rattle.vcd_merge.proofs.merge_state.Merge.finish.Given as goal
 
 abbrev pub invariant-items : goal.invariant-items
@@ -13,8 +13,7 @@ invariant-items g l = record {
   windows : SameLengths l.fn.windows l.windows;
   heads : l.self.heads.now ≡ l.fn.self.heads.now;
   holds : (hs : List Header) (lanes : List Lane) (ds : List Dump) (begin : Device) → Holds g.S.Source.rest hs lanes ds (standing_of l.fn.self l.fn.sources l.fn.windows) → Writes begin (g.W.Sink.device l.fn.out) (merge_open hs (merged_items ds))
-      → (es : List Dump) × Holds g.S.Source.rest hs lanes es (standing_of l.self l.sources l.windows) × Writes begin (g.W.Sink.device l.out) (merge_open hs (merged_items es))
-      × AreReadSoFar g.S.Source.rest g.S.Source.failures hs (part_len (length l.fn.self.seats.now) l.fn.windows.tokens.now) (part_len (length l.fn.self.seats.now) l.fn.windows.chunks.now) lanes (map (supply g.S.Source.rest g.S.Source.failures) l.fn.sources) es l.self.seats.now l.sources;
+      → (es : List Dump) × IsSoFar g.S.Source.rest g.S.Source.failures hs lanes (part_len (length l.fn.self.seats.now) l.fn.windows.tokens.now) (part_len (length l.fn.self.seats.now) l.fn.windows.chunks.now) (map (supply g.S.Source.rest g.S.Source.failures) l.fn.sources) begin es (standing_of l.self l.sources l.windows) (g.W.Sink.device l.out);
 }
 
 abbrev pub decreases-items : goal.decreases-items
