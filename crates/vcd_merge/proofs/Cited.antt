@@ -54,11 +54,11 @@ pub use Rattle.vcd_merge.specs.MergeAhead.{IsAhead, MergeStage, OneAhead, PutsDu
 pub use Rattle.vcd_merge.specs.MergeOrder.{IsNext, greater_time, greatest_from, greatest_time}
 pub use Rattle.vcd_merge.specs.MergeParts.{AreParts, AreSeated, SameLengths, part, part_len, spot_at, spot_of}
 pub use Rattle.vcd_merge.specs.MergeRoom.{MergeIsWithinBound, kept_in, kept_of, no_windows, windows_size}
-pub use Rattle.vcd_merge.specs.MergeRun.{AreLeft, AreOpened, AreReadOnTurn, BeginsWith, Belongs, Follows, HasEnded, ReadOnTurn, known_first, known_whole, settles_among}
+pub use Rattle.vcd_merge.specs.MergeRun.{AreLeft, AreOpened, AreReadOnTurn, BeginsWith, Belongs, Follows, ReadOnTurn, known_first, known_whole, settles_among}
 pub use Rattle.vcd_merge.specs.MergeRun.AreReadOnTurn.{OnTurn, Unread}
 pub use Rattle.vcd_merge.specs.MergeStart.{AreBegun, AreOpen, HasBegun, HaveNoItems, begun, no_items}
 pub use Rattle.vcd_merge.specs.MergeStep.{AreGiven, AreMarked, Gives, HasFault, Holds, IsReady, ReadsOne, Standing, cut_at, failures_with, is_going, last_written, left_of, next_item, standing, standing_of}
-pub use Rattle.vcd_merge.specs.MergeTrail.{AheadTurns, Further, GoOn, GoesOn, IsReached, Reaches, ReadInTurn, RunGives, RunTurns, Stage, Stands, StaysBack, TakesOn, Trail, TurnsAt, spot_in, stage_with}
+pub use Rattle.vcd_merge.specs.MergeTrail.{AheadTurns, Further, GoOn, IsReached, Reaches, ReadInTurn, RunGives, RunTurns, Stage, Stands, StaysBack, TakesOn, Trail, TurnsAt, spot_in, stage_with}
 pub use Rattle.vcd_merge.specs.Order.{AreInOrder, ComesBefore, IsFirstBefore, IsOrder, Waits, time_of}
 pub use Rattle.vcd_merge.specs.Seat.{AtSeat, GaveParked, GivesOne, HasDump, HasReadNoMore, IsSeated, Lane, ReadsNoMore, SameSeat, Spot, Turns, spot_with}
 pub use Rattle.vcd_merge.specs.declared.merge_state.Merge.{Merge}

@@ -1,5 +1,5 @@
 -- Inputs after one was read on its turn: none of the others comes before the key that it reached.
-use Rattle.vcd_merge.proofs.Cited.{◌≡◌, ◌≢◌, ℕ, true, false, List, [], ◌∷◌, ◌++◌, slice_get, Option, Some, ◌⊎◌, inl, inr, refl, sym, ap, subst, ◌∙◌, append-nil, append_assoc, slice_get_within, same_Some, Header, Input, BodyItem, Dump, Key, factor, key_after, key_lt, with_item, still_later, IsNext, Standing, GoOn, GoesOn, IsReached, ReadInTurn, Lane, ReadsNoMore, Seat, same_or_not, get_other, get_set}
+use Rattle.vcd_merge.proofs.Cited.{◌≡◌, ◌≢◌, ℕ, true, List, [], ◌∷◌, ◌++◌, slice_get, Option, Some, inl, inr, refl, sym, ap, subst, ◌∙◌, append-nil, append_assoc, slice_get_within, same_Some, Header, Input, BodyItem, Dump, Key, factor, key_after, key_lt, with_item, still_later, IsNext, Standing, GoOn, IsReached, ReadInTurn, Lane, ReadsNoMore, Seat, same_or_not, get_other, get_set}
 use Rattle.vcd_merge.proofs.MergeSteps.{AtTurn, next_first, same_header, seat_spot}
 
 -- ---- inputs that continue
@@ -25,24 +25,22 @@ go_through ds ms es seats mids news first second = λ k e y at_e at_y on.
 -- one input alone continues, which had not finished
 module _ (ds es : List Dump) (seats news : List Seat) (k : ℕ) (next : IsNext seats k) (seats_stay : (j : ℕ) → j ≢ k → slice_get news j ≡ slice_get seats j) (d : Dump) (at : slice_get ds k ≡ Some d) where
   go_by : (e : Dump) (more : List BodyItem) → slice_get es k ≡ Some e → e.header ≡ d.header → e.items ≡ d.items ++ more → ((j : ℕ) → j ≢ k → slice_get es j ≡ slice_get ds j) → GoOn ds seats es news
-  go_by e more own header items dumps_stay = λ j c y at_c at_y on. by_place j c y (same_or_not j k) at_c at_y on
-    where
-      by_place : (j : ℕ) (c : Dump) (y : Seat) → (j ≡ k) ⊎ (j ≢ k) → slice_get es j ≡ Some c → slice_get news j ≡ Some y → y.finished ≡ false → GoesOn ds seats j c
-      by_place j c y (inl here) at_c at_y on =
-          let both : Some e ≡ Some c = sym own ∙ ap (slice_get es) (sym here) ∙ at_c in
-          let is : e ≡ c = same_Some e c both in
-          record {
-            dump = d;
-            seat = next.seat;
-            dump_at = ap (slice_get ds) here ∙ at;
-            seat_at = ap (slice_get seats) here ∙ next.there;
-            unfinished = next.unfinished;
-            header = ap (λ (z : Dump). z.header) (sym is) ∙ header;
-            more = more;
-            items = ap (λ (z : Dump). z.items) (sym is) ∙ items;
-          }
-      by_place j c y (inr other) at_c at_y on =
-          record { dump = c; seat = y; dump_at = sym (dumps_stay j other) ∙ at_c; seat_at = sym (seats_stay j other) ∙ at_y; unfinished = on; header = refl; more = []; items = sym (append-nil c.items) }
+  go_by e more own header items dumps_stay = λ j c y at_c at_y on. elim (same_or_not j k) [
+    | inl here ↦
+        let both : Some e ≡ Some c = sym own ∙ ap (slice_get es) (sym here) ∙ at_c in
+        let is : e ≡ c = same_Some e c both in
+        record {
+          dump = d;
+          seat = next.seat;
+          dump_at = ap (slice_get ds) here ∙ at;
+          seat_at = ap (slice_get seats) here ∙ next.there;
+          unfinished = next.unfinished;
+          header = ap (λ (z : Dump). z.header) (sym is) ∙ header;
+          more = more;
+          items = ap (λ (z : Dump). z.items) (sym is) ∙ items;
+        }
+    | inr other ↦ record { dump = c; seat = y; dump_at = sym (dumps_stay j other) ∙ at_c; seat_at = sym (seats_stay j other) ∙ at_y; unfinished = on; header = refl; more = []; items = sym (append-nil c.items) }
+  ]
 
 -- by no item, and by one
 pub go_same : (ds : List Dump) (seats news : List Seat) (k : ℕ) → IsNext seats k → ((j : ℕ) → j ≢ k → slice_get news j ≡ slice_get seats j) → (d : Dump) → slice_get ds k ≡ Some d → GoOn ds seats ds news

@@ -71,18 +71,16 @@ module _ {X : Type 0} (rest : X → Option (List ℕ)) (failures : X → ℕ) (h
   read_along ds es seats news ss ms go same reads so_far = record {
     each = λ j l old new at_l at_old at_new.
         let x = unmap (supply rest failures) ms j new at_new in
-        by_place j l old new at_l at_old x.0 x.1 x.2 (reads j l x.0 at_l x.1);
+        elim (reads j l x.0 at_l x.1) [
+          | inl at_s ↦
+              let e = so_far.each j l old new at_l at_old (get_mapped (supply rest failures) ss j x.0 at_s ∙ ap (λ (z : Supply). Some z) x.2) in
+              (e.0, still_so limit chunk hs ds es seats news j l old new l.input go e.1)
+          | inr turn ↦
+              let y = unmap failures ss j (failures x.0) (ap (λ (ns : List ℕ). slice_get ns j) (sym same) ∙ get_mapped failures ms j x.0 x.1) in
+              let before = so_far.each j l old (supply rest failures y.0) at_l at_old (get_mapped (supply rest failures) ss j y.0 y.1) in
+              (ap (λ (z : Supply). z.failures) (sym x.2) ∙ sym y.2 ∙ before.0, inr (subst (λ (z : Supply). ReadInTurn limit chunk hs es news j l l.input z.rest) x.2 turn))
+        ];
   }
-    where
-      by_place : (j : ℕ) (l : Lane) (old new : Supply) → slice_get lanes j ≡ Some l → slice_get olds j ≡ Some old → (x : X) → slice_get ms j ≡ Some x → supply rest failures x ≡ new → (slice_get ss j ≡ Some x) ⊎ ReadInTurn limit chunk hs es news j l l.input (rest x)
-          → (new.failures ≡ old.failures) × IsReadSo limit chunk hs es news j l old new l.input
-      by_place j l old new at_l at_old x at_x is (inl at_s) =
-          let e = so_far.each j l old new at_l at_old (get_mapped (supply rest failures) ss j x at_s ∙ ap (λ (z : Supply). Some z) is) in
-          (e.0, still_so limit chunk hs ds es seats news j l old new l.input go e.1)
-      by_place j l old new at_l at_old x at_x is (inr turn) =
-          let y = unmap failures ss j (failures x) (ap (λ (ns : List ℕ). slice_get ns j) (sym same) ∙ get_mapped failures ms j x at_x) in
-          let before = so_far.each j l old (supply rest failures y.0) at_l at_old (get_mapped (supply rest failures) ss j y.0 y.1) in
-          (ap (λ (z : Supply). z.failures) (sym is) ∙ sym y.2 ∙ before.0, inr (subst (λ (z : Supply). ReadInTurn limit chunk hs es news j l l.input z.rest) is turn))
 
   -- each input is left whole
   pub left_whole : (ds : List Dump) (seats : List Seat) (xs : List X) → AreReadSoFar ds seats xs → (j : ℕ) (l : Lane) (old new : Supply) → slice_get lanes j ≡ Some l → slice_get olds j ≡ Some old → slice_get (supplies xs) j ≡ Some new → IsRead limit chunk hs ds seats j l old new l.input
@@ -125,16 +123,17 @@ module _ {X : Type 0} (rest : X → Option (List ℕ)) (failures : X → ℕ) (h
 
     -- no read failed
     pub read_more : cut ≡ None → reads_failed result ≡ 0 → AreReadSoFar es news s'.sources
-    read_more whole none = record { each = λ j l old new at_l at_old at_new. by_place j l old new (same_or_not j k) at_l at_old at_new }
-      where
-        by_place : (j : ℕ) (l : Lane) (old new : Supply) → (j ≡ k) ⊎ (j ≢ k) → slice_get lanes j ≡ Some l → slice_get olds j ≡ Some old → slice_get (supplies s'.sources) j ≡ Some new → (new.failures ≡ old.failures) × IsReadSo limit chunk hs es news j l old new l.input
-        by_place j l old new (inl e) at_l at_old at_new =
+    read_more whole none = record {
+      each = λ j l old new at_l at_old at_new. elim (same_or_not j k) [
+        | inl e ↦
             let one = own l old new (ap (slice_get lanes) (sym e) ∙ at_l) (ap (slice_get olds) (sym e) ∙ at_old) (ap (slice_get (supplies s'.sources)) (sym e) ∙ at_new) in
             let read = subst (λ (c : Option ℕ). ReadInTurn limit chunk hs es news k l (cut_at c l.input) new.rest) whole one.1 in
             (one.0 ∙ ap (λ n. old.failures + n) none ∙ omega arith, inr (subst (λ (i : ℕ). ReadInTurn limit chunk hs es news i l l.input new.rest) (sym e) read))
-        by_place j l old new (inr apart) at_l at_old at_new =
+        | inr apart ↦
             let e = so_far.each j l old new at_l at_old (other j new apart at_new) in
             (e.0, still_so limit chunk hs ds es s.seats news j l old new l.input go e.1)
+      ];
+    }
 
     -- a read failed after n bytes: the input is cut there
     pub cut_left : (n : ℕ) → cut ≡ Some n → reads_failed result ≡ 1 → (l : Lane) (old new : Supply) → slice_get lanes k ≡ Some l → slice_get olds k ≡ Some old → slice_get (supplies s'.sources) k ≡ Some new → IsRead limit chunk hs es news k l old new (failed_after n l.input)

@@ -1,5 +1,5 @@
 -- A run so far, and where a turn of one input has taken it before its last step.
-use Rattle.vcd_merge.proofs.Cited.{◌≡◌, ℕ, Bool, List, length, Option, Result, sym, subst, ◌∙◌, inl, inr, ◌⊎◌, slice_get, Some, Header, Dump, merge_open, merged_items, Device, Supply, Writes, both-written, part_len, Holds, IsReady, Standing, ReadInTurn, RunGives, Lane, More, Stop}
+use Rattle.vcd_merge.proofs.Cited.{◌≡◌, ℕ, Bool, List, length, Option, Result, sym, subst, ◌∙◌, inl, inr, Header, Dump, merge_open, merged_items, Device, Supply, Writes, both-written, part_len, Holds, IsReady, Standing, RunGives, Lane, More, Stop}
 use Rattle.vcd_merge.proofs.MergeReads.{AreReadSoFar, read_along}
 use Rattle.vcd_merge.proofs.PartLemmas.{same_part}
 
@@ -20,10 +20,6 @@ run_on {X} {rest} {failures} {hs} {lanes} {limit} {chunk} {olds} {begin} {ds} {s
   ready = r.ready;
   limit_is = same_part (length s.seats) (length r.mid.seats) s.tokens r.mid.tokens r.seats r.tokens ∙ b.limit_is;
   chunk_is = same_part (length s.seats) (length r.mid.seats) s.chunks r.mid.chunks r.seats r.chunks ∙ b.chunk_is;
-  reads = read_along rest failures hs limit chunk lanes olds ds r.dumps s.seats r.mid.seats s.sources r.mid.sources r.goes r.failures_are (λ j l x at_l at_x. by_source j l x (r.reads j l x at_l at_x)) b.reads;
+  reads = read_along rest failures hs limit chunk lanes olds ds r.dumps s.seats r.mid.seats s.sources r.mid.sources r.goes r.failures_are (λ j l x at_l at_x. elim (r.reads j l x at_l at_x) [ inl same ↦ inl same | inr turn ↦ inr (rw (← b.limit_is, ← b.chunk_is) turn) ]) b.reads;
   writes = subst (Writes begin r.between) (sym r.grows.1) (both-written begin out r.between (merge_open hs (merged_items ds)) r.grows.0 b.writes r.grows.2);
 }
-  where
-    by_source : (j : ℕ) (l : Lane) (x : X) → (slice_get s.sources j ≡ Some x) ⊎ ReadInTurn (part_len (length s.seats) s.tokens) (part_len (length s.seats) s.chunks) hs r.dumps r.mid.seats j l l.input (rest x) → (slice_get s.sources j ≡ Some x) ⊎ ReadInTurn limit chunk hs r.dumps r.mid.seats j l l.input (rest x)
-    by_source j l x (inl p) = inl p
-    by_source j l x (inr turn) = inr (rw (← b.limit_is, ← b.chunk_is) turn)

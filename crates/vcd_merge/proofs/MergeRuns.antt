@@ -67,17 +67,17 @@ same_parts s s' seats chunks tokens = record { seats = seats; tokens = tokens; l
 
 module _ {X : Type 0} {rest : X → Option (List ℕ)} {failures : X → ℕ} {hs : List Header} {lanes : List Lane} {limit chunk : ℕ} {olds : List Supply} {begin : Device} {ds : List Dump} {s : Standing X} {out : Device} (b : IsSoFar rest failures hs lanes limit chunk olds begin ds s out) where
   -- there are as many sources as lanes
-  pub as_many_olds : (xs : List X) → map failures s.sources ≡ map failures xs → length (map (supply rest failures) xs) ≡ length lanes
-  as_many_olds xs e =
-      let a = ap length e in
-      let m = len_map failures s.sources in
-      let i = len_map failures xs in
+  as_many : (xs : List X) → length xs ≡ length s.sources → length (map (supply rest failures) xs) ≡ length lanes
+  as_many xs e =
       let j = len_map (supply rest failures) xs in
       let c = b.ready.sources in
       let d = b.holds.given.many in
       let l = ap (λ (x : List Header). length x) b.holds.given.lanes_are in
       let n = len_map (λ (x : Lane). x.header) lanes in
-      omega (arith, a, m, c, d, l, n, i, j)
+      omega (arith, e, c, d, l, n, j)
+
+  pub as_many_olds : (xs : List X) → map failures s.sources ≡ map failures xs → length (map (supply rest failures) xs) ≡ length lanes
+  as_many_olds xs e = as_many xs (sym (len_map failures xs) ∙ sym (ap length e) ∙ len_map failures s.sources)
 
   abbrev AreReadTo : Standing X → List Dump → List Seat → Type 0
   AreReadTo s' es seats = AreReadSoFar rest failures hs limit chunk lanes olds es seats s'.sources
@@ -114,14 +114,7 @@ module _ {X : Type 0} {rest : X → Option (List ℕ)} {failures : X → ℕ} {h
     }
 
     new_many : length (map (supply rest failures) s'.sources) ≡ length lanes
-    new_many =
-        let a = reads.as_many failures s.sources s'.sources k r counts in
-        let m = len_map (supply rest failures) s'.sources in
-        let c = b.ready.sources in
-        let d = b.holds.given.many in
-        let l = ap (λ (x : List Header). length x) b.holds.given.lanes_are in
-        let n = len_map (λ (x : Lane). x.header) lanes in
-        omega (arith, a, m, c, d, l, n)
+    new_many = as_many s'.sources (reads.as_many failures s.sources s'.sources k r counts)
 
   -- what is due is on the output, and this with it
   wrote : (new : Device) (more : List ℕ) → Writes out new more → Writes begin new (merge_open hs (merged_items ds) ++ more)

@@ -1,6 +1,6 @@
 -- What a merge holds after one item more of the input whose turn it is, and where that input has
 -- finished.
-use Rattle.vcd_merge.proofs.Cited.{◌≡◌, ◌≢◌, ℕ, suc, ◌*◌, ◌<◌, ◌≤◌, true, false, List, [], ◌∷◌, ◌++◌, length, take, map, slice_get, Option, Some, None, refl, sym, ap, ◌∙◌, arith, ◌⊎◌, inl, inr, option_map, AllByRecursion, cases_lt, slice_get_within, Header, first_number, BodyItem, time_after, Dump, key_lt, factor, headers_of, key_after, Before, before_key, AreGiven, Holds, Standing, IsNext, part, part_len, spot_at, spot_of, AtSeat, Lane, Spot, Seat, keyed_rest, with_item, later_key, key_chain, all_with_item, headers_stay, there, same_or_not, get_other, get_set, get_mapped}
+use Rattle.vcd_merge.proofs.Cited.{◌≡◌, ◌≢◌, ℕ, suc, ◌*◌, ◌<◌, ◌≤◌, true, false, List, [], ◌∷◌, ◌++◌, length, take, map, slice_get, Option, Some, None, refl, sym, ap, ◌∙◌, arith, ◌⊎◌, Bool, inl, inr, option_map, AllByRecursion, slice_get_within, Header, first_number, BodyItem, time_after, Dump, key_lt, factor, headers_of, key_after, Before, before_key, AreGiven, Holds, Standing, IsNext, part, part_len, spot_at, spot_of, AtSeat, Lane, Spot, Seat, keyed_rest, with_item, later_key, key_chain, all_with_item, headers_stay, there, same_or_not, get_other, get_set, get_mapped}
 use Rattle.vcd_model.proofs.MergeOrder as order
 use Rattle.vcd_merge.specs.MergeStep.{GoBefore}
 
@@ -11,11 +11,12 @@ len_map f [] = refl
 len_map f (x ∷ xs) = ap suc (len_map f xs)
 
 apart : (k j : ℕ) → j ≢ k → k ≤ j → k < j
-apart k j other h = by_order (cases_lt k j)
-  where
-    by_order : (k < j) ⊎ (j ≤ k) → k < j
-    by_order (inl n) = n
-    by_order (inr n) = absurd (other (omega arith))
+apart k j other h = grind arith
+
+-- by a flag
+pub by_flag : {P : Type 0} (b : Bool) → (b ≡ true → P) → (b ≡ false → P) → P
+by_flag true on off = on refl
+by_flag false on off = off refl
 
 seat_in : (o : Option Seat) (r : Option (Option (List ℕ))) (c t : List ℕ) (p : Spot) → spot_of o r c t ≡ Some p → o ≡ Some p.seat
 seat_in (Some s) (Some rest) c t p e = let same : record { seat = s; rest = rest; chunk = c; token = t } ≡ p = cc in ap (λ (q : Spot). Some q.seat) same
@@ -112,17 +113,16 @@ module _ {X : Type 0} {rest : X → Option (List ℕ)} {hs : List Header} {lanes
       many = g.many ∙ sym v.many;
       sources_are = v.sources;
       views = λ j h m b c. g.views j h m (ap (λ z. slice_get z j) (sym v.heads) ∙ b) c;
-      at = λ j m c q at_m at_c at_q. at_place j m c q (same_or_not j k) at_m at_c at_q;
-      before = before;
-    }
-      where
-        at_place : (j : ℕ) (m : Lane) (c : Dump) (q : Spot) → (j ≡ k) ⊎ (j ≢ k) → slice_get lanes j ≡ Some m → slice_get es j ≡ Some c → spot_at rest s'.seats s'.sources s'.chunks s'.tokens j ≡ Some q → AtSeat (factor hs m.header) (first_number (take j hs)) m c.items q
-        at_place j m c q (inl here) at_m at_c at_q =
+      at = λ j m c q at_m at_c at_q. elim (same_or_not j k) [
+        | inl here ↦
             let el : l ≡ m = cc (sym t.lane_at ∙ ap (λ i. slice_get lanes i) (sym here) ∙ at_m) in
             let ec : e ≡ c = cc (sym own ∙ ap (λ i. slice_get es i) (sym here) ∙ at_c) in
             let eq : p ≡ q = cc (sym v.spot ∙ ap (λ i. spot_at rest s'.seats s'.sources s'.chunks s'.tokens i) (sym here) ∙ at_q) in
             rw (← el, ← ec, ← eq, here) a
-        at_place j m c q (inr other) at_m at_c at_q = g.at j m c q at_m (sym (dumps j other) ∙ at_c) (sym (v.others j other) ∙ at_q)
+        | inr other ↦ g.at j m c q at_m (sym (dumps j other) ∙ at_c) (sym (v.others j other) ∙ at_q)
+      ];
+      before = before;
+    }
 
     -- one item more
     pub given_more : (x : BodyItem) → AtSeat (factor hs l.header) (first_number (take k hs)) l (d.items ++ x ∷ []) p → AreGiven rest hs lanes (with_item ds k d x) s'
@@ -148,11 +148,10 @@ module _ {X : Type 0} {rest : X → Option (List ℕ)} {hs : List Header} {lanes
 
     -- none, and it has finished
     pub given_still : p.seat.finished ≡ true → AtSeat (factor hs l.header) (first_number (take k hs)) l d.items p → AreGiven rest hs lanes ds s'
-    given_still done a = given_by ds d t.dump_at (λ j other. refl) g.dumps_are a (λ j c y at_c at_y on. before_place j c y (same_or_not j k) at_c at_y on)
-      where
-        before_place : (j : ℕ) (c : Dump) (y : Seat) → (j ≡ k) ⊎ (j ≢ k) → slice_get ds j ≡ Some c → slice_get s'.seats j ≡ Some y → y.finished ≡ false → AllByRecursion (λ z. key_lt z.key (key_after (factor hs c.header) j c.items) ≡ true) (keyed_rest hs 0 [] ds)
-        before_place j c y (inl here) at_c at_y on =
-            let own : p.seat ≡ y = cc (sym (spot_seat rest s' k p v.spot) ∙ ap (λ i. slice_get s'.seats i) (sym here) ∙ at_y) in
-            let f : true ≡ false = sym done ∙ ap (λ (z : Seat). z.finished) own ∙ on in
-            cc
-        before_place j c y (inr other) at_c at_y on = g.before j c y at_c (other_seat j y other at_y) on
+    given_still done a = given_by ds d t.dump_at (λ j other. refl) g.dumps_are a (λ j c y at_c at_y on. elim (same_or_not j k) [
+      | inl here ↦
+          let own : p.seat ≡ y = cc (sym (spot_seat rest s' k p v.spot) ∙ ap (λ i. slice_get s'.seats i) (sym here) ∙ at_y) in
+          let f : true ≡ false = sym done ∙ ap (λ (z : Seat). z.finished) own ∙ on in
+          cc
+      | inr other ↦ g.before j c y at_c (other_seat j y other at_y) on
+    ])

@@ -3,7 +3,7 @@
 use Rattle.vcd_merge.proofs.Cited.{◌≡◌, ◌≢◌, ℕ, ◌+◌, Bool, true, false, List, [], ◌∷◌, ◌++◌, length, take, map, slice_get, Option, Some, None, All, refl, sym, ap, subst, ◌∙◌, arith, ◌⊎◌, inl, inr, append-nil, AllByRecursion, get_or_from_slice_get, slice_get_within, Header, first_number, BodyItem, Fault, Dump, Key, Keyed, key_lt, factor, first_fault, headers_of, key_after, merge_close, merge_open, merged_items, keyed_rest, with_item, clean_outcome, fault_outcome, merge_outcome, name_at, all_back, merged_by, AreGrown, GrownOne, first_is, IsSorted, all_by_key, key_never, sorted_by_key, clean, clear, Device, WritesSome, some-first, AreGiven, Standing, cut_at, next_item, HasDump, Lane, Seat, after_key, all_keyed, fault_outcome_is, none_between, outcome_begins, still_late, still_later, up_to_last, there, same_or_not, get_mapped}
 use Rattle.vcd_merge.specs.MergeStep.{Takes}
 use Rattle.vcd_merge.proofs.SpotLemmas.{IsLong, Known, known}
-use Rattle.vcd_merge.proofs.MergeSteps.{AtTurn, all_before, len_map, next_first, same_header}
+use Rattle.vcd_merge.proofs.MergeSteps.{AtTurn, all_before, by_flag, len_map, next_first, same_header}
 use Rattle.vcd_merge.proofs.MergeWholes.{AllFit, Whole, Wholes, choose_all, entire, entire_of, fit_at, so_far}
 use Rattle.vcd_merge.proofs.WholesFit.{grown_all, late_all, others_all}
 use Rattle.vcd_merge.proofs.WholesOpened.{entire_headers}
@@ -62,19 +62,11 @@ module _ {X : Type 0} {rest : X → Option (List ℕ)} {hs : List Header} {lanes
 
     -- it has no more items before a key that is not after its position
     grown_of : (m.seat.finished ≡ false → key_lt here b ≡ false) → GrownOne b hs k w.dump (entire hs limit w)
-    grown_of late = record { header = refl; more = m.more; items = m.items; late = by_end m.seat.finished refl }
-      where
-        by_end : (c : Bool) → m.seat.finished ≡ c → (m.more ≡ []) ⊎ (key_lt here b ≡ false)
-        by_end true e = inl (m.ended e).0
-        by_end false e = inr (late e)
+    grown_of late = record { header = refl; more = m.more; items = m.items; late = by_flag m.seat.finished (λ e. inl (m.ended e).0) (λ e. inr (late e)) }
 
     -- where it has a fault it has not finished
     unfinished : (f : Fault) → w.fault ≡ Some f → m.seat.finished ≡ false
-    unfinished f e = by_end m.seat.finished refl
-      where
-        by_end : (c : Bool) → m.seat.finished ≡ c → m.seat.finished ≡ false
-        by_end false h = h
-        by_end true h = let n = (m.ended h).1 in cc
+    unfinished f e = by_flag m.seat.finished (λ h. let n = (m.ended h).1 in cc) (λ h. h)
 
     fault_later : (m.seat.finished ≡ false → key_lt b here ≡ true) → (f : Fault) → w.fault ≡ Some f → key_lt b (key_after (factor hs w.dump.header) k w.items) ≡ true
     fault_later later f e = rw m.items (still_later b (factor hs w.dump.header) k w.dump.items m.more (later (unfinished f e)))
@@ -171,11 +163,7 @@ module _ {X : Type 0} {rest : X → Option (List ℕ)} {hs : List Header} {lanes
 
 -- no key comes before itself
 not_itself : (a : Key) → key_lt a a ≡ false
-not_itself a = by_test (key_lt a a) refl
-  where
-    by_test : (b : Bool) → key_lt a a ≡ b → b ≡ false
-    by_test false e = refl
-    by_test true e = let n = key_never a a e in cc
+not_itself a = by_flag (key_lt a a) (λ e. let n = key_never a a e in cc) (λ e. e)
 
 module _ {X : Type 0} {rest : X → Option (List ℕ)} {hs : List Header} {lanes : List Lane} {ds : List Dump} {s : Standing X} {k : ℕ} {l : Lane} {d : Dump} (t : AtTurn rest hs lanes ds s k l d) where
   -- the position of the input whose turn it is

@@ -1,5 +1,5 @@
 -- What a merge holds after several items of the input whose turn it is.
-use Rattle.vcd_merge.proofs.Cited.{◌≡◌, ◌≢◌, ℕ, ◌+◌, ◌<◌, ◌≤◌, ◌⊎◌, Bool, true, false, List, [], ◌∷◌, ◌++◌, length, map, take, slice_get, slice_set, Option, Some, None, Result, Ok, Err, refl, sym, ap, subst, ◌∙◌, arith, inl, inr, append-nil, append_assoc, All, option_map, set-get_or, get_or_from_slice_get, slice_get_within, length-set, Header, first_number, BodyItem, Dump, factor, merge_close, merge_open, merged_items, due_with, entry_for, with_item, Device, Writes, WritesSome, both-written, some-behind, Grows, IsNext, part_len, spot_at, AreMarked, Gives, Holds, IsReady, ReadsOne, Standing, last_written, GoOn, ReadInTurn, RunGives, Stage, StaysBack, TakesOn, Trail, Stands, Further, TurnsAt, spot_in, IsFirstBefore, GivesOne, IsSeated, Lane, ReadsNoMore, Spot, Turns, More, Again, Ended, Stop, Read, Write, Unmatched, Seat, AreSeated, AtSeat, Head, NamesInput, Views, failures_then, failures_with, left_of, shown, writes-none, same_or_not, get_other, get_set, get_mapped}
+use Rattle.vcd_merge.proofs.Cited.{◌≡◌, ◌≢◌, ℕ, ◌+◌, ◌<◌, ◌≤◌, ◌⊎◌, Bool, true, List, [], ◌∷◌, ◌++◌, length, map, take, slice_get, slice_set, Option, Some, None, Result, Ok, Err, refl, sym, ap, subst, ◌∙◌, arith, inl, inr, append-nil, append_assoc, All, option_map, set-get_or, get_or_from_slice_get, slice_get_within, length-set, Header, first_number, BodyItem, Dump, factor, merge_close, merge_open, merged_items, due_with, entry_for, with_item, Device, Writes, WritesSome, both-written, some-behind, Grows, IsNext, part_len, spot_at, AreMarked, Gives, Holds, IsReady, ReadsOne, Standing, last_written, GoOn, ReadInTurn, RunGives, Stage, StaysBack, TakesOn, Trail, Stands, Further, TurnsAt, spot_in, IsFirstBefore, GivesOne, IsSeated, Lane, ReadsNoMore, Spot, Turns, More, Again, Ended, Stop, Read, Write, Unmatched, Seat, AreSeated, AtSeat, Head, NamesInput, Views, failures_then, failures_with, left_of, shown, writes-none, same_or_not, get_other, get_set, get_mapped}
 use Rattle.vcd_body.specs.declared.answer.Done.TheVariants.{Whole}
 use Rattle.vcd_body.specs.declared.answer.Stop.TheVariants.{Dump as Faulty}
 use Rattle.vcd_merge.proofs.MergeAnswers.{again, are_marked, ended, open_with, stopped, taken, written_with_it}
@@ -111,14 +111,18 @@ module _ {X : Type 0} (rest : X → Option (List ℕ)) (failures : X → ℕ) (h
     writes = rw (m.written_is, m.items_are) on.writes
 
     new_next : IsNext (slice_set m.mid.seats k c.seat) k
-    new_next = record { seat = c.seat; there = get_set m.mid.seats k c.seat own.in_seats; unfinished = on.one.0; least = λ j y at_y going. by_place j y (same_or_not j k) at_y going }
-      where
-        by_place : (j : ℕ) (y : Seat) → (j ≡ k) ⊎ (j ≢ k) → slice_get (slice_set m.mid.seats k c.seat) j ≡ Some y → y.finished ≡ false → (c.seat.time < y.time) ⊎ ((c.seat.time ≡ y.time) × (k ≤ j))
-        by_place j y (inl e) at_y going =
+    new_next = record {
+      seat = c.seat;
+      there = get_set m.mid.seats k c.seat own.in_seats;
+      unfinished = on.one.0;
+      least = λ j y at_y going. elim (same_or_not j k) [
+        | inl e ↦
             let is : Some c.seat ≡ Some y = sym (get_set m.mid.seats k c.seat own.in_seats) ∙ ap (slice_get (slice_set m.mid.seats k c.seat)) (sym e) ∙ at_y in
             let same : c.seat ≡ y = cc in
             inr (ap (λ (z : Seat). z.time) same, omega (arith, e))
-        by_place j y (inr other) at_y going = early c.seat.time on.early j y other (sym (m.other_seats j other) ∙ sym (get_other m.mid.seats k j c.seat other) ∙ at_y) going
+        | inr other ↦ early c.seat.time on.early j y other (sym (m.other_seats j other) ∙ sym (get_other m.mid.seats k j c.seat other) ∙ at_y) going
+      ];
+    }
 
     own_seated : IsSeated (part_len (length m.mid.seats) m.mid.chunks) (part_len (length m.mid.seats) m.mid.tokens) c.seat
     own_seated = rw (← own.chunk, ← own.token) on.seated
@@ -148,18 +152,19 @@ module _ {X : Type 0} (rest : X → Option (List ℕ)) (failures : X → ℕ) (h
         let more : ReadsNoMore (part_len (length s.seats) s.tokens) (part_len (length s.seats) s.chunks) l m.dump.items l.input (rest c.source) = rw (← m.token, ← on.token, ← m.chunk, ← on.chunk) one.3 in
         in_turn m.turn (part_len (length s.seats) s.tokens) (part_len (length s.seats) s.chunks) l.input (rest c.source) es new.seats step_goes more
 
-    still_read : {P : Type 0} (j : ℕ) (n : Lane) (x : X) → P ⊎ IsReadIn m.dumps m.mid.seats j n x → P ⊎ IsReadIn es new.seats j n x
-    still_read j n x (inl p) = inl p
-    still_read j n x (inr r) = inr (turn_on (part_len (length s.seats) s.tokens) (part_len (length s.seats) s.chunks) hs m.dumps es m.mid.seats new.seats j n n.input (rest x) step_goes r)
-
-    new_reads : (j : ℕ) (n : Lane) (x : X) → (j ≡ k) ⊎ (j ≢ k) → slice_get lanes j ≡ Some n → slice_get new.sources j ≡ Some x → (slice_get s.sources j ≡ Some x) ⊎ IsReadIn es new.seats j n x
-    new_reads j n x (inr other) at_n at_x = still_read j n x (m.reads j n x at_n (sym (after.stay j other) ∙ at_x))
-    new_reads j n x (inl e) at_n at_x =
-        let is : Some c.source ≡ Some x = sym (get_set m.mid.sources k c.source own.in_sources) ∙ ap (slice_get new.sources) (sym e) ∙ at_x in
-        let same : c.source ≡ x = cc in
-        let lane_is : Some l ≡ Some n = sym m.turn.lane_at ∙ ap (slice_get lanes) (sym e) ∙ at_n in
-        let lane : l ≡ n = cc in
-        inr (rw (← same, ← lane, e) own_read)
+    new_reads : (j : ℕ) (n : Lane) (x : X) → slice_get lanes j ≡ Some n → slice_get new.sources j ≡ Some x → (slice_get s.sources j ≡ Some x) ⊎ IsReadIn es new.seats j n x
+    new_reads j n x at_n at_x = elim (same_or_not j k) [
+      | inr other ↦ elim (m.reads j n x at_n (sym (after.stay j other) ∙ at_x)) [
+        | inl same ↦ inl same
+        | inr r ↦ inr (turn_on (part_len (length s.seats) s.tokens) (part_len (length s.seats) s.chunks) hs m.dumps es m.mid.seats new.seats j n n.input (rest x) step_goes r)
+      ]
+      | inl e ↦
+          let is : Some c.source ≡ Some x = sym (get_set m.mid.sources k c.source own.in_sources) ∙ ap (slice_get new.sources) (sym e) ∙ at_x in
+          let same : c.source ≡ x = cc in
+          let lane_is : Some l ≡ Some n = sym m.turn.lane_at ∙ ap (slice_get lanes) (sym e) ∙ at_n in
+          let lane : l ≡ n = cc in
+          inr (rw (← same, ← lane, e) own_read)
+    ]
 
     one_more : IsAt c
     one_more =
@@ -190,7 +195,7 @@ module _ {X : Type 0} (rest : X → Option (List ℕ)) (failures : X → ℕ) (h
           failures_are = failures_still ∙ m.failures_are;
           grows = (m.grows.0 ++ due, open_with m.turn item ∙ ap (λ (t : List ℕ). t ++ due) m.grows.1 ∙ append_assoc (merge_open hs (merged_items ds)) m.grows.0 due, both-written out b.out c.out m.grows.0 due m.grows.2 writes);
           goes = go_through ds m.dumps es s.seats m.mid.seats new.seats m.goes step_goes;
-          reads = λ j n x at_n at_x. new_reads j n x (same_or_not j k) at_n at_x;
+          reads = new_reads;
           by_one = λ none. let e = on.early in absurd (omega (arith, e, none));
         }
 
@@ -288,9 +293,11 @@ module _ {X A : Type 0} {rest : X → Option (List ℕ)} {failures : X → ℕ} 
   }
 
   -- before a read, since what is kept back was not passed on
-  unread : t.0.rest ≡ rest t.2.turns.mid.source → (j : ℕ) → (j ≡ k) ⊎ (j ≢ k) → option_map rest (slice_get s'.sources j) ≡ option_map rest (slice_get m.mid.sources j)
-  unread same j (inr other) = ap (option_map rest) (last.stay j other)
-  unread same j (inl here) = let y = spot_source rest s' k t.0 t.1 in rw here (ap (option_map rest) y.1 ∙ ap (λ (q : Option (List ℕ)). Some q) (sym y.2 ∙ same) ∙ sym (ap (option_map rest) m.source_at))
+  unread : t.0.rest ≡ rest t.2.turns.mid.source → (j : ℕ) → option_map rest (slice_get s'.sources j) ≡ option_map rest (slice_get m.mid.sources j)
+  unread same j = elim (same_or_not j k) [
+    | inr other ↦ ap (option_map rest) (last.stay j other)
+    | inl here ↦ let y = spot_source rest s' k t.0 t.1 in rw here (ap (option_map rest) y.1 ∙ ap (λ (q : Option (List ℕ)). Some q) (sym y.2 ∙ same) ∙ sym (ap (option_map rest) m.source_at))
+  ]
 
 -- what it has used, by what is counted
 touches_with : {X A : Type 0} {rest : X → Option (List ℕ)} {failures : X → ℕ} {s s' : Standing X} {out out' : Device} {k : ℕ} {r : Result A Stop} → Touches rest failures s s' out out' k r → (after : Device) (result : Result More Stop)
@@ -301,7 +308,7 @@ module _ {X A : Type 0} {rest : X → Option (List ℕ)} {failures : X → ℕ} 
   -- it stops
   was_kept : (stop : Stop) (u : TookTurn {A = A} rest failures s s' k before until out out' (Err stop)) {hs : List Header} {lanes : List Lane} {ds : List Dump} (holds : Holds rest hs lanes ds s) (alone : Bool) → (alone ≡ true → until ≡ 0)
       → StaysBack {A = A} rest (t u holds).2.turns.mid (t u holds).0 out' (Err stop) → RunGives rest failures hs lanes alone ds s s' out out' (Err stop)
-  was_kept Write u holds alone none back = runs u holds alone none (Err Write) out' (inr (inr (record { input = k; next = (m u holds).turn.next; writes = back.0; unread = λ j. unread u holds back.1 j (same_or_not j k) })))
+  was_kept Write u holds alone none back = runs u holds alone none (Err Write) out' (inr (inr (record { input = k; next = (m u holds).turn.next; writes = back.0; unread = unread u holds back.1 })))
   was_kept (Faulty input line fault) u holds alone none back = absurd back
   was_kept (Read input) u holds alone none back = absurd back
   was_kept (Unmatched place) u holds alone none back = absurd back

@@ -1,28 +1,37 @@
 -- Inputs in the order of their turns.
-use Rattle.vcd_merge.proofs.Cited.{◌≡◌, ◌≢◌, ℕ, ◌+◌, ◌-◌, ◌<◌, ◌≤◌, ◌⊎◌, Bool, true, false, List, length, slice_get, Some, refl, sym, ap, ◌∙◌, subst, arith, inl, inr, CopiedTo, SameBelow, All, get_or, slice_set, cases_lt, get_or-map, get_or-set_other, get_or-set_same, get_or_from_slice_get, slice_get-get_or, slice_get_within, IsNext, AreInOrder, ComesBefore, IsFirstBefore, IsOrder, Waits, time_of, Seat}
+use Rattle.vcd_merge.proofs.Cited.{◌≡◌, ◌≢◌, ℕ, ◌+◌, ◌-◌, ◌<◌, ◌≤◌, ◌⊎◌, Bool, true, false, List, length, slice_get, Some, refl, sym, ap, ◌∙◌, subst, arith, inl, inr, CopiedTo, SameBelow, All, get_or, slice_set, cases_lt, get_or-map, get_or-set_other, get_or-set_same, get_or_from_slice_get, slice_get-get_or, slice_get_within, IsNext, AreInOrder, ComesBefore, IsFirstBefore, IsOrder, Waits, time_of, Seat, same_or_not}
 
+-- a chain in this order
 pub before_both : (a i b j c k : ℕ) → ComesBefore a i b j → ComesBefore b j c k → ComesBefore a i c k
-before_both a i b j c k (inl l) (inl m) = inl (omega arith)
-before_both a i b j c k (inl l) (inr m) = let e = m.0 in inl (omega (arith, l, e))
-before_both a i b j c k (inr l) (inl m) = let e = l.0 in inl (omega (arith, m, e))
-before_both a i b j c k (inr l) (inr m) = let e = l.0 in let f = m.0 in let g = l.1 in let h = m.1 in inr (omega (arith, e, f), omega (arith, g, h))
+before_both a i b j c k l m = grind arith
+
+-- what is at an index once another one has gone in at `at`
+abbrev IsMoved : (p q at : ℕ) → Type 0
+IsMoved p q at = ((p < at) × (q ≡ p)) ⊎ ((at ≤ q) × (q + 1 ≡ p))
+
+in_order : (p q a b at : ℕ) → p < q → IsMoved p a at → IsMoved q b at → a < b
+in_order p q a b at less u w = grind arith
+
+low : (p q a at : ℕ) → p < q → IsMoved p a at → q ≡ at → a < at
+low p q a at less u e = grind arith
+
+high : (p q b at : ℕ) → p < q → IsMoved q b at → p ≡ at → at ≤ b
+high p q b at less u e = grind arith
 
 module _ (In : ℕ → Type 0) (time : ℕ → ℕ) (xs : List ℕ) (len : ℕ) (o : AreInOrder In time xs len) (k : ℕ) where
   -- from an index on that comes before k, all do
   pub sooner_from : (middle : ℕ) → ComesBefore (time (get_or xs middle 0)) (get_or xs middle 0) (time k) k → (p : ℕ) → middle ≤ p → p < len → ComesBefore (time (get_or xs p 0)) (get_or xs p 0) (time k) k
-  sooner_from middle first p from within = by_order (cases_lt middle p)
-    where
-      by_order : (middle < p) ⊎ (p ≤ middle) → ComesBefore (time (get_or xs p 0)) (get_or xs p 0) (time k) k
-      by_order (inl l) = before_both _ _ _ _ _ _ (o.falls middle p l within) first
-      by_order (inr l) = let e : middle ≡ p = omega (arith, l, from) in subst (λ (q : ℕ). ComesBefore (time (get_or xs q 0)) (get_or xs q 0) (time k) k) e first
+  sooner_from middle first p from within = elim (cases_lt middle p) [
+    | inl l ↦ before_both _ _ _ _ _ _ (o.falls middle p l within) first
+    | inr l ↦ let e : middle ≡ p = omega (arith, l, from) in subst (λ (q : ℕ). ComesBefore (time (get_or xs q 0)) (get_or xs q 0) (time k) k) e first
+  ]
 
   -- up to an index before which k comes, it comes before all
   pub later_to : (middle : ℕ) → middle < len → ComesBefore (time k) k (time (get_or xs middle 0)) (get_or xs middle 0) → (p : ℕ) → p < middle + 1 → ComesBefore (time k) k (time (get_or xs p 0)) (get_or xs p 0)
-  later_to middle within last p upto = by_order (cases_lt p middle)
-    where
-      by_order : (p < middle) ⊎ (middle ≤ p) → ComesBefore (time k) k (time (get_or xs p 0)) (get_or xs p 0)
-      by_order (inl l) = before_both _ _ _ _ _ _ last (o.falls p middle l within)
-      by_order (inr l) = let e : middle ≡ p = omega (arith, l, upto) in subst (λ (q : ℕ). ComesBefore (time k) k (time (get_or xs q 0)) (get_or xs q 0)) e last
+  later_to middle within last p upto = elim (cases_lt p middle) [
+    | inl l ↦ before_both _ _ _ _ _ _ last (o.falls p middle l within)
+    | inr l ↦ let e : middle ≡ p = omega (arith, l, upto) in subst (λ (q : ℕ). ComesBefore (time k) k (time (get_or xs q 0)) (get_or xs q 0)) e last
+  ]
 
   -- k goes in at an index: after it are those that come before it
   pub with_one : (ys : List ℕ) (at : ℕ) → at ≤ len
@@ -34,40 +43,32 @@ module _ (In : ℕ → Type 0) (time : ℕ → ℕ) (xs : List ℕ) (len : ℕ) 
     where
       -- what is at an index now: one of those before, or k
       Old : ℕ → ℕ → Type 0
-      Old p q = (q < len) × (get_or ys p 0 ≡ get_or xs q 0) × (((p < at) × (q ≡ p)) ⊎ ((at ≤ q) × (q + 1 ≡ p)))
+      Old p q = (q < len) × (get_or ys p 0 ≡ get_or xs q 0) × IsMoved p q at
 
       old_or_new : (p : ℕ) → p < len + 1 → ((q : ℕ) × Old p q) ⊎ (p ≡ at)
-      old_or_new p within = by_low (cases_lt p at)
-        where
-          by_high : at ≤ p → (at < p) ⊎ (p ≤ at) → ((q : ℕ) × Old p q) ⊎ (p ≡ at)
-          by_high l (inr m) = inr (omega (arith, l, m))
-          by_high l (inl m) =
+      old_or_new p within = elim (cases_lt p at) [
+        | inl l ↦ inl ((p, (omega (arith, l, most), below p l, inl (l, refl))))
+        | inr l ↦ elim (cases_lt at p) [
+          | inr m ↦ inr (omega (arith, l, m))
+          | inl m ↦
               let e : (p - 1) + 1 ≡ p = omega (arith, m) in
               let h : at ≤ p - 1 = omega (arith, m) in
               let w : p - 1 < len = omega (arith, m, within) in
               inl ((p - 1, (w, ap (λ (q : ℕ). get_or ys q 0) (sym e) ∙ above (p - 1) h w, inr (h, e))))
-
-          by_low : (p < at) ⊎ (at ≤ p) → ((q : ℕ) × Old p q) ⊎ (p ≡ at)
-          by_low (inl l) = inl ((p, (omega (arith, l, most), below p l, inl (l, refl))))
-          by_low (inr l) = by_high l (cases_lt at p)
+        ]
+      ]
 
       there : (p : ℕ) → p < len + 1 → In (get_or ys p 0) ⊎ (get_or ys p 0 ≡ k)
-      there p within = by_place (old_or_new p within)
-        where
-          by_place : ((q : ℕ) × Old p q) ⊎ (p ≡ at) → In (get_or ys p 0) ⊎ (get_or ys p 0 ≡ k)
-          by_place (inl (q, (w, e, h))) = inl (subst In (sym e) (o.there q w))
-          by_place (inr e) = inr (ap (λ (q : ℕ). get_or ys q 0) e ∙ here)
+      there p within = elim (old_or_new p within) [
+        | inl (q, (w, e, h)) ↦ inl (subst In (sym e) (o.there q w))
+        | inr e ↦ inr (ap (λ (q : ℕ). get_or ys q 0) e ∙ here)
+      ]
 
       all : (j : ℕ) → In j ⊎ (j ≡ k) → (p : ℕ) × (p < len + 1) × (get_or ys p 0 ≡ j)
       all j (inr e) = (at, omega (arith, most), here ∙ sym e)
-      all j (inl i) = by_place (o.all j i)
-        where
-          by_order : (q : ℕ) → q < len → get_or xs q 0 ≡ j → (q < at) ⊎ (at ≤ q) → (p : ℕ) × (p < len + 1) × (get_or ys p 0 ≡ j)
-          by_order q w e (inl l) = (q, omega (arith, w), below q l ∙ e)
-          by_order q w e (inr l) = (q + 1, omega (arith, w), above q l w ∙ e)
-
-          by_place : (q : ℕ) × (q < len) × (get_or xs q 0 ≡ j) → (p : ℕ) × (p < len + 1) × (get_or ys p 0 ≡ j)
-          by_place (q, w, e) = by_order q w e (cases_lt q at)
+      all j (inl i) =
+          let (q, w, e) = o.all j i in
+          elim (cases_lt q at) [ inl l ↦ (q, omega (arith, w), below q l ∙ e) | inr l ↦ (q + 1, omega (arith, w), above q l w ∙ e) ]
 
       falls : (p q : ℕ) → p < q → q < len + 1 → ComesBefore (time (get_or ys q 0)) (get_or ys q 0) (time (get_or ys p 0)) (get_or ys p 0)
       falls p q less within = by_places (old_or_new p (omega (arith, less, within))) (old_or_new q within)
@@ -78,59 +79,35 @@ module _ (In : ℕ → Type 0) (time : ℕ → ℕ) (xs : List ℕ) (len : ℕ) 
           two : {a b c d : ℕ} → a ≡ c → b ≡ d → Goal c d → Goal a b
           two {a} {b} {c} {d} e f g = subst (λ (x : ℕ). Goal x b) (sym e) (subst (λ (y : ℕ). Goal c y) (sym f) g)
 
-          in_order : (a b : ℕ) → Old p a → Old q b → a < b
-          in_order a b (u, e, inl v) (w, f, inl x) = let g = v.1 in let h = x.1 in omega (arith, less, g, h)
-          in_order a b (u, e, inl v) (w, f, inr x) = let g = v.1 in let h = v.0 in let i = x.0 in omega (arith, g, h, i)
-          in_order a b (u, e, inr v) (w, f, inl x) = let g = v.1 in let h = v.0 in let i = x.0 in let m = x.1 in omega (arith, less, g, h, i, m)
-          in_order a b (u, e, inr v) (w, f, inr x) = let g = v.1 in let h = x.1 in omega (arith, less, g, h)
-
-          low : (a : ℕ) → Old p a → q ≡ at → a < at
-          low a (u, e, inl v) f = let g = v.1 in let h = v.0 in omega (arith, g, h)
-          low a (u, e, inr v) f = let g = v.1 in let h = v.0 in omega (arith, less, g, h, f)
-
-          high : (b : ℕ) → Old q b → p ≡ at → at ≤ b
-          high b (u, e, inl v) f = let g = v.1 in let h = v.0 in omega (arith, less, g, h, f)
-          high b (u, e, inr v) f = v.0
-
           by_places : ((a : ℕ) × Old p a) ⊎ (p ≡ at) → ((b : ℕ) × Old q b) ⊎ (q ≡ at) → Goal (get_or ys q 0) (get_or ys p 0)
-          by_places (inl (a, u)) (inl (b, w)) = two w.1 u.1 (o.falls a b (in_order a b u w) w.0)
-          by_places (inl (a, u)) (inr f) = two (ap (λ (r : ℕ). get_or ys r 0) f ∙ here) u.1 (later a (low a u f))
-          by_places (inr e) (inl (b, w)) = two w.1 (ap (λ (r : ℕ). get_or ys r 0) e ∙ here) (sooner b (high b w e) w.0)
+          by_places (inl (a, u)) (inl (b, w)) = two w.1 u.1 (o.falls a b (in_order p q a b at less u.2 w.2) w.0)
+          by_places (inl (a, u)) (inr f) = two (ap (λ (r : ℕ). get_or ys r 0) f ∙ here) u.1 (later a (low p q a at less u.2 f))
+          by_places (inr e) (inl (b, w)) = two w.1 (ap (λ (r : ℕ). get_or ys r 0) e ∙ here) (sooner b (high p q b at less w.2 e) w.0)
           by_places (inr e) (inr f) = absurd (omega (arith, less, e, f))
+
+same_before : (a b c d j k : ℕ) → a ≡ b → c ≡ d → ComesBefore a j c k → ComesBefore b j d k
+same_before a b c d j k e f l = grind arith
 
 -- the same where what is in order is said otherwise
 pub said_so : (In Now : ℕ → Type 0) (time now : ℕ → ℕ) (xs : List ℕ) (len : ℕ) → ((j : ℕ) → In j → Now j) → ((j : ℕ) → Now j → In j) → ((j : ℕ) → In j → time j ≡ now j) → AreInOrder In time xs len → AreInOrder Now now xs len
 said_so In Now time now xs len to back same o = record {
   there = λ p w. to (get_or xs p 0) (o.there p w);
   all = λ j i. o.all j (back j i);
-  falls = λ p q less w. same_before (get_or xs q 0) (get_or xs p 0) (same _ (o.there q w)) (same _ (o.there p (omega (arith, less, w)))) (o.falls p q less w);
+  falls = λ p q less w. same_before _ _ _ _ _ _ (same _ (o.there q w)) (same _ (o.there p (omega (arith, less, w)))) (o.falls p q less w);
 }
-  where
-    same_before : (j k : ℕ) → time j ≡ now j → time k ≡ now k → ComesBefore (time j) j (time k) k → ComesBefore (now j) j (now k) k
-    same_before j k e f (inl l) = inl (omega (arith, l, e, f))
-    same_before j k e f (inr l) = let g = l.0 in inr (omega (arith, g, e, f), l.1)
+
+not_itself : (t j u k : ℕ) → t ≡ u → j ≡ k → ComesBefore t j u k → ⊥
+not_itself t j u k e f l = grind arith
 
 -- without the last one
 pub without_last : (In : ℕ → Type 0) (time : ℕ → ℕ) (xs : List ℕ) (len : ℕ) → AreInOrder In time xs (len + 1) → AreInOrder (λ j. In j × (j ≢ get_or xs len 0)) time xs len
 without_last In time xs len o = record {
-  there = λ p w. (o.there p (omega (arith, w)), apart p w);
-  all = λ j i. before_last j i (o.all j i.0);
+  there = λ p w. (o.there p (omega (arith, w)), λ e. not_itself _ _ _ _ (ap time (sym e)) (sym e) (o.falls p len w (omega arith)));
+  all = λ j i.
+      let (p, w, e) = o.all j i.0 in
+      elim (cases_lt p len) [ inl l ↦ (p, l, e) | inr l ↦ let f : p ≡ len = omega (arith, l, w) in absurd (i.1 (sym e ∙ ap (λ (q : ℕ). get_or xs q 0) f)) ];
   falls = λ p q less w. o.falls p q less (omega (arith, w));
 }
-  where
-    not_itself : (t j u k : ℕ) → t ≡ u → j ≡ k → ComesBefore t j u k → ⊥
-    not_itself t j u k e f (inl l) = omega (arith, l, e)
-    not_itself t j u k e f (inr l) = let g = l.1 in omega (arith, g, f)
-
-    apart : (p : ℕ) → p < len → get_or xs p 0 ≢ get_or xs len 0
-    apart p w e = not_itself _ _ _ _ (ap time (sym e)) (sym e) (o.falls p len w (omega arith))
-
-    before_last : (j : ℕ) → In j × (j ≢ get_or xs len 0) → (p : ℕ) × (p < len + 1) × (get_or xs p 0 ≡ j) → (p : ℕ) × (p < len) × (get_or xs p 0 ≡ j)
-    before_last j i (p, w, e) = by_order (cases_lt p len)
-      where
-        by_order : (p < len) ⊎ (len ≤ p) → (p : ℕ) × (p < len) × (get_or xs p 0 ≡ j)
-        by_order (inl l) = (p, l, e)
-        by_order (inr l) = let f : p ≡ len = omega (arith, l, w) in absurd (i.1 (sym e ∙ ap (λ (q : ℕ). get_or xs q 0) f))
 
 -- an input that waits among these is no other one
 pub not_in : (seats : List Seat) (n out j k : ℕ) → (n ≤ k) ⊎ (k ≡ out) → Waits seats n out j → j ≢ k
@@ -148,15 +125,10 @@ module _ (seats : List Seat) (k : ℕ) (x : Seat) (here : slice_get seats k ≡ 
       now j (inr e) = record { within = omega (arith, within, e); other = λ f. omega (arith, within, e, f); seat = x; there = ap (slice_get seats) e ∙ here; unfinished = going }
 
       old : (j : ℕ) → Waits seats m m j → Waits seats n out j ⊎ (j ≡ k)
-      old j w = by_order (cases_lt j k) (cases_lt k j)
-        where
-          apart : j ≢ k → Waits seats n out j
-          apart a = let b = back j w.within a in record { within = b.0; other = b.1; seat = w.seat; there = w.there; unfinished = w.unfinished }
-
-          by_order : (j < k) ⊎ (k ≤ j) → (k < j) ⊎ (j ≤ k) → Waits seats n out j ⊎ (j ≡ k)
-          by_order (inl l) h = inl (apart (λ e. omega (arith, l, e)))
-          by_order (inr l) (inl h) = inl (apart (λ e. omega (arith, h, e)))
-          by_order (inr l) (inr h) = inr (omega (arith, l, h))
+      old j w = elim (same_or_not j k) [
+        | inl e ↦ inr e
+        | inr a ↦ let b = back j w.within a in inl (record { within = b.0; other = b.1; seat = w.seat; there = w.there; unfinished = w.unfinished })
+      ]
 
 -- what was copied one index up, and then has one more in the gap
 pub record MovesUp (xs ys : List ℕ) (at len k : ℕ) : Type 0 where
@@ -183,33 +155,24 @@ none_waits seats xs o = λ k d within. by_flag k within (get_or seats k d) (slic
     by_flag k within s at true e = e
     by_flag k within s at false e = let p = o.all k (record { within = within; other = λ f. omega (arith, within, f); seat = s; there = at; unfinished = e }) in let h = p.1 in absurd (omega (arith, h))
 
+not_sooner : (t u v w i j k : ℕ) → t ≡ v → u ≡ w → i ≡ j → ComesBefore t k u i → (v < w) ⊎ ((v ≡ w) × (k ≤ j))
+not_sooner t u v w i j k e f g l = grind arith
+
 module _ (seats : List Seat) (xs : List ℕ) (last : ℕ) (o : IsOrder seats (length seats) (length seats) xs (last + 1)) where
   -- the input of the last entry is next
   pub last_is_next : IsNext seats (get_or xs last 0)
   last_is_next = let w = o.there last (omega arith) in record { seat = w.seat; there = w.there; unfinished = w.unfinished; least = λ j s at going. least w j s at going }
     where
       least : (w : Waits seats (length seats) (length seats) (get_or xs last 0)) (j : ℕ) (s : Seat) → slice_get seats j ≡ Some s → s.finished ≡ false → (w.seat.time < s.time) ⊎ ((w.seat.time ≡ s.time) × (get_or xs last 0 ≤ j))
-      least w j s at going = by_place (o.all j (record { within = within; other = λ e. omega (arith, within, e); seat = s; there = at; unfinished = going }))
-        where
-          within : j < length seats
-          within = slice_get_within seats j s at
-
-          e : time_of seats j ≡ s.time
-          e = time_is seats j s at
-
-          f : time_of seats (get_or xs last 0) ≡ w.seat.time
-          f = time_is seats (get_or xs last 0) w.seat w.there
-
-          by_both : (i : ℕ) → i ≡ j → ComesBefore (time_of seats (get_or xs last 0)) (get_or xs last 0) (time_of seats i) i → (w.seat.time < s.time) ⊎ ((w.seat.time ≡ s.time) × (get_or xs last 0 ≤ j))
-          by_both i g (inl l) = let h = ap (time_of seats) g in inl (omega (arith, l, h, e, f))
-          by_both i g (inr l) = let h = ap (time_of seats) g in let m = l.0 in let n = l.1 in inr (omega (arith, m, h, e, f), omega (arith, n, g))
-
-          by_place : (p : ℕ) × (p < last + 1) × (get_or xs p 0 ≡ j) → (w.seat.time < s.time) ⊎ ((w.seat.time ≡ s.time) × (get_or xs last 0 ≤ j))
-          by_place (p, v, g) = by_order (cases_lt p last)
-            where
-              by_order : (p < last) ⊎ (last ≤ p) → (w.seat.time < s.time) ⊎ ((w.seat.time ≡ s.time) × (get_or xs last 0 ≤ j))
-              by_order (inl l) = by_both (get_or xs p 0) g (o.falls p last l (omega arith))
-              by_order (inr l) = let q : last ≡ p = omega (arith, l, v) in let h = ap (λ (i : ℕ). get_or xs i 0) q ∙ g in let m = ap (time_of seats) h in inr (omega (arith, m, e, f), omega (arith, h))
+      least w j s at going =
+          let within = slice_get_within seats j s at in
+          let e = time_is seats j s at in
+          let f = time_is seats (get_or xs last 0) w.seat w.there in
+          let (p, v, g) = o.all j (record { within = within; other = λ e. omega (arith, within, e); seat = s; there = at; unfinished = going }) in
+          elim (cases_lt p last) [
+            | inl l ↦ not_sooner _ _ _ _ _ _ _ f (ap (time_of seats) g ∙ e) g (o.falls p last l (omega arith))
+            | inr l ↦ let q : last ≡ p = omega (arith, l, v) in let h = ap (λ (i : ℕ). get_or xs i 0) q ∙ g in let m = ap (time_of seats) h in inr (omega (arith, m, e, f), omega (arith, h))
+          ]
 
   -- without it, the others are in order
   pub others_wait : IsOrder seats (length seats) (get_or xs last 0) xs last
@@ -221,6 +184,9 @@ module _ (seats : List Seat) (xs : List ℕ) (last : ℕ) (o : IsOrder seats (le
       old : (j : ℕ) → Waits seats (length seats) (get_or xs last 0) j → Waits seats (length seats) (length seats) j × (j ≢ get_or xs last 0)
       old j w = let h = w.within in (record { within = h; other = λ e. omega (arith, h, e); seat = w.seat; there = w.there; unfinished = w.unfinished }, w.other)
 
+not_later : (t k j s u m v : ℕ) → v ≡ s → (t < u) ⊎ ((t ≡ u) × (k < m)) → (ComesBefore u m v j) ⊎ ((u ≡ v) × (m ≡ j)) → (t < s) ⊎ ((t ≡ s) × (k ≤ j))
+not_later t k j s u m v e l h = grind arith
+
 module _ (seats : List Seat) (k : ℕ) (xs : List ℕ) where
   -- where no other waits
   pub alone_before : (before : ℕ) → IsOrder seats (length seats) k xs 0 → IsFirstBefore seats k before
@@ -228,25 +194,13 @@ module _ (seats : List Seat) (k : ℕ) (xs : List ℕ) where
 
   -- before the time of the last entry, or at that time where its number is greater
   pub before_last : (last before : ℕ) → IsOrder seats (length seats) k xs (last + 1) → ((t : ℕ) → t < before → (t < time_of seats (get_or xs last 0)) ⊎ ((t ≡ time_of seats (get_or xs last 0)) × (k < get_or xs last 0))) → IsFirstBefore seats k before
-  before_last last before o low t less j s apart at going = by_place (o.all j (record { within = slice_get_within seats j s at; other = apart; seat = s; there = at; unfinished = going }))
-    where
-      e : time_of seats j ≡ s.time
-      e = time_is seats j s at
-
-      not_later : (u m : ℕ) → (t < u) ⊎ ((t ≡ u) × (k < m)) → (ComesBefore u m (time_of seats j) j) ⊎ ((u ≡ time_of seats j) × (m ≡ j)) → (t < s.time) ⊎ ((t ≡ s.time) × (k ≤ j))
-      not_later u m (inl l) (inl (inl h)) = inl (omega (arith, l, h, e))
-      not_later u m (inl l) (inl (inr h)) = let f = h.0 in inl (omega (arith, l, f, e))
-      not_later u m (inl l) (inr h) = let f = h.0 in inl (omega (arith, l, f, e))
-      not_later u m (inr l) (inl (inl h)) = let f = l.0 in inl (omega (arith, f, h, e))
-      not_later u m (inr l) (inl (inr h)) = let f = l.0 in let g = l.1 in let i = h.0 in let n = h.1 in inr (omega (arith, f, i, e), omega (arith, g, n))
-      not_later u m (inr l) (inr h) = let f = l.0 in let g = l.1 in let i = h.0 in let n = h.1 in inr (omega (arith, f, i, e), omega (arith, g, n))
-
-      by_place : (p : ℕ) × (p < last + 1) × (get_or xs p 0 ≡ j) → (t < s.time) ⊎ ((t ≡ s.time) × (k ≤ j))
-      by_place (p, w, f) = by_order (cases_lt p last)
-        where
-          by_order : (p < last) ⊎ (last ≤ p) → (t < s.time) ⊎ ((t ≡ s.time) × (k ≤ j))
-          by_order (inl l) = not_later _ _ (low t less) (inl (subst (λ (i : ℕ). ComesBefore (time_of seats (get_or xs last 0)) (get_or xs last 0) (time_of seats i) i) f (o.falls p last l (omega arith))))
-          by_order (inr l) = let q : last ≡ p = omega (arith, l, w) in let g = ap (λ (i : ℕ). get_or xs i 0) q ∙ f in not_later _ _ (low t less) (inr (ap (time_of seats) g, g))
+  before_last last before o low t less j s apart at going =
+      let e = time_is seats j s at in
+      let (p, w, f) = o.all j (record { within = slice_get_within seats j s at; other = apart; seat = s; there = at; unfinished = going }) in
+      elim (cases_lt p last) [
+        | inl l ↦ not_later t k j s.time _ _ (time_of seats j) e (low t less) (inl (subst (λ (i : ℕ). ComesBefore (time_of seats (get_or xs last 0)) (get_or xs last 0) (time_of seats i) i) f (o.falls p last l (omega arith))))
+        | inr l ↦ let q : last ≡ p = omega (arith, l, w) in let g = ap (λ (i : ℕ). get_or xs i 0) q ∙ f in not_later t k j s.time _ _ (time_of seats j) e (low t less) (inr (ap (time_of seats) g, g))
+      ]
 
 -- the other seats stay as they were
 pub others_stay : (old new : List Seat) (k : ℕ) (xs : List ℕ) (len : ℕ) → length new ≡ length old → ((j : ℕ) → j ≢ k → slice_get new j ≡ slice_get old j) → IsOrder old (length old) k xs len → IsOrder new (length new) k xs len

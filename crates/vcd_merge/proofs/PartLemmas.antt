@@ -1,5 +1,5 @@
 -- The parts of the windows, where one of them was written.
-use Rattle.vcd_merge.proofs.Cited.{◌≡◌, ◌≢◌, ℕ, suc, ◌+◌, ◌-◌, ◌*◌, ◌/◌, ◌<◌, ◌≤◌, List, length, take, drop, slice_set, Option, Some, None, refl, sym, ap, ◌∙◌, arith, ◌⊎◌, inl, inr, length-take, length-drop, get_or, slice_get-get_or, mul-le-mul_left, length-set, drop-take, take-put_mid_below, drop-put_mid, between-put_mid, cases_lt, put_mid, same_len_mid, AreParts, AreSeated, part, part_len, spot_at, All-set, Spot, IsSeated, Seat, get_other, get_set}
+use Rattle.vcd_merge.proofs.Cited.{◌≡◌, ◌≢◌, ℕ, suc, ◌+◌, ◌-◌, ◌*◌, ◌/◌, ◌<◌, ◌≤◌, List, length, take, drop, slice_set, Option, Some, None, refl, sym, ap, ◌∙◌, arith, inl, inr, length-take, length-drop, get_or, slice_get-get_or, mul-le-mul_left, length-set, drop-take, take-put_mid_below, drop-put_mid, between-put_mid, cases_lt, put_mid, same_len_mid, AreParts, AreSeated, part, part_len, spot_at, All-set, Spot, IsSeated, Seat, get_other, get_set}
 
 -- the windows of n inputs with this part at an index
 abbrev pub lent : (n k : ℕ) → (xs ys : List ℕ) → List ℕ
@@ -21,22 +21,18 @@ module _ (len n place : ℕ) (xs ys : List ℕ) (all : n * len ≡ length xs) (w
       ap (λ m. take m (drop (place * len) (put_mid (place * len) (place * len + len - place * len) xs ys))) k ∙ between-put_mid (place * len) (place * len + len - place * len) xs ys (place * len + len) (omega arith) (omega arith)
 
   pub part_other : (j : ℕ) → j ≢ place → part len j (put_mid (place * len) (place * len + len - place * len) xs ys) ≡ part len j xs
-  part_other j other = by_place (cases_lt j place)
-    where
-      whole : List ℕ
-      whole = put_mid (place * len) (place * len + len - place * len) xs ys
-
-      by_place : (j < place) ⊎ (place ≤ j) → part len j (put_mid (place * len) (place * len + len - place * len) xs ys) ≡ part len j xs
-      by_place (inl below) =
-          let e = part_ends len n place within in
-          let b = part_before len j place below in
-          sym (drop-take (j * len) len (put_mid (place * len) (place * len + len - place * len) xs ys))
-          ∙ ap (drop (j * len)) (take-put_mid_below (place * len) (place * len + len - place * len) xs ys (j * len + len) b (omega arith))
-          ∙ drop-take (j * len) len xs
-      by_place (inr above) =
-          let e = part_ends len n place within in
-          let b = part_before len place j (omega arith) in
-          ap (take len) (drop-put_mid (place * len) (place * len + len - place * len) xs ys (j * len) (omega arith) (omega arith) (omega arith))
+  part_other j other =
+      let e = part_ends len n place within in
+      elim (cases_lt j place) [
+        | inl below ↦
+            let b = part_before len j place below in
+            sym (drop-take (j * len) len (put_mid (place * len) (place * len + len - place * len) xs ys))
+            ∙ ap (drop (j * len)) (take-put_mid_below (place * len) (place * len + len - place * len) xs ys (j * len + len) b (omega arith))
+            ∙ drop-take (j * len) len xs
+        | inr above ↦
+            let b = part_before len place j (omega arith) in
+            ap (take len) (drop-put_mid (place * len) (place * len + len - place * len) xs ys (j * len) (omega arith) (omega arith) (omega arith))
+      ]
 
   pub len_put : length (put_mid (place * len) (place * len + len - place * len) xs ys) ≡ length xs
   len_put =

@@ -1,5 +1,5 @@
 -- What belongs to an input of a merge, before a step of it and after.
-use Rattle.vcd_merge.proofs.Cited.{◌≡◌, ℕ, ◌*◌, ◌<◌, ◌≤◌, ◌⊎◌, List, length, take, slice_get, Option, Some, None, refl, sym, ap, subst, ◌∙◌, arith, inl, inr, option_map, slice_get_within, same_Some, Header, first_number, Dump, factor, shown, Views, Head, AreGiven, Holds, IsReady, Standing, IsNext, part, part_len, spot_at, spot_of, AtSeat, Lane, Spot, Seat, there}
+use Rattle.vcd_merge.proofs.Cited.{◌≡◌, ℕ, ◌*◌, ◌<◌, ◌≤◌, ◌⊎◌, List, length, take, slice_get, Option, Some, None, refl, sym, ap, subst, ◌∙◌, arith, option_map, slice_get_within, same_Some, Header, first_number, Dump, factor, shown, Views, Head, AreGiven, Holds, IsReady, Standing, IsNext, part, part_len, spot_at, spot_of, AtSeat, Lane, Spot, Seat, there}
 use Rattle.vcd_merge.proofs.PartLemmas.{part_long}
 use Rattle.vcd_merge.proofs.MergeSteps.{AtTurn, dump_at, lane_at, len_map, same_header, seat_spot, spot_seat}
 use Rattle.vcd_merge.proofs.PartLemmas.{same_part}
@@ -103,10 +103,7 @@ pub spot_source : {X : Type 0} (rest : X → Option (List ℕ)) (s : Standing X)
 spot_source rest s k p at = rest_in rest (slice_get s.seats k) (slice_get s.sources k) (part (part_len (length s.seats) s.chunks) k s.chunks) (part (part_len (length s.seats) s.tokens) k s.tokens) p at
 
 by_least : (s t j k : ℕ) → (s < t) ⊎ ((s ≡ t) × (j ≤ k)) → (t < s) ⊎ ((t ≡ s) × (k ≤ j)) → j ≡ k
-by_least s t j k (inl x) (inl y) = absurd (omega (arith, x, y))
-by_least s t j k (inl x) (inr y) = let e = y.0 in absurd (omega (arith, x, e))
-by_least s t j k (inr x) (inl y) = let e = x.0 in absurd (omega (arith, e, y))
-by_least s t j k (inr x) (inr y) = let e = x.1 in let f = y.1 in omega (arith, e, f)
+by_least s t j k x y = grind arith
 
 -- it is the turn of one input
 pub same_next : (seats : List Seat) (j k : ℕ) → IsNext seats j → IsNext seats k → j ≡ k
