@@ -63,7 +63,7 @@ module _ (v : HeadView) (s t : MergeStage) (p : ScannedItem) (item : TakesItem v
 
 -- ---- one item more after others
 
-module _ (scale first : ℕ) (h : Header) (limit lines : ℕ) (bytes : List ℕ) (behind : List BodyItem) (few : first + length h.codes < 2 ^ 64) (v : HeadView) (views : IsViewOf v h) (s t : MergeStage) (result : Result (Unit {0}) WriteFailed) (n : TakesNext v s t result) (over : LooksOver limit bytes s.ahead) (factor : s.visit.factor ≡ scale) (first_is : s.visit.first ≡ first) (items : List BodyItem) (at : IsAhead scale h limit lines bytes behind (passed_of s.ahead) items s.regs s.visit.time) where
+module _ {scale first : ℕ} {h : Header} {limit lines : ℕ} {bytes : List ℕ} {behind : List BodyItem} {v : HeadView} {s t : MergeStage} {result : Result (Unit {0}) WriteFailed} (few : first + length h.codes < 2 ^ 64) (views : IsViewOf v h) (n : TakesNext v s t result) (over : LooksOver limit bytes s.ahead) (factor : s.visit.factor ≡ scale) (first_is : s.visit.first ≡ first) {items : List BodyItem} (at : IsAhead scale h limit lines bytes behind (passed_of s.ahead) items s.regs s.visit.time) where
   pub one : (x : BodyItem) × IsItem h.codes n.scanned.text.now n.scanned.item x × GaveAhead h.codes limit lines bytes (passed_of t.ahead) behind (items ++ x ∷ []) × AreRegsAfter (behind ++ (items ++ x ∷ [])) (regs_after s.regs n.scanned.item)
   one = n.item.gives h limit lines bytes behind items views over at.known at.gave
 
@@ -105,14 +105,14 @@ module _ (scale first : ℕ) (h : Header) (limit lines : ℕ) (bytes : List ℕ)
 
   module _ (r : RunsTo s (Ok false)) where
     next : BodyItem
-    next = next_item scale first h limit lines bytes behind few v views s t result n over factor first_is r.mid.items r.ends.0
+    next = next_item few views n over factor first_is r.ends.0
 
     one_more : result ≡ Ok tt → OneAhead scale first h limit lines bytes behind r.mid next (passed_of t.ahead) t.regs t.visit.time t.command t.out
     unfolding next
     one_more e =
         let m = r.mid in
         let (at, same, out_is) = r.ends in
-        let o = one_next scale first h limit lines bytes behind few v views s t result n over factor first_is m.items at e counts in record {
+        let o = one_next few views n over factor first_is at e counts in record {
           ahead = o.ahead;
           written_is = o.written_is ∙ ap (λ w. written_with w (entry_for scale first h (behind ++ m.items) next)) same;
           writes = subst (λ w. Writes m.out t.out (due_with w (entry_for scale first h (behind ++ m.items) next))) same (subst (λ d. Writes d t.out (due_with s.command (entry_for scale first h (behind ++ m.items) next))) out_is o.writes);
@@ -136,9 +136,9 @@ module _ (scale first : ℕ) (h : Header) (limit lines : ℕ) (bytes : List ℕ)
     runs_failed f e =
         let m = r.mid in
         let (at, same, out_is) = r.ends in
-        let some = some_next scale first h limit lines bytes behind few v views s t result n over factor first_is m.items at f e counts in
+        let some = some_next few views n over factor first_is at f e counts in
         let due = subst (λ w. WritesSome m.out t.out (due_with w (entry_for scale first h (behind ++ m.items) next))) same (subst (λ d. WritesSome d t.out (due_with s.command (entry_for scale first h (behind ++ m.items) next))) out_is some) in
-        record { mid = m; trail = r.trail; ends = (next, ahead_next scale first h limit lines bytes behind few v views s t result n over factor first_is m.items at, due) }
+        record { mid = m; trail = r.trail; ends = (next, ahead_next few views n over factor first_is at, due) }
 
 -- ---- a walk
 

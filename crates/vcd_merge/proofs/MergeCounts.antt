@@ -1,5 +1,6 @@
 -- What a step of one input counts: failed reads, and how much is left.
-use Rattle.vcd_merge.proofs.Cited.{◌≡◌, ℕ, zero, suc, ◌+◌, ◌-◌, ◌^◌, ◌<◌, Bool, true, false, cond, List, [], ◌∷◌, length, map, slice_get, slice_set, Some, Err, refl, sym, ap, ◌∙◌, arith, All, get_or, sum_by, slice_get-get_or, IsSeated, sum_by-append, parked_seen, NamesInput, writes_failed, Stop, Read, Write, Unmatched, failures_with, left_of, Seat}
+use Rattle.vcd_merge.proofs.Cited.{◌≡◌, ℕ, zero, suc, ◌+◌, ◌-◌, ◌^◌, ◌<◌, Bool, true, false, cond, List, [], ◌∷◌, length, map, slice_get, slice_set, Some, Err, refl, sym, ap, ◌∙◌, arith, All, get_or, sum_by, slice_get-get_or, IsSeated, sum_by-append, parked_seen, NamesInput, writes_failed, Stop, Read, Write, Unmatched, failures_with, left_of, Seat, get_mapped, get_or-map, get_set}
+use Rattle.vcd_merge.proofs.MergeSteps.{by_flag}
 use Rattle.vcd_body.specs.declared.answer.Stop.TheVariants.{Dump}
 
 pub map_set : {X Y : Type 0} (f : X → Y) (xs : List X) (k : ℕ) (x : X) → map f (slice_set xs k x) ≡ slice_set (map f xs) k (f x)
@@ -8,15 +9,11 @@ map_set f (y ∷ xs) zero x = refl
 map_set f (y ∷ xs) (suc k) x = ap (λ l. f y ∷ l) (map_set f xs k x)
 
 pub get_map_or : {X : Type 0} (f : X → ℕ) (xs : List X) (k : ℕ) (x : X) → x ≡ get_or xs k x → k < length xs → get_or (map f xs) k 0 ≡ f x
-get_map_or f [] k x e h = absurd (omega arith)
-get_map_or f (y ∷ xs) zero x e h = ap f (sym e)
-get_map_or f (y ∷ xs) (suc k) x e h = get_map_or f xs k x e (omega arith)
+get_map_or f xs k x e h = get_or-map f xs k x 0 h ∙ ap f (sym e)
 
 -- of the elements of which one was set, what this says of that one
 pub set_last : {X : Type 0} (f : X → Bool) (xs : List X) (k : ℕ) (x : X) → k < length xs → f x ≡ true → slice_get (map f (slice_set xs k x)) k ≡ Some true
-set_last f [] k x h e = absurd (omega arith)
-set_last f (y ∷ xs) zero x h e = ap Some e
-set_last f (y ∷ xs) (suc k) x h e = set_last f xs k x (omega arith) e
+set_last f xs k x h e = get_mapped f (slice_set xs k x) k x (get_set xs k x h) ∙ ap (λ (b : Bool). Some b) e
 
 -- what is left of an input
 abbrev pub left_in : Seat → ℕ
@@ -41,11 +38,7 @@ left_falls (x ∷ seats) (suc k) s s' at less =
 
 -- an input that has moved on has less left
 pub less_left : (s s' : Seat) → s.finished ≡ false → parked_seen s.parked < 2 ^ 63 → parked_seen s'.parked < 2 ^ 63 → (s'.finished ≡ false → parked_seen s.parked < parked_seen s'.parked) → left_in s' < left_in s
-less_left s s' on below below' moved = by_end s'.finished refl
-  where
-    by_end : (b : Bool) → s'.finished ≡ b → cond b 0 (2 ^ 63 - parked_seen s'.parked) < cond s.finished 0 (2 ^ 63 - parked_seen s.parked)
-    by_end true e = rw on (omega arith)
-    by_end false e = let m = moved e in rw on (omega (arith, m))
+less_left s s' on below below' moved = by_flag s'.finished (λ e. rw (e, on) (omega arith)) (λ e. let m = moved e in rw (e, on) (omega (arith, m)))
 
 -- a step of one input leaves less
 pub left_moved : (seats : List Seat) (k : ℕ) (d s' : Seat) (c t : ℕ) → k < length seats → All (IsSeated c t) seats → ((s : Seat) → slice_get seats k ≡ Some s → s.finished ≡ false) → parked_seen s'.parked < 2 ^ 63

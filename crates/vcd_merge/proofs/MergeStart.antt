@@ -172,24 +172,14 @@ ready_at_first heads old new sources chunks tokens values some heads_many many s
 pub holds_begun : {X : Type 0} (rest : X → Option (List ℕ)) (hs : List Header) (lanes : List Lane) (heads : List Head) (old : List Seat) (m : Merge) (sources : List X) (windows : Windows)
     → ShowHeaders heads hs → length heads ≤ 64 → map (λ (l : Lane). l.header) lanes ≡ hs → length heads ≡ length old → length sources ≡ length old → HasBegun heads old m → AreBegun hs old m.seats.now
     → HaveNoItems rest lanes old sources windows.chunks.now windows.tokens.now → Holds rest hs lanes (no_items lanes) (standing_of m sources windows)
-holds_begun {X} rest hs lanes heads old m sources windows show few lanes_are heads_many sources_many begun set gave =
-    let c = windows.chunks.now in
-    let t = windows.tokens.now in
-    let v = windows.values.now in
-    subst (λ (h : List Head). Holds {X = X} rest hs lanes (no_items lanes) (record { heads = h; seats = m.seats.now; written = m.written; sources = sources; chunks = c; tokens = t; values = v })) (sym begun.heads_are)
-    (subst (λ (w : Option ℕ). Holds {X = X} rest hs lanes (no_items lanes) (record { heads = heads; seats = m.seats.now; written = w; sources = sources; chunks = c; tokens = t; values = v })) (sym begun.written)
-    (begins rest hs lanes heads old m.seats.now sources c t v show few lanes_are heads_many begun.many sources_many set gave))
+holds_begun rest hs lanes heads old m sources windows show few lanes_are heads_many sources_many begun set gave =
+    rw (begun.heads_are, begun.written) (begins rest hs lanes heads old m.seats.now sources windows.chunks.now windows.tokens.now windows.values.now show few lanes_are heads_many begun.many sources_many set gave)
 
 pub ready_begun : {X : Type 0} (heads : List Head) (old : List Seat) (m : Merge) (sources : List X) (windows : Windows)
     → 0 < length old → length heads ≡ length old → length sources ≡ length old → HasBegun heads old m → AreParts (length old) windows.chunks.now windows.tokens.now windows.values.now → AreSeated windows.chunks.now windows.tokens.now old
     → IsReady (standing_of m sources windows)
-ready_begun {X} heads old m sources windows some heads_many sources_many begun parts seated =
-    let c = windows.chunks.now in
-    let t = windows.tokens.now in
-    let v = windows.values.now in
-    subst (λ (h : List Head). IsReady {X = X} (record { heads = h; seats = m.seats.now; written = m.written; sources = sources; chunks = c; tokens = t; values = v })) (sym begun.heads_are)
-    (subst (λ (w : Option ℕ). IsReady {X = X} (record { heads = heads; seats = m.seats.now; written = w; sources = sources; chunks = c; tokens = t; values = v })) (sym begun.written)
-    (ready_at_first heads old m.seats.now sources c t v some heads_many begun.many sources_many parts seated begun.open_seats))
+ready_begun heads old m sources windows some heads_many sources_many begun parts seated =
+    rw (begun.heads_are, begun.written) (ready_at_first heads old m.seats.now sources windows.chunks.now windows.tokens.now windows.values.now some heads_many begun.many sources_many parts seated begun.open_seats)
 
 -- each input begins with the tokens of its header
 pub heads_given : {X : Type 0} (rest : X → Option (List ℕ)) (lanes : List Lane) (seats : List Seat) (sources : List X) (chunks tokens values : List ℕ) → AreParts (length seats) chunks tokens values → length lanes ≡ length seats → length sources ≡ length seats

@@ -18,15 +18,19 @@ pub by_flag : {P : Type 0} (b : Bool) → (b ≡ true → P) → (b ≡ false �
 by_flag true on off = on refl
 by_flag false on off = off refl
 
-seat_in : (o : Option Seat) (r : Option (Option (List ℕ))) (c t : List ℕ) (p : Spot) → spot_of o r c t ≡ Some p → o ≡ Some p.seat
-seat_in (Some s) (Some rest) c t p e = let same : record { seat = s; rest = rest; chunk = c; token = t } ≡ p = cc in ap (λ (q : Spot). Some q.seat) same
-seat_in (Some s) None c t p e = cc
-seat_in None r c t p e = cc
+-- what a spot is made of
+spot_is : (o : Option Seat) (r : Option (Option (List ℕ))) (c t : List ℕ) (p : Spot) → spot_of o r c t ≡ Some p → (o ≡ Some p.seat) × (r ≡ Some p.rest) × (c ≡ p.chunk) × (t ≡ p.token)
+spot_is (Some s) (Some rest) c t p e = let same : record { seat = s; rest = rest; chunk = c; token = t } ≡ p = cc in (ap (λ (q : Spot). Some q.seat) same, ap (λ (q : Spot). Some q.rest) same, ap (λ (q : Spot). q.chunk) same, ap (λ (q : Spot). q.token) same)
+spot_is (Some s) None c t p e = absurd (cc)
+spot_is None r c t p e = absurd (cc)
 
 module _ {X : Type 0} (rest : X → Option (List ℕ)) (s : Standing X) where
-  -- the seat of a spot
+  pub spot_parts : (k : ℕ) (p : Spot) → spot_at rest s.seats s.sources s.chunks s.tokens k ≡ Some p
+      → (slice_get s.seats k ≡ Some p.seat) × (option_map rest (slice_get s.sources k) ≡ Some p.rest) × (part (part_len (length s.seats) s.chunks) k s.chunks ≡ p.chunk) × (part (part_len (length s.seats) s.tokens) k s.tokens ≡ p.token)
+  spot_parts k p e = spot_is (slice_get s.seats k) (option_map rest (slice_get s.sources k)) (part (part_len (length s.seats) s.chunks) k s.chunks) (part (part_len (length s.seats) s.tokens) k s.tokens) p e
+
   pub spot_seat : (k : ℕ) (p : Spot) → spot_at rest s.seats s.sources s.chunks s.tokens k ≡ Some p → slice_get s.seats k ≡ Some p.seat
-  spot_seat k p e = seat_in (slice_get s.seats k) (option_map rest (slice_get s.sources k)) (part (part_len (length s.seats) s.chunks) k s.chunks) (part (part_len (length s.seats) s.tokens) k s.tokens) p e
+  spot_seat k p e = (spot_parts k p e).0
 
   -- a seat that there is has a spot
   pub seat_spot : (k : ℕ) (x : Seat) → length s.sources ≡ length s.seats → slice_get s.seats k ≡ Some x → (p : Spot) × (spot_at rest s.seats s.sources s.chunks s.tokens k ≡ Some p) × (p.seat ≡ x)

@@ -1,7 +1,7 @@
 -- What belongs to an input of a merge, before a step of it and after.
-use Rattle.vcd_merge.proofs.Cited.{◌≡◌, ℕ, ◌*◌, ◌<◌, ◌≤◌, ◌⊎◌, List, length, take, slice_get, Option, Some, None, refl, sym, ap, subst, ◌∙◌, arith, option_map, slice_get_within, same_Some, Header, first_number, Dump, factor, shown, Views, Head, AreGiven, Holds, IsReady, Standing, IsNext, part, part_len, spot_at, spot_of, AtSeat, Lane, Spot, Seat, there}
+use Rattle.vcd_merge.proofs.Cited.{◌≡◌, ℕ, ◌*◌, ◌<◌, ◌≤◌, ◌⊎◌, List, length, take, slice_get, Option, Some, None, refl, sym, ap, subst, ◌∙◌, arith, option_map, slice_get_within, same_Some, Header, first_number, Dump, factor, shown, Views, Head, AreGiven, Holds, IsReady, Standing, IsNext, part, part_len, spot_at, AtSeat, Lane, Spot, Seat, there}
 use Rattle.vcd_merge.proofs.PartLemmas.{part_long}
-use Rattle.vcd_merge.proofs.MergeSteps.{AtTurn, dump_at, lane_at, len_map, same_header, seat_spot, spot_seat}
+use Rattle.vcd_merge.proofs.MergeSteps.{AtTurn, dump_at, lane_at, len_map, same_header, seat_spot, spot_parts, spot_seat}
 use Rattle.vcd_merge.proofs.PartLemmas.{same_part}
 
 -- all that belongs to the input whose turn it is
@@ -36,17 +36,6 @@ found rest hs lanes ds s k holds ready next =
       is = g.at k l.0 d.0 p.0 l.1 d.1 p.1;
     }
 
--- the parts that a spot has
-chunk_in : (o : Option Seat) (r : Option (Option (List ℕ))) (c t : List ℕ) (p : Spot) → spot_of o r c t ≡ Some p → c ≡ p.chunk
-chunk_in (Some s) (Some rest) c t p e = ap (λ (q : Spot). q.chunk) (same_Some (record { seat = s; rest = rest; chunk = c; token = t }) p e)
-chunk_in (Some s) None c t p e = cc
-chunk_in None r c t p e = cc
-
-token_in : (o : Option Seat) (r : Option (Option (List ℕ))) (c t : List ℕ) (p : Spot) → spot_of o r c t ≡ Some p → t ≡ p.token
-token_in (Some s) (Some rest) c t p e = ap (λ (q : Spot). q.token) (same_Some (record { seat = s; rest = rest; chunk = c; token = t }) p e)
-token_in (Some s) None c t p e = cc
-token_in None r c t p e = cc
-
 -- how long a part of a window is, by the window before
 part_in : (n n' k : ℕ) (xs xs' ys : List ℕ) → n' ≡ n → length xs' ≡ length xs → n * part_len n xs ≡ length xs → k < n → part (part_len n' xs') k xs' ≡ ys → length ys ≡ part_len n xs
 part_in n n' k xs xs' ys e l all w is =
@@ -57,16 +46,10 @@ part_in n n' k xs xs' ys e l all w is =
 module _ {X : Type 0} (rest : X → Option (List ℕ)) (s s' : Standing X) (k : ℕ) (p : Spot) (ready : IsReady s) (w : k < length s.seats) (seats : length s'.seats ≡ length s.seats) (at : spot_at rest s'.seats s'.sources s'.chunks s'.tokens k ≡ Some p) where
   -- how long the part of an input is in the chunks' window, and in the tokens'
   pub chunk_len : length s'.chunks ≡ length s.chunks → length p.chunk ≡ part_len (length s.seats) s.chunks
-  chunk_len chunks =
-      let n = length s'.seats in
-      part_in (length s.seats) n k s.chunks s'.chunks p.chunk seats chunks ready.parts.chunks_are w
-      (chunk_in (slice_get s'.seats k) (option_map rest (slice_get s'.sources k)) (part (part_len n s'.chunks) k s'.chunks) (part (part_len n s'.tokens) k s'.tokens) p at)
+  chunk_len chunks = part_in (length s.seats) (length s'.seats) k s.chunks s'.chunks p.chunk seats chunks ready.parts.chunks_are w (spot_parts rest s' k p at).2
 
   pub token_len : length s'.tokens ≡ length s.tokens → length p.token ≡ part_len (length s.seats) s.tokens
-  token_len tokens =
-      let n = length s'.seats in
-      part_in (length s.seats) n k s.tokens s'.tokens p.token seats tokens ready.parts.tokens_are w
-      (token_in (slice_get s'.seats k) (option_map rest (slice_get s'.sources k)) (part (part_len n s'.chunks) k s'.chunks) (part (part_len n s'.tokens) k s'.tokens) p at)
+  token_len tokens = part_in (length s.seats) (length s'.seats) k s.tokens s'.tokens p.token seats tokens ready.parts.tokens_are w (spot_parts rest s' k p at).3
 
 -- the parts for tokens have this length
 abbrev pub IsLong : {X : Type 0} → (X → Option (List ℕ)) → ℕ → Standing X → Type 0
@@ -93,14 +76,13 @@ known {rest = rest} {hs = hs} {lanes = lanes} {ds = ds} {s = s} g long k l d at_
     let p = seat_spot rest s k seat.0 g.sources_are seat.1 in
     record { spot = p.0; there = seat.1 ∙ ap (λ (x : Seat). Some x) (sym p.2); at = g.at k l d p.0 at_l at_d p.1; long = long k p.0 p.1; same = same_header rest hs lanes ds s g k l d at_l at_d }
 
-rest_in : {X : Type 0} (rest : X → Option (List ℕ)) (o : Option Seat) (x : Option X) (c t : List ℕ) (p : Spot) → spot_of o (option_map rest x) c t ≡ Some p → (y : X) × (x ≡ Some y) × (p.rest ≡ rest y)
-rest_in rest (Some s) (Some y) c t p e = (y, refl, sym (ap (λ (q : Spot). q.rest) (same_Some (record { seat = s; rest = rest y; chunk = c; token = t }) p e)))
-rest_in rest (Some s) None c t p e = cc
-rest_in rest None x c t p e = cc
+of_map : {X : Type 0} (rest : X → Option (List ℕ)) (x : Option X) (r : Option (List ℕ)) → option_map rest x ≡ Some r → (y : X) × (x ≡ Some y) × (r ≡ rest y)
+of_map rest (Some y) r e = (y, refl, sym (same_Some (rest y) r e))
+of_map rest None r e = absurd (cc)
 
 -- the source of a spot
 pub spot_source : {X : Type 0} (rest : X → Option (List ℕ)) (s : Standing X) (k : ℕ) (p : Spot) → spot_at rest s.seats s.sources s.chunks s.tokens k ≡ Some p → (y : X) × (slice_get s.sources k ≡ Some y) × (p.rest ≡ rest y)
-spot_source rest s k p at = rest_in rest (slice_get s.seats k) (slice_get s.sources k) (part (part_len (length s.seats) s.chunks) k s.chunks) (part (part_len (length s.seats) s.tokens) k s.tokens) p at
+spot_source rest s k p at = of_map rest (slice_get s.sources k) p.rest (spot_parts rest s k p at).1
 
 by_least : (s t j k : ℕ) → (s < t) ⊎ ((s ≡ t) × (j ≤ k)) → (t < s) ⊎ ((t ≡ s) × (k ≤ j)) → j ≡ k
 by_least s t j k x y = grind arith

@@ -1,6 +1,6 @@
 -- What does not settle a merge: the first tokens of one input, where its items come before the
 -- faults of all others.
-use Rattle.vcd_merge.proofs.Cited.{◌≡◌, ◌≢◌, ℕ, zero, suc, ◌+◌, Bool, true, false, ◌&&◌, ◌||◌, List, [], ◌∷◌, map, slice_get, slice_set, Option, Some, None, ◌⊎◌, inl, inr, refl, sym, ap, subst, ◌∙◌, arith, AllByRecursion, slice_get_within, Header, BodyItem, Token, read_body, Ending, Fault, AtFault, AtEnd, AtLast, is_faulty, Dump, Key, KeyedFault, factor, first_fault, headers_of, is_too_large, key_after, key_lt, Opened, dump_whole, key_never, AreLate, first_late, SeenBody, are_past, dump_seen, fault_met, is_at_its_end, is_past, known_first, known_whole, settles_among, HaveJust, and-false, same_or_not, get_other, get_set, get_mapped}
+use Rattle.vcd_merge.proofs.Cited.{◌≡◌, ◌≢◌, ℕ, zero, suc, ◌+◌, Bool, true, false, ◌&&◌, ◌||◌, List, [], ◌∷◌, map, slice_get, slice_set, Option, Some, None, inl, inr, refl, sym, ap, subst, ◌∙◌, arith, AllByRecursion, slice_get_within, Header, BodyItem, Token, read_body, Ending, Fault, AtFault, AtEnd, AtLast, is_faulty, Dump, Key, KeyedFault, factor, first_fault, headers_of, is_too_large, key_after, key_lt, Opened, dump_whole, key_never, AreLate, first_late, SeenBody, are_past, dump_seen, fault_met, is_at_its_end, is_past, known_first, known_whole, settles_among, HaveJust, and-false, same_or_not, get_other, get_set, get_mapped}
 use Rattle.vcd_model.specs.Merge.{dump_of}
 use Rattle.vcd_model.specs.Outcome.{body_of}
 use Rattle.vcd_model.proofs.MergeOutcome.{dump_under}
@@ -77,22 +77,15 @@ module _ (hs : List Header) (os : List Opened) (ds : List Dump) (k : ℕ) (o : O
 
   -- no fault of the others comes before its position
   late : AreLate here hs 0 (slice_set ds k own)
-  late = late_each here hs 0 (slice_set ds k own) (λ i d f at_d e. let z : i ≡ 0 + i = omega arith in subst (λ (m : ℕ). key_lt (key_after (factor hs d.header) m d.items) here ≡ false) z (by_place i d f (same_or_not i k) at_d e))
-    where
-      by_place : (i : ℕ) (d : Dump) (f : Fault) → (i ≡ k) ⊎ (i ≢ k) → slice_get (slice_set ds k own) i ≡ Some d → d.fault ≡ Some f → key_lt (key_after (factor hs d.header) i d.items) here ≡ false
-      by_place i d f (inr other) at_d e = key_never here (key_after (factor hs d.header) i d.items) (later i d f other (sym (get_other ds k i own other) ∙ at_d) e)
-      by_place i d f (inl same) at_d e =
-          let there = subst (λ (j : ℕ). slice_get (slice_set ds k own) j ≡ Some d) same at_d in
-          let within = slice_get_within (slice_set ds k own) k d there in
-          by_own d f (set_own ds k own d there) e
-        where
-          set_own : (cs : List Dump) (j : ℕ) (c d : Dump) → slice_get (slice_set cs j c) j ≡ Some d → c ≡ d
-          set_own [] j c d at = cc
-          set_own (b ∷ cs) zero c d at = cc
-          set_own (b ∷ cs) (suc j) c d at = set_own cs j c d at
-
-          by_own : (d : Dump) (f : Fault) → own ≡ d → d.fault ≡ Some f → key_lt (key_after (factor hs d.header) i d.items) here ≡ false
-          by_own d f is e = let none : None ≡ Some f = ap (λ (c : Dump). c.fault) is ∙ e in cc
+  late = late_each here hs 0 (slice_set ds k own) (λ i d f at_d e. let z : i ≡ 0 + i = omega arith in subst (λ (m : ℕ). key_lt (key_after (factor hs d.header) m d.items) here ≡ false) z (elim (same_or_not i k) [
+    | inr other ↦ key_never here (key_after (factor hs d.header) i d.items) (later i d f other (sym (get_other ds k i own other) ∙ at_d) e)
+    | inl same ↦
+        let within = slice_get_within ds k (dump_under hs o) (ap (λ (l : List Dump). slice_get l k) (sym dumps) ∙ get_mapped (dump_under hs) os k o at) in
+        let both : Some own ≡ Some d = sym (get_set ds k own within) ∙ ap (slice_get (slice_set ds k own)) (sym same) ∙ at_d in
+        let is : own ≡ d = cc in
+        let none : None ≡ Some f = ap (λ (c : Dump). c.fault) is ∙ e in
+        cc
+  ]))
 
   module _ (ts : List Token) (have : HaveJust o.header.codes items ts) where
     abbrev first : SeenBody

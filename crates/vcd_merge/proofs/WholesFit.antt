@@ -2,18 +2,6 @@
 use Rattle.vcd_merge.proofs.Cited.{◌≡◌, ◌≢◌, ℕ, zero, suc, ◌+◌, ◌<◌, true, false, List, [], ◌∷◌, length, slice_get, Some, refl, sym, subst, ◌∙◌, arith, Header, Fault, Key, key_lt, factor, key_after, Request, is_settled_behind, AreGrown, GrownOne, NoneBefore, OthersLater, Supply, ReadsAsNeeded, AreLeft, IsLeft, AreLate}
 use Rattle.vcd_merge.proofs.MergeWholes.{Whole, at_first, at_next, no_more, same_rest, entire, lanes_of, so_far, lefts_of, entire_of, AllFit}
 
-past_next : (m n : ℕ) → m < n → m < n + 1
-past_next m n h = omega arith
-
-past_here : (m n : ℕ) → m ≡ n + 0 → m < n + 1
-past_here m n e = omega arith
-
-before_past : (m n : ℕ) → m < n → n ≢ m
-before_past m n h e = omega arith
-
-not_here : (m n k : ℕ) → m ≡ n + suc k → n ≢ m
-not_here m n k e f = omega arith
-
 module _ (hs : List Header) (limit : ℕ) where
   module _ (P : ℕ → Whole hs limit → Type 0) where
     -- what is left of them, by what is left of each
@@ -45,10 +33,10 @@ module _ (hs : List Header) (limit : ℕ) where
       module _ (m : ℕ) (later : (n : ℕ) (w : Whole hs limit) → P n w → n ≢ m → (f : Fault) → w.fault ≡ Some f → key_lt b (key_after (factor hs w.dump.header) n w.items) ≡ true) where
         none_all : (n : ℕ) (ws : List (Whole hs limit)) → m < n → AllFit hs limit P n ws → NoneBefore b hs n (entire_of hs limit ws)
         none_all n [] past fit = tt
-        none_all n (w ∷ ws) past fit = (later n w fit.0 (before_past m n past), none_all (n + 1) ws (past_next m n past) fit.1)
+        none_all n (w ∷ ws) past fit = (later n w fit.0 (λ e. omega (arith, past, e)), none_all (n + 1) ws (omega (arith, past)) fit.1)
 
         -- the faults of all but the input at an index
         pub others_all : (n k : ℕ) (ws : List (Whole hs limit)) → m ≡ n + k → AllFit hs limit P n ws → OthersLater b hs n k (entire_of hs limit ws)
         others_all n k [] e fit = tt
-        others_all n zero (w ∷ ws) e fit = none_all (n + 1) ws (past_here m n e) fit.1
-        others_all n (suc k) (w ∷ ws) e fit = (later n w fit.0 (not_here m n k e), others_all (n + 1) k ws (e ∙ sym (at_next n k)) fit.1)
+        others_all n zero (w ∷ ws) e fit = none_all (n + 1) ws (omega (arith, e)) fit.1
+        others_all n (suc k) (w ∷ ws) e fit = (later n w fit.0 (λ f. omega (arith, e, f)), others_all (n + 1) k ws (e ∙ sym (at_next n k)) fit.1)
