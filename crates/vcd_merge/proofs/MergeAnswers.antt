@@ -1,5 +1,5 @@
 -- What a step of a merge answers, by what the step of its input gave.
-use Rattle.vcd_merge.proofs.Cited.{true≢false, ◌≡◌, ◌≢◌, ℕ, true, List, [], ◌∷◌, ◌++◌, length, take, Option, Some, None, Ok, Err, refl, sym, ap, subst, ◌∙◌, inl, inr, All, IfSome, AllByRecursion, get_or_from_slice_get, slice_get_within, Header, first_number, Clean, BodyItem, Entry, Dump, key_lt, factor, merge_open, merged_items, due_with, entry_for, keyed_rest, with_item, written_with, IsSorted, sorted_by_key, all_by_key, merged_by, merged_more, IsTimed, text_more, timed_rest, written_more, HasRest, Device, Writes, AreGiven, AreMarked, Gives, HasFault, Holds, ReadsOne, Standing, cut_at, last_written, next_item, AtSeat, HasDump, HasReadNoMore, Lane, Spot, Turns, Again, Stop, Read, Write, Unmatched, Seat}
+use Rattle.vcd_merge.proofs.Cited.{true≢false, ◌≡◌, ℕ, true, List, [], ◌∷◌, ◌++◌, length, take, Option, Some, None, Ok, Err, refl, sym, ap, subst, ◌∙◌, inl, inr, All, IfSome, AllByRecursion, get_or_from_slice_get, slice_get_within, Header, first_number, Clean, BodyItem, Entry, Dump, key_lt, factor, merge_open, merged_items, due_with, entry_for, keyed_rest, with_item, written_with, IsSorted, sorted_by_key, all_by_key, merged_by, merged_more, IsTimed, text_more, timed_rest, written_more, HasRest, Device, Writes, AreGiven, AreMarked, Gives, HasFault, Holds, ReadsOne, Standing, cut_at, last_written, next_item, AtSeat, HasDump, HasReadNoMore, Lane, Spot, Turns, Again, Stop, Read, Write, Unmatched, Seat}
 use Rattle.vcd_merge.specs.MergeStep.{Takes}
 use Rattle.vcd_body.specs.declared.answer.Stop.TheVariants.{Dump as Faulty}
 use Rattle.vcd_merge.proofs.MergeSteps.{AtTurn, Leaves, all_before, given_more, given_still, lane_at, len_map, same_header, seat_spot, spot_seat, time_at}

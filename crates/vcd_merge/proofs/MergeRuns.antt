@@ -30,8 +30,8 @@ at_any : {A : Type 0} (ns ms : List ℕ) (k j : ℕ) (r : Result A Stop) → rea
 at_any ns ms k j r none e = e ∙ scanned ns k r none ∙ sym (scanned ns j r none)
 
 -- a step that continues leaves the failures
-pub same_failures : (ns ms : List ℕ) (k : ℕ) → ms ≡ failures_with {A = More} ns k (Ok Again) → ms ≡ ns
-same_failures ns ms k e = e ∙ scanned {A = More} ns k (Ok Again) refl
+pub same_failures : (ns ms : List ℕ) (k : ℕ) (r : Result More Stop) → r ≡ Ok Again → ms ≡ failures_with ns k r → ms ≡ ns
+same_failures ns ms k r again e = e ∙ scanned ns k r (ap (λ (x : Result More Stop). reads_failed x) again)
 
 -- so that they are as low as they were
 pub still_low : {X : Type 0} (f : X → ℕ) (xs ys : List X) → map f ys ≡ map f xs → All (λ s. f s < 2 ^ 64 - 1) xs → All (λ s. f s < 2 ^ 64 - 1) ys

@@ -17,7 +17,7 @@ items-preserved g c =
       going = v.going;
       ready = runs.leaves.ready refl;
       order = c.in_ok-run_step.ensures.order again;
-      reads = same_failures (map g.S.Source.failures c.items.sources) _ runs.input touches.reads ∙ v.reads;
+      reads = same_failures (map g.S.Source.failures c.items.sources) _ runs.input (Ok Again) refl touches.reads ∙ v.reads;
       writes = touches.writes ∙ add-zero _ ∙ v.writes;
       seats = touches.seats ∙ v.seats;
       windows = same_twice c.args.windows.now c.items.windows c.run_step.new.windows v.windows (record { chunks = touches.chunks; tokens = touches.tokens; values = touches.values });
