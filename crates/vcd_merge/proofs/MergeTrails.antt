@@ -217,24 +217,24 @@ pub record TookTurn {X A : Type 0} (rest : X → Option (List ℕ)) (failures : 
 
 -- what it leaves, where the merge holds these items
 module _ {X A : Type 0} {rest : X → Option (List ℕ)} {failures : X → ℕ} {s s' : Standing X} {k before until : ℕ} {out out' : Device} {r : Result A Stop} (u : TookTurn rest failures s s' k before until out out' r) {hs : List Header} {lanes : List Lane} {ds : List Dump} (holds : Holds rest hs lanes ds s) where
-  f : Found rest hs lanes ds s k
-  f = found rest hs lanes ds s k holds u.ready u.next
+  start : Found rest hs lanes ds s k
+  start = found rest hs lanes ds s k holds u.ready u.next
 
-  t : (q : Spot) × (spot_at rest s'.seats s'.sources s'.chunks s'.tokens k ≡ Some q) × TurnsAt rest failures s.sources k (factor hs f.lane.header) (first_number (take k hs)) f.lane before f.dump.items s.written s'.written f.spot q out out' r
-  t = u.turns (factor hs f.lane.header) (first_number (take k hs)) f.lane f.dump.items f.head f.spot f.head_there f.views f.spot_there f.is
+  run : (q : Spot) × (spot_at rest s'.seats s'.sources s'.chunks s'.tokens k ≡ Some q) × TurnsAt rest failures s.sources k (factor hs start.lane.header) (first_number (take k hs)) start.lane before start.dump.items s.written s'.written start.spot q out out' r
+  run = u.turns (factor hs start.lane.header) (first_number (take k hs)) start.lane start.dump.items start.head start.spot start.head_there start.views start.spot_there start.is
 
   within : k < length s.seats
   within = slice_get_within s.seats k u.next.seat u.next.there
 
   -- where its last step begins
-  m : Arrives rest failures hs lanes ds s k before f.lane out t.2.turns.mid
-  m =
-      let x = t.2 in
-      arrives rest failures hs lanes ds s k before f.lane u.early out (record { items = f.dump.items; written = s.written; seat = x.seat; source = x.source; chunk = x.chunk; token = x.token; out = out }) x.turns.mid (record {
+  arrived : Arrives rest failures hs lanes ds s k before start.lane out run.2.turns.mid
+  arrived =
+      let x = run.2 in
+      arrives rest failures hs lanes ds s k before start.lane u.early out (record { items = start.dump.items; written = s.written; seat = x.seat; source = x.source; chunk = x.chunk; token = x.token; out = out }) x.turns.mid (record {
         dumps = ds;
         mid = s;
-        dump = f.dump;
-        turn = f.turn;
+        dump = start.dump;
+        turn = start.turn;
         ready = u.ready;
         heads = refl;
         seats = refl;
@@ -243,8 +243,8 @@ module _ {X A : Type 0} {rest : X → Option (List ℕ)} {failures : X → ℕ} 
         items_are = refl;
         written_is = refl;
         source_at = x.source_at;
-        chunk = ap (λ (q : Spot). length q.chunk) (sym x.spot_is) ∙ chunk_len rest s s k f.spot u.ready within refl f.spot_there refl;
-        token = ap (λ (q : Spot). length q.token) (sym x.spot_is) ∙ token_len rest s s k f.spot u.ready within refl f.spot_there refl;
+        chunk = ap (λ (q : Spot). length q.chunk) (sym x.spot_is) ∙ chunk_len rest s s k start.spot u.ready within refl start.spot_there refl;
+        token = ap (λ (q : Spot). length q.token) (sym x.spot_is) ∙ token_len rest s s k start.spot u.ready within refl start.spot_there refl;
         other_seats = λ j other. refl;
         others = λ j other. refl;
         stay = λ j other. refl;
@@ -255,48 +255,48 @@ module _ {X A : Type 0} {rest : X → Option (List ℕ)} {failures : X → ℕ} 
         by_one = λ none. (refl, refl, refl);
       }) x.turns.trail
 
-  last : Leaves rest m.mid s' k t.0
+  last : Leaves rest arrived.mid s' k run.0
   last = record {
-    heads = u.heads ∙ sym m.heads;
-    many = u.touches.seats ∙ sym m.seats;
+    heads = u.heads ∙ sym arrived.heads;
+    many = u.touches.seats ∙ sym arrived.seats;
     sources = u.sources ∙ u.ready.sources ∙ sym u.touches.seats;
-    spot = t.1;
-    others = λ j other. u.touches.others j other ∙ sym (m.others j other);
-    stay = λ j other. (u.touches.untouched j other).0 ∙ sym (m.stay j other);
-    token = token_len rest s s' k t.0 u.ready within u.touches.seats t.1 u.touches.tokens ∙ sym (same_part (length s.seats) (length m.mid.seats) s.tokens m.mid.tokens m.seats m.tokens);
-    chunk = chunk_len rest s s' k t.0 u.ready within u.touches.seats t.1 u.touches.chunks ∙ sym (same_part (length s.seats) (length m.mid.seats) s.chunks m.mid.chunks m.seats m.chunks);
+    spot = run.1;
+    others = λ j other. u.touches.others j other ∙ sym (arrived.others j other);
+    stay = λ j other. (u.touches.untouched j other).0 ∙ sym (arrived.stay j other);
+    token = token_len rest s s' k run.0 u.ready within u.touches.seats run.1 u.touches.tokens ∙ sym (same_part (length s.seats) (length arrived.mid.seats) s.tokens arrived.mid.tokens arrived.seats arrived.tokens);
+    chunk = chunk_len rest s s' k run.0 u.ready within u.touches.seats run.1 u.touches.chunks ∙ sym (same_part (length s.seats) (length arrived.mid.seats) s.chunks arrived.mid.chunks arrived.seats arrived.chunks);
   }
 
   -- what the last step gave, over the dump that it began with
-  told : Turns {A = A} k (factor hs f.lane.header) (first_number (take k hs)) f.lane t.2.turns.mid.items t.2.turns.mid.written s'.written t.0 t.2.turns.mid.out out' r → Turns {A = A} k (factor hs f.lane.header) (first_number (take k hs)) f.lane m.dump.items m.mid.written s'.written t.0 t.2.turns.mid.out out' r
-  told gave = rw (m.items_are, m.written_is) gave
+  told : Turns {A = A} k (factor hs start.lane.header) (first_number (take k hs)) start.lane run.2.turns.mid.items run.2.turns.mid.written s'.written run.0 run.2.turns.mid.out out' r → Turns {A = A} k (factor hs start.lane.header) (first_number (take k hs)) start.lane arrived.dump.items arrived.mid.written s'.written run.0 run.2.turns.mid.out out' r
+  told gave = rw (arrived.items_are, arrived.written_is) gave
 
-  runs : (alone : Bool) → (alone ≡ true → until ≡ 0) → (result : Result More Stop) (after : Device) → Gives rest hs lanes m.dumps m.mid s' t.2.turns.mid.out after result → RunGives rest failures hs lanes alone ds s s' out after result
+  runs : (alone : Bool) → (alone ≡ true → until ≡ 0) → (result : Result More Stop) (after : Device) → Gives rest hs lanes arrived.dumps arrived.mid s' run.2.turns.mid.out after result → RunGives rest failures hs lanes alone ds s s' out after result
   runs alone none result after gives = record {
-    dumps = m.dumps;
-    mid = m.mid;
-    between = t.2.turns.mid.out;
+    dumps = arrived.dumps;
+    mid = arrived.mid;
+    between = run.2.turns.mid.out;
     input = k;
-    holds = m.turn.holds;
-    ready = m.ready;
-    next = m.turn.next;
+    holds = arrived.turn.holds;
+    ready = arrived.ready;
+    next = arrived.turn.next;
     turn = u.next;
-    seats = m.seats;
-    chunks = m.chunks;
-    tokens = m.tokens;
-    failures_are = m.failures_are;
-    grows = m.grows;
-    goes = m.goes;
-    reads = m.reads;
+    seats = arrived.seats;
+    chunks = arrived.chunks;
+    tokens = arrived.tokens;
+    failures_are = arrived.failures_are;
+    grows = arrived.grows;
+    goes = arrived.goes;
+    reads = arrived.reads;
     last = gives;
-    by_one = λ e. m.by_one (let z = none e in let w = u.within in omega (arith, z, w));
+    by_one = λ e. arrived.by_one (let z = none e in let w = u.within in omega (arith, z, w));
   }
 
   -- before a read, since what is kept back was not passed on
-  unread : t.0.rest ≡ rest t.2.turns.mid.source → (j : ℕ) → option_map rest (slice_get s'.sources j) ≡ option_map rest (slice_get m.mid.sources j)
+  unread : run.0.rest ≡ rest run.2.turns.mid.source → (j : ℕ) → option_map rest (slice_get s'.sources j) ≡ option_map rest (slice_get arrived.mid.sources j)
   unread same j = elim (same_or_not j k) [
     | inr other ↦ ap (option_map rest) (last.stay j other)
-    | inl here ↦ let y = spot_source rest s' k t.0 t.1 in rw here (ap (option_map rest) y.1 ∙ ap (λ (q : Option (List ℕ)). Some q) (sym y.2 ∙ same) ∙ sym (ap (option_map rest) m.source_at))
+    | inl here ↦ let y = spot_source rest s' k run.0 run.1 in rw here (ap (option_map rest) y.1 ∙ ap (λ (q : Option (List ℕ)). Some q) (sym y.2 ∙ same) ∙ sym (ap (option_map rest) arrived.source_at))
   ]
 
 -- what it has used, by what is counted
@@ -307,16 +307,16 @@ touches_with t after result reads named writes = record { seats = t.seats; chunk
 module _ {X A : Type 0} {rest : X → Option (List ℕ)} {failures : X → ℕ} {s s' : Standing X} {k before until : ℕ} {out out' : Device} where
   -- it stops
   was_kept : (stop : Stop) (u : TookTurn {A = A} rest failures s s' k before until out out' (Err stop)) {hs : List Header} {lanes : List Lane} {ds : List Dump} (holds : Holds rest hs lanes ds s) (alone : Bool) → (alone ≡ true → until ≡ 0)
-      → StaysBack {A = A} rest (t u holds).2.turns.mid (t u holds).0 out' (Err stop) → RunGives rest failures hs lanes alone ds s s' out out' (Err stop)
-  was_kept Write u holds alone none back = runs u holds alone none (Err Write) out' (inr (inr (record { input = k; next = (m u holds).turn.next; writes = back.0; unread = unread u holds back.1 })))
+      → StaysBack {A = A} rest (run u holds).2.turns.mid (run u holds).0 out' (Err stop) → RunGives rest failures hs lanes alone ds s s' out out' (Err stop)
+  was_kept Write u holds alone none back = runs u holds alone none (Err Write) out' (inr (inr (record { input = k; next = (arrived u holds).turn.next; writes = back.0; unread = unread u holds back.1 })))
   was_kept (Faulty input line fault) u holds alone none back = absurd back
   was_kept (Read input) u holds alone none back = absurd back
   was_kept (Unmatched place) u holds alone none back = absurd back
 
   pub was_stopped : (stop : Stop) → TookTurn {A = A} rest failures s s' k before until out out' (Err stop) → Runs rest failures until s s' out out' (Err stop)
   was_stopped stop u = record {
-    gives = λ alone hs lanes ds none holds. elim (t u holds).2.turns.last [
-      | inl gave ↦ runs u holds alone none (Err stop) out' (stopped (m u holds).turn (last u holds) A (t u holds).2.turns.mid.out out' stop (told u holds gave))
+    gives = λ alone hs lanes ds none holds. elim (run u holds).2.turns.last [
+      | inl gave ↦ runs u holds alone none (Err stop) out' (stopped (arrived u holds).turn (last u holds) A (run u holds).2.turns.mid.out out' stop (told u holds gave))
       | inr back ↦ was_kept stop u holds alone none back
     ];
     input = k;
@@ -330,13 +330,13 @@ module _ {X A : Type 0} {rest : X → Option (List ℕ)} {failures : X → ℕ} 
 
   module _ {v : A} (u : TookTurn rest failures s s' k before until out out' (Ok v)) where
     gave : {hs : List Header} {lanes : List Lane} {ds : List Dump} (holds : Holds rest hs lanes ds s)
-        → Turns {A = A} k (factor hs (f u holds).lane.header) (first_number (take k hs)) (f u holds).lane (m u holds).dump.items (m u holds).mid.written s'.written (t u holds).0 (t u holds).2.turns.mid.out out' (Ok v)
-    gave holds = elim (t u holds).2.turns.last [ inl x ↦ told u holds x | inr back ↦ absurd back ]
+        → Turns {A = A} k (factor hs (start u holds).lane.header) (first_number (take k hs)) (start u holds).lane (arrived u holds).dump.items (arrived u holds).mid.written s'.written (run u holds).0 (run u holds).2.turns.mid.out out' (Ok v)
+    gave holds = elim (run u holds).2.turns.last [ inl x ↦ told u holds x | inr back ↦ absurd back ]
 
     -- it continues
     pub went_on : AreSeated s'.chunks s'.tokens s'.seats → (j : ℕ) × IsNext s'.seats j → left_of s'.seats < left_of s.seats → Runs rest failures until s s' out out' (Ok Again)
     went_on seated some left = record {
-      gives = λ alone hs lanes ds none holds. runs u holds alone none (Ok Again) out' (again (m u holds).turn (last u holds) A (t u holds).2.turns.mid.out out' v (gave holds));
+      gives = λ alone hs lanes ds none holds. runs u holds alone none (Ok Again) out' (again (arrived u holds).turn (last u holds) A (run u holds).2.turns.mid.out out' v (gave holds));
       input = k;
       next = u.next;
       leaves = record {
@@ -359,17 +359,17 @@ module _ {X A : Type 0} {rest : X → Option (List ℕ)} {failures : X → ℕ} 
       Closes Written = (hs : List Header) (es : List Dump) → AreMarked hs es s'.seats → s'.written ≡ last_written (merged_items es) → Written (merge_close (merged_items es))
 
       module _ {hs : List Header} {lanes : List Lane} {ds : List Dump} (holds : Holds rest hs lanes ds s) where
-        done : Holds rest hs lanes (m u holds).dumps s' × Writes (t u holds).2.turns.mid.out out' [] × ReadsOne rest lanes (m u holds).dumps (m u holds).mid s' k None
-        done = ended (m u holds).turn (last u holds) A (t u holds).2.turns.mid.out out' v all (gave holds)
+        done : Holds rest hs lanes (arrived u holds).dumps s' × Writes (run u holds).2.turns.mid.out out' [] × ReadsOne rest lanes (arrived u holds).dumps (arrived u holds).mid s' k None
+        done = ended (arrived u holds).turn (last u holds) A (run u holds).2.turns.mid.out out' v all (gave holds)
 
-        closing : (Written : List ℕ → Type 0) → Closes Written → Written (merge_close (merged_items (m u holds).dumps))
-        closing Written closes = closes hs (m u holds).dumps (are_marked rest hs lanes (m u holds).dumps s' done.0.given) done.0.written
+        closing : (Written : List ℕ → Type 0) → Closes Written → Written (merge_close (merged_items (arrived u holds).dumps))
+        closing Written closes = closes hs (arrived u holds).dumps (are_marked rest hs lanes (arrived u holds).dumps s' done.0.given) done.0.written
 
       pub has_ended : CountsWrites {A = More} out new (Ok (Ended Whole)) → Closes (Writes out' new) → Runs rest failures until s s' out new (Ok (Ended Whole))
       has_ended counts closes = record {
         gives = λ alone hs lanes ds none holds.
-            let close = merge_close (merged_items (m u holds).dumps) in
-            runs u holds alone none (Ok (Ended Whole)) new (record { given = (done holds).0.given; finished = all; closes = both-written (t u holds).2.turns.mid.out out' new [] close (done holds).1 (closing holds (Writes out' new) closes); input = k; reads = (done holds).2 });
+            let close = merge_close (merged_items (arrived u holds).dumps) in
+            runs u holds alone none (Ok (Ended Whole)) new (record { given = (done holds).0.given; finished = all; closes = both-written (run u holds).2.turns.mid.out out' new [] close (done holds).1 (closing holds (Writes out' new) closes); input = k; reads = (done holds).2 });
         input = k;
         next = u.next;
         leaves = record { ready = λ again. cc; touches = touches_with u.touches new (Ok (Ended Whole)) u.touches.reads tt counts; left = λ again. cc };
@@ -378,8 +378,8 @@ module _ {X A : Type 0} {rest : X → Option (List ℕ)} {failures : X → ℕ} 
       pub was_cut : CountsWrites {A = More} out new (Err Write) → Closes (WritesSome out' new) → Runs rest failures until s s' out new (Err Write)
       was_cut counts closes = record {
         gives = λ alone hs lanes ds none holds.
-            let close = merge_close (merged_items (m u holds).dumps) in
-            runs u holds alone none (Err Write) new (inr (inl (record { given = (done holds).0.given; finished = all; closes = (close, refl, some-behind (t u holds).2.turns.mid.out out' new [] close (done holds).1 (closing holds (WritesSome out' new) closes)); input = k; reads = (done holds).2 })));
+            let close = merge_close (merged_items (arrived u holds).dumps) in
+            runs u holds alone none (Err Write) new (inr (inl (record { given = (done holds).0.given; finished = all; closes = (close, refl, some-behind (run u holds).2.turns.mid.out out' new [] close (done holds).1 (closing holds (WritesSome out' new) closes)); input = k; reads = (done holds).2 })));
         input = k;
         next = u.next;
         leaves = record { ready = λ again. cc; touches = touches_with u.touches new (Err Write) u.touches.reads tt counts; left = λ again. cc };
