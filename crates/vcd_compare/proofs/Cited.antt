@@ -60,10 +60,10 @@ pub use Rattle.vcd_compare.specs.LineTexts.{ArePairLines, states_of}
 pub use Rattle.vcd_compare.specs.Lines.{DoNotFall, IsQuiet, changed_at, codes_differ, flag_of, had_line, is_always, lines_due, time_compared}
 pub use Rattle.vcd_compare.specs.Needed.{StepReads, due_with, is_settled_with}
 pub use Rattle.vcd_compare.specs.Outcomes.{AnswersGiveOutcomes, Belongs, BodiesGiveOutcomes, left_of}
-pub use Rattle.vcd_compare.specs.Pairs.{AreLinked, ArePairs, HasEnd, HoldsPairs, IsClassOf, IsLastEnd, IsPairAt, IsUnlikeAt, names_in}
+pub use Rattle.vcd_compare.specs.Pairs.{AreFew, AreLinked, ArePairs, HasEnd, HoldsPairs, IsClassOf, IsLastEnd, IsPairAt, IsUnlikeAt, names_in}
 pub use Rattle.vcd_compare.specs.Paths.{AreApart, AreTexts, EntersPath, EntersText, HasTexts, IsNumberOf, has_dot, joined, texts_in}
 pub use Rattle.vcd_compare.specs.Run.{BodyBegins, BodyGives, HasCome, RunStands, StepGives, StepsAhead, TellsEnd, flag_after, is_due_now, settled_by, step_end}
-pub use Rattle.vcd_compare.specs.Selected.{AreInside, AreMarks, AreNearest, AreWithin, IsNearest, IsPutInside, both_names, chosen, first_above, is_inside, is_kept, is_one_of, lists_in}
+pub use Rattle.vcd_compare.specs.Selected.{AreInside, AreMarks, AreNamedBelow, AreNearest, AreWithin, IsNearest, IsPutInside, both_names, chosen, first_above, is_inside, is_kept, is_one_of, lists_in}
 pub use Rattle.vcd_compare.specs.Variables.{AddsVariable, AreCounted, AreNumbered, AreVariables, HasSome, IsAround, IsAt, IsKeyOf, IsNamedAt, IsScopeNumber, named_in, same_key}
 pub use Rattle.vcd_compare.specs.declared.comparing.Comparison.{Comparison}
 pub use Rattle.vcd_compare.specs.declared.comparing.Watched.{Watched}

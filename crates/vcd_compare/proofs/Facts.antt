@@ -7,13 +7,13 @@ pub use Rattle.vcd_compare.proofs.KindLemmas.{is_digits, is_event, is_real, is_r
 pub use Rattle.vcd_compare.proofs.LineLemmas.{HasFlag, alone_line, alone_of, alone_texts, due_of, event_is, event_shown, head_empty, head_is, line_due, line_none, lines_cut, lines_more, pair_line, pair_texts, state_texts, state_words, texts_cut, texts_last, texts_more, texts_none, unlike_line, unlike_texts, zip_get}
 pub use Rattle.vcd_compare.proofs.MatchLemmas.{match_self}
 pub use Rattle.vcd_compare.proofs.NeededLemmas.{HasRead, given_past, needed_before, needed_last, read_more, read_same, read_step, step_goes, step_refused, step_unwritten}
-pub use Rattle.vcd_compare.proofs.PairLoops.{AloneBefore, HeldBefore, HeldNames, alone_all, alone_one, alone_same, held_all, held_next, names_next, places_before}
+pub use Rattle.vcd_compare.proofs.PairLoops.{AloneBefore, HeldBefore, HeldNames, alone_all, alone_one, alone_same, few_kept, held_all, held_next, names_next, places_before}
 pub use Rattle.vcd_compare.proofs.PairSteps.{fits_as, held_alone, held_unlike, kind_apart, kind_same, named_row, pair_more, place_both, place_missing}
 pub use Rattle.vcd_compare.proofs.PathTexts.{IsEntering, entering_more, path_entered, text_entered, text_found}
 pub use Rattle.vcd_compare.proofs.PlaceLemmas.{found_places, keys_within, listed_paths, listed_variables, same_len, zip_from}
-pub use Rattle.vcd_compare.proofs.RowPaths.{NumbersSome, around_at, around_joined, names_more, ok_then, some_row, variables_stay, zip_stays}
+pub use Rattle.vcd_compare.proofs.RowPaths.{NumbersSome, around_at, around_joined, names_more, ok_then, some_row, texts_stay, zip_stays}
 pub use Rattle.vcd_compare.proofs.RunSteps.{begins_none, change_given, close_fails, come_passed, ends_whole, goes_quiet, not_over, pass_fails, section_come, stopped, time_ends, time_fails, time_forth, time_on}
-pub use Rattle.vcd_compare.proofs.SelectedLemmas.{both_one}
+pub use Rattle.vcd_compare.proofs.SelectedLemmas.{both_one, named_below}
 pub use Rattle.vcd_compare.proofs.StartLemmas.{come_first, compares_first, open_first}
 pub use Rattle.vcd_compare.proofs.StatesNow.{all_from_last, apart_at, bits_real, bits_there, both_real, held_state, lengths_match, next_digit, shown_digits, some_unset, told_same, triggered_now, unset_some}
 pub use Rattle.vcd_compare.proofs.TimeSteps.{counted_none, differs_none, differs_some, left_due, none_now, puts_now, settles_due, settles_none, tells_again, tells_first, tells_later, tells_none}

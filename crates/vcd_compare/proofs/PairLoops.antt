@@ -1,7 +1,9 @@
 -- The pairs of all variables, one after the other.
-use Rattle.vcd_compare.proofs.Cited.{◌≡◌, ℕ, suc, ◌≤◌, ◌&&◌, not, cond, Bool, true, false, List, [], ◌∷◌, ◌++◌, length, take, drop, map, map-append, filter, filter_map, flat_map, slice_get, Option, Some, None, refl, sym, ap, subst, ◌∙◌, is_none, option_map, Vec, AllZip, flat_map_more, take_all, flat_map-append, filter-append, filter_map-append, Header, Asked, Named, Pair, all_named, is_fit, is_left_in, Names, alone_in, at_path, compared_in, pair_at, pairs_in, places_of, turned, unlike_in, all_zip_push, selects_path, IsPlace, place_of, selected_in, HasPairs, alone_at, compared_at, unlike_at, Pairs, IsNamedAt}
+use Rattle.vcd_compare.proofs.Cited.{◌≡◌, ℕ, suc, ◌+◌, ◌≤◌, ◌&&◌, not, cond, Bool, true, false, List, [], ◌∷◌, ◌++◌, length, take, drop, map, map-append, filter, filter_map, flat_map, slice_get, Option, Some, None, refl, sym, ap, subst, ◌∙◌, arith, is_none, option_map, Vec, AllZip, flat_map_more, take_all, flat_map-append, filter-append, filter_map-append, Header, Asked, Named, Pair, all_named, is_fit, is_left_in, Names, alone_in, at_path, compared_in, pair_at, pairs_in, places_of, turned, unlike_in, all_zip_push, selects_path, IsPlace, place_of, selected_in, length-append, AreFew, ArePairs, IsPairAt, IsUnlikeAt, HasPairs, alone_at, compared_at, unlike_at, Pairs, IsNamedAt}
 use Rattle.std.proofs.lemmas.List.{append_assoc, append-nil}
+use Rattle.std.proofs.lemmas.List.Filters.{length-filter_both}
 use Rattle.vcd_compare.proofs.PairSteps.{held_other}
+use Rattle.vcd_compare.proofs.PlaceLemmas.{same_len}
 use Rattle.vcd_compare.proofs.VariableLemmas.{take_next}
 
 -- the places of the first variables that the name selects
@@ -114,3 +116,45 @@ module _ (q : Asked) (h : Header) (ns : List Names) where
       (subst (λ l. HasPairs keys (record ps { alone_other = alone }) h (compared_in q h (take i ns) ++ compared_in q h (n ∷ [])) l (flat_map (alone_in q h) (take (suc i) ns)) (flat_map (λ m. alone_in q h (turned m)) (take (suc i) ns))) u
       (subst (λ l. HasPairs keys (record ps { alone_other = alone }) h (compared_in q h (take i ns) ++ compared_in q h (n ∷ [])) (unlike_in q h (take i ns) ++ unlike_in q h (n ∷ [])) l (flat_map (λ m. alone_in q h (turned m)) (take (suc i) ns))) a
       (subst (λ l. HasPairs keys (record ps { alone_other = alone }) h (compared_in q h (take i ns) ++ compared_in q h (n ∷ [])) (unlike_in q h (take i ns) ++ unlike_in q h (n ∷ [])) (flat_map (alone_in q h) (take i ns) ++ alone_in q h n) l) b held)))
+
+-- ---- how many there are
+
+-- what has a place is a pair or has no counterpart
+each_place : (ps : List (Named × Option Named)) → length (filter_map pair_at ps) + length (alone_at ps) ≡ length ps
+each_place [] = refl
+each_place ((v, None) ∷ ps) = let rest = each_place ps in omega (arith, rest)
+each_place ((v, Some w) ∷ ps) = let rest = each_place ps in omega (arith, rest)
+
+module _ (q : Asked) (h : Header) where
+  each_selected : (ns : List Names) → length (pairs_in q h ns) + length (flat_map (alone_in q h) ns) ≡ length (flat_map (places_of q h) ns)
+  each_selected [] = refl
+  each_selected (n ∷ ns) =
+      let rest = each_selected ns in
+      let one = each_place (places_of q h n) in
+      let a = length-append (filter_map pair_at (places_of q h n)) (pairs_in q h ns) in
+      let b = length-append (alone_in q h n) (flat_map (alone_in q h) ns) in
+      let c = length-append (places_of q h n) (flat_map (places_of q h) ns) in
+      omega (arith, rest, one, a, b, c)
+
+  few_alone : (ns : List Names) → length (flat_map (λ n. alone_in q h (turned n)) ns) ≤ length (flat_map (λ n. places_of q h (turned n)) ns)
+  few_alone [] = omega arith
+  few_alone (n ∷ ns) =
+      let rest = few_alone ns in
+      let one = each_place (places_of q h (turned n)) in
+      let b = length-append (alone_in q h (turned n)) (flat_map (λ m. alone_in q h (turned m)) ns) in
+      let c = length-append (places_of q h (turned n)) (flat_map (λ m. places_of q h (turned m)) ns) in
+      omega (arith, rest, one, b, c)
+
+pub few_kept : (ps : Pairs) (h : Header) (q : Asked) (ns : List Names) → ArePairs ps h q ns → AreFew ps h q ns
+few_kept ps h q ns are =
+    let rows = same_len (IsPairAt h ps.ends.items) ps.rows.items (compared_in q h ns) are.rows in
+    let unlike = same_len (IsUnlikeAt h) ps.unlike.items (unlike_in q h ns) are.unlike in
+    let ones = same_len (IsNamedAt h) ps.alone_one.items (flat_map (alone_in q h) ns) are.alone_one in
+    let others = same_len (IsNamedAt h) ps.alone_other.items (flat_map (λ n. alone_in q h (turned n)) ns) are.alone_other in
+    let kinds = length-filter_both is_fit (λ p. not (is_fit p)) (λ p. refl) (pairs_in q h ns) in
+    let places = each_selected q h ns in
+    let alone = few_alone q h ns in
+    let codes = are.codes in
+    let classes = are.classes in
+    let few = are.few in
+    omega (arith, rows, unlike, ones, others, kinds, places, alone, codes, classes, few)

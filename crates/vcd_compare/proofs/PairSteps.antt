@@ -1,5 +1,5 @@
 -- The pairs of a header, one more at a time.
-use Rattle.vcd_compare.proofs.Cited.{◌≡◌, ℕ, suc, ◌*◌, ◌<◌, Bool, true, false, not, cond, List, [], ◌∷◌, ◌++◌, length, get_or, slice_get, Option, Some, None, inl, inr, sym, ap, subst, ◌∙◌, Vec, AllZip, get_or_from_slice_get, Variable, code_of, Header, Kind, Named, Pair, all_named, is_fit, kind_of, same_kind, all_zip_push, slice_get-front, slice_get-seam, EntersClass, HasPairs, alone_at, compared_at, compared_of, unlike_at, unlike_of, HasEnd, HoldsPairs, IsClassOf, IsPairAt, IsUnlikeAt, IsAt, IsNamedAt, UnlikeRows, End, PairRow, Pairs}
+use Rattle.vcd_compare.proofs.Cited.{◌≡◌, ◌⊎◌, ℕ, suc, ◌*◌, ◌<◌, ◌≤◌, nat_lt, Bool, true, false, not, cond, List, [], ◌∷◌, ◌++◌, length, get_or, slice_get, Option, Some, None, inl, inr, refl, sym, ap, subst, ◌∙◌, arith, Vec, AllZip, length-append, ltb-false, ltb-true, get_or_from_slice_get, Variable, code_of, Header, Kind, Named, Pair, all_named, is_fit, kind_of, same_kind, all_zip_push, slice_get-front, slice_get-seam, EntersClass, HasPairs, alone_at, compared_at, compared_of, unlike_at, unlike_of, HasEnd, HoldsPairs, IsClassOf, IsPairAt, IsUnlikeAt, IsAt, IsNamedAt, UnlikeRows, End, PairRow, Pairs}
 use Rattle.std.proofs.lemmas.List.{append-nil}
 use Rattle.vcd_compare.proofs.PlaceLemmas.{zip_at}
 
@@ -29,6 +29,22 @@ class_of h keys new_keys ends new_ends last new_last codes class p e one other =
       other = (is.1.0, is.1.1, ap (slice_get h.codes) is.1.2 ∙ other);
     }
 
+-- one class more at most
+one_more : (n m class : ℕ) → ((other : ℕ) → other < m → (other < n) ⊎ (other ≡ class)) → m ≤ suc n
+one_more n m class each = by_test (nat_lt (suc n) m) refl
+  where
+    by_test : (b : Bool) → nat_lt (suc n) m ≡ b → m ≤ suc n
+    by_test false q = ltb-false (suc n) m q
+    by_test true q =
+        let l = ltb-true (suc n) m q in
+        elim (each n (omega (arith, l))) [
+          | inl below ↦ absurd (omega (arith, below))
+          | inr one ↦ elim (each (suc n) l) [
+            | inl below ↦ absurd (omega (arith, below))
+            | inr two ↦ absurd (omega (arith, one, two))
+          ]
+        ]
+
 -- one pair more that is compared
 pub pair_more : (h : Header) (old new : Pairs) (keys new_keys : List (ℕ × ℕ)) (codes : ℕ × ℕ) (row class : ℕ) (p : Pair) (compared unlike : List Pair) (ones others : List Named) → HoldsPairs old h compared unlike ones others
     → EntersClass keys new_keys old.ends.items new.ends.items old.last.items new.last.items codes class → length keys ≡ old.classes → length new_keys ≡ new.classes
@@ -46,6 +62,7 @@ pair_more h old new keys new_keys codes row class p compared unlike ones others 
       linked = e.has.linked;
       codes = e.room ∙ holds.codes;
       classes = ap (λ n. n * 2) (sym new_len) ∙ e.has.count;
+      few = let f = holds.few in let m = one_more (length keys) (length new_keys) class e.old_or_new in let l = ap length rows ∙ length-append old.rows.items (r ∷ []) in omega (arith, f, m, l, keys_len, new_len);
       fit = λ k l. elim (e.old_or_new k (subst (λ n. k < n) (sym new_len) l)) [
         | inl before ↦
             let f = holds.fit k (subst (λ n. k < n) keys_len before) in
@@ -78,6 +95,7 @@ module _ (keys : List (ℕ × ℕ)) (h : Header) (compared other_kinds : List Pa
       linked = s.holds.linked;
       codes = s.holds.codes;
       classes = s.holds.classes;
+      few = s.holds.few;
       fit = s.holds.fit;
       covered = s.holds.covered;
     };
@@ -96,6 +114,7 @@ module _ (keys : List (ℕ × ℕ)) (h : Header) (compared other_kinds : List Pa
       linked = s.holds.linked;
       codes = s.holds.codes;
       classes = s.holds.classes;
+      few = s.holds.few;
       fit = s.holds.fit;
       covered = s.holds.covered;
     };
@@ -127,6 +146,7 @@ module _ (keys : List (ℕ × ℕ)) (h : Header) (compared other_kinds : List Pa
       linked = s.holds.linked;
       codes = s.holds.codes;
       classes = s.holds.classes;
+      few = s.holds.few;
       fit = s.holds.fit;
       covered = s.holds.covered;
     };

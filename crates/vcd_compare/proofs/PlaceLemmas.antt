@@ -153,14 +153,15 @@ module _ (parts : List (List ℕ)) (nodes : List (ℕ × ℕ)) (texts : List (Li
               list_any-append (λ x. x == i) done (k ∷ []) ∙ ap (λ b. list_any (λ x. x == i) done || (b || false)) q ∙ or-false (list_any (λ x. x == i) done) in
               subst (IsCounterpart texts n t) (sym place) (s.each i t text kept selected (elim at [ inl e ↦ inl e | inr e ↦ inr (sym done_is ∙ e) ]))
 
-      pub placing_last : (one count : ℕ) (places : List (Option ℕ)) → IsNumberOf texts one n.0 → IsPlacing one (chosen node_inside count) places → ArePlaces texts es n count places
-      placing_last one count places a s = λ i t l text kept selected. s.each i t text kept selected (by_same i t l text kept selected (bytes_eq t n.0) refl)
+      pub placing_last : (one : ℕ) (places : List (Option ℕ)) → IsNumberOf texts one n.0 → IsPlacing one (chosen node_inside (length nodes)) places → ArePlaces texts es n places
+      placing_last one places a s = λ i t text kept selected. s.each i t text kept selected (by_same i t text kept selected (bytes_eq t n.0) refl)
         where
-          by_same : (i : ℕ) (t : List ℕ) → i < count → slice_get texts i ≡ Some t → is_kept es t ≡ true → selects_path t n.0 ≡ true → (b : Bool) → bytes_eq t n.0 ≡ b → (suc i ≡ one) ⊎ (list_any (λ x. x == i) (chosen node_inside count) ≡ true)
-          by_same i t l text kept selected true q = let index : i ≡ a.0 = are.apart i a.0 n.0 (text ∙ ap Some ((bytes_eq-Decides t n.0).0 q)) a.2 in inl (ap suc index ∙ sym a.1)
-          by_same i t l text kept selected false q =
+          by_same : (i : ℕ) (t : List ℕ) → slice_get texts i ≡ Some t → is_kept es t ≡ true → selects_path t n.0 ≡ true → (b : Bool) → bytes_eq t n.0 ≡ b → (suc i ≡ one) ⊎ (list_any (λ x. x == i) (chosen node_inside (length nodes)) ≡ true)
+          by_same i t text kept selected true q = let index : i ≡ a.0 = are.apart i a.0 n.0 (text ∙ ap Some ((bytes_eq-Decides t n.0).0 q)) a.2 in inl (ap suc index ∙ sym a.1)
+          by_same i t text kept selected false q =
               let inside = selected_inside i t text kept selected (λ e. let yes = (bytes_eq-Decides t n.0).1 e in absurd (cc)) in
-              inr (chosen_has node_inside i count inside l)
+              let within = slice_get_within texts i t text in
+              inr (chosen_has node_inside i (length nodes) inside (let l = are.len in omega (arith, within, l)))
 
 -- ---- counterparts of variables
 
@@ -270,8 +271,7 @@ variable_place q h n texts vs places index j v list place result finds nth at sa
     let key : get_or list index (0, 0) ≡ k.0 = ap (λ (l : List (ℕ × ℕ)). get_or l index (0, 0)) same ∙ get_or_from_slice_get vs.keys.keys index k.0 (0, 0) k.1 in
     let path = k.2.path in
     let both = selected_nth q h n j v at in
-    let within = finds.within index k.0 k.1 in
-    let p = finds.placed path.0 v.path (let e = path.1 in omega (arith, within, e)) path.2 both.0 both.1 in
+    let p = finds.placed path.0 v.path path.2 both.0 both.1 in
     let place_is : place ≡ get_or places (suc path.0) None = is ∙ ap (λ (x : ℕ × ℕ). get_or places x.0 None) key ∙ ap (λ m. get_or places m None) path.1 in
     subst (IsPlace h n v) (sym (looks ∙ ap (λ (x : ℕ × ℕ). looked_up vs.keys.keys x.1 place) key ∙ ap (λ m. looked_up vs.keys.keys m place) k.2.nth ∙ ap (looked_up vs.keys.keys v.nth) place_is))
     (by_path h n texts v finds.apart vs finds.are (get_or places (suc path.0) None) p)
@@ -306,11 +306,11 @@ keys_within h texts vs are = λ i x at.
 
 -- what is listed for a name of some pair of names
 module _ (paths : Paths) (vs : Variables) (s : Selections) (q : Asked) (h : Header) (ns : List Names) (texts : List (List ℕ)) (ready : HasSelected paths vs s q h ns texts) (n : Names) (one : ℕ) (number : IsNumberOf texts one n.0) (name : is_one_of (both_names ns) n.0 ≡ true) where
-  pub listed_paths : (lists : List (Vec ℕ)) (list : List ℕ) → lists ≡ s.paths.items → list ≡ get_or (lists_in lists) one [] → list ≡ chosen (λ i. is_inside texts q.exceptions n.0 (get_or paths.nodes.keys i (0, 0)).0) ready.count
+  pub listed_paths : (lists : List (Vec ℕ)) (list : List ℕ) → lists ≡ s.paths.items → list ≡ get_or (lists_in lists) one [] → list ≡ chosen (λ i. is_inside texts q.exceptions n.0 (get_or paths.nodes.keys i (0, 0)).0) (length paths.nodes.keys)
   listed_paths lists list same is = is ∙ ap (λ (l : List (Vec ℕ)). get_or (lists_in l) one []) same ∙ ready.inside one n.0 number name
 
   pub listed_variables : (lists : List (Vec ℕ)) (list : List ℕ) → lists ≡ s.variables.items → list ≡ get_or (lists_in lists) one [] → AreSelected q h n list
   listed_variables lists list same is = selected_zip q h n texts vs list ready.are (is ∙ ap (λ (l : List (Vec ℕ)). get_or (lists_in l) one []) same ∙ ready.variables one n.0 number name)
 
-  pub found_places : (places list : List (Option ℕ)) → list ≡ places → ArePlaces texts q.exceptions n ready.count places → FindPlaces q h n texts vs list
-  found_places places list same placed = record { apart = ready.has.apart; are = ready.are; count = ready.count; within = ready.within; placed = subst (ArePlaces texts q.exceptions n ready.count) (sym same) placed }
+  pub found_places : (places list : List (Option ℕ)) → list ≡ places → ArePlaces texts q.exceptions n places → FindPlaces q h n texts vs list
+  found_places places list same placed = record { apart = ready.has.apart; are = ready.are; placed = subst (ArePlaces texts q.exceptions n) (sym same) placed }

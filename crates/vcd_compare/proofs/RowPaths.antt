@@ -1,5 +1,5 @@
 -- The path of a row is that of the scope around it, a dot, and its name.
-use Rattle.vcd_compare.proofs.Cited.{◌≡◌, ℕ, suc, ◌<◌, ◌≤◌, false, true, List, [], ◌∷◌, ◌++◌, length, take, get_or, slice_get, Option, Some, None, nat_lt, Result, Ok, Err, refl, sym, ap, subst, ◌∙◌, arith, length-append, IfOk, AllZip, ltb-true, ltb-false, get_or_from_slice_get, same_Some, Declaration, enclosing, name_of, parent, path_of, Header, innermost, slice_get-take, counted_from_one, all_zip_push, slice_get-front, slice_get-seam, around_some, parent_before, front, scopes_text, front_is, front_next, path_is, Names, AreNumbersOf, EntersNames, EntersTexts, EntersPath, HasTexts, IsNumberOf, joined, all_named, AreNumbered, AreVariables, IsAround, IsKeyOf, IsScopeNumber, Paths, Variables}
+use Rattle.vcd_compare.proofs.Cited.{◌≡◌, ℕ, suc, ◌<◌, ◌≤◌, false, true, List, [], ◌∷◌, ◌++◌, length, take, get_or, slice_get, Option, Some, None, nat_lt, Result, Ok, Err, refl, sym, ap, subst, ◌∙◌, arith, length-append, IfOk, AllZip, ltb-true, ltb-false, get_or_from_slice_get, same_Some, Declaration, enclosing, name_of, parent, path_of, Header, innermost, slice_get-take, counted_from_one, all_zip_push, slice_get-front, slice_get-seam, around_some, parent_before, front, scopes_text, front_is, front_next, path_is, Names, AreNumbersOf, EntersNames, EntersTexts, EntersPath, HasTexts, IsNumberOf, joined, AreNumbered, IsAround, IsScopeNumber, Paths}
 use Rattle.std.proofs.lemmas.List.{append_assoc}
 use Rattle.vcd_compare.proofs.PairSteps.{zip_weaker}
 use Rattle.vcd_compare.proofs.PathTexts.{joined_number, number_within}
@@ -92,13 +92,6 @@ pub ok_then : {X E : Type 0} (r : Result X E) (P Q : X → Type 0) → ((x : X) 
 ok_then (Ok x) P Q f p = f x p
 ok_then (Err e) P Q f p = tt
 
--- the variables keep their numbers
-pub variables_stay : (h : Header) (texts more : List (List ℕ)) (vs : Variables) → AreVariables h texts vs → AreVariables h (texts ++ more) vs
-variables_stay h texts more vs are = record {
-  rows = are.rows;
-  keys = zip_weaker (IsKeyOf texts) (IsKeyOf (texts ++ more)) vs.keys.keys (all_named h) (λ k v is. record { path = numbers_stay texts more k.0 v.path is.path; nth = is.nth }) are.keys;
-}
-
 -- ---- names and other texts
 
 pub names_more : (texts : List (List ℕ)) (old mid new : Paths) (ns : List Names) (numbers : List (ℕ × ℕ)) (n : Names) (one other : ℕ) (e : EntersNames texts old ns numbers) (a : EntersPath (texts ++ e.0) mid n.0 one) → EntersPath ((texts ++ e.0) ++ a.0) new n.1 other
@@ -121,3 +114,7 @@ texts_more texts old new ts numbers t number e a =
 -- the numbers stay those of the names once more texts are entered
 pub zip_stays : (texts more : List (List ℕ)) (numbers : List (ℕ × ℕ)) (ns : List Names) → AllZip (AreNumbersOf texts) numbers ns → AllZip (AreNumbersOf (texts ++ more)) numbers ns
 zip_stays texts more numbers ns = zip_weaker (AreNumbersOf texts) (AreNumbersOf (texts ++ more)) numbers ns (λ m k is. (numbers_stay texts more m.0 k.0 is.0, numbers_stay texts more m.1 k.1 is.1))
+
+-- and those of other texts
+pub texts_stay : (texts more : List (List ℕ)) (numbers : List ℕ) (ts : List (List ℕ)) → AllZip (IsNumberOf texts) numbers ts → AllZip (IsNumberOf (texts ++ more)) numbers ts
+texts_stay texts more numbers ts = zip_weaker (IsNumberOf texts) (IsNumberOf (texts ++ more)) numbers ts (λ m t is. numbers_stay texts more m t is)

@@ -1,5 +1,5 @@
 -- What names select, by number: the nearest of them, path by path, and what is inside of each.
-use Rattle.vcd_compare.proofs.Cited.{◌≡◌, ◌≢◌, ℕ, suc, ◌<◌, ◌≤◌, ◌==◌, ◌&&◌, ◌||◌, not, nat_eq, nat_lt, Bool, true, false, cond, List, [], ◌∷◌, ◌++◌, length, set, take, get_or, slice_get, filter, flat_map, bytes_eq, Some, inl, inr, refl, sym, ap, subst, ◌∙◌, arith, Vec, AllZip, list_any, starts_with, eqb-false, eqb-true, ne_eqb, lt-ltb, ltb-true, ltb-false, false_from_ne_true, or_left, or_parts, or_right, length-append, length-map, length-set, get_or-set_other, get_or-set_same, get_or_from_slice_get, same_Some, slice_get-get_or, slice_get_within, bytes_eq-Decides, filter-append, selects_path, Names, all_zip_push, there, selected_begins, selects_behind_byte, selects-front, selects-longer, selects_split, AreTexts, IsNumberOf, has_dot, joined, AreNumbersOf}
+use Rattle.vcd_compare.proofs.Cited.{◌≡◌, ◌≢◌, ℕ, suc, ◌+◌, ◌<◌, ◌≤◌, ◌==◌, ◌&&◌, ◌||◌, not, nat_eq, nat_lt, Bool, true, false, cond, List, [], ◌∷◌, ◌++◌, length, set, take, get_or, slice_get, filter, flat_map, bytes_eq, Some, inl, inr, refl, sym, ap, subst, ◌∙◌, arith, Vec, AllZip, list_any, starts_with, eqb-false, eqb-true, ne_eqb, lt-ltb, ltb-true, ltb-false, false_from_ne_true, or_left, or_parts, or_right, length-append, length-map, length-set, get_or-set_other, get_or-set_same, get_or_from_slice_get, same_Some, slice_get-get_or, slice_get_within, bytes_eq-Decides, filter-append, selects_path, Names, all_zip_push, there, selected_begins, selects_behind_byte, selects-front, selects-longer, selects_split, slice_get-front, AreApart, AreTexts, IsNumberOf, has_dot, joined, AreNumbersOf}
 use Rattle.std.proofs.Common.{zero}
 use Rattle.std.proofs.Math.ListN.{get_or-append}
 use Rattle.std.proofs.Math.Seq.{get_or-append_seam, take-append_seam}
@@ -7,7 +7,7 @@ use Rattle.std.proofs.lemmas.List.{append-nil, get_or_past, take-append-le}
 use Rattle.std.proofs.lemmas.List.Folds.{list_any-append}
 use Rattle.vcd_compare.proofs.PathTexts.{at_most}
 use Rattle.vcd_compare.proofs.VariableLemmas.{take_next}
-use Rattle.vcd_compare.specs.Selected.{AreNearest, AreWithin, IsNearest, IsPutInside, both_names, chosen, first_above, is_inside, is_kept, is_one_of, lists_in}
+use Rattle.vcd_compare.specs.Selected.{AreNamedBelow, AreNearest, AreWithin, IsNearest, IsPutInside, both_names, chosen, first_above, is_inside, is_kept, is_one_of, lists_in}
 
 -- ---- a path and one inside it
 
@@ -252,7 +252,7 @@ module _ (parts : List (List ℕ)) (nodes : List (ℕ × ℕ)) (texts : List (Li
     each = λ m w number_is one. sym (ap (λ b. get_or (lists_in lists) m [] ++ cond b (index ∷ []) []) (both_not _ _ (nearest_selects around w l one ∙ ap (selects_number texts w) (sym is))) ∙ append-nil (get_or (lists_in lists) m []));
   }
 
-  pub putting_next : (around index number next : ℕ) (old mid new : List (Vec ℕ)) → length old ≡ length nearest → number ≢ 0 → next ≡ first_above nodes nearest number
+  pub putting_next : (around index number next : ℕ) (old mid new : List (Vec ℕ)) → AreNamedBelow texts names (length old) → number ≢ 0 → next ≡ first_above nodes nearest number
       → lists_in new ≡ set (lists_in mid) number (get_or (lists_in mid) number [] ++ index ∷ []) → IsPutting around index number old mid → IsPutting around index next old new
   putting_next around index zero next old mid new room some is puts s = absurd (some refl)
   putting_next around index (suc k) next old mid new room some is puts s = record {
@@ -307,7 +307,7 @@ module _ (parts : List (List ℕ)) (nodes : List (ℕ × ℕ)) (texts : List (Li
           let m_is : m ≡ suc k = number_is.1 ∙ ap suc index_is in
           let selected : selects_number texts w (suc k) ≡ true = here w ∙ ap (λ x. selects_path x w) same ∙ selects_itself w in
           let around_is = s.below w one selected in
-          let long : suc k < length (lists_in mid) = let r = near.len in let w = within in let a = s.len in omega (arith, room, r, w, a, length-map mid (λ (l : Vec ℕ). l.items)) in
+          let long : suc k < length (lists_in mid) = let n = s.name some in let r = room (suc k) n.0 n.1 n.2 in let a = s.len in omega (arith, r, a, length-map mid (λ (l : Vec ℕ). l.items)) in
           let before : get_or (lists_in mid) (suc k) [] ≡ get_or (lists_in old) (suc k) [] =
           ap (λ x. get_or (lists_in mid) x []) (sym m_is) ∙ s.each m w number_is one ∙ ap (λ b. get_or (lists_in old) m [] ++ cond (selects_number texts w around && not b) (index ∷ []) []) selected
           ∙ ap (λ b. get_or (lists_in old) m [] ++ cond (b && false) (index ∷ []) []) around_is ∙ append-nil (get_or (lists_in old) m []) ∙ ap (λ x. get_or (lists_in old) x []) m_is in
@@ -410,6 +410,26 @@ both_zip texts [] [] all = tt
 both_zip texts [] (n ∷ ns) all = absurd all
 both_zip texts (m ∷ numbers) [] all = absurd all
 both_zip texts (m ∷ numbers) (n ∷ ns) all = (all.0.0, (all.0.1, both_zip texts numbers ns all.1))
+
+-- a name has a number if all have
+one_number : (texts : List (List ℕ)) (numbers : List ℕ) (names : List (List ℕ)) (w : List ℕ) → AllZip (IsNumberOf texts) numbers names → is_one_of names w ≡ true → (m : ℕ) × IsNumberOf texts m w
+one_number texts [] [] w all one = cc
+one_number texts [] (e ∷ names) w all one = absurd all
+one_number texts (m ∷ numbers) [] w all one = absurd all
+one_number texts (m ∷ numbers) (e ∷ names) w all one = by_test (bytes_eq w e) refl (one_number texts numbers names w all.1)
+  where
+    by_test : (b : Bool) → bytes_eq w e ≡ b → (is_one_of names w ≡ true → (k : ℕ) × IsNumberOf texts k w) → (k : ℕ) × IsNumberOf texts k w
+    by_test true q more = (m, subst (IsNumberOf texts m) (sym ((bytes_eq-Decides w e).0 q)) all.0)
+    by_test false q more = more (sym (ap (λ b. b || is_one_of names w) q) ∙ one)
+
+-- the numbers of the names stay below those of what is entered after them
+pub named_below : (known more : List (List ℕ)) (numbers : List (ℕ × ℕ)) (ns : List Names) → AreApart (known ++ more) → AllZip (AreNumbersOf known) numbers ns → AreNamedBelow (known ++ more) (both_names ns) (length known + 1)
+named_below known more numbers ns apart all = λ m w is one.
+    let known_is = (one_number known (flat_map (λ (m : ℕ × ℕ). m.0 ∷ m.1 ∷ []) numbers) (both_names ns) w (both_zip known numbers ns all) one).1 in
+    let same = apart is.0 known_is.0 w is.2 (slice_get-front known more known_is.0 w known_is.2) in
+    let l = slice_get_within known known_is.0 w known_is.2 in
+    let e = is.1 in
+    omega (arith, same, l, e)
 
 pub both_one : (ns : List Names) (i : ℕ) (n : Names) → slice_get ns i ≡ Some n → (is_one_of (both_names ns) n.0 ≡ true) × (is_one_of (both_names ns) n.1 ≡ true)
 both_one [] i n at = cc

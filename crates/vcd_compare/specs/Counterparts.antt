@@ -1,12 +1,12 @@
 -- What has another name in place of a first one, by number.
-use Rattle.std.specs.Prelude.{◌≡◌, ◌≢◌, ℕ, suc, ◌<◌, ◌&&◌, true, List, ◌++◌, drop, filter, get_or, length, slice_get, Option, Some, None, option_and_then, option_map, position}
+use Rattle.std.specs.Prelude.{◌≡◌, ◌≢◌, ℕ, suc, ◌&&◌, true, List, ◌++◌, drop, filter, get_or, length, slice_get, Option, Some, None, option_and_then, option_map, position}
 use Rattle.std.specs.List.{AllZip}
 use Rattle.vcd_model.specs.Header.{Header}
 use Rattle.vcd_model.specs.Selection.{selects_path}
 use Rattle.vcd_model.specs.Compare.{Asked, Named, all_named}
 use Rattle.vcd_model.specs.Within.{Names, at_path}
 use Rattle.vcd_compare.specs.Paths.{AreApart, IsNumberOf}
-use Rattle.vcd_compare.specs.Selected.{AreWithin, is_kept}
+use Rattle.vcd_compare.specs.Selected.{is_kept}
 use Rattle.vcd_compare.specs.Variables.{AreVariables, same_key}
 use Rattle.vcd_compare.specs.declared.variables.Variables.{Variables}
 
@@ -19,10 +19,9 @@ abbrev pub IsCounterpart : List (List ℕ) → Names → List ℕ → Option ℕ
 IsCounterpart texts n t None = (i : ℕ) → slice_get texts i ≢ Some (replaced n t)
 IsCounterpart texts n t (Some m) = IsNumberOf texts m (replaced n t)
 
--- by number, the counterparts of those of the first `count` paths that the first name selects, and
--- no exception
-abbrev pub ArePlaces : (texts es : List (List ℕ)) → Names → ℕ → List (Option ℕ) → Type 0
-ArePlaces texts es n count places = (i : ℕ) (t : List ℕ) → i < count → slice_get texts i ≡ Some t → is_kept es t ≡ true → selects_path t n.0 ≡ true → IsCounterpart texts n t (get_or places (suc i) None)
+-- by number, the counterparts of the paths that the first name selects, and no exception
+abbrev pub ArePlaces : (texts es : List (List ℕ)) → Names → List (Option ℕ) → Type 0
+ArePlaces texts es n places = (i : ℕ) (t : List ℕ) → slice_get texts i ≡ Some t → is_kept es t ≡ true → selects_path t n.0 ≡ true → IsCounterpart texts n t (get_or places (suc i) None)
 
 -- a variable that the first name selects, and what has the second name in its place
 abbrev pub place_of : Header → Names → Named → Named × Option Named
@@ -58,6 +57,4 @@ AreSelected q h n indexes = AllZip (IsNth h) indexes (selected_in q h n)
 pub record FindPlaces (q : Asked) (h : Header) (n : Names) (texts : List (List ℕ)) (vs : Variables) (places : List (Option ℕ)) : Type 0 where
   pub apart : AreApart texts
   pub are : AreVariables h texts vs
-  pub count : ℕ
-  pub within : AreWithin vs.keys.keys count
-  pub placed : ArePlaces texts q.exceptions n count places
+  pub placed : ArePlaces texts q.exceptions n places

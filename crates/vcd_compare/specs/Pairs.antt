@@ -1,10 +1,10 @@
 -- Which variables of a header are compared, as rows and codes by number.
-use Rattle.std.specs.Prelude.{◌≡◌, ◌≢◌, ℕ, suc, ◌*◌, ◌<◌, ◌≤◌, true, List, length, map, flat_map, slice_get, Some}
+use Rattle.std.specs.Prelude.{◌≡◌, ◌≢◌, ℕ, suc, ◌+◌, ◌*◌, ◌<◌, ◌≤◌, true, List, length, map, flat_map, slice_get, Some}
 use Rattle.std.specs.List.{AllZip}
 use Rattle.vcd_model.specs.Declarations.{Declaration, Variable, code_of}
 use Rattle.vcd_model.specs.Header.{Header}
 use Rattle.vcd_model.specs.Compare.{Asked, Named, Pair, is_fit}
-use Rattle.vcd_model.specs.Within.{Names, alone_in, compared_in, turned, unlike_in}
+use Rattle.vcd_model.specs.Within.{Names, alone_in, compared_in, places_of, turned, unlike_in}
 pub use Rattle.vcd_compare.specs.Variables.{IsAt, IsNamedAt}
 use Rattle.vcd_compare.specs.declared.pairs.End.{End}
 use Rattle.vcd_compare.specs.declared.pairs.NamePair.{NamePair}
@@ -56,6 +56,7 @@ pub record HoldsPairs (ps : Pairs) (h : Header) (compared other_kinds : List Pai
   pub linked : AreLinked ps.ends.items ps.last.items
   pub codes : length ps.last.items ≡ length h.codes
   pub classes : ps.classes * 2 ≡ length ps.ends.items
+  pub few : ps.classes ≤ length ps.rows.items
   -- each class is that of two variables of one kind, and of some row
   pub fit : (class : ℕ) → class < ps.classes → (p : Pair) × (is_fit p ≡ true) × IsClassOf h ps.ends.items class p
   pub covered : (class : ℕ) → class < ps.classes → (n : ℕ) × (r : PairRow) × (slice_get ps.rows.items n ≡ Some r) × (r.class ≡ class)
@@ -63,3 +64,12 @@ pub record HoldsPairs (ps : Pairs) (h : Header) (compared other_kinds : List Pai
 -- the pairs of these names in the header
 abbrev pub ArePairs : Pairs → Header → Asked → List Names → Type 0
 ArePairs ps h q ns = HoldsPairs ps h (compared_in q h ns) (unlike_in q h ns) (flat_map (alone_in q h) ns) (flat_map (λ n. alone_in q h (turned n)) ns)
+
+-- how many numbers the lists of pairs have
+abbrev pub numbers_kept : Pairs → ℕ
+numbers_kept ps = 2 * length ps.rows.items + 2 * length ps.ends.items + length ps.last.items + length ps.alone_one.items + length ps.alone_other.items + 2 * length ps.unlike.items
+
+-- These are at most six for each variable that a first name selects, one for each variable that a
+-- second name selects, and one for each code. A variable counts once for each name that selects it.
+abbrev pub AreFew : Pairs → Header → Asked → List Names → Type 0
+AreFew ps h q ns = numbers_kept ps ≤ 6 * length (flat_map (places_of q h) ns) + length (flat_map (λ n. places_of q h (turned n)) ns) + length h.codes

@@ -35,7 +35,7 @@ use Rattle.vcd_compare.specs.declared.whole.Run.{Run}
 
 -- ---- the run
 
--- a run stands so after these items: how they compare, and whether a line was written
+-- a run has handled these items and goes on: how they compare, and whether a line was written
 pub record RunStands (h : Header) (exceptions : List (List ℕ)) (ns : List Names) (items : List BodyItem) (run : Run) : Type 0 where
   pub compares : Compares h exceptions ns items run.comparison run.watched
   pub differs : run.differs ≡ not (is_empty (within_open (model_asked run.comparison.current.asked exceptions) h ns items))
@@ -62,13 +62,13 @@ PutsDue v run out out' result = (h : Header) (exceptions : List (List ℕ)) (ns 
 abbrev pub settled_by : ModelAsked → Header → List Names → List BodyItem → ℕ → List ℕ
 settled_by q h ns items t = cond (nat_lt (time_compared q items) t) (lines_due q h ns items) []
 
--- the answer says whether these items end the run; if they do not, the run stands after them
+-- the answer says whether these items end the run; if they do not, it has handled them and goes on
 pub record TellsEnd (q : ModelAsked) (h : Header) (exceptions : List (List ℕ)) (ns : List Names) (items : List BodyItem) (run : Run) (tells : Bool) : Type 0 where
   pub ended : tells ≡ ends_run q h ns items
   pub stands : tells ≡ false → RunStands h exceptions ns items run
   pub differs : run.differs ≡ not (is_empty (within_open q h ns items))
 
--- a timestamp was handled: the lines that it settles were written, and the run stands after it, or it
+-- a timestamp was handled: the lines that it settles were written, and the run goes on after it, or
 -- has ended
 abbrev pub TakesTime : HeadView → ℕ → Run → Run → Device → Device → Result Bool WriteFailed → Type 0
 TakesTime v t run run' out out' result = (h : Header) (exceptions : List (List ℕ)) (ns : List Names) (items : List BodyItem) → IsViewOf v h → time_after items ≤ t → RunStands h exceptions ns items run

@@ -48,6 +48,10 @@ abbrev pub AreInside : (texts names es : List (List ℕ)) → List (ℕ × ℕ) 
 AreInside texts names es items count lists = (m : ℕ) (w : List ℕ) → IsNumberOf texts m w → is_one_of names w ≡ true
     → get_or (lists_in lists) m [] ≡ chosen (λ i. is_inside texts es w (get_or items i (0, 0)).0) count
 
+-- the names have numbers below a bound
+abbrev pub AreNamedBelow : (texts names : List (List ℕ)) → ℕ → Type 0
+AreNamedBelow texts names bound = (m : ℕ) (w : List ℕ) → IsNumberOf texts m w → is_one_of names w ≡ true → m < bound
+
 -- the items are inside of the first `count` paths, by number
 abbrev pub AreWithin : List (ℕ × ℕ) → ℕ → Type 0
 AreWithin items count = (i : ℕ) (x : ℕ × ℕ) → slice_get items i ≡ Some x → x.0 ≤ count

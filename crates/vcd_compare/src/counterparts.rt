@@ -1,5 +1,5 @@
 // What has another name in place of a first one.
-ghost use Rattle.std.specs.Prelude.{◌≡◌, ◌<◌, ◌+◌, ◌≤◌, ℕ, List, Some, None, get_or, length, set, slice_get};
+ghost use Rattle.std.specs.Prelude.{◌≡◌, ◌<◌, ◌+◌, ℕ, List, Some, None, get_or, length, set, slice_get};
 ghost use Rattle.vcd_model.specs.Compare.{Asked, Named};
 ghost use Rattle.vcd_model.specs.Header.{Header};
 ghost use Rattle.vcd_model.specs.Within.{Names};
@@ -22,11 +22,11 @@ pub(crate) fn place_paths(
     inside: &[usize],
     places: &mut Vec<Option<usize>>,
 )
-    ensures placed { (texts es : List (List ℕ)) (n : Names) (count : ℕ) → HasTexts paths.now texts
-        → IsNumberOf texts one n.0 → IsNumberOf texts other n.1 → count ≤ length texts
+    ensures placed { (texts es : List (List ℕ)) (n : Names) → HasTexts paths.now texts
+        → IsNumberOf texts one n.0 → IsNumberOf texts other n.1
         → length places.old.items ≡ length texts + 1
         → inside.now ≡ chosen (λ i. is_inside texts es n.0 (get_or paths.now.nodes.keys i (0, 0)).0)
-        count → ArePlaces texts es n count places.new.items }
+        (length paths.now.nodes.keys) → ArePlaces texts es n places.new.items }
     ensures len { length places.new.items ≡ length places.old.items }
 {
     set_place(places, one, Some(other));

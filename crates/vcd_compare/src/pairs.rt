@@ -9,7 +9,7 @@ ghost use Rattle.vcd_view.specs.Views.{IsViewOf};
 ghost use Rattle.vcd_compare.specs.Classes.{AddsEnd, EntersClass, HasClasses};
 ghost use Rattle.vcd_compare.specs.Counterparts.{AreSelected, FindPlaces, IsNth, place_of, selected_in};
 ghost use Rattle.vcd_compare.specs.Paths.{HasTexts};
-ghost use Rattle.vcd_compare.specs.Pairs.{ArePairs, IsAt, IsNamedAt, names_in};
+ghost use Rattle.vcd_compare.specs.Pairs.{AreFew, ArePairs, IsAt, IsNamedAt, names_in};
 ghost use Rattle.vcd_compare.specs.HasPairs.{AreNumbersOf, EntersNames, EntersTexts, HasPairs, HasSelected, alone_at, compared_at, compared_of, unlike_at, unlike_of};
 
 use crate::counterparts::{counterpart_of, place_paths};
@@ -72,8 +72,8 @@ pub struct Pairs {
 }
 
 /// Returns the pairs that these names make of the variables of a header. The variables that one of
-/// `exceptions` selects are left out. The time grows with the header, the names, and the paths and
-/// variables that each name selects. Fails if there is no memory.
+/// `exceptions` selects are left out. The time grows with the header, the names, and what each name
+/// selects: variables, and paths, also those of other names. Fails if there is no memory.
 pub fn pairs_of(
     alloc: Global,
     view: HeadView<'_>,
@@ -82,15 +82,16 @@ pub fn pairs_of(
 ) -> Result<Pairs, AllocError>
     ensures { IfOk result (λ ps. (h : Header) (q : Asked) → IsViewOf view.entry h
         → q.exceptions ≡ map (λ e. e.items) exceptions.now
-        → ArePairs ps h q (names_in names.now)) }
+        → ArePairs ps h q (names_in names.now) × AreFew ps h q (names_in names.now)) }
 {
     let mut paths = Paths::new(alloc, view.seed);
-    let rows = number_rows(alloc, view, &mut paths)?;
-    let declared = paths.nodes.len();
-    let variables = variables_of(alloc, view, &rows, declared)?;
     let numbers = number_names(alloc, names, &mut paths)?;
+    let named = paths.nodes.len();
     let exceptions = number_texts(alloc, exceptions, &mut paths)?;
-    let selected = selected_by(alloc, &paths, declared, &variables, &numbers, &exceptions)?;
+    let rows = number_rows(alloc, view, &mut paths)?;
+    let variables = variables_of(alloc, view, &rows, paths.nodes.len())?;
+    drop(rows);
+    let selected = selected_by(alloc, &paths, &variables, &numbers, named, &exceptions)?;
     pairs_between(alloc, view, &paths, &variables, &selected, &numbers)
 }
 

@@ -1,9 +1,9 @@
 // What names select: the paths and the variables inside each of some paths.
-ghost use Rattle.std.specs.Prelude.{◌≡◌, ◌∷◌, [], ◌<◌, ◌≤◌, ◌^◌, ◌++◌, ℕ, List, cond, false, get_or, length, flat_map, min, replicate, set, IfOk};
+ghost use Rattle.std.specs.Prelude.{◌≡◌, ◌∷◌, [], ◌<◌, ◌≤◌, ◌^◌, ◌+◌, ◌++◌, ℕ, List, cond, false, get_or, length, flat_map, replicate, set, IfOk};
 ghost use Rattle.std.specs.List.{AllZip};
 ghost use Rattle.vcd_compare.specs.Paths.{HasTexts, IsNumberOf};
 ghost use Rattle.vcd_compare.specs.HasPairs.{AreNumbersOf};
-ghost use Rattle.vcd_compare.specs.Selected.{AreInside, AreMarks, AreNearest, AreWithin, IsPutInside, both_names, first_above, lists_in};
+ghost use Rattle.vcd_compare.specs.Selected.{AreInside, AreMarks, AreNamedBelow, AreNearest, AreWithin, IsPutInside, both_names, first_above, lists_in};
 ghost use Rattle.vcd_model.specs.Within.{Names};
 
 use crate::paths::Paths;
@@ -19,21 +19,22 @@ pub(crate) struct Selections {
     pub(crate) variables: Vec<Vec<usize>>,
 }
 
-/// Returns what these names select. The first `declared` paths are the header's.
+/// Returns what these names select. Their numbers are at most `named`.
 pub(crate) fn selected_by(
     alloc: Global,
     paths: &Paths,
-    declared: usize,
     variables: &Variables,
     names: &[(usize, usize)],
+    named: usize,
     exceptions: &[usize],
 ) -> Result<Selections, AllocError>
+    requires { named < 2 ^ 63 }
     ensures { IfOk result (λ s. (texts es : List (List ℕ)) (ns : List Names)
-        → HasTexts paths.now texts → declared ≤ length texts
-        → AreWithin variables.now.keys.keys declared → AllZip (AreNumbersOf texts) names.now ns
-        → AllZip (IsNumberOf texts) exceptions.now es
-        → AreInside texts (both_names ns) es paths.now.nodes.keys declared s.paths.items
-        × AreInside texts (both_names ns) es variables.now.keys.keys
+        → HasTexts paths.now texts → AreNamedBelow texts (both_names ns) (named + 1)
+        → AreWithin variables.now.keys.keys (length texts)
+        → AllZip (AreNumbersOf texts) names.now ns → AllZip (IsNumberOf texts) exceptions.now es
+        → AreInside texts (both_names ns) es paths.now.nodes.keys (length paths.now.nodes.keys)
+        s.paths.items × AreInside texts (both_names ns) es variables.now.keys.keys
         (length variables.now.keys.keys) s.variables.items) }
 {
     let numbers = both_of(alloc, names)?;
@@ -42,8 +43,8 @@ pub(crate) fn selected_by(
     let nodes = paths.nodes.as_slice();
     let keys = variables.keys.as_slice();
     Ok(Selections {
-        paths: inside_of(alloc, paths, &nearest, &left_out, nodes, declared)?,
-        variables: inside_of(alloc, paths, &nearest, &left_out, keys, keys.len())?,
+        paths: inside_of(alloc, paths, &nearest, &left_out, nodes, named)?,
+        variables: inside_of(alloc, paths, &nearest, &left_out, keys, named)?,
     })
 }
 
@@ -51,7 +52,7 @@ pub(crate) fn selected_by(
 fn both_of(alloc: Global, numbers: &[(usize, usize)]) -> Result<Vec<usize>, AllocError>
     ensures { IfOk result (λ all. all.items ≡ flat_map (λ m. m.0 ∷ m.1 ∷ []) numbers.now) }
 {
-    let mut all = Vec::new(alloc);
+    let mut all = Vec::with_capacity(alloc, numbers.len().saturating_mul(2))?;
     for (one, other) in numbers {
         all.push(*one)?;
         all.push(*other)?;
@@ -71,7 +72,8 @@ pub(crate) fn nearest_of(
         → AreNearest texts names (length texts) nearest.items) }
 {
     let marks = marks_of(alloc, numbers, paths.nodes.len())?;
-    let mut nearest = vec![in alloc; 0usize; 1]?;
+    let mut nearest = Vec::with_capacity(alloc, marks.len())?;
+    nearest.push(0)?;
     for index in 0..paths.nodes.len() {
         let (around, _) = paths.nodes.as_slice()[index];
         let number = nearest_at(&marks, index + 1, &nearest, around);
@@ -105,23 +107,25 @@ fn nearest_at(marks: &[bool], number: usize, nearest: &[usize], around: usize) -
 }
 
 /// Returns for each number of a path the indexes of the items inside that path, if it is one of
-/// those that `nearest` has. The first `count` items are taken, and none of a path that is left
-/// out. An item has first the number of the path around it.
+/// those that `nearest` has. These are at most `named`. What is inside a path that is left out is
+/// not listed. An item has first the number of the path around it.
 pub(crate) fn inside_of(
     alloc: Global,
     paths: &Paths,
     nearest: &[usize],
     left_out: &[usize],
     items: &[(usize, usize)],
-    count: usize,
+    named: usize,
 ) -> Result<Vec<Vec<usize>>, AllocError>
+    requires { named < 2 ^ 63 }
     ensures { IfOk result (λ lists. (texts names es : List (List ℕ)) → HasTexts paths.now texts
         → AreNearest texts names (length texts) nearest.now
         → AreNearest texts es (length texts) left_out.now → AreWithin items.now (length texts)
-        → AreInside texts names es items.now (min count (length items.now)) lists.items) }
+        → AreNamedBelow texts names (named + 1)
+        → AreInside texts names es items.now (length items.now) lists.items) }
 {
-    let mut lists = no_lists(alloc, nearest.len())?;
-    for index in 0..count.min(items.len()) {
+    let mut lists = no_lists(alloc, named + 1)?;
+    for index in 0..items.len() {
         let (around, _) = items[index];
         put_inside(paths, nearest, left_out, around, index, &mut lists)?;
     }
@@ -132,7 +136,7 @@ pub(crate) fn inside_of(
 fn no_lists(alloc: Global, count: usize) -> Result<Vec<Vec<usize>>, AllocError>
     ensures { IfOk result (λ lists. lists_in lists.items ≡ replicate count []) }
 {
-    let mut lists = Vec::new(alloc);
+    let mut lists = Vec::with_capacity(alloc, count)?;
     for _ in 0..count {
         lists.push(Vec::new(alloc))?;
     }
@@ -152,7 +156,7 @@ fn put_inside(
     ensures { IfOk result (λ _. (texts names es : List (List ℕ)) → HasTexts paths.now texts
         → AreNearest texts names (length texts) nearest.now
         → AreNearest texts es (length texts) left_out.now
-        → around ≤ length texts → length lists.old.items ≡ length nearest.now
+        → around ≤ length texts → AreNamedBelow texts names (length lists.old.items)
         → IsPutInside texts names es around index lists.old.items lists.new.items) }
 {
     if number_at(left_out, around) != 0 {

@@ -88,8 +88,8 @@ pub(crate) fn variables_of(
         → length texts ≡ count → AreVariables h texts vs) }
 {
     let mut variables = Variables {
-        rows: Vec::new(alloc),
-        keys: IndexSet::with_hasher(alloc, view.seed),
+        rows: Vec::with_capacity(alloc, view.rows.len())?,
+        keys: IndexSet::with_capacity_and_hasher(alloc, view.rows.len(), view.seed)?,
     };
     let mut counts = vec![in alloc; 0usize; count + 1]?;
     for row in 0..view.rows.len() {

@@ -24,11 +24,11 @@ loop-one-preserved c = record {
       let before = take i ns in
       let others = flat_map (λ m. alone_in q h (turned m)) before in
       let len = c.loop-one.invariant.len ∙ ap (λ m. m + 1) (sym ready.has.len) in
-      let placed = c.place_paths.ensures.placed texts q.exceptions n.0 ready.count ready.has n.2.0 n.2.1 ready.below len (listed_paths paths vs s q h ns texts ready n.0 key.0 n.2.0 named.0 c.deref.result.now c.list_at-inside.result.now c.deref.ensures.value c.list_at-inside.ensures) in
+      let placed = c.place_paths.ensures.placed texts q.exceptions n.0 ready.has n.2.0 n.2.1 len (listed_paths paths vs s q h ns texts ready n.0 key.0 n.2.0 named.0 c.deref.result.now c.list_at-inside.result.now c.deref.ensures.value c.list_at-inside.ensures) in
       let finds = found_places paths vs s q h ns texts ready n.0 key.0 n.2.0 named.0 c.place_paths.new.places.items c.deref-in-loop-one-2.result.now c.deref-in-loop-one-2.ensures.value placed in
       let below = listed_variables paths vs s q h ns texts ready n.0 key.0 n.2.0 named.0 c.deref-in-loop-one.result.now c.list_at-below.result.now c.deref-in-loop-one.ensures.value c.list_at-below.ensures in
       let more = c.in_ok-add_pairs.ensures q h n.0 texts (compared_in q h before) (unlike_in q h before) (flat_map (alone_in q h) before) others view finds below (c.loop-one.invariant.held q h ns texts view ready zip) in
-      let turned_placed = c.place_paths-in-loop-one.ensures.placed texts q.exceptions (turned n.0) ready.count ready.has n.2.1 n.2.0 ready.below (c.place_paths.ensures.len ∙ len)
+      let turned_placed = c.place_paths-in-loop-one.ensures.placed texts q.exceptions (turned n.0) ready.has n.2.1 n.2.0 (c.place_paths.ensures.len ∙ len)
       (listed_paths paths vs s q h ns texts ready (turned n.0) key.1 n.2.1 named.1 c.deref-in-loop-one-3.result.now c.list_at-inside-in-loop-one.result.now c.deref-in-loop-one-3.ensures.value c.list_at-inside-in-loop-one.ensures) in
       let turned_finds = found_places paths vs s q h ns texts ready (turned n.0) key.1 n.2.1 named.1 c.place_paths-in-loop-one.new.places.items c.deref-in-loop-one-5.result.now c.deref-in-loop-one-5.ensures.value turned_placed in
       let turned_below = listed_variables paths vs s q h ns texts ready (turned n.0) key.1 n.2.1 named.1 c.deref-in-loop-one-4.result.now c.list_at-below-in-loop-one.result.now c.deref-in-loop-one-4.ensures.value c.list_at-below-in-loop-one.ensures in

@@ -19,6 +19,6 @@ loop-index-preserved c = λ texts names has all.
     ∙ ap (λ (l : List Bool). cond (get_or l (suc i) false) (suc i) (get_or c.deref-in-loop-index.result.now (get_or c.as_slice.result.now i (0, 0)).0 0)) c.deref.ensures.value
     ∙ ap (λ (l : List ℕ). cond mark (suc i) (get_or l (get_or c.as_slice.result.now i (0, 0)).0 0)) c.deref-in-loop-index.ensures.value
     ∙ ap (λ (l : List (ℕ × ℕ)). cond mark (suc i) (get_or nearest (get_or l i (0, 0)).0 0)) c.as_slice.ensures.keys in
-    subst (λ j. AreNearest texts names j c.push.new.self.items) (sym (add-one i))
-    (subst (AreNearest texts names (suc i)) (sym (c.in_ok-push.ensures.items ∙ ap (λ n. nearest ++ n ∷ []) number))
+    subst (λ j. AreNearest texts names j c.push-in-loop-index.new.self.items) (sym (add-one i))
+    (subst (AreNearest texts names (suc i)) (sym (c.in_ok-push-2.ensures.items ∙ ap (λ n. nearest ++ n ∷ []) number))
     (nearest_more (texts_in c.args.paths.now.parts) nodes texts has names i node nearest mark at (λ t text. is_mark t text) old))

@@ -1,20 +1,16 @@
-use Rattle.vcd_compare.proofs.Cited.{◌≡◌, length, min, sym, subst, ◌∙◌, arith, AllZip, AreInside, AreNearest, AreWithin, IsNumberOf, both_names, texts_in}
+use Rattle.vcd_compare.proofs.Cited.{length, sym, subst, ◌∙◌, AllZip, AreInside, AreNearest, AreWithin, IsNumberOf, both_names, texts_in}
 use Rattle.vcd_compare.proofs.SelectedLemmas.{both_zip, nodes_within}
 use Rattle.vcd_compare.proofs.selected.selected_by.Goals as goal
 
 pub returns : goal.returns
-returns c = λ texts es ns has within keys names exceptions.
+returns c = λ texts es ns has below keys names exceptions.
     let numbers = subst (λ l. AllZip (IsNumberOf texts) l (both_names ns)) (sym (c.deref.ensures.value ∙ c.in_ok-numbers.ensures)) (both_zip texts c.args.names.now ns names) in
     let near = c.in_ok-nearest.ensures texts (both_names ns) has numbers in
     let left = c.in_ok-left_out.ensures texts es has exceptions in
     let nodes_in = subst (λ l. AreWithin l (length texts)) (sym c.as_slice-nodes.ensures.keys) (nodes_within (texts_in c.args.paths.now.parts) c.args.paths.now.nodes.keys texts has) in
-    let keys_in = subst (λ l. AreWithin l (length texts)) (sym c.as_slice-keys.ensures.keys) (λ i x at. let k = keys i x at in omega (arith, k, within)) in
-    let one = c.in_ok-inside_of.ensures texts (both_names ns) es has (subst (AreNearest texts (both_names ns) (length texts)) (sym c.deref-2.ensures.value) near) (subst (AreNearest texts es (length texts)) (sym c.deref-3.ensures.value) left) nodes_in in
-    let two = c.in_ok-inside_of-2.ensures texts (both_names ns) es has (subst (AreNearest texts (both_names ns) (length texts)) (sym c.deref-4.ensures.value) near) (subst (AreNearest texts es (length texts)) (sym c.deref-5.ensures.value) left) keys_in in
-    let nodes = c.args.paths.now.nodes.keys in
-    let vs = c.args.variables.now.keys.keys in
-    let declared : min c.args.declared (length nodes) ≡ c.args.declared = let l = has.len in omega (arith, within, l) in
-    let all : min (length vs) (length vs) ≡ length vs = omega arith in (
-      subst (λ j. AreInside texts (both_names ns) es nodes j c.in_ok-inside_of.field-0.items) declared (subst (λ l. AreInside texts (both_names ns) es l (min c.args.declared (length l)) c.in_ok-inside_of.field-0.items) c.as_slice-nodes.ensures.keys one),
-      subst (λ j. AreInside texts (both_names ns) es vs j c.in_ok-inside_of-2.field-0.items) all (subst (λ l. AreInside texts (both_names ns) es l (min (length l) (length l)) c.in_ok-inside_of-2.field-0.items) c.as_slice-keys.ensures.keys two),
+    let keys_in = subst (λ l. AreWithin l (length texts)) (sym c.as_slice-keys.ensures.keys) keys in
+    let one = c.in_ok-inside_of.ensures texts (both_names ns) es has (subst (AreNearest texts (both_names ns) (length texts)) (sym c.deref-2.ensures.value) near) (subst (AreNearest texts es (length texts)) (sym c.deref-3.ensures.value) left) nodes_in below in
+    let two = c.in_ok-inside_of-2.ensures texts (both_names ns) es has (subst (AreNearest texts (both_names ns) (length texts)) (sym c.deref-4.ensures.value) near) (subst (AreNearest texts es (length texts)) (sym c.deref-5.ensures.value) left) keys_in below in (
+      subst (λ l. AreInside texts (both_names ns) es l (length l) c.in_ok-inside_of.field-0.items) c.as_slice-nodes.ensures.keys one,
+      subst (λ l. AreInside texts (both_names ns) es l (length l) c.in_ok-inside_of-2.field-0.items) c.as_slice-keys.ensures.keys two,
     )

@@ -7,7 +7,7 @@ loop-row-init c = λ h texts view are apart len.
     let counts = c.in_ok-counts.counts.items in
     let filled : counts ≡ replicate (c.args.count + 1) 0 = c.in_ok-counts.ensures.items_if_clones_equal (λ y e. e) in
     let room : length counts ≡ c.args.count + 1 = ap length filled ∙ length-replicate (c.args.count + 1) 0 in
-    some_none h texts _ counts c.new.ensures.items c.with_hasher.ensures.empty (omega (arith, room, len))
+    some_none h texts _ counts c.in_ok-with_capacity.ensures.items c.in_ok-with_capacity_and_hasher.ensures.empty (omega (arith, room, len))
     (λ n l. ap (λ xs. get_or xs n 0) filled ∙ get_or-replicate (c.args.count + 1) n 0 0 (omega (arith, l, room)))
 
 pub loop-row-preserved : goal.loop-row-preserved
