@@ -35,8 +35,6 @@ TENS = (b"$timescale 10ns $end\n$var wire 1 ! a $end\n$enddefinitions $end\n"
 
 class Case:
     program = b"vcdkit"
-    # All requests for memory are at most so many times what is kept of the headers.
-    times_kept = 4
 
     def __init__(self, name, command, inputs, options=(), names=(), known_code=False):
         self.name, self.command = name, command
@@ -68,10 +66,8 @@ class Case:
 
 
 class Comparison(Case):
-    """A case of vcdkit-compare. Its names come in pairs, and may be in a file. It also keeps what
-    each name selects."""
+    """A case of vcdkit-compare. Its names come in pairs, and may be in a file."""
     program = b"vcdkit-compare"
-    times_kept = 5
 
     def __init__(self, name, text, names, asked=comparison.Asked()):
         super().__init__(name, "compare", [text], names=names)

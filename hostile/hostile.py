@@ -11,8 +11,7 @@ memory   Each request of a run is refused in turn. The run must end without outp
          asked for more than it needs, or if the request is for the key of a code that was declared
          with another size. A dump with 5,000 comments at its end makes as many requests, of as many
          bytes, as one with five. All requests together stay below a bound: the windows, four times
-         what is kept of the headers (for vcdkit-compare, five times), and 64 KB for the command
-         line and the two buffers.
+         what is kept of the headers, and 64 KB for the command line and the two buffers.
 large    There is plenty of memory: the whole outcome, below the same bound.
 devices  Each read and write transfers 1, 2, 3, 5 or 7 bytes: the whole outcome. Read number 1, 2,
          3, .. of a file or of standard input fails: the outcome of the bytes until then. Write
@@ -90,7 +89,7 @@ def bound(case, limit=1_048_576):
         windows += 65_536 + 512 + 2 * limit
         # Texts, declarations and codes are parts of the input.
         held += len(text) + 64 * len(head.rows) + sum(size + 192 for size, _ in head.codes.values())
-    return windows + case.times_kept * held + COMMAND_LINE
+    return windows + 4 * held + COMMAND_LINE
 
 
 def too_much(case, asked):
