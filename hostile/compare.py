@@ -260,7 +260,11 @@ def headers_of(count):
     r = random.Random(1)
     parts = [b"p", b"q"]
     yield "in order", declared(parts, count), count
-    yield "in reverse", declared(parts, count, order=list.reverse), count
+    # A value that is compared with a short one again and again.
+    wide = b"$scope module %s $end $var wire %d %s v $end $upscope $end\n"
+    yield "of one long value", (
+        b"".join(wide % (part, count, part) for part in parts) + b"$enddefinitions $end\n#0\nb"
+        + b"0" * count + b" p\n" + b"b0 q\n" * count), 1
     yield "shuffled", declared(parts, count, order=r.shuffle), count
     yield ("with one path", declared(parts, count, name=lambda n: b"v"), count)
     yield ("with dots", declared(parts, count, name=lambda n: b"a.%d.b.%d" % (n // 999, n % 999),

@@ -56,6 +56,7 @@ pub use Rattle.vcd_compare.specs.Counterparts.{ArePlaces, AreSelected, FindPlace
 pub use Rattle.vcd_compare.specs.Flags.{differing, marked, settled_as}
 pub use Rattle.vcd_compare.specs.HasPairs.{AreNumbersOf, EntersNames, EntersTexts, HasPairs, HasSelected, alone_at, compared_at, compared_of, unlike_at, unlike_of}
 pub use Rattle.vcd_compare.specs.Kinds.{model_kind}
+pub use Rattle.vcd_compare.specs.Leads.{HasLead}
 pub use Rattle.vcd_compare.specs.LineTexts.{ArePairLines, states_of}
 pub use Rattle.vcd_compare.specs.Lines.{DoNotFall, IsQuiet, changed_at, codes_differ, flag_of, had_line, is_always, lines_due, time_compared}
 pub use Rattle.vcd_compare.specs.Needed.{StepReads, due_with, is_settled_with}

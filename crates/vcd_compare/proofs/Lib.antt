@@ -18,6 +18,7 @@ pub mod RowPaths
 pub mod SelectedLemmas
 pub mod PlaceLemmas
 pub mod KindLemmas
+pub mod LeadLemmas
 pub mod LineLemmas
 pub mod ClassLemmas
 pub mod PairSteps

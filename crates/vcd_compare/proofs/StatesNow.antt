@@ -1,8 +1,9 @@
 -- What the current states say of the definitions' states.
-use Rattle.vcd_compare.proofs.Cited.{zero, ◌≡◌, ◌≢◌, inl, inr, ℕ, ◌<◌, ◌≤◌, Bool, true, false, not, cond, ◌&&◌, List, [], ◌∷◌, ◌++◌, suc, ◌+◌, ◌-◌, max, min, replicate, drop, length, codes, slice_get, Option, Some, None, refl, sym, ap, ap₂, subst, ◌∙◌, arith, ◌⊎◌, bytes_eq, option_and_then, Decides, and_left, and_right, cases_lt, same_Some, or_self, IdCode, Header, final_value, BodyItem, time_after, Rule, all_match, digits_match, exactly, is_triggered, match, state_at, Value, extend, extension, IsViewOf, HeadView, codes_shown, held_at, shown_as, value_in, Held, real_text, value_at_size, Shown, digits_held, Table, length_extended, shown_are, rule_of, AreCurrent, differ_from, is_last, codes_differ, Current}
+use Rattle.vcd_compare.proofs.Cited.{zero, ◌≡◌, ◌≢◌, inl, inr, ℕ, ◌<◌, ◌≤◌, Bool, true, false, not, cond, ◌&&◌, List, [], ◌∷◌, ◌++◌, suc, ◌+◌, ◌-◌, max, min, replicate, drop, take, length, codes, slice_get, Option, Some, None, refl, sym, ap, ap₂, subst, ◌∙◌, arith, ◌⊎◌, bytes_eq, option_and_then, Decides, and_left, and_right, cases_lt, same_Some, or_self, IdCode, Header, final_value, BodyItem, time_after, Rule, all_match, digits_match, exactly, is_triggered, match, state_at, Value, extend, extension, IsViewOf, HeadView, codes_shown, held_at, shown_as, value_in, Held, real_text, value_at_size, Shown, digits_held, Table, length_extended, shown_are, rule_of, AreCurrent, differ_from, is_last, codes_differ, Current}
 use Rattle.vcd_body.specs.declared.values.slot.Shown.TheVariants as shown
 use Rattle.vcd_compare.specs.declared.asked.Asked.{Asked}
 use Rattle.vcd_compare.proofs.FlagLemmas.{value_final}
+use Rattle.vcd_compare.proofs.LeadLemmas.{in_parts}
 use Rattle.vcd_compare.proofs.MatchLemmas.{match_other, match_self}
 
 module _ (v : HeadView) (c : Current) (h : Header) (items : List BodyItem) (views : IsViewOf v h) (current : AreCurrent c h items) (code : ℕ) (a : IdCode) (there : slice_get h.codes code ≡ Some a) where
@@ -60,16 +61,19 @@ lengths_match r [] (y ∷ ys) apart = refl
 lengths_match r (x ∷ xs) [] apart = refl
 lengths_match r (x ∷ xs) (y ∷ ys) apart = and_right (digits_match r x y) (all_match r xs ys) (lengths_match r xs ys (λ e. apart (ap suc e)))
 
-pub next_digit : (ds : List ℕ) (i d : ℕ) → slice_get ds i ≡ Some d → drop i ds ≡ d ∷ drop (i + 1) ds
-next_digit [] i d e = cc
-next_digit (x ∷ xs) zero d e = ap (λ y. y ∷ xs) (same_Some x d e)
-next_digit (x ∷ xs) (suc i) d e = let one : suc i + 1 ≡ suc (i + 1) = omega arith in rw one (next_digit xs i d e)
-
 pub apart_at : (r : Rule) (ds es : List ℕ) (i a b : ℕ) → slice_get ds i ≡ Some a → slice_get es i ≡ Some b → digits_match r a b ≡ false → all_match r ds es ≡ false
 apart_at r [] es i a b e f wrong = cc
 apart_at r (x ∷ xs) [] i a b e f wrong = refl
 apart_at r (x ∷ xs) (y ∷ ys) zero a b e f wrong = rw (same_Some x a e, same_Some y b f) (and_left _ _ wrong)
 apart_at r (x ∷ xs) (y ∷ ys) (suc i) a b e f wrong = and_right (digits_match r x y) (all_match r xs ys) (apart_at r xs ys i a b e f wrong)
+
+-- the same of their last digits, with one of these
+pub apart_from : (r : Rule) (k i : ℕ) (ds es : List ℕ) (a b : ℕ) → k ≤ i → slice_get ds i ≡ Some a → slice_get es i ≡ Some b → digits_match r a b ≡ false → all_match r (drop k ds) (drop k es) ≡ false
+apart_from r zero i ds es a b le e f wrong = apart_at r ds es i a b e f wrong
+apart_from r (suc k) zero ds es a b le e f wrong = absurd (omega (arith, le))
+apart_from r (suc k) (suc i) [] es a b le e f wrong = cc
+apart_from r (suc k) (suc i) (d ∷ ds) [] a b le e f wrong = cc
+apart_from r (suc k) (suc i) (d ∷ ds) (x ∷ es) a b le e f wrong = apart_from r k i ds es a b (omega (arith, le)) e f wrong
 
 pub drop_all : (ds : List ℕ) (n : ℕ) → length ds ≤ n → drop n ds ≡ []
 drop_all [] zero le = refl
@@ -92,7 +96,7 @@ far_match r (suc k) e f ds es all = rw (first (digits_match r e f) (all_match r 
     first true b e = refl
     first false b e = cc
 
-pub all_from_last : (r : Rule) (xs ys : List ℕ) (m n held count back : ℕ) → length xs ≤ held → length ys ≤ held → count ≡ length (extend xs m) → count ≡ length (extend ys n) → back ≡ min count (held + 1)
+all_from_last : (r : Rule) (xs ys : List ℕ) (m n held count back : ℕ) → length xs ≤ held → length ys ≤ held → count ≡ length (extend xs m) → count ≡ length (extend ys n) → back ≡ min count (held + 1)
     → all_match r (drop (count - back) (extend xs m)) (drop (count - back) (extend ys n)) ≡ true → all_match r (extend xs m) (extend ys n) ≡ true
 all_from_last r xs ys m n held count back few less one other back_is all = by_order (cases_lt (held + 1) count)
   where
@@ -111,6 +115,18 @@ all_from_last r xs ys m n held count back few less one other back_is all = by_or
         let a = far_digits p (held - length xs) (m - length xs) (extension xs) xs (omega (arith, few, one, first, back_is, long)) in
         let b = far_digits p (held - length ys) (n - length ys) (extension ys) ys (omega (arith, less, other, second, back_is, long)) in
         rw (a.1, b.1) (far_match r p (extension xs) (extension ys) (replicate (held - length xs) (extension xs) ++ xs) (replicate (held - length ys) (extension ys) ++ ys) (ap₂ (all_match r) (sym a.0) (sym b.0) ∙ all))
+
+-- so the last digits tell whether all match
+pub few_match : (r : Rule) (xs ys : List ℕ) (m n held count last : ℕ) → length xs ≤ held → length ys ≤ held → count ≡ length (extend xs m) → count ≡ length (extend ys n) → count - last ≡ count - (held + 1)
+    → all_match r (drop (count - last) (extend xs m)) (drop (count - last) (extend ys n)) ≡ all_match r (extend xs m) (extend ys n)
+few_match r xs ys m n held count last few less one other last_is = by_value (all_match r (drop (count - last) (extend xs m)) (drop (count - last) (extend ys n))) refl
+  where
+    same : count - last ≡ count - min count (held + 1)
+    same = omega (arith, last_is)
+
+    by_value : (b : Bool) → all_match r (drop (count - last) (extend xs m)) (drop (count - last) (extend ys n)) ≡ b → b ≡ all_match r (extend xs m) (extend ys n)
+    by_value true e = sym (all_from_last r xs ys m n held count (min count (held + 1)) few less one other refl (subst (λ k. all_match r (drop k (extend xs m)) (drop k (extend ys n)) ≡ true) same e))
+    by_value false e = sym (in_parts r (count - last) (extend xs m) (extend ys n) (sym one ∙ other) ∙ and_right (all_match r (take (count - last) (extend xs m)) (take (count - last) (extend ys n))) _ e)
 
 -- the digits of a value are those that are held, extended
 pub shown_digits : (v : HeadView) (t : Table) (code : ℕ) (ds : List ℕ) → value_in (codes_shown v) t code ≡ Some (Value.Bits ds) → (m : ℕ) × (ds ≡ extend (digits_held (held_at t code)) m)

@@ -13,6 +13,7 @@ ghost use Rattle.vcd_compare.specs.Flags.{differing, marked};
 
 use crate::current::{Current, note_trigger};
 use crate::flags::mark;
+use crate::leads::note_lead;
 use crate::pairs::End;
 use vcd_body::{Bits, Item, Regs, ScannedItem, Visit, set_item};
 use vcd_text::{Sink, WriteFailed};
@@ -125,6 +126,7 @@ impl Comparison<'_, '_> {
             return watched.differing;
         };
         note_trigger(self.current.triggers, code, declared, regs);
+        note_lead(self.current.leads, code, declared, text);
         mark_ends(
             &self.current,
             self.flags,

@@ -9,19 +9,21 @@ ghost use Rattle.vcd_compare.specs.Comparing.{AreCodes, AreCurrent, TellsSame, d
 ghost use Rattle.vcd_compare.specs.Lines.{codes_differ};
 
 use crate::asked::Asked;
+use crate::leads::Lead;
 use crate::pairs::Pairs;
 use crate::values::values_match;
 use vcd_body::{Regs, Table};
 use vcd_view::{Code, HeadView};
 
-/// What is compared, and the current states of all codes: their values, and when each event was
-/// triggered last outside sections.
+/// What is compared, and the current states of all codes: their values, when each event was
+/// triggered last outside sections, and how each long value begins.
 #[derive(Drop)]
 pub(crate) struct Current<'p, 'r> {
     pub pairs: &'p Pairs,
     pub asked: Asked,
     pub table: Table<'r>,
     pub triggers: &'r mut [Option<u64>],
+    pub leads: &'r mut [Lead],
 }
 
 /// Notes a change of the code at index `code`, which is declared so, with these registers before
@@ -59,7 +61,7 @@ impl Current<'_, '_> {
         if view.is_event(one) {
             return self.is_triggered(one, at) != self.is_triggered(other, at);
         }
-        !values_match(&self.table, view, self.asked, one, other)
+        !values_match(self.leads, &self.table, view, self.asked, one, other)
     }
 
     /// Returns whether the code at index `code`, which is declared so, has the same value as the

@@ -11,7 +11,8 @@
 //! - `selected`: what each of some names selects
 //! - `counterparts`, `kinds`: what a variable is compared with, and whether it is of the same kind
 //! - `pairs`: `Pairs`, `pairs_of`
-//! - `current`, `values`: the current states of all codes, and whether two of them match
+//! - `current`, `values`: the current states of all codes, and whether two of them match; `leads`:
+//!   how long values begin
 //! - `flags`: a flag for each two codes that are compared
 //! - `comparing`: what an item changes; the visit of the walk over the items ahead
 //! - `lines`: how the lines are written
@@ -26,6 +27,7 @@ mod current;
 mod flags;
 mod kinds;
 pub mod laws;
+mod leads;
 mod lines;
 mod pairs;
 mod paths;
@@ -35,5 +37,6 @@ mod variables;
 mod whole;
 
 pub use asked::{Asked, Extent};
+pub use leads::Lead;
 pub use pairs::{NamePair, Pairs, pairs_of};
 pub use whole::{Answer, Room, compare};

@@ -7,7 +7,7 @@ use crate::failure::Failure;
 use std::alloc::Global;
 use std::hash::BuildHasher;
 use vcd_body::{Share, Slot};
-use vcd_compare::{Asked, NamePair, Room, compare, pairs_of};
+use vcd_compare::{Asked, Lead, NamePair, Room, compare, pairs_of};
 use vcd_head::{Head, HeadFault, read_head_with_hasher};
 use vcd_text::{Feed, Sink, Source, WriteFailed, put, put_number};
 use vcd_view::need;
@@ -59,12 +59,14 @@ fn compare_body<'a, S: Source, W: Sink>(
     let mut slots = vec![in alloc; Slot::new(); need.slots]?;
     let mut shares = vec![in alloc; Share::new(); need.slots]?;
     let mut triggers = vec![in alloc; None; need.slots]?;
+    let mut leads = vec![in alloc; Lead::new(); need.slots]?;
     let mut flags = vec![in alloc; 0u8; pairs.flag_count()]?;
     let room = Room {
         values: &mut values,
         slots: &mut slots,
         shares: &mut shares,
         triggers: &mut triggers,
+        leads: &mut leads,
         flags: &mut flags,
     };
     match compare(view, feed, room, &pairs, request.asked, out) {
