@@ -22,7 +22,7 @@ fn code_byte(number: u64) -> u8
 }
 
 /// Returns the first `len` of these bytes, at most 8, by way of one number.
-// The compiler then keeps all 8 in one register: without this `merge` of scalars takes 4 % more.
+// The compiler then keeps all 8 in one register: without this `merge` of scalars takes 5 % more.
 #[inline(always)]
 fn few(bytes: [u8; 8], len: usize) -> Few
     requires { len ≤ 8 }
