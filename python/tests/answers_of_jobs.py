@@ -1,13 +1,13 @@
-"""What the options of the scripts answer that do a whole job, by definition: --if, --latency,
---rules, --toggle, --saif, --trace, --reach and --names, and what they show of files. As in
-answers.py, each function is over the whole lists and imports nothing of the package."""
+"""What the options of the scripts answer that do a whole job, by definition: --if, --channel,
+--latency, --rules, --toggle, --saif, --trace, --reach and --names, and what they show of files. As
+in answers.py, each function is over the whole lists and imports nothing of the package."""
 import os
 import re
 from typing import Dict, List, NamedTuple, Optional, Sequence, Set, Tuple
 
 from answers import (Clocks, Dump, Row, Tree, Value, Variable, bare, changes_of, edge_times,
-                     holds, is_event, is_real, last_time, looks, scopes_of, starts, states,
-                     time_text, unknown, value_at, value_before, when)
+                     holds, is_event, is_real, last_time, looks, rows_at_edges, scopes_of, starts,
+                     states, time_text, unknown, value_at, value_before, when)
 
 
 # ---- vcdkit-table --if.
@@ -30,6 +30,40 @@ def rows_if(dump: Dump, rows: Sequence[Row], tree: Tree, codes: Set[str], clocks
     """Those of some rows at which a condition holds. Decided: it chooses among the rows, and makes
     none where it begins to hold."""
     return [row for row in rows if holds(tree, values_of_row(dump, codes, row[0], clocks)) is True]
+
+
+# ---- vcdkit-table --channel.
+
+class Channel(NamedTuple):
+    """A channel: the condition of its transfers and the codes of that, and those of its columns."""
+
+    tree: Tree
+    codes: Set[str]
+    columns: List[str]
+
+
+def transactions(dump: Dump, channels: Sequence[Channel], clocks: Clocks
+                 ) -> List[List[Optional[Row]]]:
+    """The n-th transfer of each channel, for each n; None if there is none. A transfer is an edge
+    at which the condition holds. Decided: it does not matter which transfer comes first."""
+    each = [rows_if(dump, rows_at_edges(dump, one.columns, clocks), one.tree, one.codes, clocks)
+            for one in channels]
+    return [[its[at] if at < len(its) else None for its in each]
+            for at in range(max(map(len, each)))]
+
+
+def steps(dump: Dump, of: Sequence[Optional[Row]], clocks: Clocks) -> List[Optional[int]]:
+    """How many edges there are from each transfer of a transaction to the next; below 0 if that
+    comes first, and None if one of both is not there."""
+    edges = edge_times(dump, clocks)
+    return [edges.index(other[0]) - edges.index(one[0]) if one and other else None
+            for one, other in zip(of, of[1:])]
+
+
+def histogram(of: Sequence[Sequence[Optional[int]]]) -> List[List[int]]:
+    """Each number of edges, and how often it is there from each channel to the next."""
+    numbers = sorted({one for its in of for one in its if one is not None})
+    return [[number, *(column.count(number) for column in zip(*of))] for number in numbers]
 
 
 # ---- vcdkit-when --latency.
@@ -61,27 +95,6 @@ def latencies(dump: Dump, tree: Tree, codes: Set[str], clocks: Clocks, every: bo
             late += 1
     return [Latency(its[start].time, its[at].time, place[at] - place[start])
             for at, start in sorted(found)], late
-
-
-def in_order(dump: Dump, tree: Tree, codes: Set[str], clocks: Clocks, after: Tree, wait: int,
-             is_of_edges: bool) -> Tuple[List[Latency], int]:
-    """As latencies, with --in-order: each edge at which the condition holds is a request, and each
-    at which the answer holds answers the first request that has none yet, if there is one. So the
-    n-th answer belongs to the n-th request, also if that is late."""
-    its = looks(dump, codes, clocks)
-    place = [at if is_of_edges else one.time for at, one in enumerate(its)]
-    at_end = len(its) - 1 if is_of_edges else last_time(dump)
-    requests = [at for at, one in enumerate(its) if holds(tree, one.values) is True]
-    answers: List[int] = []
-    for at, one in enumerate(its):
-        is_asked = sum(request <= at for request in requests) > len(answers)
-        answers += [at] * (is_asked and holds(after, one.values) is True)
-    pairs = [(start, at) for start, at in zip(requests, answers)
-             if place[at] - place[start] <= wait]
-    late = [start for start in requests if place[start] + wait <= at_end
-            and start not in [one for one, _ in pairs]]
-    return [Latency(its[start].time, its[at].time, place[at] - place[start])
-            for start, at in pairs], len(late)
 
 
 def overlap(dump: Dump, tree: Tree, codes: Set[str], clocks: Clocks, every: bool, after: Tree,

@@ -41,7 +41,7 @@ class Jobs(Pictures):
         with open(self.path, "wb") as file:
             file.write(case.text)
         asks = [self.ask_rows, self.ask_latencies, self.ask_rules, self.ask_toggles,
-                self.ask_trace, self.ask_verdicts, self.ask_picture]
+                self.ask_trace, self.ask_verdicts, self.ask_picture, self.ask_channels]
         for turn in range(min(2 * case.more - 1, 10)):
             self.number = case.number + turn
             self.names = self.of.names[(self.number // 2) % len(self.of.names)]
@@ -77,6 +77,39 @@ class Jobs(Pictures):
                   [] if late else lines, late[0] if late else int(bool(fault)),
                   late[1] if late else fault or False)
 
+    def ask_channels(self) -> None:
+        """Asks for the transfers of channels, joined in order."""
+        which = self.turn([("rise",), ("fall",), ("rise", "fall")]) if self.of.clock else ()
+        clocks = [("!", "01" if one == "rise" else "10") for one in which]
+        window, channels, words, head, names = self.window(), [], [], [], []  # type: Any
+        for at in range(self.turn([2, 3, 1, 2])):
+            text, tree = self.of.conditions[(self.number // (at + 1) + at) % len(
+                self.of.conditions)]
+            its = self.states(self.of.names[(self.number + at) % len(self.of.names)])
+            its = [one for one in its if at or self.number % 3]
+            channels.append(of_jobs.Channel(tree, codes_of(tree), [one.code for one in its]))
+            words += ["--channel", ": ".join(["c%d" % at, text, *[
+                " ".join(dict.fromkeys(one.path for one in its))] * bool(its)])]
+            names.append("c%d" % at)
+            head.append(["c%d (tick)" % at, *(one.path for one in its)])
+        if not clocks:
+            return
+        part = by_definition.cut(self.dump, window.begin, window.end)
+        found = of_jobs.transactions(part, channels, clocks)
+        steps = [of_jobs.steps(part, one, clocks) for one in found]
+        pairs = ["%s to %s" % pair for pair in zip(names, names[1:])]
+        lines: List[List[Any]] = [[*sum(head, []), *pairs]] + [[
+            *(cell for one, its in zip(of, head) for cell in (
+                [one[0], *map(by_definition.shown, one[1])] if one else [""] * len(its))),
+            *("" if one is None else one for one in edges)] for of, edges in zip(found, steps)]
+        late, is_histogram = self.late(window.begin), self.number % 4 == 1
+        if is_histogram:
+            lines = [] if part.fault else [["edges", *pairs], *of_jobs.histogram(steps)]
+        self.same("table", [*words, *["--histogram"] * is_histogram, "--unit=tick", *(
+            "--%s=%s" % (one, self.of.clock) for one in which), *window.words, self.path],
+            [] if late else [",".join(map(str, line)) for line in lines],
+            late[0] if late else int(bool(part.fault)), late[1] if late else part.fault or False)
+
     def ask_latencies(self) -> None:
         """Asks how long answers take."""
         (text, tree), (after_text, after) = (self.turn(self.of.conditions, by) for by in (1, 5))
@@ -84,11 +117,10 @@ class Jobs(Pictures):
         part = by_definition.cut(self.dump, window.begin, window.end)
         is_of_edges, wait = bool(clocks) and self.number % 2 == 0, self.turn([0, 1, 5, 7], 2)
         every = bool(clocks) and self.number % 3 == 0
-        codes, is_in_order = codes_of(tree) | codes_of(after), bool(clocks) and self.number % 5 < 2
-        found, late = of_jobs.in_order(
-            part, tree, codes, clocks, after, wait, is_of_edges) if is_in_order else (
-            of_jobs.latencies(part, tree, codes, clocks, every, after, wait, is_of_edges))
-        is_warned = not is_in_order and not part.fault and of_jobs.overlap(
+        codes = codes_of(tree) | codes_of(after)
+        found, late = of_jobs.latencies(
+            part, tree, codes, clocks, every, after, wait, is_of_edges)
+        is_warned = not part.fault and of_jobs.overlap(
             part, tree, codes, clocks, every, after, wait, is_of_edges)
         tick, time = self.dump.tick, by_definition.time_text
         shown: Any = (lambda _, length: str(length)) if is_of_edges else time
@@ -104,8 +136,8 @@ class Jobs(Pictures):
             lines.append("0 in time, %d late" % late)
         is_late = self.late(window.begin)
         condition = "%s -> %s within %d%s" % (text, after_text, wait, "tick" * (not is_of_edges))
-        self.same("when", ["--latency", *["--every"] * every, *["--in-order"] * is_in_order,
-                           *words, *window.words, self.path, condition], [] if is_late else lines,
+        self.same("when", ["--latency", *["--every"] * every, *words, *window.words, self.path,
+                           condition], [] if is_late else lines,
                   2 if is_late or part.fault else int(not found),
                   is_late[1] if is_late else part.fault or is_warned)
 

@@ -1,80 +1,121 @@
 """Writes the values of several signals as CSV, with a column for each
 
-There is a row for each time at which one of the signals changes, with the values at the end of that
-time. With --from, there is also a row for that time, if there are values then. With --rise or
---fall, there is a row for each such edge of a one-bit clock, with the values just before the edge,
-which are what a flip-flop samples; with both, there is a row for every edge. With --at, there is a
-row for each of the given times, in this order. Glitches within a time step and repeated values are
-ignored. A clock edge counts even if the clock returns to its old value in the same time step.
-Events have no column. While a pipe is read, each row is written as soon as it is known. A --from
-after the end of the dump is a usage error.
+There is a row for each change and for --from, with the values at the end of the time; for each edge
+of a clock (--rise, --fall), with those just before it; or for each time of --at. Events have no
+column. `-` is no value yet, X of --hex a mixture with x or z. For pandas: --decimal, or dtype=str.
 
---if keeps only those of these rows at which a condition holds, for the values that the row shows:
---rise clk --if 'valid & ready' lists the transfers on a bus. `vcdkit-when --help` describes
-conditions. At an edge, an event counts as triggered if it was triggered since the edge before.
-
-Values are written with all their digits, as numbers (--hex, --decimal, --signed) or as text
-(--ascii). If a value has an x or a z, --hex writes x or z for four such digits and X for a mixture,
-and the other options write all digits. `-` means that there is no value yet. Real numbers are
-written as 1.5, 3, 1e-09, nan or inf. Times are whole numbers in the unit of the time scale or, with
---unit, exact decimal numbers in that unit. For pandas, use --decimal; with --binary or --hex, pass
-dtype=str to pandas.read_csv.
+With a --channel 'NAME: CONDITION: SIGNAL ..' for each channel of a bus, row n has the n-th edge at
+which the condition of each holds, the signals, and how many edges there are from one to the next
+(below 0 if that comes first). Cells are empty if there is no n-th edge.
 
 examples:
-  vcdkit-table --hex --at 10ns,20ns,30ns sim.vcd tb.pc tb.bus
-  vcdkit-table --decimal --rise tb.clk --from 1us sim.vcd.gz tb.cpu
   vcdkit-table --rise tb.clk --if 'tb.valid & tb.ready' sim.vcd tb.address tb.data
-  vcdkit-table --unit tick sim.vcd tb.count"""
+  vcdkit-table --rise clk --channel 'a: avalid & aready: addr' --channel 'r: rvalid & rready' a.vcd"""
+import argparse
+import collections
 import csv
 import functools
 import io
+import itertools
 import os
+import re
 import sys
-from typing import List
+from typing import Any, Callable, Iterable, List, Tuple
 
 from ..forms.text import in_json, shown, write_json
 from ..model.signals import keys_of
-from ..model.values import Value
+from ..model.values import Cell, Value
+from ..questions.when import Questions
 from . import check_begin, command, dump_of, is_part, parser, part_of, times_at
 
 
-@command
-def main(words: List[str]) -> int:
+def words_of(words: List[str]) -> argparse.Namespace:
+    """Reads the command line."""
     options = parser("vcdkit-table", __doc__)
     options.form().clock("write a row for each %s edge of this signal")
     options.at("write a row for each of these times%s")
-    options.add_argument("--if", dest="condition", metavar="CONDITION",
-                         help="write only the rows at which this holds")
-    options.window().unit("that of the time scale").json().file("+")
+    which = options.add_mutually_exclusive_group()
+    which.add_argument("--if", dest="condition", metavar="CONDITION",
+                       help="write only the rows at which this holds")
+    which.add_argument("--channel", dest="channels", action="append", default=[],
+                       metavar="CHANNEL", help="join transfers in order (see below)")
+    options.add_argument("--histogram", action="store_true",
+                         help="with --channel: count how often there are how many edges")
+    options.window().unit("that of the time scale").json().file("*")
     asked = options.parse_args(words)
     has_clock = asked.rise is not None or asked.fall is not None
     if asked.at is not None and (is_part(asked) or has_clock):
         options.error("--at goes with none of --rise, --fall, --from and --to")
+    if bool(asked.channels) == bool(asked.names or asked.names_of is not None):
+        options.error("give NAMEs, --names or --channel")
+    if asked.channels and not has_clock or asked.histogram and not asked.channels:
+        options.error("--histogram goes with --channel, and --channel with --rise or --fall")
+    each = [(re.split("(?<! ): ", one, maxsplit=2) + ["", ""])[:3] for one in asked.channels]
+    asked.channels = [(name, condition, re.findall("[^ ]+", names))
+                      for name, condition, names in each]
+    if len({name for name, _, _ in each}) < len(each):
+        options.error("two channels have one name")
+    return asked
+
+
+def joined(asking: Questions, names: List[str], heads: List[List[str]],
+           cells: Callable[[int, List[Cell]], List[Any]], is_histogram: bool
+           ) -> Tuple[List[str], Iterable[List[Any]]]:
+    """Returns the head and the rows of channels with some names and heads."""
+    pairs = ["%s to %s" % pair for pair in zip(names, names[1:])]
+    each = ((of, [other[0] - one[0] if one and other else None for one, other in zip(of, of[1:])])
+            for of in asking.transactions())
+    if is_histogram:
+        counts = collections.Counter(pair for _, edges in each for pair in enumerate(edges))
+        return ["edges", *pairs], [[one, *(counts[at, one] for at in range(len(pairs)))]
+                                   for one in sorted({one for _, one in counts if one is not None})]
+    return [*itertools.chain(*heads), *pairs], (
+        [*(cell for one, head in zip(of, heads)
+           for cell in (cells(*one[1]) if one else [None] * len(head))), *edges]
+        for of, edges in each)
+
+
+@command
+def main(words: List[str]) -> int:
+    asked = words_of(words)
     times, whole = times_at(asked), dump_of(asked)
-    columns = [one for one in whole.select(asked.names) if one.type != "event"]
+    channels = asked.channels or [("time", "", asked.names)]
+    columns = [[one for one in whole.select(names) if one.type != "event"]
+               for _, _, names in channels]
     scale = whole.timescale
-    in_unit = asked.unit or (scale.unit if scale else "tick")
-    whole.ticks("0" if in_unit == "tick" else "0" + in_unit)  # a unit needs a time scale
+    unit = asked.unit or (scale.unit if scale else "tick")
+    whole.ticks("0" if unit == "tick" else "0" + unit)  # a unit needs a time scale
     check_begin(whole, asked.begin)
     # Values at the begin of a cut are a section, and none that changed.
-    dump = part_of(whole, asked)
-    rows = dump.rows(asked.names, times, asked.rise, asked.fall, asked.condition)
+    dump, form = part_of(whole, asked), asked.form
+    decimal = scale.in_unit(unit) if scale and unit != "tick" and not asked.json else (
+        lambda ticks: ticks)
+    text: Callable[..., Any] = [shown, in_json][asked.json]
+    digits = functools.lru_cache(maxsize=1 << 14)(text)  # of numbers it would take 0 for -0
+
+    def cells(time: int, values: List[Cell]) -> List[Any]:
+        return [decimal(time), *[digits(value, form) if value.__class__ is Value
+                                 else text(value, form) for value in values]]
+
+    heads = [[name, *((name + " ") * bool(asked.channels) + key for key in keys_of(its, [name]))]
+             if asked.json else ["%s (%s)" % (name, unit), *(one.path for one in its)]
+             for (name, _, _), its in zip(channels, columns)]
+    if asked.channels:
+        asking = Questions(dump, [one[:2] for one in channels], asked.rise, asked.fall, True,
+                           columns)
+        head, rows = joined(asking, [one[0] for one in channels], heads, cells, asked.histogram)
+    else:
+        head, rows = heads[0], itertools.starmap(cells, dump.rows(
+            asked.names, times, asked.rise, asked.fall, asked.condition))
     _ = dump.header  # so that a bad window is refused before anything is written
     is_file = os.path.isfile("/dev/stdin" if asked.file == "-" else asked.file)
     if not is_file and isinstance(sys.stdout, io.TextIOWrapper):
         sys.stdout.reconfigure(line_buffering=True)  # the rows of a pipe are seen as they come
-    keys = keys_of(columns, ["time"])
     if asked.json:
-        for time, values in rows:
-            write_json({"time": time, **dict(zip(keys, (
-                in_json(value, asked.form) for value in values)))})
+        for row in rows:
+            write_json(dict(zip(head, row)))
         return 0
-    decimal = scale.in_unit(in_unit) if scale and in_unit != "tick" else (lambda ticks: ticks)
     out = csv.writer(sys.stdout, lineterminator="\n")
-    out.writerow(["time (%s)" % in_unit] + [one.path for one in columns])
-    digits = functools.lru_cache(maxsize=1 << 14)(shown)  # of numbers it would take 0 for -0
-    form = asked.form
-    out.writerows([decimal(time), *[
-        digits(value, form) if value.__class__ is Value else shown(value, form)
-        for value in values]] for time, values in rows)
+    out.writerow(head)
+    out.writerows(rows)
     return 0

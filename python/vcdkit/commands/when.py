@@ -38,9 +38,6 @@ def words_of(words: List[str]) -> argparse.Namespace:
                       "when ack follows and after how long")
     form.add_argument("--rules", metavar="FILE", help="evaluate the conditions in this file, each "
                       "on a line `name: condition`, and write a line for each that holds")
-    options.add_argument("--in-order", action="store_true", help="with --latency: each edge at "
-                         "which req holds is a request, each edge at which ack holds is an answer, "
-                         "and the n-th answer belongs to the n-th request")
     options.add_argument("--junit", metavar="FILE", help="with --rules: also write a JUnit report, "
                          "with a test for each rule")
     options.clock("evaluate at the %s edges of this signal")
@@ -57,8 +54,8 @@ def words_of(words: List[str]) -> argparse.Namespace:
                  "unrecognized arguments: " + " ".join(rest))
     if (asked.condition is None) == (asked.rules is None):
         options.error("give a CONDITION, or --rules FILE")
-    if asked.in_order and not asked.latency or asked.junit is not None and asked.rules is None:
-        options.error("--in-order goes with --latency, and --junit with --rules")
+    if asked.junit is not None and asked.rules is None:
+        options.error("--junit goes with --rules")
     return asked
 
 
@@ -112,10 +109,10 @@ def list_latencies(asking: Questions, dump: Dump, text: Callable[[int], str],
             else mean_text(dump, mean, asked.unit), shown(max(lengths)), len(lengths), late))
     elif late and not asked.json:
         print("0 in time, %d late" % late)
-    if one.overlaps and not asked.in_order:
+    if one.overlaps:
         print("vcdkit-when: warning: requests that begin before the previous one is answered: %d. "
-              "They get the same answer; with --in-order, each gets its own" % one.overlaps,
-              file=sys.stderr)
+              "They get the same answer; with vcdkit-table --channel, each gets its own"
+              % one.overlaps, file=sys.stderr)
     return len(lengths)
 
 
@@ -160,8 +157,7 @@ def main(words: List[str]) -> int:
     rules = rules_of(asked.rules) if asked.rules is not None else [("", asked.condition)]
     dump = dump_of(asked)
     text = times_of(dump, asked)
-    asking = Questions(part_of(dump, asked), rules, asked.rise, asked.fall, asked.every,
-                       asked.in_order)
+    asking = Questions(part_of(dump, asked), rules, asked.rise, asked.fall, asked.every)
     if asked.latency and not asking.each[0].has_latency:
         raise UsageError("latencies are those of a condition such as req -> ack within 50")
     check_begin(dump, asked.begin)

@@ -83,7 +83,7 @@ def _clock(source: Source, name: str) -> Signal:
     return clock
 
 
-class _Cells:
+class Cells:
     """The last value of each signal of a table; `row` has them in order, None for none."""
 
     def __init__(self, columns: Sequence[Signal]):
@@ -131,7 +131,7 @@ def _rows(pairs: Iterable[Tuple[int, body.Changes]], columns: Sequence[Signal], 
           only: Optional[Conditions]) -> Iterator[Pair]:
     """Returns a row for each time with its changes, unless no value of a column is another one, if
     not every one is asked for."""
-    cells, holds = _Cells(columns), only.compiled() if only else None
+    cells, holds = Cells(columns), only.compiled() if only else None
     for time, changes in pairs:
         is_other = cells.take(changes)
         if only:

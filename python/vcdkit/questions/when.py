@@ -5,17 +5,22 @@ from typing import (Callable, Collection, Deque, Iterator, List, NamedTuple, Opt
                     Tuple)
 
 from ..errors import DumpFault, UnknownName, UsageError
+from ..model.signals import Signal
+from ..model.values import Row
 from ..reading import body
 from ..reading.source import Source
 from .condition import Condition, Conditions
 from .expression import Span
-from .rows import edges_of
+from .rows import Cells, edges_of
 
 MAX_WAITING = 1_000_000  # starts without an answer
 Numbers = Tuple[int, ...]  # of conditions
 # When a request begins, when its answer comes, `None` if none comes in time, and how long that is:
 # in edges if the condition counts them, else in ticks.
 Outcome = Tuple[int, Optional[int], int]
+# Of each condition the number of an edge at which it holds, and the values there; `None` for none.
+Transaction = List[Optional[Tuple[int, Row]]]
+SEVERAL = "bad condition: -> is of several times, and a row has one"
 
 
 class _Request(NamedTuple):
@@ -28,12 +33,10 @@ class _Request(NamedTuple):
 class _Question:
     """A condition that is asked, and its requests that wait for an answer."""
 
-    def __init__(self, condition: Condition, ticks: int, in_order: bool):
-        self.condition, self.span, self.in_order = condition, condition.span, in_order
-        self.ticks = ticks
+    def __init__(self, condition: Condition, ticks: int):
+        self.condition, self.span, self.ticks = condition, condition.span, ticks
         self.overlaps = 0  # requests that began before the answer of the one before
         self._waiting: Deque[_Request] = collections.deque()
-        self._late = 0  # of them, how many wait for an answer that would come too late
         self._looks = 0
 
     def look(self, time: int, starts: int, holding: int) -> List[Outcome]:
@@ -47,10 +50,8 @@ class _Question:
             self.overlaps += bool(waiting)
             waiting.append(_Request(time, now + self.ticks))
         if waiting and holding & bits.answer:
-            its = [waiting.popleft() for _ in range(1 if self.in_order else len(waiting))]
-            found += [(begin, time, now - until + self.ticks) for begin, until in its
-                      if until >= now]
-            self._late = max(self._late - len(its), 0)
+            found += [(begin, time, now - until + self.ticks) for begin, until in waiting]
+            waiting.clear()
         if self.span and not self.span.unit:  # each edge is looked at once
             found += self.late(now + 1)
         if len(waiting) > MAX_WAITING:
@@ -59,15 +60,10 @@ class _Question:
         return found
 
     def late(self, now: int) -> List[Outcome]:
-        """Returns the requests that waited until a time before this one. In order, they still get
-        their answers, which are too late."""
+        """Returns the requests that waited until a time before this one."""
         found: List[Outcome] = []
-        while self._late < len(self._waiting) and self._waiting[self._late].until < now:
-            found.append((self._waiting[self._late].begin, None, 0))
-            if self.in_order:
-                self._late += 1
-            else:
-                self._waiting.popleft()
+        while self._waiting and self._waiting[0].until < now:
+            found.append((self._waiting.popleft().begin, None, 0))
         return found
 
     @property
@@ -83,36 +79,39 @@ class _Question:
     def late_at_end(self, is_over: Callable[[int], bool]) -> List[Outcome]:
         """Returns the requests that waited until a time that is over where the dump ends. What else
         is left open there is neither in time nor late."""
-        low, high = self._late, len(self._waiting)
+        low, high = 0, len(self._waiting)
         while low < high:
             middle = (low + high) // 2
             is_late = is_over(self._waiting[middle].until)
             low, high = (middle + 1, high) if is_late else (low, middle)
-        return self.late(self._waiting[low - 1].until + 1) if low > self._late else []
+        return self.late(self._waiting[low - 1].until + 1) if low else []
 
 
 class Questions:
     """Conditions that are asked in one pass over a dump."""
 
     def __init__(self, dump: Source, rules: Sequence[Tuple[str, str]], rise: Optional[str],
-                 fall: Optional[str], every: bool, in_order: bool = False):
-        """Rules are names, which messages have, and conditions."""
+                 fall: Optional[str], every: bool, columns: Sequence[List[Signal]] = ()):
+        """Rules are names, which messages have, and conditions. These may have columns, whose
+        values are asked for."""
         self.dump, self.clocks = dump, [name for name in (rise, fall) if name is not None]
-        if (every or in_order) and not self.clocks:
-            raise UsageError("%s: name a clock by rise or fall" % (
-                "every edge" if every else "in order"))
-        self.every = every or in_order
+        if every and not self.clocks:
+            raise UsageError("every edge: name a clock by rise or fall")
+        self.every, self.edge = every, 0  # the number of a look
+        self.columns, self.cells = columns, [Cells(its) for its in columns]
         self.conditions = Conditions(dump, bool(self.clocks))
         self.each: List[_Question] = []
         for name, text in rules:
             try:
                 one = self.conditions.add(text)
+                if columns and one.answer:
+                    raise UsageError(SEVERAL)
                 ticks = _ticks_of(one.span, dump, bool(self.clocks))
             except (UsageError, UnknownName) as error:
-                if not name:
-                    raise
-                raise UsageError("%s: %s" % (name, error)) from None
-            self.each.append(_Question(one, ticks, in_order))
+                if name:
+                    error.args = ("%s: %s" % (name, error),)
+                raise
+            self.each.append(_Question(one, ticks))
         self.edges = edges_of(dump, rise, fall)
 
     def outcomes(self) -> Iterator[Tuple[Numbers, Outcome]]:
@@ -139,6 +138,24 @@ class Questions:
         for numbers, (begin, answer, _) in self.outcomes():
             if (answer is None) == refusals[numbers[0]]:
                 yield begin, numbers
+
+    def transactions(self) -> Iterator[Transaction]:
+        """Returns the n-th edges of all conditions, for each n, as soon as they are there; at the
+        end or at a fault, those that are left."""
+        waiting: List[Deque[Tuple[int, Row]]] = [collections.deque() for _ in self.each]
+        fault: Optional[DumpFault] = None
+        try:
+            for time, numbers in self.times():
+                for at in numbers:
+                    waiting[at].append((self.edge, Row(time, self.cells[at].row[:])))
+                if all(waiting):
+                    yield [its.popleft() for its in waiting]
+        except DumpFault as error:
+            fault = error
+        while any(waiting):
+            yield [its.popleft() if its else None for its in waiting]
+        if fault:
+            raise fault
 
     def _known(self) -> Iterator[Tuple[Numbers, Outcome]]:
         """Returns the outcomes that are known before the end of the dump."""
@@ -169,16 +186,18 @@ class Questions:
         """Returns each time at which conditions are looked at, and those of which a value is
         another one there, or that may say something at each edge; they have the values there."""
         conditions, begin = self.conditions, self.dump.begin()
-        names = [*dict.fromkeys([*conditions.paths, *self.clocks])]
+        columns = [one for its in self.columns for one in its]
+        names = [*dict.fromkeys([*conditions.paths, *self.clocks, *(one.path for one in columns)])]
+        codes = {*conditions.over, *(one.code.encode() for one in columns)}
         always = (-1 if self.every else conditions.with_more) if self.edges else 0
-        times = (body.at_edges(self.dump, names, conditions.over, self.edges) if self.edges
-                 else _with_begin(self.dump.part(names), conditions.over, begin))
-        is_first = True
-        for time, changes in times:
+        times = (body.at_edges(self.dump, names, codes, self.edges) if self.edges
+                 else _with_begin(self.dump.part(names), codes, begin))
+        for self.edge, (time, changes) in enumerate(times):
+            for cells in self.cells:
+                cells.take(changes)
             due = conditions.take(changes) | always
-            if is_first and (self.edges or 0 < begin == time):
+            if not self.edge and (self.edges or 0 < begin == time):
                 due = -1
-            is_first = False
             yield time, due
 
 
@@ -206,7 +225,7 @@ def state(dump: Source, text: str, has_clock: bool) -> Conditions:
     """Returns a condition that holds at a time or does not."""
     found = Conditions(dump, has_clock)
     if found.add(text).answer:
-        raise UsageError("bad condition: -> is of several times, and a row has one")
+        raise UsageError(SEVERAL)
     return found
 
 
