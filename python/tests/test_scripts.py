@@ -999,22 +999,45 @@ class Conditions(Case):
             for at in range(12))
         return self.file("p.vcd", self.HEAD + text)
 
-    def test_answers_in_order(self):
+    def test_transfers_in_order(self):
+        dump, words = self.pipelined(), ["--rise", "clk", "--channel", "a: req", "--channel"]
+        rows = ["10,40,3", "20,50,3", "30,90,6", "70,,"]
+        self.assertEqual(said("vcdkit-table", *words, "b: ack", dump),
+                         ["a (ns),b (ns),a to b", *rows, "status 0"])
+        self.assertEqual(said("vcdkit-table", *words, "b: ack", "--histogram", dump),
+                         ["edges,a to b", "3,2", "6,1", "status 0"])
+        # The third b comes before the third a.
+        self.assertEqual(said("vcdkit-table", *words, "b: req ? !ack : ack: ack", dump), [
+            "a (ns),b (ns),ack,a to b", "10,10,0,0", "20,20,0,0", "30,30,0,0", "70,40,1,-3",
+            ",50,1,", ",70,0,", ",90,1,", "status 0"])
+        self.assertEqual(said("vcdkit-table", "--json", *words, "a b: ack: req ack", dump)[::4], [
+            '{"a": 10, "a b": 40, "a b req": "0", "a b ack": "1", "a to a b": 3}', "status 0"])
+        # What is in flight at a fault is shown too.
+        with open(dump, "ab") as file:
+            file.write(b"fault\n")
+        self.assertEqual(said("vcdkit-table", *words, "b: ack", dump)[1:], [*rows, "status 1"])
+        for wrong, message in (
+                (["--channel=a: req"], b"--histogram goes with --channel, and --channel with"),
+                ([*words, "a: ack"], b"error: two channels have one name"),
+                ([*words, "b: ack", "clk"], b"error: give NAMEs, --names or --channel"),
+                ([*words, "b: ack", "--if", "req"], b"not allowed with argument --channel"),
+                ([*words, "b"], b"vcdkit-table: b: bad condition: it ends too early"),
+                ([*words, "b: req -> ack within 3"], b"vcdkit-table: b: bad condition: -> is of"),
+                (["--rise", "clk", "--histogram", "clk"], b"--histogram goes with --channel")):
+            status, out, messages = run("vcdkit-table", [dump, *wrong])
+            self.assertEqual((status, out), (2, b""), wrong)
+            self.assertIn(message, messages)
+        status, out, messages = run("vcdkit-table", [dump, *words, "b: none"])
+        self.assertEqual((status, out, messages[:34]),
+                         (1, b"", b"vcdkit-table: b: none: selects noth"[:34]))
+
+    def test_requests_that_overlap(self):
         dump, words = self.pipelined(), ["--latency", "--rise", "clk"]
-        self.assertEqual(said("vcdkit-when", *words, "--in-order", dump, "req -> ack within 9"), [
-            "10ns 40ns 3", "20ns 50ns 3", "30ns 90ns 6",
-            "least 3, mean 4, greatest 6, 3 in time, 0 late", "status 0"])
-        # The third answer is late, and belongs to the third request nevertheless.
-        self.assertEqual(said("vcdkit-when", *words, "--in-order", dump, "req -> ack within 3"), [
-            "10ns 40ns 3", "20ns 50ns 3", "least 3, mean 3, greatest 3, 2 in time, 2 late",
-            "status 0"])
         for every, warning in (
                 ([], b""), (["--every"], b"before the previous one is answered: 2.")):
             _, _, messages = run("vcdkit-when", [*words, *every, dump, "req -> ack within 9"])
             self.assertIn(warning, messages)
             self.assertEqual(bool(messages), bool(warning))
-        self.assertEqual(said("vcdkit-when", "--latency", "--in-order", dump,
-                              "req -> ack within 9ns"), ["status 2"])
 
     def test_rules(self):
         dump = self.file("a.vcd", self.HEAD + b'#0 0! 0" #5 1! #7 1" #9 0! #12 1! #20\n')

@@ -1,4 +1,5 @@
-"""When a condition is evaluated, when it holds, and which answer a request gets."""
+"""When a condition is evaluated, when it holds, which answer a request gets, and which transfers
+are a transaction."""
 from typing import List, NamedTuple, Optional, Sequence, Set, Tuple
 
 from conditions import Test
@@ -113,26 +114,20 @@ def waits(looks: Sequence[Look], begins: Sequence[bool], answer: Test, span: Tup
     return found
 
 
-def waits_in_order(looks: Sequence[Look], request: Test, answer: Test, span: Tuple[bool, int],
-                   end: int) -> List[Wait]:
-    """Returns the same with --in-order: each look at which the request holds is one, and the n-th
-    look at which the answer holds while a request waits belongs to the n-th request."""
-    is_edges, most = span
-    asked: List[int] = []
-    answered: List[int] = []
-    for at, look in enumerate(looks):
-        asked += [at] * holds(request, look)
-        answered += [at] * (len(asked) > len(answered) and holds(answer, look))
-    found = []
-    for number, at in enumerate(asked):
-        other = answered[number] if number < len(answered) else None
-        length = most + 1 if other is None else (
-            other - at if is_edges else looks[other].time - looks[at].time)
-        if other is not None and length <= most:
-            found.append(Wait(looks[at].time, looks[other].time, length))
-        elif at + most < len(looks) if is_edges else looks[at].time + most <= end:
-            found.append(Wait(looks[at].time, None, 0))
-    return found
+def transfers(looks: Sequence[Look], tests: Sequence[Test]
+              ) -> List[List[Optional[Tuple[int, Look]]]]:
+    """Returns the lines of transactions: in the n-th are the n-th looks at which the tests hold,
+    each with the number of the look."""
+    lines: List[List[Optional[Tuple[int, Look]]]] = []
+    for column, test in enumerate(tests):
+        line = 0
+        for number, look in enumerate(looks):
+            if holds(test, look):
+                if line == len(lines):
+                    lines.append([None] * len(tests))
+                lines[line][column] = number, look
+                line += 1
+    return lines
 
 
 def is_overlapping(looks: Sequence[Look], begins: Sequence[bool], answer: Test,

@@ -8,8 +8,7 @@ import xml.etree.ElementTree as xml
 from asker import Asker, Said, Skip, Window, run
 from conditions import Condition, quoted
 from dumps import FEMTOSECONDS, UNITS, Dump
-from looks import (Edges, Look, is_overlapping, looks_at_changes, looks_at_edges, starts, waits,
-                   waits_in_order)
+from looks import (Edges, Look, is_overlapping, looks_at_changes, looks_at_edges, starts, waits)
 from shown import all_from_json
 
 MARKS = "!\"#$%&'()*+,-./:;<=>?@[\\]^_`{|}~0\u00e9\u2211"
@@ -106,20 +105,19 @@ def ask_latency(of: Asker) -> None:
     dump, asked, unit = of.dump, question(of, .7), of.unit(.2)
     before, after = (condition(of, depth, bool(asked.edges)) for depth in (2, 1))
     within, span = span_of(of, bool(asked.edges))
-    is_in_order, is_json = bool(asked.edges) and of.happens(.4), of.happens(.25)
+    is_json = of.happens(.25)
     looks, end = asked.looks(dump, of.conditions.codes), asked.end(dump)
     begins = starts(looks, before.test, bool(asked.edges), asked.every)
-    found = (waits_in_order(looks, before.test, after.test, span, end) if is_in_order
-             else waits(looks, begins, after.test, span, end))
-    words = of.placed([*asked.words, "--latency", *["--in-order"] * is_in_order,
-                       *["--json"] * is_json, *(["--unit", unit] if unit else [])],
+    found = waits(looks, begins, after.test, span, end)
+    words = of.placed([*asked.words, "--latency", *["--json"] * is_json,
+                       *(["--unit", unit] if unit else [])],
                       [of.path, "%s -> %s within %s" % (before.inside(0), after.inside(0), within)])
     said = run("when", words)
     if of.is_late(asked.window, "latency", words, said):
         return
     its = [one for one in found if one.answer is not None]
     its.sort(key=lambda one: (one.answer, one.time))  # in the order of the answers
-    warned = not is_in_order and is_overlapping(looks, begins, after.test, span)
+    warned = is_overlapping(looks, begins, after.test, span)
     wanted: List[Any] = [one._asdict() for one in its]
     got: List[Any] = said.lines
     if is_json:

@@ -4,11 +4,12 @@ import io
 import json
 import re
 from collections import Counter
-from typing import Any, Dict, List, Optional, Set, Tuple
+from typing import Any, Dict, List, NamedTuple, Optional, Set, Tuple
 
 from asker import Asker, Said, Skip, run
+from conditions import Test
 from dumps import Dump, State, Value, Variable
-from looks import Look, looks_at_edges, rows_at_changes
+from looks import Look, looks_at_edges, rows_at_changes, transfers
 from shown import all_from_json, from_json, in_json, shown
 
 Row = Tuple[Look, List[Optional[Value]]]
@@ -103,6 +104,71 @@ def ask_table(of: Asker) -> None:
     got = all_from_json(said.text) if is_json else list(
         csv.reader(io.StringIO(said.text, newline="")))
     of.same("table", words, (said.status, got, said.message), (0, wanted, ""))
+
+
+class Channel(NamedTuple):
+    """A channel: its option, the condition of a transfer, and its columns."""
+
+    name: str
+    word: str
+    test: Test
+    columns: List[Variable]
+
+    def head(self, is_json: bool, unit: str) -> List[str]:
+        """Returns what its cells are called."""
+        if is_json:
+            return [self.name, *(self.name + " " + key for key in keys_of(self.columns))]
+        return ["%s (%s)" % (self.name, unit), *(one.path for one in self.columns)]
+
+
+def channel_of(of: Asker, name: str) -> Channel:
+    """Returns a random channel."""
+    condition, names = of.conditions.make(1, True), of.names(2) if of.happens(.7) else []
+    if not condition or re.search("[^ ]: ", condition.text):
+        raise Skip
+    columns = of.dump.selected(names) if names else []
+    return Channel(name, ": ".join([name, condition.text] + [" ".join(names)] * bool(names)),
+                   condition.test, [one for one in columns if not one.is_event])
+
+
+def ask_channels(of: Asker) -> None:
+    """Asks for the transfers of channels, joined in order, or for how often there is each number of
+    edges between them."""
+    dump, (words, form), unit, window = of.dump, of.form(), of.unit(), of.window()
+    options, edges = of.clocks()
+    names = of.random.sample(["ar", "r", "a channel", "b,c", "\u00e9"], of.random.randint(1, 3))
+    its, pairs = [channel_of(of, name) for name in names], list(zip(names, names[1:]))
+    mode = of.random.choice(["", "", "--json", "--histogram"])
+    words += [*options, *window.words, *[mode] * bool(mode), *(["--unit", unit] if unit else [])]
+    words = [*("--channel=" + one.word for one in its), *of.placed(words, [of.path])]
+    said, is_json = run("table", words), mode == "--json"
+    if of.is_late(window, "channels", words, said):
+        return
+    unit, counts = unit or (dump.scale[1] if dump.scale else "tick"), Counter()  # type: str, Any
+    head = [cell for one in its for cell in one.head(is_json, unit)]
+    wanted: List[List[Any]] = []
+    looks = looks_at_edges(dump, edges, window.begin, window.end)
+    for line in transfers(looks, [one.test for one in its]):
+        wanted.append([])
+        for found, channel in zip(line, its):
+            look = found[1] if found else None
+            values = [look.values.get(one.code) if look else None for one in channel.columns]
+            wanted[-1] += ([None] * (1 + len(values)) if look is None else
+                           [look.time, *(in_json(one, form) for one in values)] if is_json else
+                           [dump.time_in(look.time, unit), *(shown(one, form) for one in values)])
+        for pair, one, other in zip(pairs, line, line[1:]):
+            wanted[-1].append(other[0] - one[0] if one and other else None)
+            counts[pair, wanted[-1][-1]] += 1
+    head += ["%s to %s" % pair for pair in pairs]
+    if mode == "--histogram":
+        head = ["edges", *head[len(head) - len(pairs):]]
+        wanted = [[edge, *(counts[pair, edge] for pair in pairs)]
+                  for edge in sorted({edge for _, edge in counts if edge is not None})]
+    got = all_from_json(said.text) if is_json else list(
+        csv.reader(io.StringIO(said.text, newline="")))
+    of.same("channels", words, (said.status, got, said.message), (
+        0, [dict(zip(head, row)) for row in wanted] if is_json else
+        [["" if cell is None else str(cell) for cell in row] for row in [head, *wanted]], ""))
 
 
 def keys_of(columns: List[Variable]) -> List[str]:
