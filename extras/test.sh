@@ -86,7 +86,9 @@ for script in when diff; do
     later "vcdkit-$script, against another reader" python3 "python/tests/test_$script.py"
 done
 later 'conditions, against Icarus Verilog' python3 python/tests/test_expressions.py --count 400
-[[ -n $(type -P iverilog) ]] || echo 'conditions are not compared with Icarus: no iverilog'
+later 'transactions, against two buses in Icarus Verilog' python3 python/tests/test_buses.py
+[[ -n $(type -P iverilog) ]] ||
+    echo 'conditions and transactions are not compared with Icarus: no iverilog'
 later 'the package and the scripts, on every 60th small dump' env STRIDE=60 PROCESSES=1 \
     VCDKIT_LIBRARY="$library" python3 python/tests/test_every_small_dump.py
 later 'the scripts, at any argument, file and stream' python3 python/tests/test_scripts.py
