@@ -28,6 +28,8 @@ from ..model.values import Cell, Value
 from ..questions.when import Questions
 from . import check_begin, command, dump_of, is_part, parser, part_of, times_at
 
+Cells = Callable[[int, List[Cell]], List[Any]]  # makes the cells of a time and values
+
 
 def words_of(words: List[str]) -> argparse.Namespace:
     """Reads the command line."""
@@ -58,9 +60,8 @@ def words_of(words: List[str]) -> argparse.Namespace:
     return asked
 
 
-def joined(asking: Questions, names: List[str], heads: List[List[str]],
-           cells: Callable[[int, List[Cell]], List[Any]], is_histogram: bool
-           ) -> Tuple[List[str], Iterable[List[Any]]]:
+def joined(asking: Questions, names: List[str], heads: List[List[str]], cells: Cells,
+           is_histogram: bool) -> Tuple[List[str], Iterable[List[Any]]]:
     """Returns the head and the rows of channels with some names and heads."""
     pairs = ["%s to %s" % pair for pair in zip(names, names[1:])]
     each = ((of, [other[0] - one[0] if one and other else None for one, other in zip(of, of[1:])])
@@ -92,11 +93,8 @@ def main(words: List[str]) -> int:
         lambda ticks: ticks)
     text: Callable[..., Any] = [shown, in_json][asked.json]
     digits = functools.lru_cache(maxsize=1 << 14)(text)  # of numbers it would take 0 for -0
-
-    def cells(time: int, values: List[Cell]) -> List[Any]:
-        return [decimal(time), *[digits(value, form) if value.__class__ is Value
-                                 else text(value, form) for value in values]]
-
+    cells: Cells = lambda time, values: [decimal(time), *[
+        digits(value, form) if value.__class__ is Value else text(value, form) for value in values]]
     heads = [[name, *((name + " ") * bool(asked.channels) + key for key in keys_of(its, [name]))]
              if asked.json else ["%s (%s)" % (name, unit), *(one.path for one in its)]
              for (name, _, _), its in zip(channels, columns)]
@@ -114,8 +112,6 @@ def main(words: List[str]) -> int:
     if asked.json:
         for row in rows:
             write_json(dict(zip(head, row)))
-        return 0
-    out = csv.writer(sys.stdout, lineterminator="\n")
-    out.writerow(head)
-    out.writerows(rows)
+    else:
+        csv.writer(sys.stdout, lineterminator="\n").writerows(itertools.chain([head], rows))
     return 0
