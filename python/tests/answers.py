@@ -317,17 +317,20 @@ def hex_digit(bits: str) -> str:
 # ---- Conditions: trees, of which the leaves are tests of operands.
 
 class Part(NamedTuple):
-    """The digits of a code from one to another, counted from the left."""
+    """The digits of a code from one to another, counted from the left, so many edges ago."""
 
     code: str
     begin: int
     end: int
     size: int
     is_signed: bool
+    ago: int = 0
 
 
-Operand = Union[Part, int, float, str]  # a str has digits, of which one is x or z
 Tree = Tuple[Any, ...]  # ("or", tree, ..), ("and", tree, ..), ("not", tree), or a test
+Operand = Union[Part, int, float, str, Tree]  # a str has digits, of which one is x or z
+Values = Dict[Tuple[str, int], Value]  # of a code, so many edges ago
+MAX_AGO = 3
 
 
 def field(one: Variable, first: int, last: int, is_signed: bool = False) -> Part:
@@ -353,19 +356,30 @@ def operand(variables: Sequence[Variable], name: str) -> Optional[Part]:
     return part if 0 <= part.begin < part.end <= its[0].size else None
 
 
-def digits_of(side: Operand, values: Dict[str, Value]) -> Optional[Value]:
-    """The digits or the real number of an operand. None if it has no value yet. Decided: so it is
-    if a text in place of a real number is no number, or if only some bits of it are asked for."""
+def past(tree: Any, count: int) -> Any:
+    """A condition so many edges ago: that on what its signals were there. Decided: so it is also
+    before the first edge, whatever the condition is."""
+    if isinstance(tree, Part):
+        return tree._replace(ago=tree.ago + count)
+    return tuple(past(one, count) for one in tree) if isinstance(tree, tuple) else tree
+
+
+def digits_of(side: Operand, values: Values) -> Optional[Value]:
+    """The digits or the real number of an operand; of a condition a digit, x if it is open. None if
+    it has no value yet. Decided: so it is if a text in place of a real number is no number, or if
+    only some bits of it are asked for."""
+    if isinstance(side, tuple) and not isinstance(side, Part):
+        return {True: "1", False: "0", None: "x"}[holds(side, values)]
     if not isinstance(side, Part):
         return bin(side % 2**80)[2:].rjust(80, "0") if isinstance(side, int) else side
-    value = values.get(side.code)
+    value = values.get((side.code, side.ago))
     if isinstance(value, str) and value[0] != "r":
         return value[side.begin:side.end]
     is_whole = side.end - side.begin == side.size
     return value if isinstance(value, float) and is_whole else None
 
 
-def number_of(side: Operand, values: Dict[str, Value]) -> Optional[float]:
+def number_of(side: Operand, values: Values) -> Optional[float]:
     """The number of an operand. None if a digit of it is x or z, or it has no value."""
     if not isinstance(side, Part):
         return None if isinstance(side, str) else side
@@ -377,7 +391,7 @@ def number_of(side: Operand, values: Dict[str, Value]) -> Optional[float]:
     return int(digits, 2) - int(side.is_signed and digits[0] == "1") * (1 << len(digits))
 
 
-def are_equal(one: Operand, other: Operand, values: Dict[str, Value]) -> Optional[bool]:
+def are_equal(one: Operand, other: Operand, values: Values) -> Optional[bool]:
     """Whether two operands are equal: as numbers, if both are numbers. If a digit is x or z, they
     are not equal if two known digits differ, and else it is left open. A literal that has x or z
     itself is equal to exactly these digits."""
@@ -397,7 +411,7 @@ def are_equal(one: Operand, other: Operand, values: Dict[str, Value]) -> Optiona
     return False if any({a, b} == {"0", "1"} for a, b in zip(mine, its)) else None
 
 
-def holds(tree: Tree, values: Dict[str, Value]) -> Optional[bool]:
+def holds(tree: Tree, values: Values) -> Optional[bool]:
     """Whether a condition holds: None if that depends on an x, a z, or a signal without a value.
     What is negated or joined is open if what is known of it does not decide."""
     kind, *of = tree
@@ -410,9 +424,16 @@ def holds(tree: Tree, values: Dict[str, Value]) -> Optional[bool]:
     return test(kind, of[0], of[1] if len(of) > 1 else "", values)
 
 
-def test(kind: str, one: Operand, other: Any, values: Dict[str, Value]) -> Optional[bool]:
+def test(kind: str, one: Operand, other: Any, values: Values) -> Optional[bool]:
     """What a test says: "true" is that a digit is 1, a real number is not 0, or an event is
-    triggered."""
+    triggered; "rose" and "fell" that the last digit became 1 or 0, by IEEE Std 1800; "stable" that
+    all digits are what they were at the edge before."""
+    if kind in ("rose", "fell", "stable"):
+        both = [digits_of(one, values), digits_of(past(one, 1), values)]
+        if kind == "stable":
+            return None if None in both else both[0] == both[1]
+        ends = [str(its)[-1] if its else "x" for its in both]
+        return ends[0] == "01"[kind == "rose"] != ends[1]
     if kind in ("true", "is"):
         digits = digits_of(one, values)
         if not isinstance(digits, str):
@@ -432,8 +453,8 @@ class Look(NamedTuple):
     this time and the next, when no event is triggered."""
 
     time: int
-    values: Dict[str, Value]
-    between: Dict[str, Value]
+    values: Values
+    between: Values
 
 
 def looks(dump: Dump, codes: Set[str], clocks: Clocks) -> List[Look]:
@@ -450,12 +471,23 @@ def looks(dump: Dump, codes: Set[str], clocks: Clocks) -> List[Look]:
     found = []
     for before, time in zip([0, *times], times):
         its = {code: value(dump, code, time) for code in codes - events}
-        values = {code: one for code, one in its.items() if one is not None}
-        now = {code: "%d" % any(one.code == code and (before <= one.time < time if clocks
-                                                      else one.time == time) for one in of)
+        values = {(code, 0): one for code, one in its.items() if one is not None}
+        now = {(code, 0): "%d" % any(one.code == code and (before <= one.time < time if clocks
+                                                           else one.time == time) for one in of)
                for code in events}
-        found.append(Look(time, {**values, **now}, {**values, **dict.fromkeys(events, "0")}))
-    return [one for one in found if one.time <= dump.finished]
+        found.append(Look(time, {**values, **now}, {**values, **dict.fromkeys(now, "0")}))
+    return [Look(one.time, {**one.values, **earlier(dump, found[:at])}, one.between)
+            for at, one in enumerate(found) if one.time <= dump.finished]
+
+
+def earlier(dump: Dump, its: Sequence[Look]) -> Values:
+    """The values at the looks before one. Before the first one, as IEEE Std 1800 has it, each
+    signal has the value of its type: all digits are x, a real number is 0, and an event is not
+    triggered."""
+    first = {(one.code, 0): "0" if is_event(one) else 0.0 if is_real(one) else "x" * one.size
+             for one in dump.variables}
+    return {(code, count): value for count in range(1, MAX_AGO + 1)
+            for (code, _), value in (its[-count].values if count <= len(its) else first).items()}
 
 
 def starts(of: Sequence[Look], tree: Tree, has_clock: bool, every: bool) -> List[int]:
@@ -743,13 +775,13 @@ def compared_value(its: Sequence[Look], of: Variable, mark: int, factor: int, is
                    ) -> Optional[Value]:
     """The value of a variable at an edge, or at a time of both; of an event "1" or None."""
     if is_edge:
-        value = its[mark].values.get(of.code)
+        value = its[mark].values.get((of.code, 0))
         return None if is_event(of) and value == "0" else value
     past = [one for one in its if one.time * factor <= mark]
     if is_event(of):
         return "1" if past and past[-1].time * factor == mark and (
-            past[-1].values[of.code] == "1") else None
-    return past[-1].values.get(of.code) if past else None
+            past[-1].values[of.code, 0] == "1") else None
+    return past[-1].values.get((of.code, 0)) if past else None
 
 
 def alike(one: Optional[Value], other: Optional[Value], asked: Compare) -> bool:

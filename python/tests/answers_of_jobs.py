@@ -5,23 +5,23 @@ import os
 import re
 from typing import Dict, List, NamedTuple, Optional, Sequence, Set, Tuple
 
-from answers import (Clocks, Dump, Row, Tree, Value, Variable, bare, changes_of, edge_times,
+from answers import (Clocks, Dump, Row, Tree, Value, Values, Variable, bare, changes_of, edge_times,
                      holds, is_event, is_real, last_time, looks, rows_at_edges, scopes_of, starts,
                      states, time_text, unknown, value_at, value_before, when)
 
 
 # ---- vcdkit-table --if.
 
-def values_of_row(dump: Dump, codes: Set[str], time: int, clocks: Clocks) -> Dict[str, Value]:
-    """The values by which a condition is evaluated for a row: those that the row would have of its
-    signals. An event is triggered if that is at the time of the row; at an edge, if it is since the
-    last edge."""
+def values_of_row(dump: Dump, codes: Set[str], time: int, clocks: Clocks) -> Values:
+    """The values by which a condition is evaluated for a row: at an edge those of the look there,
+    else those that the row would have of its signals. An event is triggered if that is at the time
+    of the row."""
+    if clocks:
+        return next(one.values for one in looks(dump, codes, clocks) if one.time == time)
     events = {one.code for one in dump.variables if is_event(one)} & codes
-    since = max([0, *(one for one in edge_times(dump, clocks) if one < time)])
-    found = {code: (value_before if clocks else value_at)(dump, code, time)
-             for code in codes - events}
-    now = {code: "%d" % any(since <= one.time < time if clocks else one.time == time
-                            for one in changes_of(dump, code)) for code in events}
+    found = {(code, 0): value_at(dump, code, time) for code in codes - events}
+    now = {(code, 0): "%d" % any(one.time == time for one in changes_of(dump, code))
+           for code in events}
     return {**{code: one for code, one in found.items() if one is not None}, **now}
 
 

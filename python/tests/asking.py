@@ -15,7 +15,7 @@ os.environ.setdefault("VCDKIT", os.path.join(TOP, "vcdkit"))
 
 import answers as by_definition
 from reference import comparison, evaluator  # type: ignore[import]
-from answers import Change, Part, Tree, Variable
+from answers import Change, Part, Tree, Variable, past
 from vcdkit import Dump, DumpFault, Value, VcdkitError
 from vcdkit.questions import dump
 from vcdkit.reading import comparing, library, program, source
@@ -132,6 +132,12 @@ class Declarations(NamedTuple):
     clock: str
     conditions: Sequence[Tuple[str, Tree]]
     is_late: bool = False  # times are near the greatest one
+    earlier: Sequence[Tuple[str, Tree]] = ()  # conditions on earlier edges
+    most: int = 4  # lines of a body
+
+    def asked(self, has_clock: Any = True) -> List[Tuple[str, Tree]]:
+        """Returns the conditions that may be asked with a clock, or without one."""
+        return [*self.earlier, *self.conditions] if has_clock else [*self.conditions]
 
     @property
     def windows(self) -> List[Tuple[int, int]]:
@@ -221,8 +227,8 @@ def is_open(front: Sequence[str], line: str) -> bool:
     commands = [one for one in " ".join(front).split() if one[0] == "$"]
     is_in_section = bool(commands) and commands[-1] != "$end"
     if line[0] == "#":
-        times = [int(one[1:]) for one in front if one[0] == "#"]
-        return not is_in_section and int(line[1:]) >= max(times, default=0)
+        times = [int(one.split()[0][1:]) for one in (*front, line) if one[0] == "#"]
+        return not is_in_section and times[-1] == max(times)
     return line[0] != "$" or is_in_section == (line == "$end")
 
 
@@ -256,7 +262,9 @@ DECLARATIONS = {
         BIT, [*TIMES, "0!", "1!", "x!", "z!", *SECTION, "$dumpoff", "$dumpvars 0! $end"],
         [["t.c"], ["t"], ["t.c", "t"]], "t.c", [
             ("t.c", ("true", C)), ("!t.c", ("not", ("true", C))), ("t.c is x", ("is", C, "x")),
-            ("t.c != 0", ("not", ("==", C, 0))), ("t.c is not z", ("not", ("is", C, "z")))]),
+            ("t.c != 0", ("not", ("==", C, 0))), ("t.c is not z", ("not", ("is", C, "z")))],
+        False, [("past(t.c)", past(("true", C), 1)), ("fell(t.c)", ("fell", C)),
+                ("stable(t.c is x)", ("stable", ("is", C, "x")))]),
     "late": Declarations(
         BIT, ["#0", *("#%d" % time for time in LATE), "0!", "1!", "x!", *SECTION],
         [["t.c"]], "t.c", [("t.c", ("true", C)), ("!t.c", ("not", ("true", C))),
@@ -272,7 +280,23 @@ DECLARATIONS = {
                                            C._replace(is_signed=True))),
             ("signed(t.q) < t.c", ("<", Q, C)),
             ("!(t.q[0] & t.c)", ("not", ("and", ("true", Part('"', 2, 3, 3, False)), ("true", C)))),
-            ("t.q == -3", ("==", Q._replace(is_signed=True), -3))]),
+            ("t.q == -3", ("==", Q._replace(is_signed=True), -3))],
+        False, [("past(t.q == 1)", past(("==", Q, 1), 1)), ("stable(t.q)", ("stable", Q)),
+                ("rose(t.q[1])", ("rose", Part('"', 1, 2, 3, False)))]),
+    "edges": Declarations(
+        VECTOR, ['0! b0 "', '#3 1! b11 "', '#4 0! bx "', '#5 1! b101 "', '#7 0! b1 "', "#7 z!",
+                 '#10 1! bz01 "', '#12 0! b10 "', "$end"],
+        [["t.q"], ["t"]], "t.c", [("t.q == 1", ("==", Q, 1))], False, [
+            ("past(t.q)", past(("true", Q), 1)), ("past(t.q, 2) == 1", ("==", past(Q, 2), 1)),
+            ("!past(t.q == 3, 3)", ("not", past(("==", Q, 3), 3))), ("rose(t.q)", ("rose", Q)),
+            ("fell(t.q[1])", ("fell", Part('"', 1, 2, 3, False))), ("stable(t.q)", ("stable", Q)),
+            ("changed(t.q)", ("not", ("stable", Q))),
+            ("past(past(t.q), 2) != t.q", ("not", ("==", past(Q, 3), Q))),
+            ("past(rose(t.q) | t.c)", past(("or", ("rose", Q), ("true", C)), 1)),
+            ("rose(t.q == 1)", ("rose", ("==", Q, 1))),
+            ("changed(t.q is x)", ("not", ("stable", ("is", Q, "x")))),
+            ("stable(changed(t.q == 0bx01))", ("stable", ("not", ("stable", ("==", Q, "x01"))))),
+            ("past(t.q < 4, 2) & stable(t.c)", ("and", past(("<", Q, 4), 2), ("stable", C)))], 5),
     "slices": Declarations(
         SLICES, [*TIMES, "b0 !", "b1 !", "b1x !", 'b0 "', 'b1 "', *SECTION],
         [["t.q[1:0]"], ["t.q[3:2]", "t.q[1:0]"], ["t"], ["t.p"]], "", [
@@ -303,7 +327,9 @@ DECLARATIONS = {
         [["t.r"], ["t.r", "t.c"], ["t"], ["t.e"]], "t.c", [
             ("t.e", ("true", E)), ("t.r >= 1 | t.e", ("or", (">=", R, 1), ("true", E))),
             ("!t.e & t.c == 0", ("and", ("not", ("true", E)), ("==", C, 0))),
-            ("!t.e", ("not", ("true", E)))]),
+            ("!t.e", ("not", ("true", E)))],
+        False, [("past(t.e)", past(("true", E), 1)), ("!rose(t.e)", ("not", ("rose", E))),
+                ("past(t.r) < 1", ("<", past(R, 1), 1)), ("stable(t.r)", ("stable", R))]),
 }
 END = "$enddefinitions $end\n"
 

@@ -58,11 +58,12 @@ class Jobs(Pictures):
         its = self.states(self.names)
         if not its:
             return
-        codes, (text, tree) = [one.code for one in its], self.turn(self.of.conditions, 3)
         window, (words, clocks) = self.window(), self.clocks(2)
+        clocks = [] if self.number % 4 == 1 else clocks
+        codes, (text, tree) = [one.code for one in its], self.turn(self.of.asked(clocks), 3)
         part, late = by_definition.cut(self.dump, window.begin, window.end), None
         if self.number % 4 == 1:
-            part, words, clocks = self.dump, ["--at=12,5,0,5,3"], []
+            part, words = self.dump, ["--at=12,5,0,5,3"]
             fault = self.fault_by(12)
             rows = [] if fault else [by_definition.row_at(part, codes, time)
                                      for time in (12, 5, 0, 5, 3)]
@@ -112,8 +113,8 @@ class Jobs(Pictures):
 
     def ask_latencies(self) -> None:
         """Asks how long answers take."""
-        (text, tree), (after_text, after) = (self.turn(self.of.conditions, by) for by in (1, 5))
         window, (words, clocks) = self.window(), self.clocks(3)
+        (text, tree), (after_text, after) = (self.turn(self.of.asked(clocks), by) for by in (1, 5))
         part = by_definition.cut(self.dump, window.begin, window.end)
         is_of_edges, wait = bool(clocks) and self.number % 2 == 0, self.turn([0, 1, 5, 7], 2)
         every = bool(clocks) and self.number % 3 == 0
@@ -147,10 +148,11 @@ class Jobs(Pictures):
         every, is_never = bool(clocks) and self.number % 4 == 1, self.number % 3 == 0
         part = by_definition.cut(self.dump, window.begin, window.end)
         rules, lines = [], ["# rules", ""]
-        for at, (text, tree) in enumerate(self.of.conditions[self.number % 3:] * 2):
+        its = self.of.asked(clocks)
+        for at, (text, tree) in enumerate(its[self.number % 3:][:6] * 2):
             name, codes, answer = "rule %d" % at, codes_of(tree), None
             if at % 2:
-                after_text, after = self.turn(self.of.conditions, at)
+                after_text, after = self.turn(its, at)
                 is_of_edges, wait = bool(clocks) and at % 4 == 1, self.turn([0, 1, 5], at)
                 answer, codes = (after, wait, is_of_edges, at % 3 == 0), codes | codes_of(after)
                 text = "(%s) -> (%s) within %d%s" % (

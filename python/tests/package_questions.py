@@ -119,6 +119,8 @@ class Case:
             self.ask_rows("%s %s" % (what, names), part, dump, names)
         for text, tree in self.some(self.of.conditions):
             self.ask_when("%s: %s" % (what, text), part, dump, text, tree)
+        for text, tree in self.some(self.of.asked()) if self.edges else ():
+            self.ask_at_edges("%s: %s" % (what, text), part, dump, text, tree)
 
     def ask_rows(self, what: str, part: by_definition.Dump, dump: Dump, names: List[str]) -> None:
         """Asks for tables."""
@@ -140,7 +142,7 @@ class Case:
 
     def ask_when(self, what: str, part: by_definition.Dump, dump: Dump, text: str, tree: Tree
                  ) -> None:
-        """Asks for the times at which a condition holds."""
+        """Asks for the times at which a condition without a clock holds."""
         codes = codes_of(tree)
         self.same("when", what, by_definition.when(part, tree, codes), lambda: dump.when(text),
                   part.fault)
@@ -153,7 +155,15 @@ class Case:
                       by_definition.when(part, tree, both, (), False, (
                           answer, wait, False, is_refusal)),
                       lambda: dump.when(refused(is_refusal, asked + "%dtick" % wait)), part.fault)
-        for clocks, edges in self.some(self.edges, self.number // 7) if self.edges else ():
+
+    def ask_at_edges(self, what: str, part: by_definition.Dump, dump: Dump, text: str, tree: Tree
+                     ) -> None:
+        """Asks for the edges at which a condition holds."""
+        its = self.of.asked()
+        other, answer = its[(self.number // 5) % len(its)]
+        is_refusal, codes = self.number % 2 == 1, codes_of(tree)
+        both, asked = codes | codes_of(answer), "(%s) -> (%s) within " % (text, other)
+        for clocks, edges in self.some(self.edges, self.number // 7):
             every = self.number // 2 % 3 == 0
             self.same("when, at edges", "%s %s" % (what, edges),
                       by_definition.when(part, tree, codes, edges, every),

@@ -168,10 +168,10 @@ class Scripts:
 
     def ask_when(self) -> None:
         """Asks for the times of a condition."""
-        text, tree = self.turn(self.of.conditions, 2)
         window, form = self.window(), self.turn([[], ["--first"], ["--count"]], 2)
         part = by_definition.cut(self.dump, window.begin, window.end)
         which = self.turn([(), ("rise",), ("rise", "fall")], 3) if self.of.clock else ()
+        text, tree = self.turn(self.of.asked(which), 2)
         clocks = [("!", "01" if one == "rise" else "10") for one in which]
         every = bool(which) and self.number % 2 == 0
         is_never = self.number % 5 == 0

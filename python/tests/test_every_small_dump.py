@@ -39,7 +39,7 @@ def work(job: Tuple[str, int, int]) -> Tuple[Counter[str], int, int, Dict[str, D
         of = DECLARATIONS[name]
         scripts, jobs = Scripts(asked, of, folder), Jobs(asked, of, folder)
         first = int(os.environ.get("FIRST", "0"))
-        for number, body in enumerate(itertools.islice(bodies(of.lines, 4), first, None, stride)):
+        for number, body in enumerate(itertools.islice(bodies(of.lines, of.most), first, None, stride)):
             if number % JOBS == part:
                 case = Case(asked, of, body, number)
                 case.ask()

@@ -5,8 +5,10 @@ test_expressions.py [--count N] [--seed N]: random expressions over variables th
 values. Icarus evaluates each one in a wire of a test bench, of the width that the expression has by
 itself, and dumps it. In each dump, `$unsigned(expression) === wire` has to hold at all times, and
 second_reader/expressions.py has to find the digits of the wire. As Icarus has no $past, registers
-stand for it there, which keep what an expression was at earlier edges."""
+stand for it there, which keep what an expression was at earlier edges; before the first one, what it
+is of variables that are x."""
 import argparse
+import functools
 import itertools
 import os
 import random
@@ -70,7 +72,7 @@ class Bench(expressions.Random):
             else:
                 self.lines.append("reg [%d:%d] %s;" % (bits[0], bits[-1], name))
             self.widths[name] = width
-            found.append(leaf(name, width, is_integer, lambda look, of=name: look.values[of]))
+            found.append(leaf(name, width, is_integer, functools.partial(self._read, name)))
             if width > 1 and self.random.random() < .6:
                 found.append(self._part(name, bits))
         return found
@@ -82,14 +84,18 @@ class Bench(expressions.Random):
         text = "%s[%d:%d]" % (name, bits[first], bits[last])
         if first == last and self.random.random() < .8:
             text = "%s[%d]" % (name, bits[first])
-        return leaf(text, last - first + 1, False, lambda look: look.values[name][first:last + 1])
+        return leaf(text, last - first + 1, False,
+                    lambda look: self._read(name, look)[first:last + 1])
+
+    def _read(self, name: str, look: Optional[Look], *_: Any) -> Any:
+        """Returns what a variable is. Before the first edge digits are x, and a real number 0."""
+        return look.values[name] if look else "x" * self.widths[name] or 0.0
 
     def _reals(self) -> List[Expression]:
         """Returns variables of real numbers."""
         self.lines += ["real t.r0;", "real t.r1;"]
         self.widths.update({"t.r0": 0, "t.r1": 0})
-        return [Expression(name, expressions.OPERAND, 0, True,
-                           lambda look, *_, of=name: look.values[of])
+        return [Expression(name, expressions.OPERAND, 0, True, functools.partial(self._read, name))
                 for name in ("t.r0", "t.r1")] + [expressions.real("1.5")]
 
     def _chosen(self, *of: Expression) -> Expression:
@@ -148,7 +154,10 @@ class Bench(expressions.Random):
         lines = ["`timescale 1ns/1ns", "module t;", "reg clk;", *self.lines]
         lines += ["wire [%d:0] t.y%d = %s;" % (one.width - 1, at, one.text)
                   for at, one in enumerate(of)]
-        lines += ["initial begin", '$dumpfile("dump.vcd");', "$dumpvars(0, t);", "clk = 0;"]
+        lines += ["initial begin", '$dumpfile("dump.vcd");', "$dumpvars(0, t);"]
+        lines += ["#1 t.p%d_0 = t.p%d_w; t.p%d_1 = t.p%d_0; t.p%d_2 = t.p%d_0;" % ((at,) * 6)
+                  for at in range(len(self.meanings))]  # the inner ones first
+        lines.append("clk = 0;")
         for _ in range(TIMES):
             lines += ["%s = %s;" % (name, self.value(width))
                       for name, width in self.widths.items() if self.random.random() < .7 or not _]

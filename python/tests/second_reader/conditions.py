@@ -40,6 +40,11 @@ class Operand(NamedTuple):
     end: int
     is_signed: bool
 
+    def at(self, look: Any) -> Any:
+        """Returns what it is at a look. Before the first edge digits are x, and a real number 0."""
+        return self.read(look.values) if look else 0.0 if self.of.is_real else "x" * (
+            self.end - self.begin)
+
     def read(self, state: Any) -> Any:
         """Returns the digits, or the number that a real variable has; - if there is none."""
         value, width = state.get(self.of.code), self.end - self.begin
@@ -54,9 +59,9 @@ class Operand(NamedTuple):
         """Returns it as an expression."""
         if self.of.is_real:
             return Expression(self.text, expressions.OPERAND, 0, True,
-                              lambda look, *_: self.read(look.values))
+                              lambda look, *_: self.at(look))
         return expressions.leaf(self.text, self.end - self.begin, self.is_signed or is_signed,
-                                lambda look: self.read(look.values))
+                                self.at)
 
 
 def quoted(name: str, is_free: bool = False) -> str:
@@ -144,7 +149,7 @@ class Conditions:
             self.codes.add(of.code)
             self.events.add(of.code)
             return expressions.leaf(quoted(of.path, chance < .01), 1, False,
-                                    lambda look: "%d" % (of.code in look.events))
+                                    lambda look: "01"[bool(look) and of.code in look.events])
         if not self.plain:
             return None
         one = self._operand()

@@ -8,7 +8,8 @@ import math
 import re
 from typing import Any, Callable, Dict, List, NamedTuple, Optional, Tuple
 
-Look = Any  # what has the values and the events of a time, and the look before
+# What has the values and the events of a time, and the look before. None: before the first edge.
+Look = Any
 Digits = Any  # a str, or a float
 Read = Callable[[Look, int, bool], Digits]
 LEVELS = (("?:",), ("||",), ("&&",), ("|",), ("^", "~^", "^~"), ("&",),
@@ -321,11 +322,11 @@ def has(one: Expression, words: str) -> Expression:
 # ---- Earlier edges.
 
 def past(one: Expression, count: int = 1, text: str = "") -> Expression:
-    """Returns what an expression was at an earlier edge. Before the first one, it was x."""
+    """Returns what an expression was at an earlier edge."""
     def value(look: Look) -> Digits:
         for _ in range(count):
             look = look.before if look else None
-        return one.own(look) if look else "x" * (one.width or 1)
+        return one.own(look)
     return own(text or "past(%s, %d)" % (one.text, count), OPERAND, one.width, one.is_signed,
                value)
 

@@ -36,6 +36,11 @@ class _Name(NamedTuple):
     end: int
 
     @property
+    def first(self) -> bytes:
+        """What the signal is before the first edge, as a body has it."""
+        return b"" if self.signal.type == "event" else b"r0" if self.signal.is_real else b"x"
+
+    @property
     def kind(self) -> Kind:
         """The kind of its values."""
         if self.signal.type == "event":
@@ -213,9 +218,12 @@ class Conditions:
             span, (whole, wanted) = whole.value, whole.parts
             answer = self._test(wanted)
         found = Condition(self._test(whole), answer, span, is_refusal)
+        begin = len(self._samples)
         for one, kept in self._pasts:
             lines, result = self._lines(one)
             self._samples.append((kept, self._function([*lines, "return " + result])))
+        for kept, sample in reversed(self._samples[begin:]):  # the inner ones first
+            kept.extend([sample()] * (kept.maxlen or 0))
         if self._pasts and not self._has_clock:
             raise bad("past, rose, fell, stable and changed look at edges: name a clock by rise or "
                       "fall")
@@ -256,6 +264,9 @@ class Conditions:
     def compiled(self) -> Callable[..., int]:
         """Returns what returns those of some conditions that hold at the values that there are."""
         self._of_code = {code: (bits, self._readers[code]) for code, bits in self.over.items()}
+        for readers in self._readers.values():
+            for place, read in readers:
+                self._values[place] = read(b"")
         lines = ["now = 0"]
         for begin in range(0, len(self._tests), GROUP):
             lines += ["some = due >> %d & %d" % (begin, (1 << GROUP) - 1), "if some:"]
@@ -314,7 +325,7 @@ class Conditions:
             value = value.rjust(node.to.width, node.fill) if node.fill else value
             return named(converted(value, node.kind, node.to))
         if sign == "past":
-            kept = collections.deque(["x" * (node.kind.width or 1)] * value, value)
+            kept: Deque[Value] = collections.deque((), value)
             self._pasts.append((node.parts[0], kept))
             found = named(kept) + "[0]"
         else:
@@ -338,5 +349,5 @@ class Conditions:
             read = functools.lru_cache(maxsize=1 << 10)(
                 functools.partial(name.value, node.kind, node.to))
             self._readers.setdefault(name.signal.code.encode(), []).append((place, read))
-            self._values.append(read(b""))
+            self._values.append(read(name.first))
         return found
