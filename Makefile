@@ -90,6 +90,7 @@ hostile: vcdkit vcdkit-compare
 	VCDKIT=./vcdkit python/tests/test_every_small_dump.py && \
 	python/tests/second_reader/ask.py --seconds 120 && \
 	VCDKIT=./vcdkit python/tests/test_expressions.py --count 100000 && \
+	VCDKIT=./vcdkit python/tests/test_expressions.py --verilator --count 2000 && \
 	{ [ ! -e libvcdkit.so ] || hostile/library.py ./vcdkit ./libvcdkit.so; }; \
 	status=$$?; rm -f $$devices; exit $$status
 

@@ -85,10 +85,13 @@ later 'the same, about dumps of simulators' "${with_numpy:-python3}" \
 for script in when diff; do
     later "vcdkit-$script, against another reader" python3 "python/tests/test_$script.py"
 done
-later 'conditions, against Icarus Verilog' python3 python/tests/test_expressions.py --count 400
+test=python/tests/test_expressions.py
+later 'conditions, against Icarus Verilog' python3 $test --count 400
 later 'transactions, against two buses in Icarus Verilog' python3 python/tests/test_buses.py
 [[ -n $(type -P iverilog) ]] ||
     echo 'conditions and transactions are not compared with Icarus: no iverilog'
+later 'conditions, against Verilator' python3 $test --verilator --count 50
+[[ -n $(type -P verilator) ]] || echo 'conditions are not compared with Verilator: no verilator'
 later 'the package and the scripts, on every 60th small dump' env STRIDE=60 PROCESSES=1 \
     VCDKIT_LIBRARY="$library" python3 python/tests/test_every_small_dump.py
 later 'the scripts, at any argument, file and stream' python3 python/tests/test_scripts.py

@@ -5,9 +5,9 @@ import os
 import re
 from typing import Dict, List, NamedTuple, Optional, Sequence, Set, Tuple
 
-from answers import (Clocks, Dump, Row, Tree, Value, Values, Variable, bare, changes_of, edge_times,
-                     holds, is_event, is_real, last_time, looks, rows_at_edges, scopes_of, starts,
-                     states, time_text, unknown, value_at, value_before, when)
+from answers import (Clocks, Dump, Row, Tree, Values, Variable, bare, changes_of, edge_times, holds,
+                     is_event, is_real, last_time, looks, rows_at_edges, scopes_of, starts, states,
+                     time_text, unknown, value_at, when)
 
 
 # ---- vcdkit-table --if.

@@ -2,8 +2,8 @@
 """Asks the package and the scripts about all small dumps, and compares what they say with
 answers.py, answers_of_jobs.py and answers_of_pictures.py, which define the answers.
 
-The bodies are all of up to four lines of an alphabet, over each of some declarations; nothing comes
-after a fault. Each question has a grid of options: windows that begin before, at, between and after
+The bodies are all of up to four lines of an alphabet (five of edges of a clock), over each of some
+declarations; nothing comes after a fault. Each question has a grid of options: windows that begin before, at, between and after
 the timestamps, a time twice, both edges, names with a range and without. hostile/reference plays
 the program's part in this process. Every hundredth question is asked again over the program that
 VCDKIT names, and over the library if VCDKIT_LIBRARY names one.
@@ -36,10 +36,10 @@ def work(job: Tuple[str, int, int]) -> Tuple[Counter[str], int, int, Dict[str, D
         if name not in DECLARATIONS:
             {"names": ask_names, "filter": ask_filter}[name](asked, folder, stride)
             return asked.counts, asked.again, asked.wrong, asked.differ
-        of = DECLARATIONS[name]
+        of, first = DECLARATIONS[name], int(os.environ.get("FIRST", "0"))
         scripts, jobs = Scripts(asked, of, folder), Jobs(asked, of, folder)
-        first = int(os.environ.get("FIRST", "0"))
-        for number, body in enumerate(itertools.islice(bodies(of.lines, of.most), first, None, stride)):
+        some = itertools.islice(bodies(of.lines, of.most), first, None, stride)
+        for number, body in enumerate(some):
             if number % JOBS == part:
                 case = Case(asked, of, body, number)
                 case.ask()

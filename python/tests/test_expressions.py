@@ -1,12 +1,16 @@
 #!/usr/bin/env python3
-"""Compares what expressions mean in conditions with what Icarus Verilog makes of them.
+"""Compares what expressions mean in conditions with what simulators make of them.
 
-test_expressions.py [--count N] [--seed N]: random expressions over variables that get random
-values. Icarus evaluates each one in a wire of a test bench, of the width that the expression has by
-itself, and dumps it. In each dump, `$unsigned(expression) === wire` has to hold at all times, and
-second_reader/expressions.py has to find the digits of the wire. As Icarus has no $past, registers
-stand for it there, which keep what an expression was at earlier edges; before the first one, what it
-is of variables that are x."""
+test_expressions.py [--count N] [--seed N] [--verilator]: random expressions over variables that get
+random values. Icarus Verilog evaluates each one in a wire of a test bench, of the width that the
+expression has by itself, and dumps it. In each dump, `$unsigned(expression) === wire` has to hold
+at all times, and second_reader/expressions.py has to find the digits of the wire. As Icarus has no
+$past, registers stand for it there, which keep what an expression was at earlier edges; before the
+first one, what it is of variables that are x.
+
+Verilator has $past, $rose, $fell, $stable and $changed, and no x. There each expression has one of
+them, a register takes it at the edges of a clock, and the first edges, whose past is before all
+values, are left out."""
 import argparse
 import functools
 import itertools
@@ -26,7 +30,8 @@ from expressions import Expression, leaf
 from vcdkit import Dump
 from vcdkit.questions.when import Questions
 
-EACH, TIMES = 400, 10  # expressions of a test bench, and times
+TIMES = 10  # of a test bench
+EARLY = 14  # edges after which Verilator's past() is of values
 WIDTHS = [1, 1, 2, 3, 4, 5, 8, 8, 13, 31, 32, 33, 64]
 
 
@@ -43,16 +48,21 @@ def constant(text: str, digits: str) -> Expression:
 
 
 class Bench(expressions.Random):
-    """A test bench: variables, and the registers that stand for past()."""
+    """A test bench for Icarus: variables, and the registers that stand for past()."""
 
-    def __init__(self, seed: int):
+    scope, each = "t", 400  # its name in the dump, and how many expressions it has
+    begin = 0  # the time from which values are compared
+    is_late = False  # a value of an expression is there at the next edge
+
+    def __init__(self, seed: int, is_clocked: bool = False):
         self.random = random.Random("a bench %d" % seed)
-        self.is_clocked = seed % 4 == 3
+        self.is_clocked = is_clocked or seed % 4 == 3
         self.lines: List[str] = []
         self.widths: Dict[str, int] = {}
         self.meanings: Dict[str, str] = {}  # of a register: what it stands for
         self.is_wide = seed % 5 == 2
-        super().__init__(self.random, self._leaves(), [] if seed % 3 else self._reals(),
+        reals = [] if is_clocked or seed % 3 else self._reals()
+        super().__init__(self.random, self._leaves(), reals,
                          self.is_clocked, *((200, "/ % **") if self.is_wide else (64, "")))
 
     def _leaves(self) -> List[Expression]:
@@ -164,37 +174,108 @@ class Bench(expressions.Random):
             lines.append("#1 clk = 1; #1 clk = 0;" if self.is_clocked else "#1;")
         return "\n".join([*lines, "end", "endmodule", ""]).replace("t.", "")
 
+    def run(self, folder: str) -> None:
+        """Simulates the test bench."""
+        subprocess.run(["iverilog", "-g2005", "-gstrict-expr-width", "-o", "bench", "bench.v"],
+                       cwd=folder, check=True, stderr=subprocess.DEVNULL)
+        subprocess.run(["vvp", "-n", "bench"], cwd=folder, check=True, stdout=subprocess.DEVNULL)
 
-def wrong_of(seed: int, folder: str, count: int) -> Iterator[Tuple[str, str]]:
-    """Returns the expressions of a test bench whose values are others than those of Icarus."""
-    bench = Bench(seed)
+    def is_asked(self, one: Expression) -> bool:
+        """Whether an expression is compared."""
+        return "t." in one.text
+
+
+class TwoStates(Bench):
+    """A test bench for Verilator. Its values have no x, nor has what is made of them."""
+
+    scope, each, begin, is_late = "TOP.t", 400, 2 * EARLY, True
+
+    def __init__(self, seed: int):
+        super().__init__(seed, True)
+        self.signs = [sign for sign in self.signs if sign not in ("/", "%", "**")]
+
+    def _operand(self) -> Expression:
+        """Returns a variable, or a number without x and z."""
+        made = iter(super()._operand, None)
+        return next(one for one in made if not re.search(r"'.*[xz?]", one.text))
+
+    def _count(self, one: Expression) -> Expression:
+        """Returns the number of bits of a shift: Verilator rejects constants of more than 32 bits,
+        also those that it finds itself."""
+        return self.random.choice([self._past, lambda its: its])(self.random.choice(self.leaves))
+
+    def _past(self, one: Expression) -> Expression:
+        """Returns past(), rose() or the like, as Verilog writes it."""
+        found = expressions.Random._past(self, one)
+        return found._replace(text="$" + found.text)
+
+    def asked(self, text: str) -> str:
+        """Returns an expression in which integers are signed: Verilator dumps them as wires."""
+        return re.sub(r"t\.v[78]\b(?!\[)", r"$signed(\g<0>)", text)
+
+    def value(self, width: int) -> str:
+        """Returns a random value, of which all digits are known."""
+        made = iter(lambda: Bench.value(self, width), None)
+        return next(one for one in made if not re.search("[xz]", one))
+
+    def verilog(self, of: List[Expression]) -> str:
+        """Returns the test bench."""
+        lines = ["`timescale 1ns/1ns", "module t;", "reg clk;", *self.lines]
+        for at, one in enumerate(of):
+            lines += ["reg [%d:0] t.y%d;" % (one.width - 1, at),
+                      # Without ~~, Verilator 5.006 fails at a $stable that is the whole value.
+                      "always @(posedge t.clk) t.y%d <= ~~(%s);" % (at, one.text)]
+        lines += ["initial begin", '$dumpfile("dump.vcd");', "$dumpvars(0, t);", "t.clk = 0;"]
+        for _ in range(EARLY + TIMES + 1):
+            lines += ["%s = %s;" % (name, self.value(width))
+                      for name, width in self.widths.items() if self.random.random() < .7 or not _]
+            lines.append("#1 t.clk = 1; #1 t.clk = 0;")
+        return "\n".join([*lines, "$finish;", "end", "endmodule", ""]).replace("t.", "")
+
+    def run(self, folder: str) -> None:
+        """Simulates the test bench."""
+        fast = ["OPT_FAST=-O0", "OPT_SLOW=-O0", "OPT_GLOBAL=-O0"]
+        subprocess.run(["verilator", "--binary", "--trace", "-Wno-lint", "-Wno-style",
+                        "--top-module", "t", "-MAKEFLAGS", " ".join(fast), "bench.v"],
+                       cwd=folder, check=True, stdout=subprocess.DEVNULL)
+        subprocess.run(["obj_dir/Vt"], cwd=folder, check=True, stdout=subprocess.DEVNULL)
+
+    def is_asked(self, one: Expression) -> bool:
+        """Whether an expression asks for an earlier edge."""
+        return bool(re.search(r"\$([prfc]|st)", one.text)) and "t." in one.text
+
+
+def wrong_of(bench: Bench, folder: str, count: int) -> Iterator[Tuple[str, str]]:
+    """Returns the expressions of a test bench whose values are others than those of its
+    simulator."""
     made = iter(lambda: bench.make(bench.random.choice([1, 2, 2, 3, 3, 4])), None)
-    of = list(itertools.islice((one for one in made if "t." in one.text), count))
+    of = list(itertools.islice(filter(bench.is_asked, made), count))
     with open(os.path.join(folder, "bench.v"), "w", encoding="ascii") as file:
         file.write(bench.verilog(of))
-    subprocess.run(["iverilog", "-g2005", "-gstrict-expr-width", "-o", "bench", "bench.v"],
-                   cwd=folder, check=True, stderr=subprocess.DEVNULL)
-    subprocess.run(["vvp", "-n", "bench"], cwd=folder, check=True, stdout=subprocess.DEVNULL)
+    bench.run(folder)
     dump = Dump(os.path.join(folder, "dump.vcd"))
-    clock = "t.clk" if bench.is_clocked else None
-    texts = [bench.asked(one.text) for one in of]
-    rules = [("", "%s($unsigned(%s) === t.y%d)" % ("!" * (at % 50 > 0), text, at))
+    clock = bench.scope + ".clk" if bench.is_clocked else None
+    texts = [bench.asked(one.text).replace("t.", bench.scope + ".") for one in of]
+    rules = [("", "%s($unsigned(%s) === %s.y%d)" % (
+        "!" * (at % 50 > 0), "$past(%s)" % text if bench.is_late else text, bench.scope, at))
              for at, text in enumerate(texts)]
-    asking = Questions(dump, rules, clock, None, False)
-    held = {number for _, numbers in asking.times() for number in numbers}
+    asking = Questions(dump, rules, clock, None, bool(clock))
+    held = {number for time, numbers in asking.times() if time >= bench.begin for number in numbers}
     for at, text in enumerate(texts):  # each 50th has to hold, so that it is known that they can
         if (at in held) == (at % 50 > 0):
             yield "vcdkit", "%s of y%d" % (text, at)
     names = [*bench.widths, *("t.y%d" % at for at in range(count))]
     look = None
-    for _, values in dump.rows(names, rise=clock):
+    for time, values in dump.rows([name.replace("t.", bench.scope + ".") for name in names],
+                                  rise=clock):
         row = dict(zip(names, (value if isinstance(value, float) else str(value)
                                for value in values)))
-        look = Look(row, look)
-        for at, one in enumerate(of):
-            if one.own(look) != row["t.y%d" % at]:
-                yield "the definition", "%s of y%d: %s, by Icarus %s, of %s" % (
-                    texts[at], at, one.own(look), row["t.y%d" % at], {
+        before, look = look, Look(row, look)
+        for at, one in enumerate(of) if time >= bench.begin else ():
+            wanted = one.own(before if bench.is_late else look)
+            if wanted != row["t.y%d" % at]:
+                yield "the definition", "%s of y%d: %s, by the simulator %s, of %s" % (
+                    texts[at], at, wanted, row["t.y%d" % at], {
                         name: row[name] for name in bench.widths if name in one.text})
 
 
@@ -203,19 +284,22 @@ def main() -> int:
     options = argparse.ArgumentParser(description=__doc__.partition("\n")[0])
     options.add_argument("--count", type=int, default=1600)
     options.add_argument("--seed", type=int, default=0)
+    options.add_argument("--verilator", action="store_true")
     asked = options.parse_args()
-    if not shutil.which("iverilog"):
-        print("expressions are not compared: there is no iverilog")
+    kind, program = (TwoStates, "verilator") if asked.verilator else (Bench, "iverilog")
+    if not shutil.which(program):
+        print("expressions are not compared: there is no %s" % program)
         return 0
     seen: Dict[str, int] = {"vcdkit": 0, "the definition": 0}
     done = 0
-    for seed in range(asked.seed, asked.seed + -(-asked.count // EACH)):
-        with tempfile.TemporaryDirectory() as folder:
-            for who, what in wrong_of(seed, folder, min(EACH, asked.count - done)):
+    with tempfile.TemporaryDirectory() as folder:
+        for seed in range(asked.seed, asked.seed + -(-asked.count // kind.each)):
+            count = min(kind.each, asked.count - done)
+            for who, what in wrong_of(kind(seed), folder, count):
                 seen[who] += 1
                 if seen[who] <= 5:
                     print("seed %d, %s: %s" % (seed, who, what))
-        done += min(EACH, asked.count - done)
+            done += count
     print("%d expressions; %d values of vcdkit differ, and %d of the definition" % (
         done, *seen.values()))
     return int(any(seen.values()))

@@ -432,11 +432,16 @@ class Random:
             sign = "+"  # conditions have a rule of their own for a name beside a number
         if sign == "**":
             return self._power(one, other)
+        other = self._count(other) if sign in LEVELS[LEVEL["<<"]] else other
         return joined(sign, one, other, random.choice([" ", " ", ""]))
 
     def _power(self, one: Expression, other: Expression) -> Expression:
         """Returns **."""
         return joined("**", one, other)
+
+    def _count(self, one: Expression) -> Expression:
+        """Returns the number of bits of a shift."""
+        return one
 
     def _chosen(self, *of: Expression) -> Expression:
         """Returns ?:."""
