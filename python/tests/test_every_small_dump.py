@@ -3,10 +3,10 @@
 answers.py, answers_of_jobs.py and answers_of_pictures.py, which define the answers.
 
 The bodies are all of up to four lines of an alphabet (five of edges of a clock), over each of some
-declarations; nothing comes after a fault. Each question has a grid of options: windows that begin before, at, between and after
-the timestamps, a time twice, both edges, names with a range and without. hostile/reference plays
-the program's part in this process. Every hundredth question is asked again over the program that
-VCDKIT names, and over the library if VCDKIT_LIBRARY names one.
+declarations; nothing comes after a fault. Each question has a grid of options: windows that begin
+before, at, between and after the timestamps, a time twice, both edges, names with a range and
+without. hostile/reference plays the program's part in this process. Every hundredth question is
+asked again over the program that VCDKIT names, and over the library if VCDKIT_LIBRARY names one.
 
 STRIDE=N takes every N-th dump only, from number FIRST=N on, PROCESSES=N so many processes, and
 DECLARATIONS=a,b only these. The last line says how many questions of each kind were asked."""
