@@ -5,7 +5,8 @@ in Verilog. Then each node becomes a line of a Python function, which takes the 
 in the kinds in which they are asked for."""
 import collections
 import functools
-from typing import (Any, Callable, Deque, Dict, Iterable, List, NamedTuple, Optional,
+import re
+from typing import (Any, Callable, Deque, Dict, Iterable, List, NamedTuple, Optional, Sequence,
                     Tuple)
 
 from ..model.names import FIELD, field_of, full_names
@@ -196,10 +197,11 @@ class Conditions:
         self._places: Dict[Tuple[_Name, Kind, Kind], int] = {}
         self._of_code: Dict[bytes, Tuple[int, List[Tuple[int, Read]]]] = {}  # both in one
         self._events: Dict[bytes, None] = {}
-        self._pasts: List[Tuple[Node, Deque[Value]]] = []  # of the last condition
-        self._samples: List[Tuple[Deque[Value], Callable[..., Value]]] = []
+        self._pasts: List[Tuple[int, Node]] = []  # places of the last condition, and what is past
+        self._samples: List[Tuple[int, Deque[Value], str]] = []  # a call has the value now
+        self._sampled: Callable[[], Sequence[Value]] = tuple  # the values of all calls
         self._known: Dict[str, Any] = {"v": self._values, "converted": converted}
-        self._tests: List[List[str]] = []  # the lines of each bit
+        self._tests: List[str] = []  # a call for each bit
 
     def add(self, text: str) -> Condition:
         """Adds a condition."""
@@ -218,12 +220,10 @@ class Conditions:
             span, (whole, wanted) = whole.value, whole.parts
             answer = self._test(wanted)
         found = Condition(self._test(whole), answer, span, is_refusal)
-        begin = len(self._samples)
-        for one, kept in self._pasts:
-            lines, result = self._lines(one)
-            self._samples.append((kept, self._function([*lines, "return " + result])))
-        for kept, sample in reversed(self._samples[begin:]):  # the inner ones first
-            kept.extend([sample()] * (kept.maxlen or 0))
+        calls = [(place, node.value, self._call(node.parts[0])) for place, node in self._pasts]
+        for place, count, call in reversed(calls):  # the inner ones first
+            self._values[place] = value = eval(call, self._known)
+            self._samples.append((place, collections.deque([value] * count, count), call))
         if self._pasts and not self._has_clock:
             raise bad("past, rose, fell, stable and changed look at edges: name a clock by rise or "
                       "fall")
@@ -252,9 +252,10 @@ class Conditions:
     def end(self) -> int:
         """Takes it that a time is over: what it has then is the past, and no event is triggered;
         returns the conditions that name those that were."""
-        values, found = [sample() for _, sample in self._samples], 0
-        for (kept, _), value in zip(self._samples, values):
+        found = 0
+        for (place, kept, _), value in zip(self._samples, self._sampled()):
             kept.append(value)
+            self._values[place] = kept[0]
         for code in self._events:
             for place, _ in self._readers[code]:
                 found |= self.over[code] if self._values[place] else 0
@@ -267,17 +268,18 @@ class Conditions:
         for readers in self._readers.values():
             for place, read in readers:
                 self._values[place] = read(b"")
+        self._sampled = self._function("", [
+            "return (%s)" % "".join(call + ", " for _, _, call in self._samples)])
         lines = ["now = 0"]
         for begin in range(0, len(self._tests), GROUP):
             lines += ["some = due >> %d & %d" % (begin, (1 << GROUP) - 1), "if some:"]
-            for at, its in enumerate(self._tests[begin:begin + GROUP]):
-                lines += [" if some & %d:" % (1 << at), *("  " + line for line in its),
-                          "   now |= %#x" % (1 << begin + at)]
-        return self._function([*lines, "return now"])
+            lines += [" if some & %d and %s: now |= %#x" % (1 << at, call, 1 << begin + at)
+                      for at, call in enumerate(self._tests[begin:begin + GROUP])]
+        return self._function("due=-1", [*lines, "return now"])
 
-    def _function(self, lines: List[str]) -> Callable[..., Any]:
+    def _function(self, words: str, lines: List[str]) -> Callable[..., Any]:
         """Returns a function of these lines."""
-        exec("\n ".join(["def found(due=-1):", *lines]), self._known)
+        exec("\n ".join(["def found(%s):" % words, *lines]), self._known)
         found: Callable[..., Any] = self._known["found"]
         return found
 
@@ -288,13 +290,12 @@ class Conditions:
             order += node.parts
         for node in reversed(order):
             _type(node)
-        lines, result = self._lines(tree)
-        lines.append("if '1' in {0} if {0}.__class__ is str else {0}:".format(result))
-        self._tests.append(lines)
+        self._tests.append(self._call(tree, "'1' in {0} if {0}.__class__ is str else {0}"))
         return 1 << len(self._tests) - 1
 
-    def _lines(self, tree: Node) -> Tuple[List[str], str]:
-        """Returns an expression in Python: a line for each operator, and what has its value."""
+    def _call(self, tree: Node, result: str = "{}") -> str:
+        """Returns a call of a function of values, which is what an expression is. It has a line for
+        each operator, and is kept for the last values."""
         tree.to, order, works = tree.kind, [tree], {}
         lines: List[str] = []
         for node in order:  # from the top down
@@ -306,7 +307,10 @@ class Conditions:
                 if node.parts:
                     lines.append("t%d = %s" % (len(lines), node.text))
                     node.text = "t%d" % (len(lines) - 1)
-        return lines, tree.text
+        lines.append("return " + result.format(tree.text))
+        values = sorted(set(re.findall(r"\bv\d+", " ".join(lines))))
+        kept = functools.lru_cache(maxsize=1 << 10)(self._function(", ".join(values), lines))
+        return "%s(%s)" % (self._named(kept), ", ".join("v[%s]" % name[1:] for name in values))
 
     def _named(self, value: Any) -> str:
         """Returns a name that lines may use for a value."""
@@ -318,16 +322,16 @@ class Conditions:
         """Returns a node in Python."""
         sign, value, named = node.sign, node.value, self._named
         if sign == "name":
-            return "v[%d]" % self._value(node)
+            return "v%d" % self._value(node)
         if sign == "number" and not isinstance(value, str):
             return named(node.to.of(value))
         if not node.parts:
             value = value.rjust(node.to.width, node.fill) if node.fill else value
             return named(converted(value, node.kind, node.to))
         if sign == "past":
-            kept: Deque[Value] = collections.deque((), value)
-            self._pasts.append((node.parts[0], kept))
-            found = named(kept) + "[0]"
+            self._pasts.append((len(self._values), node))
+            found = "v%d" % len(self._values)
+            self._values.append(None)
         else:
             its = "real /" if sign == "/" and not works.width else sign
             operands = [one.text for one in node.parts]
