@@ -91,8 +91,7 @@ def list_latencies(asking: Questions, dump: Dump, text: Callable[[int], str],
                    asked: argparse.Namespace) -> int:
     """Writes when each request gets its answer, and how long that takes; returns how many do."""
     one, lengths, late = asking.each[0], [], 0
-    counts_edges = not (one.span and one.span.unit)
-    shown = (lambda count: str(count)) if counts_edges else text
+    shown = text if one.has_time else (lambda count: str(count))
     for _, (begin, answer, length) in asking.outcomes():
         if answer is None:
             late += 1
@@ -105,8 +104,8 @@ def list_latencies(asking: Questions, dump: Dump, text: Callable[[int], str],
     if lengths and not asked.json:
         mean = sum(lengths) / len(lengths)
         print("least %s, mean %s, greatest %s, %d in time, %d late" % (
-            shown(min(lengths)), "%.6g" % mean if counts_edges
-            else mean_text(dump, mean, asked.unit), shown(max(lengths)), len(lengths), late))
+            shown(min(lengths)), mean_text(dump, mean, asked.unit) if one.has_time
+            else "%.6g" % mean, shown(max(lengths)), len(lengths), late))
     elif late and not asked.json:
         print("0 in time, %d late" % late)
     if one.overlaps:

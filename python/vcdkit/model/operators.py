@@ -161,8 +161,8 @@ def _chosen(kind: Kind, test: Value, one: Value, other: Value) -> Value:
 
 def _joined(of: Tuple[Sequence[Kind], int], *values: Value) -> Value:
     """Returns the digits of values of some kinds, joined, so many times."""
-    digits = "".join(digits_of(one, kind.width) for one, kind in zip(values, of[0])) * of[1]
-    return digits if digits.strip("01") else int(digits, 2)
+    return value_of_digits(of[1] * "".join(map(digits_of, values, (kind.width for kind in of[0]))),
+                           REAL)
 
 
 def _became(digit: str, kind: Kind, one: Value, was: Value) -> Value:

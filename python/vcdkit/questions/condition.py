@@ -37,11 +37,6 @@ class _Name(NamedTuple):
     end: int
 
     @property
-    def first(self) -> bytes:
-        """What the signal is before the first edge, as a body has it."""
-        return b"" if self.signal.type == "event" else b"r0" if self.signal.is_real else b"x"
-
-    @property
     def kind(self) -> Kind:
         """The kind of its values."""
         if self.signal.type == "event":
@@ -190,12 +185,11 @@ class Conditions:
     def __init__(self, dump: Source, has_clock: bool):
         self._dump, self._has_clock = dump, has_clock
         self.paths: Dict[str, None] = {}  # of the signals
-        self.over: Dict[bytes, int] = {}  # of the code of each signal the conditions that name it
+        # Of the code of each signal the conditions that name it, and who reads its values where.
+        self.over: Dict[bytes, Tuple[int, List[Tuple[int, Read]]]] = {}
         self.with_more = 0  # those over more than values: events, earlier edges, an answer
         self._values: List[Value] = []
-        self._readers: Dict[bytes, List[Tuple[int, Read]]] = {}
         self._places: Dict[Tuple[_Name, Kind, Kind], int] = {}
-        self._of_code: Dict[bytes, Tuple[int, List[Tuple[int, Read]]]] = {}  # both in one
         self._events: Dict[bytes, None] = {}
         self._pasts: List[Tuple[int, Node]] = []  # places of the last condition, and what is past
         self._samples: List[Tuple[int, Deque[Value], str]] = []  # a call has the value now
@@ -232,7 +226,7 @@ class Conditions:
         for signal in (name.signal for name in its.values()):
             self.paths[signal.path] = None
             code = signal.code.encode()
-            self.over[code] = self.over.get(code, 0) | bits
+            self.over[code] = self.over[code][0] | bits, self.over[code][1]
             if signal.type == "event":
                 self._events[code] = None
                 self.with_more |= bits
@@ -241,9 +235,9 @@ class Conditions:
     def take(self, changes: Changes) -> int:
         """Takes changes, of which some may be of other signals; returns the conditions that name
         those of the others."""
-        found, values, of_code = 0, self._values, self._of_code.get
+        found, values, over = 0, self._values, self.over.get
         for code, raw in changes:
-            bits, readers = of_code(code, NONE)
+            bits, readers = over(code, NONE)
             found |= bits
             for place, read in readers:
                 values[place] = read(raw)
@@ -257,17 +251,15 @@ class Conditions:
             kept.append(value)
             self._values[place] = kept[0]
         for code in self._events:
-            for place, _ in self._readers[code]:
-                found |= self.over[code] if self._values[place] else 0
+            bits, readers = self.over[code]
+            for place, _ in readers:
+                found |= bits if self._values[place] else 0
                 self._values[place] = 0
         return found
 
     def compiled(self) -> Callable[..., int]:
         """Returns what returns those of some conditions that hold at the values that there are."""
-        self._of_code = {code: (bits, self._readers[code]) for code, bits in self.over.items()}
-        for readers in self._readers.values():
-            for place, read in readers:
-                self._values[place] = read(b"")
+        self.take([(code, b"") for code in self.over])
         self._sampled = self._function("", [
             "return (%s)" % "".join(call + ", " for _, _, call in self._samples)])
         lines = ["now = 0"]
@@ -347,11 +339,13 @@ class Conditions:
 
     def _value(self, node: Node) -> int:
         """Returns the place of the value of a name in a kind."""
-        name, place = node.value, len(self._values)
+        name, signal, place = node.value, node.value.signal, len(self._values)
         found = self._places.setdefault((name, node.kind, node.to), place)
         if found == place:
             read = functools.lru_cache(maxsize=1 << 10)(
                 functools.partial(name.value, node.kind, node.to))
-            self._readers.setdefault(name.signal.code.encode(), []).append((place, read))
-            self._values.append(read(name.first))
+            self.over.setdefault(signal.code.encode(), (0, []))[1].append((place, read))
+            # Before the first edge, as IEEE Std 1800 has it; compiled() goes on with no value.
+            self._values.append(read(b"" if signal.type == "event" else
+                                     b"r0" if signal.is_real else b"x"))
         return found

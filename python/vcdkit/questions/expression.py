@@ -208,9 +208,8 @@ class ConditionText:
             self._take("")
         if number:
             return number_of(token)
-        name = token.lstrip("$") if quoted is None else quoted
-        if quoted is None and self._next == "(" and name in FUNCTIONS:
-            return self._call(name)
+        if quoted is None and self._next == "(" and token.lstrip("$") in FUNCTIONS:
+            return self._call(token.lstrip("$"))
         self.names.append(Node("name", (), token if quoted is None else quoted))
         return self.names[-1]
 

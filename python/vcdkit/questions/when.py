@@ -34,16 +34,17 @@ class _Question:
     """A condition that is asked, and its requests that wait for an answer."""
 
     def __init__(self, condition: Condition, ticks: int):
-        self.condition, self.span, self.ticks = condition, condition.span, ticks
+        self.condition, self.ticks = condition, ticks
+        self.has_time = bool(condition.span and condition.span.unit)  # and counts no edges
         self.overlaps = 0  # requests that began before the answer of the one before
-        self._waiting: Deque[_Request] = collections.deque()
+        self.waiting: Deque[_Request] = collections.deque()
         self._looks = 0
 
     def look(self, time: int, starts: int, holding: int) -> List[Outcome]:
         """Returns the requests that get their answer at a time, and those that get none. Of all
         conditions, some begin to hold there, and some hold."""
-        waiting, bits = self._waiting, self.condition
-        now = time if self.span and self.span.unit else self._looks
+        waiting, bits = self.waiting, self.condition
+        now = time if self.has_time else self._looks
         self._looks += 1
         found = self.late(now)
         if starts & bits.bit:
@@ -52,7 +53,7 @@ class _Question:
         if waiting and holding & bits.answer:
             found += [(begin, time, now - until + self.ticks) for begin, until in waiting]
             waiting.clear()
-        if self.span and not self.span.unit:  # each edge is looked at once
+        if not self.has_time:  # each edge is looked at once
             found += self.late(now + 1)
         if len(waiting) > MAX_WAITING:
             raise UsageError("more than %d times wait for an answer: give a shorter time"
@@ -62,8 +63,8 @@ class _Question:
     def late(self, now: int) -> List[Outcome]:
         """Returns the requests that waited until a time before this one."""
         found: List[Outcome] = []
-        while self._waiting and self._waiting[0].until < now:
-            found.append((self._waiting.popleft().begin, None, 0))
+        while self.waiting and self.waiting[0].until < now:
+            found.append((self.waiting.popleft().begin, None, 0))
         return found
 
     @property
@@ -71,20 +72,15 @@ class _Question:
         """Whether it is as `req -> ack within N`."""
         return bool(self.condition.answer) and not self.condition.is_refusal
 
-    @property
-    def waits_for_a_time(self) -> bool:
-        """Whether requests have no answer yet, and wait until a time."""
-        return bool(self._waiting and self.span and self.span.unit)
-
     def late_at_end(self, is_over: Callable[[int], bool]) -> List[Outcome]:
         """Returns the requests that waited until a time that is over where the dump ends. What else
         is left open there is neither in time nor late."""
-        low, high = 0, len(self._waiting)
+        low, high = 0, len(self.waiting)
         while low < high:
             middle = (low + high) // 2
-            is_late = is_over(self._waiting[middle].until)
+            is_late = is_over(self.waiting[middle].until)
             low, high = (middle + 1, high) if is_late else (low, middle)
-        return self.late(self._waiting[low - 1].until + 1) if low else []
+        return self.late(self.waiting[low - 1].until + 1) if low else []
 
 
 class Questions:
@@ -122,7 +118,7 @@ class Questions:
             yield from self._known()
         except DumpFault as error:
             fault = error
-        waiting = [number for number, its in enumerate(self.each) if its.waits_for_a_time]
+        waiting = [number for number, its in enumerate(self.each) if its.has_time and its.waiting]
         last = self.dump.check().last or 0 if waiting and not fault else 0
         for number in waiting:
             for one in self.each[number].late_at_end(
