@@ -1,8 +1,8 @@
 """Conditions over signals: `tb.bus == 0xff & !tb.reset`, `req -> ack within 5`.
 
 The kinds of values go up the tree of a condition, and those in which they are asked for go down, as
-in Verilog. Then each node becomes a line of a Python function, which takes the values from a list,
-in the kinds in which they are asked for."""
+in Verilog. Then each expression becomes a Python function of values in the kinds in which they are
+asked for, with a line for each operator. What it returned for the last values is kept."""
 import collections
 import functools
 import re
