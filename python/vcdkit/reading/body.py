@@ -3,6 +3,7 @@
 vcdkit writes on each line a timestamp, a command of a section, or a value: `0!`, `b101 !`,
 `r1.5 !`. The filters read what other programs write, and find its lines by the expressions at the
 end."""
+import contextlib
 import io
 import re
 from typing import (BinaryIO, Callable, Collection, Dict, FrozenSet, Iterable, Iterator, List,
@@ -197,20 +198,15 @@ def _led(source: Source, codes: Collection[bytes]) -> Set[bytes]:
 
 
 def _begun(part: Source, codes: Collection[bytes]) -> Set[bytes]:
-    """Returns those of some codes whose first value is in a `$dumpvars`."""
-    is_begin, left = False, set(codes)
+    """Returns those of some codes whose first value is in a `$dumpvars`, up to a fault."""
+    left = set(codes)
     found: Set[bytes] = set()
-    with part.body() as out:
-        for line in out:
-            if line[:1] == b"$":
-                is_begin = line == b"$dumpvars\n"
-            elif line[:1] != b"#":
-                code = change(line)[0]
-                if is_begin and code in left:
-                    found.add(code)
-                left.discard(code)
-                if not left:
-                    break
+    with contextlib.suppress(DumpFault):
+        for _, before, changes in steps(part, codes):
+            found.update(dict(before))
+            left.difference_update(dict(before + changes))
+            if not left:
+                break
     return found
 
 
@@ -231,38 +227,22 @@ def last_command(text: bytes) -> Optional[bytes]:
 def first_time(dump: Source) -> Optional[int]:
     """Returns the first timestamp of any dump, also if no change follows, which vcdkit leaves out;
     `None` if there is none before the end or a fault."""
+    section = b""
     with dump.open() as text:
-        return _first_time(text)
-
-
-def _first_time(text: BinaryIO) -> Optional[int]:
-    words, section = _words(text), b""
-    for word in words:
-        first = word[:1]
-        if first == b"#":
-            return int(word[1:]) if word[1:].isdigit() and not section else None
-        if first in b"bBrR":
-            next(words, b"")  # its code
-        elif word in (b"$dumpvars", b"$dumpall", b"$dumpon", b"$dumpoff"):
-            section = word
-        elif word == b"$end":
-            section = b""
-        elif first == b"$":
-            for word in words:
-                if word == b"$end":
-                    break
+        words = (word for block in blocks(text) for word in block.split())
+        for word in words:
+            first = word[:1]
+            if first == b"#":
+                return int(word[1:]) if word[1:].isdigit() and not section else None
+            if first in b"bBrR":
+                next(words, b"")  # its code
+            elif word in (b"$dumpvars", b"$dumpall", b"$dumpon", b"$dumpoff"):
+                section = word
+            elif word == b"$end":
+                section = b""
+            elif first == b"$":
+                any(one == b"$end" for one in words)  # reads up to there
     return None
-
-
-def _words(text: BinaryIO) -> Iterator[bytes]:
-    """Returns the words of a text."""
-    rest = b""
-    for block in iter(lambda: text.read(BLOCK), b""):
-        words = (rest + block).split()
-        rest = words.pop() if words and not block[-1:].isspace() else b""
-        yield from words
-    if rest:
-        yield rest
 
 
 # Lines in a block of whole lines, which begins with a line feed: most lines are never looked at. A
