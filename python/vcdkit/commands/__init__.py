@@ -43,7 +43,7 @@ FIRST, LAST = "0", str(LAST_TICK)  # of --from and --to
 NEGATIVE = re.compile(r"-[.\d].*[<>=]")
 BROKEN_PIPE = 128 + 13  # the status that a shell shows of a program that SIGPIPE ended
 JSON = "write one JSON object per line, with times in ticks"
-UNIT = "for each time, the largest that needs no fraction"
+UNIT = "the largest without a fraction"
 
 
 class Parser(argparse.ArgumentParser):
@@ -62,15 +62,14 @@ class Parser(argparse.ArgumentParser):
         self.needs_names = count == "+"
         self.names_of().add_argument(
             "names", metavar="NAME", nargs="*", default=[],
-            help="a path, as vcdkit list shows it, or a scope with everything in it"
+            help="a path (see vcdkit list), or a scope with all in it"
             + " (required without --names)" * self.needs_names)
         return self
 
     def names_of(self) -> "Parser":
         """Adds --names."""
-        self.add_argument("--names", dest="names_of", metavar="FILE", help="also use the names in "
-                          "this file: the first word of each line, or the signals in a GTKWave "
-                          "save file")
+        self.add_argument("--names", dest="names_of", metavar="FILE",
+                          help="also use the names in a list or a GTKWave save file")
         return self
 
     def four_state(self) -> "Parser":
@@ -110,8 +109,8 @@ class Parser(argparse.ArgumentParser):
 
     def unit(self, default: str = UNIT) -> "Parser":
         """Adds --unit."""
-        self.add_argument("--unit", type=_unit, metavar="UNIT", help="show times in this unit: "
-                          "tick, s, ms, us, ns, ps or fs [default: %s]" % default)
+        self.add_argument("--unit", type=_unit, metavar="UNIT", help="show times in s, ms, "
+                          "us, ns, ps, fs or tick [default: %s]" % default)
         return self
 
     def json(self, what: str = JSON) -> "Parser":
@@ -151,14 +150,16 @@ def _unmarked(value: Any) -> Any:
     return value[len(MARK):] if isinstance(value, str) and value.startswith(MARK) else value
 
 
-def parser(name: str, text: str, done: str = "everything was written", failed: str = FAULT,
+def parser(usage: str, text: str, done: str = "everything was written", failed: str = FAULT,
            wrong: str = "usage error") -> Parser:
-    """Returns a parser of words, whose help has the text of a command and its exit statuses 0, 1
-    and 2, those of a filter if nothing is said of status 1."""
+    """Returns a parser of words, whose help has the usage and the text of a command and its exit
+    statuses 0, 1 and 2, those of a filter if nothing is said of status 1."""
     first, _, rest = text.partition("\n")
+    name, _, arguments = usage.partition(" ")
     statuses = STATUSES % (done, failed, wrong) if failed else STATUSES_OF_A_FILTER
     made = Parser(
-        prog=name, description=first, epilog=rest.strip("\n") + "\n" + statuses,
+        prog=name, usage="%s [OPTION ..] %s" % (name, arguments) if arguments else None,
+        description=first, epilog=rest.strip("\n") + "\n" + statuses,
         formatter_class=argparse.RawDescriptionHelpFormatter, allow_abbrev=False)
     made.add_argument("-V", "--version", action="version", version="%s %s" % (name, __version__))
     return made
@@ -168,7 +169,7 @@ def filtered(name: str, text: str, words: List[str],
              made: Callable[[Iterator[bytes]], Iterator[bytes]]) -> int:
     """Runs a filter, which makes blocks of its output of those of its input; returns its
     status."""
-    options = parser(name, text, failed="")
+    options = parser(name + " [FILE]", text, failed="")
     options.add_argument("file", metavar="FILE", nargs="?", default="-", help="the dump, which may "
                          "be compressed [default: standard input, uncompressed]")
     sys.stdout.buffer.writelines(made(blocks_of(options.parse_args(words).file)))

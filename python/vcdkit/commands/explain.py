@@ -93,7 +93,7 @@ def salvage(dump: Dump, fault: DumpFault, before: bytes, asked: argparse.Namespa
 
 def words_of(words: List[str]) -> argparse.Namespace:
     """Reads the command line."""
-    options = parser("vcdkit-explain", __doc__, "valid dumps, as far as they go",
+    options = parser("vcdkit-explain FILE ..", __doc__, "valid dumps, as far as they go",
                      "not a valid dump")
     options.add_argument("--salvage", metavar="OUT", help="write everything before the fault to a "
                          "file (-: standard output)")

@@ -43,7 +43,8 @@ def write_tree(top: Scope, is_found: Callable[[Signal], bool]) -> None:
 
 @command
 def main(words: List[str]) -> int:
-    options = parser("vcdkit-find", __doc__, failed="no path matches, or not a valid dump")
+    options = parser("vcdkit-find FILE [REGEX ..]", __doc__,
+                     failed="no path matches, or not a valid dump")
     form = options.add_mutually_exclusive_group()
     form.add_argument("--pick", action="store_true", help="write a dump of only these variables")
     form.add_argument("--tree", action="store_true",

@@ -21,7 +21,7 @@ from . import after_end, command, dump_of, parser, times_at, times_of
 
 @command
 def main(words: List[str]) -> int:
-    options = parser("vcdkit-values", __doc__)
+    options = parser("vcdkit-values FILE [NAME ..]", __doc__)
     options.at("the times%s [default: the end of the dump]").form().unit().json().file("*")
     asked = options.parse_args(words)
     given, dump = times_at(asked), dump_of(asked)

@@ -78,7 +78,7 @@ def write_page(dump: Dump, window: Window, mark: Optional[int], asked: argparse.
 
 @command
 def main(words: List[str]) -> int:
-    options = parser("vcdkit-wave", __doc__, "the picture was written")
+    options = parser("vcdkit-wave FILE NAME ..", __doc__, "the picture was written")
     options.window()
     options.add_argument("--around", metavar="TIME",
                          help="the middle of the window, where a mark is drawn")

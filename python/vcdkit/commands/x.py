@@ -25,7 +25,8 @@ from . import FAULT, check_begin, command, dump_of, parser, question, times_of
 @command
 @question
 def main(words: List[str]) -> int:
-    options = parser("vcdkit-x", __doc__, "no such value", "there is one", "usage error, " + FAULT)
+    options = parser("vcdkit-x FILE [NAME ..]", __doc__, "no such value", "there is one",
+                     "usage error, " + FAULT)
     form = options.add_mutually_exclusive_group()
     form.add_argument("--first", action="store_true", help="list only the first one")
     form.add_argument("--count", action="store_true", help="write only the number of values")
