@@ -5,26 +5,21 @@ time. With --from, there is also a row for that time, if there are values then. 
 --fall, there is a row for each such edge of a one-bit clock, with the values just before the edge,
 which are what a flip-flop samples; with both, there is a row for every edge. With --at, there is a
 row for each of the given times, in this order. Glitches within a time step and repeated values are
-ignored. A clock edge counts even if the clock returns to its old value in the same time step.
-Events have no column. While a pipe is read, each row is written as soon as it is known. A --from
-after the end of the dump is a usage error.
+ignored. Events have no column.
 
 --if keeps only those of these rows at which a condition holds, for the values that the row shows:
 --rise clk --if 'valid & ready' lists the transfers on a bus. `vcdkit-when --help` describes
 conditions. At an edge, an event counts as triggered if it was triggered since the edge before.
 
-Values are written with all their digits, as numbers (--hex, --decimal, --signed) or as text
-(--ascii). If a value has an x or a z, --hex writes x or z for four such digits and X for a mixture,
-and the other options write all digits. `-` means that there is no value yet. Real numbers are
-written as 1.5, 3, 1e-09, nan or inf. Times are whole numbers in the unit of the time scale or, with
---unit, exact decimal numbers in that unit. For pandas, use --decimal; with --binary or --hex, pass
-dtype=str to pandas.read_csv.
+`-` means that there is no value yet. If a value has an x or a z, --hex writes x or z for four such
+digits and X for a mixture, and the other options write all digits. Times are whole numbers in the
+unit of the time scale or, with --unit, exact decimal numbers in that unit. For pandas, use
+--decimal; with --binary or --hex, pass dtype=str to pandas.read_csv.
 
 examples:
   vcdkit-table --hex --at 10ns,20ns,30ns sim.vcd tb.pc tb.bus
   vcdkit-table --decimal --rise tb.clk --from 1us sim.vcd.gz tb.cpu
-  vcdkit-table --rise tb.clk --if 'tb.valid & tb.ready' sim.vcd tb.address tb.data
-  vcdkit-table --unit tick sim.vcd tb.count"""
+  vcdkit-table --rise tb.clk --if 'tb.valid & tb.ready' sim.vcd tb.address tb.data"""
 import csv
 import functools
 import io
@@ -40,7 +35,7 @@ from . import check_begin, command, dump_of, is_part, parser, part_of, times_at
 
 @command
 def main(words: List[str]) -> int:
-    options = parser("vcdkit-table", __doc__)
+    options = parser("vcdkit-table FILE NAME ..", __doc__)
     options.form().clock("write a row for each %s edge of this signal")
     options.at("write a row for each of these times%s")
     options.add_argument("--if", dest="condition", metavar="CONDITION",
