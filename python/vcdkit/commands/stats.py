@@ -45,7 +45,7 @@ def facts_of(signal: Signal, counted: Statistics, form: Optional[str], count: Op
             "period": counted.periods.facts() if counted.periods.count else None,
             "duty": None if signal.type == "event" else counted.duty(),
             "range": counted.range() if signal.is_real else None,
-            "values": [{**one._asdict(), "value": shown(one.value, form)}
+            "values": [{**one, "value": shown(one["value"], form)}
                        for one in shares_of(counted, count)]}
 
 
