@@ -109,8 +109,8 @@ class Parser(argparse.ArgumentParser):
 
     def unit(self, default: str = UNIT) -> "Parser":
         """Adds --unit."""
-        self.add_argument("--unit", type=_unit, metavar="UNIT", help="show times in s, ms, "
-                          "us, ns, ps, fs or tick [default: %s]" % default)
+        self.add_argument("--unit", choices=(*UNITS, "tick"), metavar="UNIT", help="show times in "
+                          "s, ms, us, ns, ps, fs or tick [default: %s]" % default)
         return self
 
     def json(self, what: str = JSON) -> "Parser":
@@ -237,22 +237,12 @@ def after_end(dump: Dump, time: str, is_up: bool = False) -> str:
         time, "" if last is None else ", " + dump.time(last))
 
 
-def _unit(text: str) -> str:
-    """Reads the word of --unit."""
-    if text not in UNITS + ("tick",):
-        raise argparse.ArgumentTypeError("it may be tick, %s" % ", ".join(UNITS))
-    return text
-
-
 def times_of(dump: Source, asked: argparse.Namespace) -> Callable[[int], str]:
     """Returns what shows ticks as a time, such as 115ns, or in the unit of --unit. A unit needs a
     time scale."""
-    if asked.unit is None:
-        return dump.time
-    if asked.unit == "tick":
-        return str
-    dump.ticks("0" + asked.unit)
-    return lambda ticks: dump.time(ticks, asked.unit)
+    if asked.unit not in (None, "tick"):
+        dump.ticks("0" + asked.unit)
+    return functools.partial(dump.time, unit=asked.unit or "")
 
 
 def natural(text: str) -> int:
