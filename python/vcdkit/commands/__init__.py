@@ -44,6 +44,7 @@ NEGATIVE = re.compile(r"-[.\d].*[<>=]")
 BROKEN_PIPE = 128 + 13  # the status that a shell shows of a program that SIGPIPE ended
 JSON = "write one JSON object per line, with times in ticks"
 UNIT = "the largest without a fraction"
+Main = Callable[[Optional[List[str]]], int]
 
 
 class Parser(argparse.ArgumentParser):
@@ -165,15 +166,18 @@ def parser(usage: str, text: str, done: str = "everything was written", failed: 
     return made
 
 
-def filtered(name: str, text: str, words: List[str],
-             made: Callable[[Iterator[bytes]], Iterator[bytes]]) -> int:
-    """Runs a filter, which makes blocks of its output of those of its input; returns its
-    status."""
-    options = parser(name + " [FILE]", text, failed="")
-    options.add_argument("file", metavar="FILE", nargs="?", default="-", help="the dump, which may "
-                         "be compressed [default: standard input, uncompressed]")
-    sys.stdout.buffer.writelines(made(blocks_of(options.parse_args(words).file)))
-    return 0
+def filtering(module: str, usage: str, text: str,
+              made: Callable[[Iterator[bytes]], Iterator[bytes]]) -> Main:
+    """Makes main() of a filter, which makes blocks of its output of those of its input."""
+    def main(words: List[str]) -> int:
+        options = parser(usage, text, failed="")
+        options.add_argument("file", metavar="FILE", nargs="?", default="-", help="the dump, which "
+                             "may be compressed [default: standard input, uncompressed]")
+        sys.stdout.buffer.writelines(made(blocks_of(options.parse_args(words).file)))
+        return 0
+
+    main.__module__ = module
+    return command(main)
 
 
 def dump_of(asked: argparse.Namespace, file: Optional[str] = None,
@@ -252,7 +256,7 @@ def natural(text: str) -> int:
     return int(text)
 
 
-def command(function: Callable[[List[str]], int]) -> Callable[[Optional[List[str]]], int]:
+def command(function: Callable[[List[str]], int]) -> Main:
     """Makes main() of what takes words and returns a status: errors become a line and a status. It
     ends without a line if the reader of its output has gone."""
     module = function.__module__.rpartition(".")[2]

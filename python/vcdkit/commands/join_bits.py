@@ -11,12 +11,7 @@ not run vcdkit.
 
 example:
   vcdkit-join-bits < sim.vcd | vcdkit sample --at 15ns tb.q"""
-from typing import List
-
 from ..reading.bits import joined
-from . import command, filtered
+from . import filtering
 
-
-@command
-def main(words: List[str]) -> int:
-    return filtered("vcdkit-join-bits", __doc__, words, joined)
+main = filtering(__name__, "vcdkit-join-bits [FILE]", __doc__, joined)
