@@ -9,9 +9,7 @@ the scopes below it.
 
 examples:
   vcdkit-find sim.vcd 'count$'
-  vcdkit-find --pick sim.vcd.gz 'clk$' '\\.state$' > some.vcd
   vcdkit-find --pick --names view.gtkw sim.vcd > view.vcd
-  vcdkit-find --json sim.vcd | jq -r 'select(.size > 8).path'
   vcdkit-find --tree sim.vcd | head -n 20"""
 import sys
 from typing import Callable, Dict, List

@@ -3,16 +3,13 @@
 A one-bit signal is a line, a vector is a lane with its values, a real number is a curve between its
 smallest and its largest value, and an event is a tick. x is red, and z is orange. A grey block
 stands for changes that are closer together than the picture can show; it is red where the signal is
-x at some time. The scope that all names have in common stands above them. --mark draws a line at
-one time, such as that of a failure.
+x at some time. The scope that all names have in common stands above them.
 
 With --html, it writes a page instead: one file that needs no network, in which you can zoom,
-search, and read the values at a cursor. Press `?` to list its keys. It takes any number of signals,
-with up to 3,000,000 changes and 2^53 ticks. A link can point to a place:
-page.html#from=100ns&to=200ns&cursor=158ns. --light and the number format set how the page starts.
+search, and read the values at a cursor. Press `?` to list its keys. --light and the number format
+set how the page starts.
 
 examples:
-  vcdkit-wave --from 100ns --to 200ns --mark 158ns sim.vcd tb.clk tb.bus > failure.svg
   vcdkit-wave --light --around 158ns --context 20ns sim.vcd.gz tb.cpu > failure.svg
   vcdkit-wave --html --mark 158ns sim.vcd tb > failure.html"""
 import argparse
