@@ -19,7 +19,7 @@ from typing import List, Optional
 
 from ..errors import UsageError
 from ..forms import page
-from ..forms.svg import Look, draw
+from ..forms.svg import draw
 from ..model.times import Window
 from ..questions.dump import Dump
 from ..questions.lanes import lanes_of
@@ -106,5 +106,5 @@ def main(words: List[str]) -> int:
     else:
         chosen = [dump.declarations[place] for place in places]
         draw(dump, chosen, lanes_of(dump, asked.names, window, asked.width), mark,
-             Look(asked.form, asked.light))
+             asked.form, asked.light)
     return 0
