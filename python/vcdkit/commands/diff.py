@@ -268,17 +268,6 @@ def map_of(text: str) -> Tuple[str, str]:
     return front, new
 
 
-def tolerance(text: str) -> float:
-    """Reads the word of --real-tolerance."""
-    try:
-        number = float(text)
-    except ValueError:
-        number = -1
-    if not 0 <= number < float("inf"):
-        raise argparse.ArgumentTypeError("it is a number from 0, as 1e-9")
-    return number
-
-
 def words_of(words: List[str]) -> argparse.Namespace:
     """Reads the command line."""
     options = parser("vcdkit-diff A B [NAME ..]", __doc__, "no difference", "a difference",
@@ -289,7 +278,7 @@ def words_of(words: List[str]) -> argparse.Namespace:
     options.add_argument("--common", action="store_true", help="compare only what both have")
     options.add_argument("--except", dest="exceptions", metavar="NAME", action="append", default=[],
                          help="leave out this signal or scope; may be repeated")
-    options.add_argument("--real-tolerance", dest="tolerance", metavar="T", type=tolerance,
+    options.add_argument("--real-tolerance", dest="tolerance", metavar="T", type=float,
                          default=0.0, help="let real numbers differ by T, or T times the larger")
     options.add_argument("--x-matches", action="store_true",
                          help="let a digit that is x or z match any digit")
@@ -313,6 +302,8 @@ def words_of(words: List[str]) -> argparse.Namespace:
     options.names("*")
     asked = options.parse_args(words)
     asked.maps.sort(key=lambda pair: -len(pair[0]))
+    if not 0 <= asked.tolerance < float("inf"):
+        options.error("--real-tolerance is a number from 0, as 1e-9")
     if asked.into is not None and not asked.context:
         options.error("--into is for the files of --context")
     if asked.context is not None:
