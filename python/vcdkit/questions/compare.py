@@ -2,6 +2,7 @@
 
 A value is as a body has it: the fewest digits, or r and a real number. So equal values of one size
 have equal digits."""
+import functools
 import itertools
 import re
 from math import gcd, isclose, isnan
@@ -80,7 +81,10 @@ class Side:
         its = [one for one in maps if one[0] == path or path.startswith(one[0] + ".")
                or one[0] == bare(path) and one[0] in self._bare]
         self.mapped.update(front for front, _ in its)
-        return _renamed(path, *its[0]) if its else path
+        if not its:
+            return path
+        front, new = its[0]
+        return new + path[len(front):] if new else path[len(front) + 1:]
 
     def _scopes(self, at: int) -> List[str]:
         """Returns the scopes around a signal, the innermost first, as maps name them."""
@@ -133,11 +137,6 @@ class Side:
 
 
 Sides = Tuple[Side, Side]
-
-
-def _renamed(path: str, front: str, new: str) -> str:
-    """Returns a path with another front."""
-    return new + path[len(front):] if new else path[len(front) + 1:]
 
 
 def _groups(sides: Sides) -> Iterator[Tuple[str, str]]:
@@ -272,13 +271,9 @@ class Comparison:
                 one != other for one, other in (pair.codes for pair in self._pairs)):
             return False
         with self._sides[0].dump.open() as one, self._sides[1].dump.open() as other:
-            is_equal = header.BODY in one and header.BODY in other
-            while is_equal:
-                text = one.read(BLOCK)
-                is_equal = text == other.read(BLOCK)
-                if not text:
-                    break
-        return is_equal
+            blocks = (iter(functools.partial(text.read, BLOCK), b"") for text in (one, other))
+            return header.BODY in one and header.BODY in other and all(
+                mine == its for mine, its in itertools.zip_longest(*blocks))
 
     def _lines(self) -> Iterator[Line]:
         """Returns the lines of all pairs. If values that are not equal may be the same, it looks at
