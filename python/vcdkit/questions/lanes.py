@@ -41,10 +41,6 @@ class Pixels(NamedTuple):
         """Returns the first tick of a pixel, or of those behind it if it has none."""
         return self.window.begin - (-pixel * self.length // self.width)
 
-    def is_at_begin(self, pixel: int) -> bool:
-        """Whether a tick is at the begin of a pixel."""
-        return pixel * self.length % self.width == 0
-
 
 class Several(NamedTuple):
     """What a pixel shows in place of a value if the signal changes several times in it: of a real
@@ -109,7 +105,7 @@ class Lane:
         """Ends a pixel."""
         if self.text is not None and len(self.first) > 1:
             begin, end = of.first(pixel), min(of.first(pixel + 1), of.window.last)
-            is_late = self.first[0][0] > begin or not of.is_at_begin(pixel)
+            is_late = self.first[0][0] > begin or pixel * of.length % of.width > 0
             has_x = self.has_x or _is_x(self.text) or is_late and _is_x(self.before)
             numbers = [number for _, number in self.numbers]
             self.points.append((begin, Several(min(numbers, default=math.inf),
@@ -143,14 +139,10 @@ class Lanes:
                 if begin < end:
                     self.take(text, begin, end)
                 else:
-                    self.go_to(body.time_at(text, begin))
+                    self.close()
+                    self.pixel = self.pixels.of(body.time_at(text, begin))
                 begin = end
         self.close()
-
-    def go_to(self, time: int) -> None:
-        """Ends the pixel, and goes to that of a time."""
-        self.close()
-        self.pixel = self.pixels.of(time)
 
     def close(self) -> None:
         """Ends the pixel."""
