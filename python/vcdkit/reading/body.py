@@ -127,15 +127,11 @@ class _First:
         others: Changes = []
         for line in text.split(b"\n"):
             if line[:1] == b"$":
-                self._note(line)
+                self._is_begin = line == b"$dumpvars" and not (self._is_cut and self._has_section)
+                self._has_section = True
             for one in known[line]:
                 (before if self._is_before(one[0]) else others).append(one)
         return before, others
-
-    def _note(self, line: bytes) -> None:
-        """Takes the line of a section."""
-        self._is_begin = line == b"$dumpvars" and not (self._is_cut and self._has_section)
-        self._has_section = True
 
     def _is_before(self, code: bytes) -> bool:
         """Whether the value of a code is from before its time."""

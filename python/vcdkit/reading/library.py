@@ -105,7 +105,10 @@ def changes(text: Text, code: bytes, room: int = 1 << 18) -> Optional["array[int
     if not hasattr(_library(), "vcdkit_changes"):
         return None
     found, reading, seed = array("Q"), _Place(), int.from_bytes(os.urandom(8), "little")
-    at, length, kept = _lent(_data(text))
+    data, error = _read(text)
+    if error:
+        raise error
+    at, length, kept = _lent(data)
     name_at, name_length, _ = _lent(code)
     some, status = array("Q", bytes(3 * 8 * room)), FULL
     while status == FULL:
@@ -116,16 +119,9 @@ def changes(text: Text, code: bytes, room: int = 1 << 18) -> Optional["array[int
     return None if status else found
 
 
-def _data(text: Text) -> Data:
-    """Returns the bytes of a text, those of a plain file as a map."""
-    out, error = _read(text)
-    if error:
-        raise error
-    return out
-
-
 def _read(text: Text) -> Tuple[Data, Optional[VcdkitError]]:
-    """Returns the bytes of a text up to its end, or up to the error with which it ends."""
+    """Returns the bytes of a text up to its end, or up to the error with which it ends; those of a
+    plain file are a map."""
     if isinstance(text, Bytes):
         return text.data, None
     if isinstance(text, Headed):

@@ -104,9 +104,6 @@ class _Part:
             said.seek(0)
             self.said = said.read().decode(errors="backslashreplace").strip()
 
-    def has_failed(self) -> bool:
-        return not 0 <= self.status <= self.answer
-
     def ended_early(self) -> bool:
         """Whether the next program did not read on: a script says so as a shell does."""
         return (self.status in (-signal.SIGPIPE, 128 + signal.SIGPIPE)
@@ -241,7 +238,8 @@ class _Pipe:
             file.check()
         for at, part in enumerate(self.parts):
             is_last = at == len(self.parts) - 1
-            if part.has_failed() and (is_last or not part.ended_early()):
+            has_failed = not 0 <= part.status <= part.answer
+            if has_failed and (is_last or not part.ended_early()):
                 raise part.error()
         for error in self.errors:
             raise error
