@@ -282,7 +282,8 @@ def command(function: Callable[[List[str]], int]) -> Main:
                 sys.stdout.flush()
         except VcdkitError as error:
             asked = sys.argv[1:] if words is None else words
-            return _said(name, str(error) + _remedy(error, asked), error.status)
+            status = max(error.status, getattr(function, "least", 0))
+            return _said(name, str(error) + _remedy(error, asked), status)
         except BrokenPipeError:
             _drop(sys.stdout)
             return BROKEN_PIPE
@@ -329,17 +330,10 @@ def _drop(stream: TextIO) -> None:
 
 
 def question(function: Callable[[List[str]], int]) -> Callable[[List[str]], int]:
-    """Makes the function of a command that answers yes or no by its status, as cmp and grep do: a
+    """Marks the function of a command that answers yes or no by its status, as cmp and grep do: a
     fault of a dump and an unknown name have status 2, and not that of an answer."""
-    @functools.wraps(function)
-    def asked(words: List[str]) -> int:
-        try:
-            return function(words)
-        except VcdkitError as error:
-            error.status = max(error.status, 2)
-            raise
-
-    return asked
+    setattr(function, "least", 2)
+    return function
 
 
 def _said(name: str, text: str, status: int) -> int:
