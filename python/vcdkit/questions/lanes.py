@@ -155,7 +155,7 @@ class Lanes:
     def take(self, text: bytes, begin: int, end: int) -> None:
         """Takes a part of the pixel: each line of its begin, and then only the changes of signals
         that say something new, and the last values of the others."""
-        middle = body.next_time(text, begin + SMALL, end)
+        middle = text.find(body.TIME, begin + SMALL, end)
         if end - begin <= 8 * SMALL or middle < 0:
             self.take_lines(text[begin + 1:end + 1])
             return
@@ -165,7 +165,7 @@ class Lanes:
             if not codes:
                 break
             for code, value, at in body.changes_in(text, *piece, codes):
-                time = body.time_at(text, body.time_before(text, 0, at + 1))
+                time = body.time_at(text, text.rfind(body.TIME, 0, at + 1))
                 self.of_code[code].note(time, value)
         self.note_unknown(text, middle, end)
         self.take_last(text, middle, end)
@@ -175,16 +175,16 @@ class Lanes:
         for found in UNKNOWN.finditer(text, begin, end):
             lane = self.of_code.get(found.group(1))
             if lane and not lane.has_x:
-                to = body.next_time(text, found.end(), end + 1)
+                to = text.find(body.TIME, found.end(), end + 1)
                 lane.has_x = not 0 <= body.next_change(text, found.group(1), found.end()) < (
                     to if to >= 0 else end)
 
     def take_last(self, text: bytes, begin: int, end: int) -> None:
         """Takes the last values of the signals whose lanes are full, and the last time."""
         codes, size = self.codes(True), SMALL
-        self.time = body.time_at(text, body.time_before(text, begin, end))
+        self.time = body.time_at(text, text.rfind(body.TIME, begin, end))
         while codes and end > begin:
-            middle = max(body.time_before(text, begin, max(end - size, begin)), begin)
+            middle = max(text.rfind(body.TIME, begin, max(end - size, begin)), begin)
             last = {code: value for code, value, _ in body.changes_in(text, middle, end, codes)}
             for code, value in last.items():
                 lane = self.of_code[code]
@@ -210,7 +210,7 @@ def _pieces(text: bytes, begin: int, end: int) -> Iterator[Tuple[int, int]]:
     size = SMALL
     while begin < end:
         size *= 4
-        to = body.next_time(text, begin + size, end)
+        to = text.find(body.TIME, begin + size, end)
         yield begin, to if to > 0 else end
         begin = to if to > 0 else end
 

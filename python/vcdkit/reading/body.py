@@ -48,7 +48,7 @@ def timed(part: Source, some: Optional[Blocks] = None) -> Iterator[Tuple[int, by
     try:
         with part.body() as out:
             for block in (some or blocks)(out):
-                first, *pieces = (b"\n" + block[:-1]).split(b"\n#")
+                first, *pieces = (b"\n" + block[:-1]).split(TIME)
                 if first:
                     texts.append(first[1:])
                 for piece in pieces:
@@ -209,7 +209,7 @@ def _begun(part: Source, codes: Collection[bytes]) -> Set[bytes]:
 def last_time(text: bytes) -> Optional[int]:
     """Returns the last timestamp of a text that has its whole line; `None` if
     there is none."""
-    at = text.rfind(b"\n#", 0, max(text.rfind(b"\n"), 0))
+    at = text.rfind(TIME, 0, max(text.rfind(b"\n"), 0))
     return int(text[at + 2:text.index(b"\n", at + 1)]) if at >= 0 else None
 
 
@@ -244,6 +244,7 @@ def first_time(dump: Source) -> Optional[int]:
 # Lines in a block of whole lines, which begins with a line feed: most lines are never looked at. A
 # place is that of the line feed before a line.
 
+TIME = b"\n#"  # at the place of a timestamp
 CODES = re.compile(rb"\n(?:[01xz]|[br]\S* )(.*)")  # of the lines that have a value
 
 
@@ -263,23 +264,13 @@ def time_at(text: bytes, at: int) -> int:
     return int(text[at + 2:text.index(b"\n", at + 1)])
 
 
-def time_before(text: bytes, begin: int, end: int) -> int:
-    """Returns the place of the last timestamp of a part of a text; -1 if there is none."""
-    return text.rfind(b"\n#", begin, end)
-
-
-def next_time(text: bytes, begin: int, end: int) -> int:
-    """Returns the place of the first timestamp of a part of a text; -1 if there is none."""
-    return text.find(b"\n#", begin, end)
-
-
 def time_after(text: bytes, begin: int, time: int) -> int:
     """Returns the place of the first timestamp above a time; that of the end if there is none."""
     found = high = len(text) - 1
     low = begin
     while low < high:
         middle = (low + high) // 2
-        at = next_time(text, middle, high + 1)
+        at = text.find(TIME, middle, high + 1)
         if at >= 0 and time_at(text, at) <= time:
             low = at + 1
         else:
