@@ -6,10 +6,7 @@ from typing import List
 
 from . import commands
 
-
-def names() -> List[str]:
-    """Returns the names of the modules of the commands."""
-    return [module.name for module in pkgutil.iter_modules(commands.__path__)]
+NAMES = [module.name for module in pkgutil.iter_modules(commands.__path__)]
 
 
 @commands.command
@@ -18,7 +15,7 @@ def list_commands(words: List[str]) -> int:
     is_help = words in ([], ["-h"], ["--help"])
     out = sys.stdout if is_help else sys.stderr
     print("usage: python -m vcdkit COMMAND ..\n", file=out)
-    for name in names():
+    for name in NAMES:
         about = importlib.import_module("vcdkit.commands." + name).__doc__ or ""
         print("  %-14s %s" % (name.replace("_", "-"), about.partition("\n")[0]), file=out)
     return 0 if is_help else 2
@@ -27,7 +24,7 @@ def list_commands(words: List[str]) -> int:
 def main() -> int:
     """Runs the command of the first word, and returns its status."""
     name = "".join(sys.argv[1:2]).replace("-", "_")
-    if name not in names():
+    if name not in NAMES:
         return list_commands(None)
     del sys.argv[1]
     status: int = importlib.import_module("vcdkit.commands." + name).main()

@@ -43,7 +43,8 @@ FIRST, LAST = "0", str(LAST_TICK)  # of --from and --to
 NEGATIVE = re.compile(r"-[.\d].*[<>=]")
 BROKEN_PIPE = 128 + 13  # the status that a shell shows of a program that SIGPIPE ended
 JSON = "write one JSON object per line, with times in ticks"
-UNIT = "for each time, the largest that needs no fraction"
+UNIT = "the largest without a fraction"
+Main = Callable[[Optional[List[str]]], int]
 
 
 class Parser(argparse.ArgumentParser):
@@ -62,15 +63,14 @@ class Parser(argparse.ArgumentParser):
         self.needs_names = count == "+"
         self.names_of().add_argument(
             "names", metavar="NAME", nargs="*", default=[],
-            help="a path, as vcdkit list shows it, or a scope with everything in it"
+            help="a path (see vcdkit list), or a scope with all in it"
             + " (required without --names)" * self.needs_names)
         return self
 
     def names_of(self) -> "Parser":
         """Adds --names."""
-        self.add_argument("--names", dest="names_of", metavar="FILE", help="also use the names in "
-                          "this file: the first word of each line, or the signals in a GTKWave "
-                          "save file")
+        self.add_argument("--names", dest="names_of", metavar="FILE",
+                          help="also use the names in a list or a GTKWave save file")
         return self
 
     def four_state(self) -> "Parser":
@@ -110,8 +110,8 @@ class Parser(argparse.ArgumentParser):
 
     def unit(self, default: str = UNIT) -> "Parser":
         """Adds --unit."""
-        self.add_argument("--unit", type=_unit, metavar="UNIT", help="show times in this unit: "
-                          "tick, s, ms, us, ns, ps or fs [default: %s]" % default)
+        self.add_argument("--unit", choices=(*UNITS, "tick"), metavar="UNIT", help="show times in "
+                          "s, ms, us, ns, ps, fs or tick [default: %s]" % default)
         return self
 
     def json(self, what: str = JSON) -> "Parser":
@@ -151,28 +151,33 @@ def _unmarked(value: Any) -> Any:
     return value[len(MARK):] if isinstance(value, str) and value.startswith(MARK) else value
 
 
-def parser(name: str, text: str, done: str = "everything was written", failed: str = FAULT,
+def parser(usage: str, text: str, done: str = "everything was written", failed: str = FAULT,
            wrong: str = "usage error") -> Parser:
-    """Returns a parser of words, whose help has the text of a command and its exit statuses 0, 1
-    and 2, those of a filter if nothing is said of status 1."""
+    """Returns a parser of words, whose help has the usage and the text of a command and its exit
+    statuses 0, 1 and 2, those of a filter if nothing is said of status 1."""
     first, _, rest = text.partition("\n")
+    name, _, arguments = usage.partition(" ")
     statuses = STATUSES % (done, failed, wrong) if failed else STATUSES_OF_A_FILTER
     made = Parser(
-        prog=name, description=first, epilog=rest.strip("\n") + "\n" + statuses,
+        prog=name, usage="%s [OPTION ..] %s" % (name, arguments) if arguments else None,
+        description=first, epilog=rest.strip("\n") + "\n" + statuses,
         formatter_class=argparse.RawDescriptionHelpFormatter, allow_abbrev=False)
     made.add_argument("-V", "--version", action="version", version="%s %s" % (name, __version__))
     return made
 
 
-def filtered(name: str, text: str, words: List[str],
-             made: Callable[[Iterator[bytes]], Iterator[bytes]]) -> int:
-    """Runs a filter, which makes blocks of its output of those of its input; returns its
-    status."""
-    options = parser(name, text, failed="")
-    options.add_argument("file", metavar="FILE", nargs="?", default="-", help="the dump, which may "
-                         "be compressed [default: standard input, uncompressed]")
-    sys.stdout.buffer.writelines(made(blocks_of(options.parse_args(words).file)))
-    return 0
+def filtering(module: str, usage: str, text: str,
+              made: Callable[[Iterator[bytes]], Iterator[bytes]]) -> Main:
+    """Makes main() of a filter, which makes blocks of its output of those of its input."""
+    def main(words: List[str]) -> int:
+        options = parser(usage, text, failed="")
+        options.add_argument("file", metavar="FILE", nargs="?", default="-", help="the dump, which "
+                             "may be compressed [default: standard input, uncompressed]")
+        sys.stdout.buffer.writelines(made(blocks_of(options.parse_args(words).file)))
+        return 0
+
+    main.__module__ = module
+    return command(main)
 
 
 def dump_of(asked: argparse.Namespace, file: Optional[str] = None,
@@ -236,22 +241,12 @@ def after_end(dump: Dump, time: str, is_up: bool = False) -> str:
         time, "" if last is None else ", " + dump.time(last))
 
 
-def _unit(text: str) -> str:
-    """Reads the word of --unit."""
-    if text not in UNITS + ("tick",):
-        raise argparse.ArgumentTypeError("it may be tick, %s" % ", ".join(UNITS))
-    return text
-
-
 def times_of(dump: Source, asked: argparse.Namespace) -> Callable[[int], str]:
     """Returns what shows ticks as a time, such as 115ns, or in the unit of --unit. A unit needs a
     time scale."""
-    if asked.unit is None:
-        return dump.time
-    if asked.unit == "tick":
-        return str
-    dump.ticks("0" + asked.unit)
-    return lambda ticks: dump.time(ticks, asked.unit)
+    if asked.unit not in (None, "tick"):
+        dump.ticks("0" + asked.unit)
+    return functools.partial(dump.time, unit=asked.unit or "")
 
 
 def natural(text: str) -> int:
@@ -261,7 +256,7 @@ def natural(text: str) -> int:
     return int(text)
 
 
-def command(function: Callable[[List[str]], int]) -> Callable[[Optional[List[str]]], int]:
+def command(function: Callable[[List[str]], int]) -> Main:
     """Makes main() of what takes words and returns a status: errors become a line and a status. It
     ends without a line if the reader of its output has gone."""
     module = function.__module__.rpartition(".")[2]
@@ -287,7 +282,8 @@ def command(function: Callable[[List[str]], int]) -> Callable[[Optional[List[str
                 sys.stdout.flush()
         except VcdkitError as error:
             asked = sys.argv[1:] if words is None else words
-            return _said(name, str(error) + _remedy(error, asked), error.status)
+            status = max(error.status, getattr(function, "least", 0))
+            return _said(name, str(error) + _remedy(error, asked), status)
         except BrokenPipeError:
             _drop(sys.stdout)
             return BROKEN_PIPE
@@ -334,17 +330,10 @@ def _drop(stream: TextIO) -> None:
 
 
 def question(function: Callable[[List[str]], int]) -> Callable[[List[str]], int]:
-    """Makes the function of a command that answers yes or no by its status, as cmp and grep do: a
+    """Marks the function of a command that answers yes or no by its status, as cmp and grep do: a
     fault of a dump and an unknown name have status 2, and not that of an answer."""
-    @functools.wraps(function)
-    def asked(words: List[str]) -> int:
-        try:
-            return function(words)
-        except VcdkitError as error:
-            error.status = max(error.status, 2)
-            raise
-
-    return asked
+    setattr(function, "least", 2)
+    return function
 
 
 def _said(name: str, text: str, status: int) -> int:

@@ -6,12 +6,7 @@ without such a fault stays as it is. The filter reads its input once and does no
 
 example:
   vcdkit-close-sections < sim.vcd | vcdkit check"""
-from typing import List
-
 from ..reading.sections import closed
-from . import command, filtered
+from . import filtering
 
-
-@command
-def main(words: List[str]) -> int:
-    return filtered("vcdkit-close-sections", __doc__, words, closed)
+main = filtering(__name__, "vcdkit-close-sections [FILE]", __doc__, closed)

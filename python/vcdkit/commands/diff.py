@@ -1,35 +1,15 @@
 """Finds the first difference between two dumps and what only one of them has
 
-Each line shows what differs, and then both sides, A first:
-  timescale 1ns 100ps     the time scales (times are compared nevertheless)
-  alone A tb.core[1] 9    only A has this variable or scope; the number is how
-                          many variables are in it; both have the scope
-                          around it
-  size tb.q 4 8           the sizes; or the types, if one is real or event; or
-                          the same size twice, if one dump has more variables
-                          with this path than the other
-  differs 35ns tb.q 1 0   the values of a variable at the first time at which
-                          they differ, in ticks of A, rounded down (-: no
-                          value yet; for an event: whether it is triggered)
-  ends 122ns 92ns         the last timestamps (not with --rise or --fall)
-  edges 60 59             with --rise or --fall: the numbers of edges, if the
-                          values at the edges that both have are the same
+Each line says what differs, and then has both sides, A first. `timescale`, `size` and `alone` (how
+many variables only one of them has there) are about headers, `differs` is the first time at which a
+variable differs, in ticks of A (-: no value yet), and `ends` and `edges` are about the length.
 
-Values are compared at the end of each time step, up to the end of the shorter dump. With --rise or
---fall, the values just before the first edge of A's clock are compared with those just before the
-first edge of B's clock, and so on, at whatever times the edges are. The following do not matter:
-dates and versions, identifier codes, types such as reg and wire, the order of changes within a time
-step, repeated values, and whether a value is in a section. Real numbers are compared as numbers,
-and NaN equals NaN. tb.q in one dump matches tb.q[3:0] in the other, and tb.u.q matches tb.\\u.q and
-tb.\\u/q, as a flattened netlist has it. With --from and --to, only this window of both dumps is
-compared, and a number of ticks counts ticks of A. If you give NAMEs, only these are compared. With
---map, use the new names in NAMEs; the lines show them too. If a scope has two names, as in the
-lines `alone A tb.rtl 9` and `alone B tb.gate 9`, --map tb.gate=tb.rtl compares what is in it.
+Values are compared at the end of each time step or, with --rise or --fall, just before the first
+edge of A's clock and the first edge of B's clock, and so on. Dates, identifier codes, sections and
+repeated values do not matter, and tb.q matches tb.q[3:0]. More is in extras/README.md.
 
 examples:
-  vcdkit-diff golden.vcd.gz sim.vcd
-  vcdkit-diff --context 20ns --into /tmp golden.vcd sim.vcd tb.dut
-  vcdkit-diff --html failure.html --rise tb.clk golden.vcd sim.vcd
+  vcdkit-diff --context 20ns --into /tmp golden.vcd.gz sim.vcd tb.dut
   vcdkit-diff --map TOP.tb=tb --common --rise tb.clk verilator.vcd icarus.vcd
   vcdkit-diff --every --junit diff.xml --except tb.dut.seed golden.vcd sim.vcd"""
 import argparse
@@ -288,59 +268,42 @@ def map_of(text: str) -> Tuple[str, str]:
     return front, new
 
 
-def tolerance(text: str) -> float:
-    """Reads the word of --real-tolerance."""
-    try:
-        number = float(text)
-    except ValueError:
-        number = -1
-    if not 0 <= number < float("inf"):
-        raise argparse.ArgumentTypeError("it is a number from 0, as 1e-9")
-    return number
-
-
 def words_of(words: List[str]) -> argparse.Namespace:
     """Reads the command line."""
-    options = parser("vcdkit-diff", __doc__, "no difference", "a difference",
+    options = parser("vcdkit-diff A B [NAME ..]", __doc__, "no difference", "a difference",
                      "usage error, " + FAULT)
     options.add_argument("--map", dest="maps", metavar="OLD=NEW", type=map_of, action="append",
-                         default=[], help="treat the scope or signal OLD of either dump as NEW; "
-                         "OLD= removes it from paths; if several fit, the longest OLD counts; may "
-                         "be repeated")
-    options.add_argument("--common", action="store_true", help="compare only what both have, "
-                         "without the lines timescale, alone, ends and edges")
+                         default=[], help="call the scope or signal OLD of either dump NEW (OLD= "
+                         "removes it from paths); may be repeated")
+    options.add_argument("--common", action="store_true", help="compare only what both have")
     options.add_argument("--except", dest="exceptions", metavar="NAME", action="append", default=[],
                          help="leave out this signal or scope; may be repeated")
-    options.add_argument("--real-tolerance", dest="tolerance", metavar="T", type=tolerance,
-                         default=0.0, help="real numbers may differ by T, or by T times the larger "
-                         "one [default: 0]")
-    options.add_argument("--x-matches", action="store_true", help="a digit that is x or z in "
-                         "either dump matches any digit")
+    options.add_argument("--real-tolerance", dest="tolerance", metavar="T", type=float,
+                         default=0.0, help="let real numbers differ by T, or T times the larger")
+    options.add_argument("--x-matches", action="store_true",
+                         help="let a digit that is x or z match any digit")
     options.window()
     options.clock("compare at the %s edges of this signal", is_one=True)
     extent = options.add_mutually_exclusive_group()
     extent.add_argument("--every", dest="extent", action="store_const", const=EACH_PAIR,
-                        default=FIRST, help="show the first difference of each signal, without the "
-                        "limit of %d lines of each kind" % MAX_LINES)
+                        default=FIRST, help="show the first difference of each signal")
     extent.add_argument("--always", dest="extent", action="store_const", const=ALWAYS,
-                        help="as --every, but each time at which values differ and one of the two "
-                        "is written")
-    options.add_argument("--junit", metavar="FILE", help="also write a JUnit report, with a test "
-                         "for each kind of line")
-    options.add_argument("--context", metavar="TIME", help="if values differ, write both dumps "
-                         "from TIME before to TIME after the difference, as diff.a.vcd and "
-                         "diff.b.vcd")
+                        help="show all differences of each signal")
+    options.add_argument("--junit", metavar="FILE", help="also write a JUnit report")
+    options.add_argument("--context", metavar="TIME",
+                         help="if values differ, write TIME around that of both")
     options.add_argument("--into", metavar="DIRECTORY",
                          help="the directory of these files [default: .]")
-    options.add_argument("--html", metavar="FILE", help="if values differ, write an HTML page with "
-                         "the waveforms of both dumps, as vcdkit-wave --html does: the signals in "
-                         "the lines, and the clock, within --context, or otherwise as much as fits")
+    options.add_argument("--html", metavar="FILE",
+                         help="if values differ, write a page of the waveforms")
     options.form().unit().json().four_state()
     options.add_argument("one", metavar="A", help="the first dump")
     options.add_argument("other", metavar="B", help="the second dump")
     options.names("*")
     asked = options.parse_args(words)
     asked.maps.sort(key=lambda pair: -len(pair[0]))
+    if not 0 <= asked.tolerance < float("inf"):
+        options.error("--real-tolerance is a number from 0, as 1e-9")
     if asked.into is not None and not asked.context:
         options.error("--into is for the files of --context")
     if asked.context is not None:

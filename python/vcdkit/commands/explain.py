@@ -1,23 +1,18 @@
 """Checks dumps; for a fault, shows the lines around it, the usual cause and what to do
 
-The report or message is that of vcdkit check, and so is the exit status. If no cause is known, only
-the lines around the fault are shown. Bytes that are not text are shown as \\xNN, and long lines are
-truncated.
+The report or message is that of vcdkit check, and so is the exit status. Bytes that are not text
+are shown as \\xNN, and long lines are truncated.
 
 --salvage writes everything before the fault, as a dump. The line `good until` reports up to which
-time this dump has all values. Usually that is one tick before the last timestamp before the fault,
-because some changes of that time may be missing. If the fault is in the next timestamp, it is the
-last timestamp itself. If there is no fault, or the fault is in the header, no file is written. With
--, the dump goes to standard output, even if it has no fault, and everything else goes to standard
-error.
+time this dump has all values. If there is no fault, or the fault is in the header, no file is
+written. With -, the dump goes to standard output, even if it has no fault, and everything else goes
+to standard error.
 
 With several FILEs, or a directory, which stands for all dumps in it and below it (.vcd and .fst,
 also compressed), there is one line for each dump: its end, or its fault and the cause. The last
-line counts them, and the exit status is the highest of all. --reach treats a dump that ends before
-TIME as faulty. --junit writes a report with a test for each dump.
+line counts them, and the exit status is the highest of all.
 
 examples:
-  vcdkit-explain sim.vcd
   vcdkit-explain --salvage good.vcd sim.vcd
   vcdkit-explain --reach 1ms --junit dumps.xml dumps/
   ssh lab cat sim.vcd.gz | vcdkit-explain -"""
@@ -93,7 +88,7 @@ def salvage(dump: Dump, fault: DumpFault, before: bytes, asked: argparse.Namespa
 
 def words_of(words: List[str]) -> argparse.Namespace:
     """Reads the command line."""
-    options = parser("vcdkit-explain", __doc__, "valid dumps, as far as they go",
+    options = parser("vcdkit-explain FILE ..", __doc__, "valid dumps, as far as they go",
                      "not a valid dump")
     options.add_argument("--salvage", metavar="OUT", help="write everything before the fault to a "
                          "file (-: standard output)")

@@ -9,9 +9,7 @@ the scopes below it.
 
 examples:
   vcdkit-find sim.vcd 'count$'
-  vcdkit-find --pick sim.vcd.gz 'clk$' '\\.state$' > some.vcd
   vcdkit-find --pick --names view.gtkw sim.vcd > view.vcd
-  vcdkit-find --json sim.vcd | jq -r 'select(.size > 8).path'
   vcdkit-find --tree sim.vcd | head -n 20"""
 import sys
 from typing import Callable, Dict, List
@@ -43,7 +41,8 @@ def write_tree(top: Scope, is_found: Callable[[Signal], bool]) -> None:
 
 @command
 def main(words: List[str]) -> int:
-    options = parser("vcdkit-find", __doc__, failed="no path matches, or not a valid dump")
+    options = parser("vcdkit-find FILE [REGEX ..]", __doc__,
+                     failed="no path matches, or not a valid dump")
     form = options.add_mutually_exclusive_group()
     form.add_argument("--pick", action="store_true", help="write a dump of only these variables")
     form.add_argument("--tree", action="store_true",

@@ -8,12 +8,7 @@ you can run the simulation again, use an option of the simulator instead, such a
 
 example:
   vcdkit-four-state < tb.vcd | vcdkit check"""
-from typing import List
-
 from ..reading.states import four_states
-from . import command, filtered
+from . import filtering
 
-
-@command
-def main(words: List[str]) -> int:
-    return filtered("vcdkit-four-state", __doc__, words, four_states)
+main = filtering(__name__, "vcdkit-four-state [FILE]", __doc__, four_states)

@@ -46,7 +46,7 @@ def lines_of(key: str, value: Any) -> List[str]:
 
 @command
 def main(words: List[str]) -> int:
-    options = parser("vcdkit-info", __doc__, failed="not a valid dump")
+    options = parser("vcdkit-info FILE", __doc__, failed="not a valid dump")
     options.add_argument("--scopes", type=int, default=5, metavar="N",
                          help="how many of the largest scopes to list [default: 5]")
     options.unit().json("write one JSON object; first_tick and last_tick are ticks").file()

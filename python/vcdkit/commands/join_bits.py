@@ -1,22 +1,15 @@
 """Joins variables that are declared bit by bit into vectors; a filter
 
 ModelSim and Questa write `$var wire 1 # q [7] $end`, `$var wire 1 $ q [6] $end` and so on. This
-filter joins all bits that have the same name and are in the same scope, in whatever order they are
-declared, and writes `$var wire 8 # q [7:0] $end` in place of the first. The bits of a name stay as
-they are if an index is missing or occurs twice, if their types differ, if they are real numbers or
-events, or if another variable has this name. Other names of a bit, such as those of pins, stay. A
-vector is written after the changes of its bits, once for each time and once for each section. Each
-declaration and each change has to be on a separate line. The filter reads its input once and does
-not run vcdkit.
+filter writes `$var wire 8 # q [7:0] $end` in place of the first. The bits of a name stay as they
+are if an index is missing or occurs twice, if their types differ, if they are real numbers or
+events, or if another variable has this name. A vector is written after the changes of its bits,
+once for each time and once for each section. Each declaration and each change has to be on a
+separate line. The filter reads its input once and does not run vcdkit.
 
 example:
   vcdkit-join-bits < sim.vcd | vcdkit sample --at 15ns tb.q"""
-from typing import List
-
 from ..reading.bits import joined
-from . import command, filtered
+from . import filtering
 
-
-@command
-def main(words: List[str]) -> int:
-    return filtered("vcdkit-join-bits", __doc__, words, joined)
+main = filtering(__name__, "vcdkit-join-bits [FILE]", __doc__, joined)

@@ -3,28 +3,20 @@
 The first line of a signal has its path, type and size. These lines follow, if they apply:
   changes 20                    how often its value changes, or an event is triggered
   period 10ns to 12ns, mean 10.2ns, 9 times
-                                the shortest, longest and mean time from one rise of a bit to the
-                                next (without x or z in between), or from one trigger of an event
-                                to the next
+                                from one rise of a bit, or trigger of an event, to the next
   duty 50%                      the part of these periods in which the bit is 1
   range -1.5 to 3, mean 0.25    the smallest and largest real number, and the mean over time
   value 1 60ns 49.2%, 10 times, 5ns to 7ns
                                 how long and how often it has this value, and its shortest and
-                                longest pulse; a pulse counts only if it begins and ends in the
-                                window
-The values that it has longest come first. Only the value at the end of each time step counts;
-glitches within a time step are ignored. Real numbers are compared as numbers. If the dump ends
-before --to, the window ends with it. A --from after the end of the dump is a usage error.
+                                longest pulse that begins and ends in the window
+The values that it has longest come first. Only the value at the end of each time step counts. If
+the dump ends before --to, the window ends with it.
 
-With --toggle, there is a line for each bit: its path, how often it goes from 0 to 1 and from 1 to
-0, and how often it becomes x. Bits that toggle most come first, and those that never do come last.
-The last line counts them. Bits are numbered as declared. A bit that has no value yet is x. --saif
-writes how long each bit is 0, 1, x and z (T0, T1, TX, TZ), and how often it toggles (TC), to a
-backward SAIF file, which power tools read; if the dump has no time scale, a tick is written as 1 s.
-Both leave out real numbers and events.
+With --toggle, there is a line for each bit: how often it rises, falls and becomes x. The last line
+counts the bits. --saif writes how long each bit is 0, 1, x and z, and how often it toggles, to a
+backward SAIF file, which power tools read. Both leave out real numbers and events.
 
 examples:
-  vcdkit-stats sim.vcd tb.clk
   vcdkit-stats --hex --from 1us sim.vcd.gz tb.cpu.state
   vcdkit-stats --json sim.vcd tb.clk | jq .period
   vcdkit-stats --toggle --from 1us sim.vcd tb.cpu | head
@@ -53,7 +45,7 @@ def facts_of(signal: Signal, counted: Statistics, form: Optional[str], count: Op
             "period": counted.periods.facts() if counted.periods.count else None,
             "duty": None if signal.type == "event" else counted.duty(),
             "range": counted.range() if signal.is_real else None,
-            "values": [{**one._asdict(), "value": shown(one.value, form)}
+            "values": [{**one, "value": shown(one["value"], form)}
                        for one in shares_of(counted, count)]}
 
 
@@ -118,7 +110,7 @@ def write_bits(dump: Dump, window: Window, asked: argparse.Namespace) -> None:
 
 @command
 def main(words: List[str]) -> int:
-    options = parser("vcdkit-stats", __doc__)
+    options = parser("vcdkit-stats FILE NAME ..", __doc__)
     options.add_argument("--values", type=natural, default=10, metavar="N",
                          help="how many values to list for a signal; --json lists all [default: "
                          "10]")

@@ -33,7 +33,7 @@ Cells = Callable[[int, List[Cell]], List[Any]]  # makes the cells of a time and 
 
 def words_of(words: List[str]) -> argparse.Namespace:
     """Reads the command line."""
-    options = parser("vcdkit-table", __doc__)
+    options = parser("vcdkit-table FILE [NAME ..]", __doc__)
     options.form().clock("write a row for each %s edge of this signal")
     options.at("write a row for each of these times%s")
     which = options.add_mutually_exclusive_group()

@@ -3,14 +3,12 @@
 The values are those at the end of each time of --at, or at the end of the dump. If there are
 several times, each line begins with its time. After the end of the dump, the values are the last
 ones; a warning on standard error says so, and the status is 0. Without NAMEs, all signals are
-written, except events, which have no value. `-` means that there is no value yet. If a value has an
-x or a z, --hex writes x or z for four such digits and X for a mixture, and the other options write
-all digits.
+written, except events. `-` means that there is no value yet. If a value has an x or a z, --hex
+writes x or z for four such digits and X for a mixture, and the other options write all digits.
 
 examples:
-  vcdkit-values --at 115ns --hex sim.vcd tb.cpu
-  vcdkit-values --at 1us,2us,3us --names view.gtkw sim.vcd
-  vcdkit-values --signed sim.vcd.gz tb.dut.sum"""
+  vcdkit-values --at 115ns --hex sim.vcd.gz tb.cpu
+  vcdkit-values --at 1us,2us,3us --names view.gtkw sim.vcd"""
 import sys
 from typing import List
 
@@ -21,7 +19,7 @@ from . import after_end, command, dump_of, parser, times_at, times_of
 
 @command
 def main(words: List[str]) -> int:
-    options = parser("vcdkit-values", __doc__)
+    options = parser("vcdkit-values FILE [NAME ..]", __doc__)
     options.at("the times%s [default: the end of the dump]").form().unit().json().file("*")
     asked = options.parse_args(words)
     given, dump = times_at(asked), dump_of(asked)

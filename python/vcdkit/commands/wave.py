@@ -3,16 +3,13 @@
 A one-bit signal is a line, a vector is a lane with its values, a real number is a curve between its
 smallest and its largest value, and an event is a tick. x is red, and z is orange. A grey block
 stands for changes that are closer together than the picture can show; it is red where the signal is
-x at some time. The scope that all names have in common stands above them. --mark draws a line at
-one time, such as that of a failure.
+x at some time. The scope that all names have in common stands above them.
 
 With --html, it writes a page instead: one file that needs no network, in which you can zoom,
-search, and read the values at a cursor. Press `?` to list its keys. It takes any number of signals,
-with up to 3,000,000 changes and 2^53 ticks. A link can point to a place:
-page.html#from=100ns&to=200ns&cursor=158ns. --light and the number format set how the page starts.
+search, and read the values at a cursor. Press `?` to list its keys. --light and the number format
+set how the page starts.
 
 examples:
-  vcdkit-wave --from 100ns --to 200ns --mark 158ns sim.vcd tb.clk tb.bus > failure.svg
   vcdkit-wave --light --around 158ns --context 20ns sim.vcd.gz tb.cpu > failure.svg
   vcdkit-wave --html --mark 158ns sim.vcd tb > failure.html"""
 import argparse
@@ -22,7 +19,7 @@ from typing import List, Optional
 
 from ..errors import UsageError
 from ..forms import page
-from ..forms.svg import Look, draw
+from ..forms.svg import draw
 from ..model.times import Window
 from ..questions.dump import Dump
 from ..questions.lanes import lanes_of
@@ -78,7 +75,7 @@ def write_page(dump: Dump, window: Window, mark: Optional[int], asked: argparse.
 
 @command
 def main(words: List[str]) -> int:
-    options = parser("vcdkit-wave", __doc__, "the picture was written")
+    options = parser("vcdkit-wave FILE NAME ..", __doc__, "the picture was written")
     options.window()
     options.add_argument("--around", metavar="TIME",
                          help="the middle of the window, where a mark is drawn")
@@ -109,5 +106,5 @@ def main(words: List[str]) -> int:
     else:
         chosen = [dump.declarations[place] for place in places]
         draw(dump, chosen, lanes_of(dump, asked.names, window, asked.width), mark,
-             Look(asked.form, asked.light))
+             asked.form, asked.light)
     return 0

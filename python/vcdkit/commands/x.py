@@ -1,19 +1,16 @@
 """Lists the values with an x or a z that signals take in a time window
 
 Each line has a time, a path and a value. A value is listed if it has an x at the end of the first
-time of the window, or if it has one at the end of a later time and differs from the value before;
-glitches within a time step are ignored. --z lists values with a z too. Without NAMEs, all signals
-are searched. A --from after the end of the dump is a usage error. With this command, a CI job can
-require that nothing is unknown after reset.
+time of the window, or if it has one at the end of a later time and differs from the value before.
+Without NAMEs, all signals are searched.
 
 --trace lists only the first such value of each path, so the signals come in the order in which they
 become unknown: the cause is often at the top. The order is only that of time, because a dump does
 not say which signal drives which.
 
 examples:
-  vcdkit-x --from 100ns sim.vcd tb.cpu
   vcdkit-x --trace --from 100ns sim.vcd | head
-  vcdkit-x --z --from 1us --to 2us sim.vcd | head"""
+  vcdkit-x --z --from 1us --to 2us sim.vcd tb.cpu"""
 from typing import List, Set
 
 from ..forms.text import in_json, shown, write_json
@@ -25,7 +22,8 @@ from . import FAULT, check_begin, command, dump_of, parser, question, times_of
 @command
 @question
 def main(words: List[str]) -> int:
-    options = parser("vcdkit-x", __doc__, "no such value", "there is one", "usage error, " + FAULT)
+    options = parser("vcdkit-x FILE [NAME ..]", __doc__, "no such value", "there is one",
+                     "usage error, " + FAULT)
     form = options.add_mutually_exclusive_group()
     form.add_argument("--first", action="store_true", help="list only the first one")
     form.add_argument("--count", action="store_true", help="write only the number of values")

@@ -1,7 +1,7 @@
 """A picture of waveforms as SVG."""
 import math
 import os
-from typing import Dict, List, NamedTuple, Optional, Sequence, Tuple
+from typing import Dict, List, Optional, Sequence, Tuple
 from xml.sax.saxutils import escape
 
 from ..model.signals import Declaration, Signal
@@ -63,13 +63,6 @@ def kind_of(value: object, known: str) -> str:
 def short(name: str) -> str:
     """Returns the end of a name that is too long."""
     return name if len(name) <= MAX_NAME else ".." + name[2 - MAX_NAME:]
-
-
-class Look(NamedTuple):
-    """How a picture is drawn: the form of its values, its colours."""
-
-    form: Optional[str]
-    is_light: bool
 
 
 Piece = Tuple[float, float, object]  # where a value or a block begins and ends, and what it is
@@ -258,7 +251,7 @@ def bounds(values: Sequence[object]) -> Tuple[float, float]:
 
 
 def draw(dump: Source, chosen: Sequence[Declaration], lanes: Lanes, mark: Optional[int],
-         look: Look) -> None:
+         form: Optional[str], is_light: bool) -> None:
     """Draws and writes the picture."""
     scopes = os.path.commonprefix([[scope.path for scope in one.scopes] for one in chosen])
     scope = scopes[-1] + "." if scopes else ""
@@ -275,9 +268,9 @@ def draw(dump: Source, chosen: Sequence[Declaration], lanes: Lanes, mark: Option
     if scope:
         picture.text(PAD, TOP - 12, short(scope), "axis", title=scope)
     for y, (signal, *_), name in zip(rows, chosen, names):
-        picture.row(y, signal, lanes.of_code[signal.code.encode()].points, name, look.form)
+        picture.row(y, signal, lanes.of_code[signal.code.encode()].points, name, form)
     if mark is not None:
         picture.mark(mark, dump.time(mark), bottom)
     title = "Waveforms of %s from %s to %s" % (
         ", ".join(one.signal.path for one in chosen), *map(dump.time, (window.begin, window.last)))
-    picture.write(bottom, title, LIGHT if look.is_light else DARK)
+    picture.write(bottom, title, LIGHT if is_light else DARK)

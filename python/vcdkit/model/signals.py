@@ -2,11 +2,9 @@
 import gc
 import itertools
 from typing import (Any, Dict, FrozenSet, Iterable, Iterator, List, NamedTuple, Optional, Sequence,
-                    Set, Tuple, Type, TypeVar, Union, overload)
+                    Set, Tuple, Union, overload)
 
 from .times import Timescale
-
-Tuples = TypeVar("Tuples", bound=Tuple[Any, ...])
 
 
 class Signal(NamedTuple):
@@ -76,41 +74,26 @@ class Declaration(NamedTuple):
         return bool(self.declared) or self.signal.size > 1
 
 
-def each(kind: Type[Tuples], *columns: Iterable[Any]) -> Iterator[Tuples]:
-    """Makes a NamedTuple of this kind of each row of columns."""
-    return map(tuple.__new__, itertools.repeat(kind), zip(*columns))
-
-
-def tuples(kind: Type[Tuples], *columns: Iterable[Any]) -> List[Tuples]:
-    """Returns a NamedTuple of this kind for each row of columns."""
-    was_enabled = gc.isenabled()
-    gc.disable()  # else it looks through all of them many times
-    try:
-        return list(each(kind, *columns))
-    finally:
-        if was_enabled:
-            gc.enable()
+def each(columns: Sequence[Sequence[Any]]) -> Iterator[Signal]:
+    """Makes a Signal of each row of columns."""
+    return map(tuple.__new__, itertools.repeat(Signal), zip(*columns))
 
 
 class Signals(Sequence[Any]):  # of Signals, but mypy is to take a path as what may be in it
-    """The variables of a header, in the order of declaration. The rows of `list` are taken apart
-    when the first one is asked for; a Signal is made each time it is asked for."""
+    """The variables of a header, in the order of declaration, of the rows of `list`. A Signal is
+    made each time it is asked for."""
 
     def __init__(self, rows: str):
-        self._rows, self._count = rows, rows.count("\n")
-        self._columns: Optional[Tuple[List[str], List[str], List[int], List[str]]] = None
+        words = words_of(rows)
+        self._columns = words[0::4], words[1::4], list(map(int, words[2::4])), words[3::4]
         self._paths: FrozenSet[str] = frozenset()
 
     def columns(self) -> Tuple[List[str], List[str], List[int], List[str]]:
         """Returns the paths, the types, the sizes and the codes, a list of each."""
-        if self._columns is None:
-            words = words_of(self._rows)
-            self._columns = words[0::4], words[1::4], list(map(int, words[2::4])), words[3::4]
-            self._rows = ""
         return self._columns
 
     def __len__(self) -> int:
-        return self._count
+        return len(self._columns[0])
 
     @overload
     def __getitem__(self, at: int) -> Signal: ...
@@ -119,10 +102,16 @@ class Signals(Sequence[Any]):  # of Signals, but mypy is to take a path as what 
     def __getitem__(self, at: slice) -> List[Signal]: ...
 
     def __getitem__(self, at: Union[int, slice]) -> Union[Signal, List[Signal]]:
-        paths, types, sizes, codes = self.columns()
-        if isinstance(at, slice):
-            return tuples(Signal, paths[at], types[at], sizes[at], codes[at])
-        return Signal(paths[at], types[at], sizes[at], codes[at])
+        paths, types, sizes, codes = self._columns
+        if not isinstance(at, slice):
+            return Signal(paths[at], types[at], sizes[at], codes[at])
+        was_enabled = gc.isenabled()
+        gc.disable()  # else it looks through all of them many times
+        try:
+            return list(each((paths[at], types[at], sizes[at], codes[at])))
+        finally:
+            if was_enabled:
+                gc.enable()
 
     def __contains__(self, one: object) -> bool:
         """Whether there is a signal, or one of a path."""
@@ -132,10 +121,10 @@ class Signals(Sequence[Any]):  # of Signals, but mypy is to take a path as what 
         return any(one == its for its in self)
 
     def __iter__(self) -> Iterator[Signal]:
-        return each(Signal, *self.columns())
+        return each(self._columns)
 
     def __repr__(self) -> str:
-        return "<%d signals>" % self._count
+        return "<%d signals>" % len(self)
 
 
 def keys_of(signals: Iterable[Signal], others: Iterable[str] = ()) -> List[str]:

@@ -63,14 +63,10 @@ def amount_of(time: Time) -> Amount:
     return Amount(ticks, "")
 
 
-class Timescale(NamedTuple):
+class Timescale(Amount):
     """How long a tick is: 1, 10 or 100 of a unit. Its text is `100ps`, for example."""
 
-    number: int
-    unit: str
-
-    def __str__(self) -> str:
-        return "%d%s" % self
+    __slots__ = ()
 
     def ticks(self, time: Time, is_up: bool = False) -> int:
         """Returns a time in ticks. A time between two ticks is rounded down, or up, as that is with

@@ -154,12 +154,9 @@ def _no_number(value: Value, *_: object) -> NoReturn:
                     % value)
 
 
-for _name in ("sub", "mul", "truediv", "floordiv", "mod", "divmod", "pow", "lshift", "rshift",
-              "and", "or", "xor"):
-    setattr(Value, "__%s__" % _name, _no_number)
-    if _name != "mod":  # "%d" % value comes there too
-        setattr(Value, "__r%s__" % _name, _no_number)
-for _name in ("neg", "pos", "abs", "invert"):
+_BINARY = "sub mul truediv floordiv divmod pow lshift rshift and or xor".split()
+# Of "mod" only one: "%d" % value comes to the other one too.
+for _name in (*_BINARY, *("r" + name for name in _BINARY), "mod", "neg", "pos", "abs", "invert"):
     setattr(Value, "__%s__" % _name, _no_number)
 
 

@@ -2,7 +2,7 @@
 
 A value is as a body has it: the fewest digits, or r and a real number. So equal values of one size
 have equal digits."""
-import heapq
+import functools
 import itertools
 import re
 from math import gcd, isclose, isnan
@@ -81,7 +81,10 @@ class Side:
         its = [one for one in maps if one[0] == path or path.startswith(one[0] + ".")
                or one[0] == bare(path) and one[0] in self._bare]
         self.mapped.update(front for front, _ in its)
-        return _renamed(path, *its[0]) if its else path
+        if not its:
+            return path
+        front, new = its[0]
+        return new + path[len(front):] if new else path[len(front) + 1:]
 
     def _scopes(self, at: int) -> List[str]:
         """Returns the scopes around a signal, the innermost first, as maps name them."""
@@ -134,11 +137,6 @@ class Side:
 
 
 Sides = Tuple[Side, Side]
-
-
-def _renamed(path: str, front: str, new: str) -> str:
-    """Returns a path with another front."""
-    return new + path[len(front):] if new else path[len(front) + 1:]
 
 
 def _groups(sides: Sides) -> Iterator[Tuple[str, str]]:
@@ -262,15 +260,8 @@ class Comparison:
                 yield [Difference(times, self._pairs[number], values) for number, values in found]
 
     def _at_times(self) -> Iterator[Found]:
-        # Where values that are not equal may be the same, each time at which they are not counts.
-        loose = [self._same(b"x", b"1") or kind(pair.signals[0]) == "real" for pair in self._pairs]
-        strict, others = ([number for number, its in enumerate(loose) if its == is_loose]
-                          for is_loose in (False, True))
-        lines = heapq.merge(
-            self._lines(strict, self._extent),
-            (line for line in self._lines(others, ALWAYS) if not self._same(*line[2])),
-            key=itemgetter(0))
-        for at, its in itertools.groupby(() if self._is_one_body() else lines, itemgetter(0)):
+        lines = () if self._is_one_body() else self._lines()
+        for at, its in itertools.groupby(lines, itemgetter(0)):
             yield (at // self.factors[0], at // self.factors[1]), [line[1:] for line in its]
 
     def _is_one_body(self) -> bool:
@@ -280,23 +271,20 @@ class Comparison:
                 one != other for one, other in (pair.codes for pair in self._pairs)):
             return False
         with self._sides[0].dump.open() as one, self._sides[1].dump.open() as other:
-            is_equal = header.BODY in one and header.BODY in other
-            while is_equal:
-                text = one.read(BLOCK)
-                is_equal = text == other.read(BLOCK)
-                if not text:
-                    break
-        return is_equal
+            blocks = (iter(functools.partial(text.read, BLOCK), b"") for text in (one, other))
+            return header.BODY in one and header.BODY in other and all(
+                mine == its for mine, its in itertools.zip_longest(*blocks))
 
-    def _lines(self, numbers: List[int], extent: str) -> Iterator[Line]:
-        """Returns the lines of some of the pairs."""
-        if not numbers:
-            return
-        pairs, dumps, end = [self._pairs[number] for number in numbers], [], LAST_TICK
+    def _lines(self) -> Iterator[Line]:
+        """Returns the lines of all pairs. If values that are not equal may be the same, it looks at
+        each time at which they are not equal."""
+        is_loose = self._same(b"x", b"1") or any(
+            kind(pair.signals[0]) == "real" for pair in self._pairs)
+        dumps, end = [], LAST_TICK
         for at, (side, factor) in enumerate(zip(self._sides, self.factors)):
             # To pick most signals takes longer than to merge all.
-            part = (side.picked([pair.signals[at].path for pair in pairs])
-                    if 2 * len(pairs) < len(side.signals) else None)
+            part = (side.picked([pair.signals[at].path for pair in self._pairs])
+                    if 2 * len(self._pairs) < len(side.signals) else None)
             dumps.append(part or side.dump)
             # A merge takes a dump without a time scale for one of seconds.
             if side.scale and not self._sides[1 - at].scale:
@@ -307,10 +295,9 @@ class Comparison:
                                  "other dump: give --to" % side.dump.name)
             end = min(end, last)
         keys = [[side.keys[place] for side, place in zip(self._sides, pair.places)]
-                for pair in pairs]
-        words = [*filter(None, [extent]), "--to", str(end)]
-        for time, at, values in differing(dumps, keys, words):
-            yield time, numbers[at], values
+                for pair in self._pairs]
+        words = [*filter(None, [ALWAYS if is_loose else self._extent]), "--to", str(end)]
+        return (line for line in differing(dumps, keys, words) if not self._same(*line[2]))
 
     def _edges_of(self, at: int) -> Iterator[Tuple[int, body.Changes]]:
         side, clock = self._sides[at], self._clocks[at]

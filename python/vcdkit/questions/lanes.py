@@ -41,10 +41,6 @@ class Pixels(NamedTuple):
         """Returns the first tick of a pixel, or of those behind it if it has none."""
         return self.window.begin - (-pixel * self.length // self.width)
 
-    def is_at_begin(self, pixel: int) -> bool:
-        """Whether a tick is at the begin of a pixel."""
-        return pixel * self.length % self.width == 0
-
 
 class Several(NamedTuple):
     """What a pixel shows in place of a value if the signal changes several times in it: of a real
@@ -109,7 +105,7 @@ class Lane:
         """Ends a pixel."""
         if self.text is not None and len(self.first) > 1:
             begin, end = of.first(pixel), min(of.first(pixel + 1), of.window.last)
-            is_late = self.first[0][0] > begin or not of.is_at_begin(pixel)
+            is_late = self.first[0][0] > begin or pixel * of.length % of.width > 0
             has_x = self.has_x or _is_x(self.text) or is_late and _is_x(self.before)
             numbers = [number for _, number in self.numbers]
             self.points.append((begin, Several(min(numbers, default=math.inf),
@@ -143,14 +139,10 @@ class Lanes:
                 if begin < end:
                     self.take(text, begin, end)
                 else:
-                    self.go_to(body.time_at(text, begin))
+                    self.close()
+                    self.pixel = self.pixels.of(body.time_at(text, begin))
                 begin = end
         self.close()
-
-    def go_to(self, time: int) -> None:
-        """Ends the pixel, and goes to that of a time."""
-        self.close()
-        self.pixel = self.pixels.of(time)
 
     def close(self) -> None:
         """Ends the pixel."""
@@ -163,7 +155,7 @@ class Lanes:
     def take(self, text: bytes, begin: int, end: int) -> None:
         """Takes a part of the pixel: each line of its begin, and then only the changes of signals
         that say something new, and the last values of the others."""
-        middle = body.next_time(text, begin + SMALL, end)
+        middle = text.find(body.TIME, begin + SMALL, end)
         if end - begin <= 8 * SMALL or middle < 0:
             self.take_lines(text[begin + 1:end + 1])
             return
@@ -173,7 +165,7 @@ class Lanes:
             if not codes:
                 break
             for code, value, at in body.changes_in(text, *piece, codes):
-                time = body.time_at(text, body.time_before(text, 0, at + 1))
+                time = body.time_at(text, text.rfind(body.TIME, 0, at + 1))
                 self.of_code[code].note(time, value)
         self.note_unknown(text, middle, end)
         self.take_last(text, middle, end)
@@ -183,16 +175,16 @@ class Lanes:
         for found in UNKNOWN.finditer(text, begin, end):
             lane = self.of_code.get(found.group(1))
             if lane and not lane.has_x:
-                to = body.next_time(text, found.end(), end + 1)
+                to = text.find(body.TIME, found.end(), end + 1)
                 lane.has_x = not 0 <= body.next_change(text, found.group(1), found.end()) < (
                     to if to >= 0 else end)
 
     def take_last(self, text: bytes, begin: int, end: int) -> None:
         """Takes the last values of the signals whose lanes are full, and the last time."""
         codes, size = self.codes(True), SMALL
-        self.time = body.time_at(text, body.time_before(text, begin, end))
+        self.time = body.time_at(text, text.rfind(body.TIME, begin, end))
         while codes and end > begin:
-            middle = max(body.time_before(text, begin, max(end - size, begin)), begin)
+            middle = max(text.rfind(body.TIME, begin, max(end - size, begin)), begin)
             last = {code: value for code, value, _ in body.changes_in(text, middle, end, codes)}
             for code, value in last.items():
                 lane = self.of_code[code]
@@ -218,7 +210,7 @@ def _pieces(text: bytes, begin: int, end: int) -> Iterator[Tuple[int, int]]:
     size = SMALL
     while begin < end:
         size *= 4
-        to = body.next_time(text, begin + size, end)
+        to = text.find(body.TIME, begin + size, end)
         yield begin, to if to > 0 else end
         begin = to if to > 0 else end
 

@@ -10,7 +10,7 @@ from ..reading.source import Source
 def has_header(dump: Source) -> bool:
     """Whether the header of a dump has no fault, so that values before a fault can be kept."""
     try:
-        return dump.signals is not None
+        return bool(dump.header_text())
     except DumpFault:
         return False
 

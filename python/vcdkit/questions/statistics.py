@@ -1,11 +1,11 @@
 """How signals change in a window: periods, pulses, and how long they have each value."""
 import math
 from fractions import Fraction
-from typing import Any, Dict, List, NamedTuple, Optional, Sequence, Tuple
+from typing import Any, Dict, List, Optional, Sequence, Tuple
 
 from ..model.signals import Signal
 from ..model.times import Window
-from ..model.values import Cell, same, value_in
+from ..model.values import same, value_in
 from ..reading import body
 from ..reading.source import Source
 
@@ -127,24 +127,15 @@ class Statistics:
                 "mean": float(sum(Fraction(number) * ticks for number, ticks in finite) / span)}
 
 
-class Share(NamedTuple):
-    """How long and how often a signal has a value, and its shortest and longest pulse."""
-
-    value: Cell
-    ticks: int
-    share: float
-    times: int
-    shortest: Optional[int]
-    longest: Optional[int]
-
-
-def shares_of(counted: Statistics, count: Optional[int]) -> List[Share]:
-    """Returns the values of a signal, those with most time first, at most so many of them."""
+def shares_of(counted: Statistics, count: Optional[int]) -> List[Dict[str, Any]]:
+    """Returns how long and how often a signal has each value, and its shortest and longest pulse:
+    those with most time first, at most so many of them."""
     every = sorted(counted.values.values(), key=lambda value: -value.ticks)
     span = sum(value.ticks for value in every)
-    return [Share(OTHERS.decode() if one.text == OTHERS else value_in(
-        one.text, counted.signal.size), one.ticks, one.ticks / span, one.times,
-        one.pulses.shortest, one.pulses.longest) for one in every[:count]]
+    return [{"value": OTHERS.decode() if one.text == OTHERS else value_in(
+        one.text, counted.signal.size), "ticks": one.ticks, "share": one.ticks / span,
+        "times": one.times, "shortest": one.pulses.shortest, "longest": one.pulses.longest}
+        for one in every[:count]]
 
 
 def statistics_of(dump: Source, names: List[str], window: Window) -> Sequence[

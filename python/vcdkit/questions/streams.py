@@ -46,9 +46,8 @@ class Reader:
     """Reads the changes of signals, and counts them for a page. With `keeps_texts`, streams also
     have the texts of the body."""
 
-    def __init__(self, progress: Callable[[float], None] = lambda part: None,
-                 keeps_texts: bool = False):
-        self._progress, self._keeps_texts = progress, keeps_texts
+    def __init__(self, keeps_texts: bool = False):
+        self._keeps_texts = keeps_texts
         self._count = self._bytes = 0
         self._kept: Dict[bytes, Packed] = {}
 
@@ -57,7 +56,6 @@ class Reader:
         """Returns a stream for each signal of a part of a dump, from the begin of a window to its
         end; signals that have one value have one stream. `to` makes a time of the page of one of
         the dump. Fails if it is too much for a page."""
-        begin, end = window.begin, window.last
         of_kind: Dict[Kind, Stream] = {kind_of(one): Stream() for one in signals}
         of_code: Dict[bytes, List[Tuple[bool, Stream]]] = {}
         for (code, is_event), stream in of_kind.items():
@@ -71,8 +69,7 @@ class Reader:
                 what = ("{:,} changes".format(MAX_CHANGES) if self._count > MAX_CHANGES
                         else "%d MB of values" % (MAX_BYTES >> 20))
                 raise TooMuch("more than %s: name fewer signals, or show less time (there is room "
-                              "up to %s)" % (what, part.time(max(time - 1, begin))))
-            self._progress((time - begin) / max(end - begin, 1))
+                              "up to %s)" % (what, part.time(max(time - 1, window.begin))))
         return [of_kind[kind_of(one)] for one in signals]
 
     def _add(self, stream: Stream, time: int, text: bytes, is_event: bool) -> None:

@@ -72,7 +72,7 @@ class _Lines:
 
 def _time(text: bytes, begin: int, end: int) -> Iterator[bytes]:
     """Returns the last timestamp of a part of a text, if there is one."""
-    at = body.time_before(text, begin, end)
+    at = text.rfind(body.TIME, begin, end)
     if at >= 0:
         yield body.line_at(text, at)
 

@@ -3,6 +3,7 @@
 vcdkit writes on each line a timestamp, a command of a section, or a value: `0!`, `b101 !`,
 `r1.5 !`. The filters read what other programs write, and find its lines by the expressions at the
 end."""
+import contextlib
 import io
 import re
 from typing import (BinaryIO, Callable, Collection, Dict, FrozenSet, Iterable, Iterator, List,
@@ -47,7 +48,7 @@ def timed(part: Source, some: Optional[Blocks] = None) -> Iterator[Tuple[int, by
     try:
         with part.body() as out:
             for block in (some or blocks)(out):
-                first, *pieces = (b"\n" + block[:-1]).split(b"\n#")
+                first, *pieces = (b"\n" + block[:-1]).split(TIME)
                 if first:
                     texts.append(first[1:])
                 for piece in pieces:
@@ -126,15 +127,11 @@ class _First:
         others: Changes = []
         for line in text.split(b"\n"):
             if line[:1] == b"$":
-                self._note(line)
+                self._is_begin = line == b"$dumpvars" and not (self._is_cut and self._has_section)
+                self._has_section = True
             for one in known[line]:
                 (before if self._is_before(one[0]) else others).append(one)
         return before, others
-
-    def _note(self, line: bytes) -> None:
-        """Takes the line of a section."""
-        self._is_begin = line == b"$dumpvars" and not (self._is_cut and self._has_section)
-        self._has_section = True
 
     def _is_before(self, code: bytes) -> bool:
         """Whether the value of a code is from before its time."""
@@ -197,27 +194,22 @@ def _led(source: Source, codes: Collection[bytes]) -> Set[bytes]:
 
 
 def _begun(part: Source, codes: Collection[bytes]) -> Set[bytes]:
-    """Returns those of some codes whose first value is in a `$dumpvars`."""
-    is_begin, left = False, set(codes)
+    """Returns those of some codes whose first value is in a `$dumpvars`, up to a fault."""
+    left = set(codes)
     found: Set[bytes] = set()
-    with part.body() as out:
-        for line in out:
-            if line[:1] == b"$":
-                is_begin = line == b"$dumpvars\n"
-            elif line[:1] != b"#":
-                code = change(line)[0]
-                if is_begin and code in left:
-                    found.add(code)
-                left.discard(code)
-                if not left:
-                    break
+    with contextlib.suppress(DumpFault):
+        for _, before, changes in steps(part, codes):
+            found.update(dict(before))
+            left.difference_update(dict(before + changes))
+            if not left:
+                break
     return found
 
 
 def last_time(text: bytes) -> Optional[int]:
     """Returns the last timestamp of a text that has its whole line; `None` if
     there is none."""
-    at = text.rfind(b"\n#", 0, max(text.rfind(b"\n"), 0))
+    at = text.rfind(TIME, 0, max(text.rfind(b"\n"), 0))
     return int(text[at + 2:text.index(b"\n", at + 1)]) if at >= 0 else None
 
 
@@ -231,43 +223,28 @@ def last_command(text: bytes) -> Optional[bytes]:
 def first_time(dump: Source) -> Optional[int]:
     """Returns the first timestamp of any dump, also if no change follows, which vcdkit leaves out;
     `None` if there is none before the end or a fault."""
+    section = b""
     with dump.open() as text:
-        return _first_time(text)
-
-
-def _first_time(text: BinaryIO) -> Optional[int]:
-    words, section = _words(text), b""
-    for word in words:
-        first = word[:1]
-        if first == b"#":
-            return int(word[1:]) if word[1:].isdigit() and not section else None
-        if first in b"bBrR":
-            next(words, b"")  # its code
-        elif word in (b"$dumpvars", b"$dumpall", b"$dumpon", b"$dumpoff"):
-            section = word
-        elif word == b"$end":
-            section = b""
-        elif first == b"$":
-            for word in words:
-                if word == b"$end":
-                    break
+        words = (word for block in blocks(text) for word in block.split())
+        for word in words:
+            first = word[:1]
+            if first == b"#":
+                return int(word[1:]) if word[1:].isdigit() and not section else None
+            if first in b"bBrR":
+                next(words, b"")  # its code
+            elif word in (b"$dumpvars", b"$dumpall", b"$dumpon", b"$dumpoff"):
+                section = word
+            elif word == b"$end":
+                section = b""
+            elif first == b"$":
+                any(one == b"$end" for one in words)  # reads up to there
     return None
-
-
-def _words(text: BinaryIO) -> Iterator[bytes]:
-    """Returns the words of a text."""
-    rest = b""
-    for block in iter(lambda: text.read(BLOCK), b""):
-        words = (rest + block).split()
-        rest = words.pop() if words and not block[-1:].isspace() else b""
-        yield from words
-    if rest:
-        yield rest
 
 
 # Lines in a block of whole lines, which begins with a line feed: most lines are never looked at. A
 # place is that of the line feed before a line.
 
+TIME = b"\n#"  # at the place of a timestamp
 CODES = re.compile(rb"\n(?:[01xz]|[br]\S* )(.*)")  # of the lines that have a value
 
 
@@ -287,23 +264,13 @@ def time_at(text: bytes, at: int) -> int:
     return int(text[at + 2:text.index(b"\n", at + 1)])
 
 
-def time_before(text: bytes, begin: int, end: int) -> int:
-    """Returns the place of the last timestamp of a part of a text; -1 if there is none."""
-    return text.rfind(b"\n#", begin, end)
-
-
-def next_time(text: bytes, begin: int, end: int) -> int:
-    """Returns the place of the first timestamp of a part of a text; -1 if there is none."""
-    return text.find(b"\n#", begin, end)
-
-
 def time_after(text: bytes, begin: int, time: int) -> int:
     """Returns the place of the first timestamp above a time; that of the end if there is none."""
     found = high = len(text) - 1
     low = begin
     while low < high:
         middle = (low + high) // 2
-        at = next_time(text, middle, high + 1)
+        at = text.find(TIME, middle, high + 1)
         if at >= 0 and time_at(text, at) <= time:
             low = at + 1
         else:

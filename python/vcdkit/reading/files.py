@@ -3,6 +3,7 @@ import os
 import stat
 import sys
 import threading
+from functools import partial
 from typing import Iterable, Optional, Union
 
 from ..errors import RunFailed, UsageError, VcdkitError
@@ -76,8 +77,9 @@ def _replace(name: str, mode: Optional[int], blocks: Iterable[bytes]) -> None:
     """Puts a new file in the place of one, with its mode, once all is written. (mkstemp would give
     a new file a mode that the umask does not say.)"""
     part = "%s.%d.part" % (name, threading.get_native_id())
+    private = partial(os.open, mode=0o600)  # nobody else may read it yet
     try:
-        with open(part, "wb", opener=_private if mode is not None else None) as file:
+        with open(part, "wb", opener=private if mode is not None else None) as file:
             file.writelines(blocks)
             if mode is not None:
                 os.chmod(part, stat.S_IMODE(mode))
@@ -85,8 +87,3 @@ def _replace(name: str, mode: Optional[int], blocks: Iterable[bytes]) -> None:
     finally:
         if os.path.exists(part):
             os.unlink(part)
-
-
-def _private(name: str, flags: int) -> int:
-    """Opens a file that nobody else may read yet."""
-    return os.open(name, flags, 0o600)

@@ -6,13 +6,11 @@ import ctypes
 import io
 import mmap
 import os
-import subprocess
 from array import array
-from typing import Any, BinaryIO, Dict, Iterator, List, Optional, Sequence, Tuple, Union
+from typing import BinaryIO, Dict, Iterator, Optional, Sequence, Tuple, Union
 
 from ..errors import RunFailed, UnknownName, VcdkitError, error_of
-from . import header
-from .program import FAULT, not_started
+from . import header, program
 from .texts import PACKAGE, Bytes, File, Headed, Made, Text
 
 Data = Union[bytes, mmap.mmap]
@@ -107,7 +105,10 @@ def changes(text: Text, code: bytes, room: int = 1 << 18) -> Optional["array[int
     if not hasattr(_library(), "vcdkit_changes"):
         return None
     found, reading, seed = array("Q"), _Place(), int.from_bytes(os.urandom(8), "little")
-    at, length, kept = _lent(_data(text))
+    data, error = _read(text)
+    if error:
+        raise error
+    at, length, kept = _lent(data)
     name_at, name_length, _ = _lent(code)
     some, status = array("Q", bytes(3 * 8 * room)), FULL
     while status == FULL:
@@ -118,16 +119,9 @@ def changes(text: Text, code: bytes, room: int = 1 << 18) -> Optional["array[int
     return None if status else found
 
 
-def _data(text: Text) -> Data:
-    """Returns the bytes of a text, those of a plain file as a map."""
-    out, error = _read(text)
-    if error:
-        raise error
-    return out
-
-
 def _read(text: Text) -> Tuple[Data, Optional[VcdkitError]]:
-    """Returns the bytes of a text up to its end, or up to the error with which it ends."""
+    """Returns the bytes of a text up to its end, or up to the error with which it ends; those of a
+    plain file are a map."""
     if isinstance(text, Bytes):
         return text.data, None
     if isinstance(text, Headed):
@@ -142,7 +136,7 @@ def _made(text: Made) -> Tuple[bytes, Optional[VcdkitError]]:
     the other dumps."""
     read = [_read(one) for one in text.of]
     if text.command == "merge":
-        read = [(bytes(data) + FAULT if error else data, error) for data, error in read]
+        read = [(bytes(data) + program.FAULT if error else data, error) for data, error in read]
     inputs, errors = [data for data, _ in read], [error for _, error in read if error]
     # Twice the dump is mostly enough; room that is not written costs nothing.
     room = 2 * sum(map(len, inputs)) + (1 << 16)
@@ -161,47 +155,24 @@ def _made(text: Made) -> Tuple[bytes, Optional[VcdkitError]]:
 
 def _bytes_of(file: File) -> Data:
     """Returns the bytes of a file: a map of it, or what its filters make of it."""
-    filters = file.filters()
-    with file.open() as source:
-        if not filters:
-            try:
-                return mmap.mmap(source.fileno(), 0, access=mmap.ACCESS_COPY)
-            except (ValueError, OSError):  # it is empty, or cannot be mapped
-                return source.read()
-        data = _filtered(file, filters[0], stdin=source)
-    for words in filters[1:]:
-        data = _filtered(file, words, input=data)
-    return data
-
-
-def _filtered(file: File, words: List[str], **given: Any) -> bytes:
-    """Returns what a filter writes."""
-    try:
-        done = subprocess.run(words, stdout=subprocess.PIPE, stderr=subprocess.PIPE, **given)
-    except OSError as error:
-        raise not_started(words[0], error) from error
-    if done.returncode:
-        said = done.stderr.decode(errors="backslashreplace").strip()
-        raise RunFailed("%s: %s" % (file.name, said or "%s: status %d" % (
-            words[0], done.returncode)))
-    return bytes(done.stdout)
+    with program.opened(file) as source:
+        try:
+            return mmap.mmap(source.fileno(), 0, access=mmap.ACCESS_COPY)
+        except (ValueError, OSError):  # it is empty, or cannot be mapped
+            return source.read()
 
 
 @contextlib.contextmanager
 def opened(text: Text) -> Iterator[BinaryIO]:
     """Opens a text to be read once. As with a pipe, an error comes after what was written before
     it, unless the reader ends early."""
-    error = None
-    file: BinaryIO
-    if isinstance(text, File) and not text.filters():
-        file = text.open()
-    elif isinstance(text, Made):
-        out, error = _made(text)
-        file = io.BytesIO(out)
-    else:
-        file = io.BytesIO(_data(text))
-    with file:
-        yield file
-        was_read = not file.closed and not file.read(1)
+    if isinstance(text, File):
+        with program.opened(text) as file:
+            yield file
+        return
+    data, error = _read(text)
+    with io.BytesIO(data) as out:
+        yield out
+        was_read = not out.closed and not out.read(1)
     if error and was_read:
         raise error

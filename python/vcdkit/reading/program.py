@@ -8,7 +8,7 @@ import signal
 import subprocess
 import tempfile
 import threading
-from typing import IO, BinaryIO, Dict, Iterator, List, Optional, Sequence, Union, cast
+from typing import IO, BinaryIO, Dict, Iterator, List, Optional, Sequence, cast
 
 from ..errors import RunFailed, UnknownName, VcdkitError, error_of
 from . import header, progress
@@ -71,7 +71,7 @@ class _Part:
 
     answer = 0  # the greatest status that is an answer and no failure
 
-    def __init__(self, words: Sequence[str], stdin: Union[BinaryIO, int], names: Dict[str, str],
+    def __init__(self, words: Sequence[str], stdin: BinaryIO, names: Dict[str, str],
                  of: Optional[Text], pass_fds: Sequence[int] = (), is_merged: bool = False):
         self.words, self.names, self.of = words, names, of
         # A file, as a pipe holds only some of a message that nobody reads before the output.
@@ -104,9 +104,6 @@ class _Part:
             said.seek(0)
             self.said = said.read().decode(errors="backslashreplace").strip()
 
-    def has_failed(self) -> bool:
-        return not 0 <= self.status <= self.answer
-
     def ended_early(self) -> bool:
         """Whether the next program did not read on: a script says so as a shell does."""
         return (self.status in (-signal.SIGPIPE, 128 + signal.SIGPIPE)
@@ -134,16 +131,12 @@ class _Pipe:
         self.copies: List[IO[bytes]] = []  # they are removed with this object
         progress.running.append(self.part_read)
 
-    def start(self, words: Sequence[str], stdin: Optional[BinaryIO], names: Dict[str, str],
+    def start(self, words: Sequence[str], stdin: BinaryIO, names: Dict[str, str],
               of: Optional[Text], pass_fds: Sequence[int] = (), is_merged: bool = False
               ) -> BinaryIO:
         """Starts a program, and returns what it writes."""
-        try:
-            self.parts.append(
-                _Part(words, stdin or subprocess.DEVNULL, names, of, pass_fds, is_merged))
-        finally:
-            if stdin:
-                stdin.close()
+        with stdin:
+            self.parts.append(_Part(words, stdin, names, of, pass_fds, is_merged))
         return self.parts[-1].out
 
     def feed(self, text: Text, is_merged: bool = False) -> BinaryIO:
@@ -230,26 +223,10 @@ class _Pipe:
         except (OSError, ValueError, IndexError):
             return None
 
-    def finish(self) -> None:
-        """Waits for all; raises the error of the one nearest to the files."""
+    def finish(self, was_read: bool) -> None:
+        """Waits for all; ends those first that still run, unless all was read."""
         progress.running.remove(self.part_read)
-        for part in self.parts:
-            part.finish()
-        for thread in self.threads:
-            thread.join()
-        for file in self.files:
-            file.check()
-        for at, part in enumerate(self.parts):
-            is_last = at == len(self.parts) - 1
-            if part.has_failed() and (is_last or not part.ended_early()):
-                raise part.error()
-        for error in self.errors:
-            raise error
-
-    def stop(self) -> None:
-        """Ends all that still run."""
-        progress.running.remove(self.part_read)
-        for part in self.parts:
+        for part in self.parts if not was_read else ():
             part.process.terminate()
         for thread in self.threads:
             thread.join()
@@ -257,21 +234,29 @@ class _Pipe:
             part.out.close()
             part.finish()
 
+    def check(self) -> None:
+        """Raises the error of the one nearest to the files, if there is one."""
+        for file in self.files:
+            file.check()
+        for at, part in enumerate(self.parts):
+            is_last = at == len(self.parts) - 1
+            has_failed = not 0 <= part.status <= part.answer
+            if has_failed and (is_last or not part.ended_early()):
+                raise part.error()
+        for error in self.errors:
+            raise error
+
 
 @contextlib.contextmanager
 def opened(text: Text) -> Iterator[BinaryIO]:
     """Opens a text to be read once. If the reader ends early, or closes it, so do the programs, and
     there is no error."""
-    pipe = _Pipe()
+    pipe, was_read = _Pipe(), False
     try:
-        out = pipe.feed(text)
-        with out:
+        with pipe.feed(text) as out:
             yield out
             was_read = not out.closed and not out.read(1)
-    except BaseException:
-        pipe.stop()
-        raise
+    finally:
+        pipe.finish(was_read)
     if was_read:
-        pipe.finish()
-    else:
-        pipe.stop()
+        pipe.check()
