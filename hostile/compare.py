@@ -17,7 +17,8 @@ streams  Standard streams are closed; the output fails; standard input does not 
 machine  The stack has 112 KB, and memory is limited, in steps of 16 KB; words ask for no
          comparison.
 headers  A header of twice as many declarations takes at most three times the CPU time: in any
-         order, with deep scopes, with one path or one code for all, with dots in names.
+         order, with deep scopes, with one path or one code for all, with dots in names. So does a
+         value of twice as many digits with twice as many changes of its counterpart.
 flat     Two streams of 64 MB are merged and compared, each program in 32 MB of memory. FLAT=2048
          takes streams of so many megabytes."""
 import itertools, os, random, subprocess, sys, tempfile, threading
