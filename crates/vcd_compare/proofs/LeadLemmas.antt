@@ -33,13 +33,6 @@ eqb_flip a b = elim (cases_eq a b) [
   | inr n ↦ ne_eqb a b n ∙ sym (ne_eqb b a (λ e. n (sym e)))
 ]
 
-or_flip : (a b c : Bool) → ((a || b) || c) ≡ ((a || c) || b)
-or_flip true b c = refl
-or_flip false true true = refl
-or_flip false true false = refl
-or_flip false false true = refl
-or_flip false false false = refl
-
 digit_turned : (r : Rule) (a b : ℕ) → digits_match (turned r) b a ≡ digits_match r a b
 digit_turned r a b = rw (eqb_flip b a) (or_shape (a == b) (r.x_of_other && b == 120) (r.x_of_one && a == 120))
   where

@@ -80,7 +80,8 @@ fn set_lead(leads: &mut [Lead], code: usize, text: &[u8])
 /// Notes a change of the code at index `code`, which is declared so, to a value of this text.
 #[inline(always)]
 pub(crate) fn note_lead(leads: &mut [Lead], code: usize, declared: Code, text: &[u8])
-    ensures { leads.new ≡ leads_with declared.size code (str_to_ascii_lowercase text.now) leads.old }
+    ensures { leads.new
+        ≡ leads_with declared.size code (str_to_ascii_lowercase text.now) leads.old }
 {
     if declared.size > FEW {
         set_lead(leads, code, text);
