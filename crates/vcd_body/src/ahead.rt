@@ -1,4 +1,4 @@
-// Items whose tokens are whole ahead in the chunk: most cost no change of the feed.
+// Items that lie completely in the chunk. Most of them are taken without a change of the feed.
 ghost use Rattle.std.specs.Prelude.{◌≡◌, ◌⊎◌, ℕ, ◌+◌, ◌-◌, ◌^◌, ◌<◌, ◌≤◌, List, [], drop, length, slice_range, false, true, is_some, None, Some, IfOk, IfSome};
 ghost use Rattle.vcd_body.specs.Names.{Advances, AreBinaryIf, AreWhite, Begins, CallEnd, GivesAhead, GivesNoItem, GivesToLast, HasTimestamp, HasTime, HoldsItem, IsChangeBy, IsFound, IsFoundScalar, IsPrompt, IsRun, IsScalar, IsSection, LeavesRegs, MayBe, Opens, OpensVector, Passed, PassesNoItem, Puts, TakesItem, TakesOpened, TakesOpenedAfter, Token, ahead_of, binary_digits, bytes_of, limit_of, lines_of, longest_of, passed_of, seen, source_of};
 ghost use Rattle.vcd_body.specs.declared.item.Form.TheVariants as form;

@@ -9,7 +9,7 @@ pub enum BodyFault {
     EndOfInput = 2,
     /// A phrase begins with none of the body's tokens (fault 3).
     UnknownCommand = 3,
-    /// A keyword that belongs into the header, a section inside a section, or an `$end` outside of
+    /// A keyword that belongs in the header, a section inside a section, or an `$end` outside of
     /// one (fault 4).
     OutOfPlace = 4,
     /// No decimal number below 2^64 after `#` (fault 13).

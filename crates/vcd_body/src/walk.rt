@@ -1,4 +1,4 @@
-//! The loop over the items that lie whole ahead in a feed's chunk: one for whoever takes them.
+//! The loop over the items that lie completely in a feed's chunk. All commands share it.
 ghost use Rattle.std.specs.Prelude.{◌≡◌, ◌⊎◌, ℕ, ◌-◌, ◌^◌, ◌<◌, ◌≤◌, Bool, List, length, false, true, IfOk, Result, Ok};
 ghost use Rattle.vcd_text.specs.Ahead.{bytes_of, passed_of};
 ghost use Rattle.vcd_text.specs.Device.{Counts, Device};
@@ -23,8 +23,8 @@ use crate::words::PhraseKind;
 use vcd_text::{Ahead, Sink, WriteFailed};
 use vcd_view::HeadView;
 
-/// What is done with the items ahead, in a command that is lent. What a loop is to keep in
-/// registers is in the visit, which comes and goes by value.
+/// What is done with the items ahead, in a command that is lent. A loop keeps the visit in CPU
+/// registers, so it is passed and returned by value.
 pub trait Visit<C>: Drop {
     // Whether it can continue in these bytes, with these registers after the items so far.
     ghost stands: { Self → C → List ℕ → Regs → Type 0 };
@@ -529,7 +529,7 @@ fn walk_items<'a, C, V: Visit<C>, W: Sink>(
 ///
 /// Two loops take turns. `take_lines` is faster, but takes only changes of two bytes and short
 /// timestamps, each on a line of its own. `walk_items` takes any item, and stops once two such
-/// changes come next. The walk ends after a turn of both that moved past no byte.
+/// changes come next. The walk ends once a turn of both has moved past no byte.
 // Registers, offset and visit come and go by value, so that the loop over items keeps them out of
 // memory: in a struct that is kept there they cost `check` of scalars 11 %.
 #[inline(always)]

@@ -30,7 +30,7 @@ pub(crate) enum KeywordUse {
     Comment,
     Begin(Section),
     End,
-    /// A keyword that belongs into the header.
+    /// A keyword that belongs in the header.
     OfHeader,
 }
 

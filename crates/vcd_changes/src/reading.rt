@@ -10,7 +10,7 @@ use vcd_text::Offset;
 #[repr(C)]
 #[derive(Clone, Copy, PartialEq, Eq, Debug)]
 pub struct Place {
-    /// How many bytes a token before it may have; 0 before the first call.
+    /// The token limit under which the bytes before it were read; 0 before the first call.
     pub limit: u64,
     /// How many bytes and lines of the dump were read.
     pub offset: Offset,

@@ -1,4 +1,4 @@
-// What has another name in place of a first one.
+// The counterpart of a path: the same path with the second name in place of the first.
 ghost use Rattle.std.specs.Prelude.{◌≡◌, ◌<◌, ◌+◌, ℕ, List, Some, None, get_or, length, set, slice_get};
 ghost use Rattle.vcd_model.specs.Compare.{Asked, Named};
 ghost use Rattle.vcd_model.specs.Header.{Header};

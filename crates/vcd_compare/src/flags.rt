@@ -3,8 +3,9 @@
 ghost use Rattle.std.specs.Prelude.{◌≡◌, ◌<◌, ℕ, get_or, length};
 ghost use Rattle.vcd_compare.specs.Flags.{differing, marked, settled_as};
 
-/// Says whether the two of a class differ now, unless the class has had its line. `count` is how
-/// many flags are 1; returns how many are after it. Nothing changes if there is no such class.
+/// Sets the flag of a class to whether its two codes differ now, unless the class has had its line.
+/// `count` is how many flags are 1; returns how many are after it. Nothing changes if there is no
+/// such class.
 #[inline(always)]
 pub(crate) fn mark(flags: &mut [u8], class: usize, differs: bool, count: usize) -> usize
     requires count { count ≡ differing flags.old }

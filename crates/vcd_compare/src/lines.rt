@@ -57,8 +57,8 @@ fn codes_of(pairs: &Pairs, class: usize) -> Option<(usize, usize)>
     Some((one.code, other.code))
 }
 
-/// Writes the states of the two of a class at this time, which is not before the last timestamp,
-/// with a blank between, and ends the line. Fails if a write does.
+/// Writes the states of the two codes of a class at this time, which is not before the last
+/// timestamp, with a blank between, and ends the line. Fails if a write does.
 fn put_states<W: Sink>(
     current: &Current<'_, '_>,
     view: HeadView<'_>,
@@ -201,8 +201,8 @@ fn put_unlike_line<W: Sink>(
     put(out, b"\n")
 }
 
-/// Writes a line for each two of these variables, which are of different kinds. Fails if a write
-/// does.
+/// Writes a line for each of these pairs of variables, which are of different kinds. Fails if a
+/// write does.
 fn put_unlike<W: Sink>(
     view: HeadView<'_>,
     rows: &[UnlikeRows],

@@ -72,8 +72,8 @@ pub struct Pairs {
 }
 
 /// Returns the pairs that these names make of the variables of a header. The variables that one of
-/// `exceptions` selects are left out. The time grows with the header, the names, and what each name
-/// selects: variables, and paths, also those of other names. Fails if there is no memory.
+/// `exceptions` selects are left out. The time grows with the header, the names, and the variables,
+/// paths and other names that each name selects. Fails if there is no memory.
 pub fn pairs_of(
     alloc: Global,
     view: HeadView<'_>,
@@ -250,7 +250,8 @@ fn add_alone(
 }
 
 /// Adds the pair of the variables at these rows: to the pairs that are compared, or to those of
-/// different kinds.
+/// different kinds. `keys` are the pairs of codes that have a class. Fails if there is no memory;
+/// then the pairs are of no use.
 fn add_pair(
     view: HeadView<'_>,
     one: usize,
@@ -276,7 +277,8 @@ fn add_pair(
     Ok(())
 }
 
-/// Returns the number of the class of two codes. If it is new, its ends are added.
+/// Returns the number of the class of two codes, the index of these in `keys`. If it is new, its
+/// ends are added. Fails if there is no memory; then a class may lack ends.
 fn enter_class(
     codes: (usize, usize),
     keys: &mut IndexSet<(usize, usize), CodeSeed>,

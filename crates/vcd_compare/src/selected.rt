@@ -48,7 +48,7 @@ pub(crate) fn selected_by(
     })
 }
 
-/// Returns the numbers of both of each two.
+/// Returns both numbers of each pair, in one list.
 fn both_of(alloc: Global, numbers: &[(usize, usize)]) -> Result<Vec<usize>, AllocError>
     ensures { IfOk result (λ all. all.items ≡ flat_map (λ m. m.0 ∷ m.1 ∷ []) numbers.now) }
 {
@@ -108,7 +108,7 @@ fn nearest_at(marks: &[bool], number: usize, nearest: &[usize], around: usize) -
 
 /// Returns for each number of a path the indexes of the items inside that path, if it is one of
 /// those that `nearest` has. These are at most `named`. What is inside a path that is left out is
-/// not listed. An item has first the number of the path around it.
+/// not listed. An item begins with the number of the path around it.
 pub(crate) fn inside_of(
     alloc: Global,
     paths: &Paths,

@@ -27,7 +27,7 @@ times_with before kept = before ++ map (λ e. e.time) kept
 pub record HasWritten (before : List ℕ) (kept : List Entry) (t : ItemText) : Type 0 where
   pub last : t.written ≡ last_or None (times_with before kept)
 
--- the time that was written last says whether the line of this time is there
+-- if the line of this time was written, no other came after it: so the last tells if it is due
 abbrev pub LastTells : List ℕ → ℕ → Type 0
 LastTells written t = time_unless written t ≡ time_due (last_or None written) t
 

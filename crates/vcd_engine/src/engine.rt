@@ -262,7 +262,7 @@ impl<'v, 'n, 'r> Engine<'v, 'n, 'r> {
 
     /// Writes what the task still has to write at the end of a body without fault: counts, values,
     /// or the line of the last time. Fails if a write does.
-    // Not inlined, so that the loop over steps lends no view for it.
+    // Not inlined, so that the loop over steps need not keep a borrowed view for this call.
     #[inline(never)]
     fn close<W: Sink>(&self, out: &mut W) -> Result<(), WriteFailed>
         requires { (W.device out.old).failures < 2 ^ 64 - 1 }

@@ -12,9 +12,9 @@ use vcd_view::{Code, key_of};
 
 /// Returns the index in `known` of the code of a variable with this size, which is an event if
 /// `event` is true. A new code is added to `known`, and its bytes at the end of `text`. `None` if
-/// the code was declared before with another size, or if only one of the two is an event; then
-/// nothing has changed. Fails only with `OutOfMemory`, and only for a new code, of which a part may
-/// be added then.
+/// the code was declared before with another size, or if one of its declarations is an event and
+/// the other is not; then nothing has changed. Fails only with `OutOfMemory`, and only for a new
+/// code, of which a part may be added then.
 #[inline(always)]
 pub(crate) fn enter_code(
     alloc: Global,

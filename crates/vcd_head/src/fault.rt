@@ -13,7 +13,7 @@ pub enum HeadFault {
     EndOfInput = 2,
     /// A phrase begins with no command (fault 3).
     UnknownCommand = 3,
-    /// A keyword that belongs into the body, or no `$end` after `$enddefinitions` (fault 4).
+    /// A keyword that belongs in the body, or no `$end` after `$enddefinitions` (fault 4).
     OutOfPlace = 4,
     /// No time scale of number and unit after `$timescale` (fault 5).
     BadTimescale = 5,
@@ -21,7 +21,7 @@ pub enum HeadFault {
     BadScope = 6,
     /// No type, size, code and reference after `$var` (fault 7).
     BadVariable = 7,
-    /// A code has two sizes, or is both an event and none (fault 8).
+    /// A code is declared with two sizes, or both for an event and for another variable (fault 8).
     CodeDiffers = 8,
     /// An `$upscope` while no scope is open (fault 9).
     NoScope = 9,
@@ -33,7 +33,7 @@ pub enum HeadFault {
     InputTooLong = 21,
     /// The source failed (fault 31).
     ReadFailed = 31,
-    /// No memory was found (fault 32).
+    /// Memory ran out (fault 32).
     OutOfMemory = 32,
 }
 

@@ -64,7 +64,7 @@ pub(crate) fn read_phrase<S: Source>(
 }
 
 /// Reads the rest of a phrase into the draft; `keyword` is the keyword that was read, or `None` if
-/// the token is none. Fails with `OutOfPlace` if the keyword is `$end` or belongs into the body,
+/// the token is none. Fails with `OutOfPlace` if the keyword is `$end` or belongs in the body,
 /// with the fault of the first other token that is not allowed or cannot be read, and with
 /// `OutOfMemory`. At most `most` declarations are allowed.
 fn read_rest<S: Source>(

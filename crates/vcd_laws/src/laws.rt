@@ -74,9 +74,10 @@ pub fn merge_run_keeps()
     ensures { MergeRunKeeps }
 {}
 
-/// The head that `pick` or `cut` writes of a header has no fault when it is read, declares the same
-/// variables as the header, of those selected, and ends where the text that follows it begins. The
-/// reader must allow as many declarations as such a head may have.
+/// The head that `pick` or `cut` writes of a header has no fault when it is read, unless a token is
+/// too long for the reader. It declares the selected variables as the header does, and ends where
+/// the text that follows it begins. The reader must allow as many declarations as such a head may
+/// have.
 pub fn head_is_read_back()
     ensures { HeadIsReadBack }
 {}
@@ -339,7 +340,8 @@ pub fn settled_merge_is_final()
 {}
 
 /// A merge is settled once each of its inputs is settled without the others: all of it is known, or
-/// its first tokens settle it, with as many declarations as the inputs before it leave.
+/// its first tokens settle it, where it may have as many declarations as those before it leave of
+/// the most that are allowed.
 pub fn settled_alone_settles_merge()
     ensures { SettledAloneSettlesMerge }
 {}

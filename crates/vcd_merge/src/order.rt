@@ -14,7 +14,7 @@ pub(crate) struct Turn {
 }
 
 /// Returns whether `input` comes before `other` in a merge: if its time in `seats` is less, or the
-/// times are equal and its index is less.
+/// times are equal and its index is smaller.
 #[inline(always)]
 fn comes_before(seats: &[Seat], input: usize, other: usize) -> bool
     requires input { input < length seats.now }
@@ -158,7 +158,7 @@ impl TurnOrder {
 
     /// Returns the time below which `input` comes before each of the first `count` inputs of the
     /// order, whose times are in `seats`. `input` is not in the order, which has at least `count`
-    /// inputs. Of two inputs with the same time, the one with the less index comes first. Returns
+    /// inputs. Of two inputs with the same time, the one with the smaller index comes first. Returns
     /// `u64::MAX` if `count` is 0.
     #[inline(always)]
     fn end_of(&self, input: usize, count: usize, seats: &[Seat]) -> u64

@@ -244,13 +244,14 @@ pub(crate) enum Stepped {
     /// The value is set. If it is another one, the slot has counted the step.
     Counted,
     /// The value is set. The slot's counter of such steps was at 255 and is 0 now, so the caller has
-    /// to add 256 to the counters of the share. They rise, or fall, as this step does.
+    /// to add 256 steps to the counters of the share: as rises if `rises`, as falls if `falls`.
     Uncounted { rises: bool, falls: bool },
 }
 
-/// Sets the value of the code at index `code` to a digit, if it holds this digit, or `0` where this
-/// is `1`, or `1` where this is `0`. It changes only the slot. Returns `Stepped::Not`, and changes
-/// nothing, if there is no such code, or if it holds anything else.
+/// Sets the value of the code at index `code` to `digit`, if it holds the same digit (`X` is `x`,
+/// and `Z` is `z`), or if one of the two is `0` and the other is `1`. It changes only the slot.
+/// Returns `Stepped::Not`, and changes nothing, if there is no such code, or if it holds anything
+/// else.
 // A digit is a state of the slot, so no byte of values is touched: held as a number of one digit,
 // `edges` of scalars takes 31 % more.
 #[inline(always)]
