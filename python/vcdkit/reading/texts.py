@@ -1,5 +1,4 @@
 """Texts that a question is asked of: a file, bytes, or what a command makes of other texts."""
-import contextlib
 import os
 import shutil
 import stat
@@ -38,8 +37,8 @@ class _Kept:
     def __init__(self, path: bytes):
         self._pipe = open(path, "rb", buffering=0)
         self._file = tempfile.TemporaryFile()
-        self._reading = threading.Lock()
-        self._length, self._is_whole = 0, False
+        self._news = threading.Condition()
+        self._length, self._is_whole, self._is_reading = 0, False, False
         self.error: Optional[OSError] = None
 
     def open(self) -> BinaryIO:
@@ -53,16 +52,25 @@ class _Kept:
     def _write_to(self, back: int) -> None:
         """Writes it to a pipe, until all is written or nobody reads there."""
         at = 0
-        with contextlib.suppress(BrokenPipeError), open(back, "wb", buffering=0) as to:
-            for block in iter(lambda: self._block(at), b""):
-                at += to.write(block)
+        try:
+            while True:
+                block = self._block(at)
+                if not block:
+                    break
+                at += os.write(back, block)
+        except BrokenPipeError:
+            pass
+        finally:
+            os.close(back)
 
     def _block(self, at: int) -> bytes:
         """Returns what is at an offset, once it is there: nothing at the end."""
-        while not self._is_there(at):
-            with self._reading:
-                if not self._is_there(at):
-                    self._read_on()
+        with self._news:
+            self._news.wait_for(lambda: self._is_there(at) or not self._is_reading)
+            is_there = self._is_there(at)
+            self._is_reading = self._is_reading or not is_there
+        if not is_there:
+            self._read_on()
         return os.pread(self._file.fileno(), BLOCK, at)
 
     def _is_there(self, at: int) -> bool:
@@ -79,8 +87,10 @@ class _Kept:
             self.error, block = error, b""
         if not block:
             self._pipe.close()
-        self._length += len(block)
-        self._is_whole = not block
+        with self._news:
+            self._length += len(block)
+            self._is_whole, self._is_reading = not block, False
+            self._news.notify_all()
 
 
 class File:
