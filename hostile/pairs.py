@@ -67,9 +67,9 @@ class Pairs(Dumps):
         digits = r.choice(DIGITS)
         count = r.choice([1, 1, 2, one.size, one.size])
         digits = bytes(r.choice(digits) for _ in range(min(count, one.size)))
-        if one.size > 64 and self.some(0.7):
+        if one.size > 64 and self.some(0.9):
             count = r.choice([1, 2, 65, one.size - 1, one.size])
-            digits = (r.choice(RUNS) * count + digits[:r.choice([0, 0, 1, 2, 66])])[-one.size:]
+            digits = (r.choice(RUNS) * count + r.choice([b"", b"0", b"0", b"1"]))[-one.size:]
         return r.choice([b"b", b"b", b"B"]) + digits + b" "
 
     def steps(self, variables):

@@ -19,8 +19,8 @@ rest_past a b (d ∷ ds) = cond (d == a || d == b) (rest_past a b ds) (suc (leng
 abbrev pub lead_of : List ℕ → Lead
 lead_of ds = record { zero = rest_past (byte "x") (byte "z") ds; unknown = rest_past (byte "0") (byte "z") ds; high = rest_past (byte "0") (byte "x") ds }
 
--- these leading digits match a digit that extends another value: there is this first one, and one
--- that differs is not among them
+-- all digits but the last ones match the digit by which another value is extended: the first one
+-- does, and those of 0, x and z that do not are not among them
 abbrev pub front_matches : Rule → Lead → (first fill last : ℕ) → Bool
 front_matches r l first fill last = digits_match r first fill
     && (nat_le l.zero last || digits_match r (byte "0") fill)
