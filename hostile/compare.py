@@ -1,6 +1,6 @@
 #!/usr/bin/env python3
-"""compare.py VCDKIT COMPARE DEVICES [PART..]      PART is rows, hostile, random, small, pipe,
-streams, machine, headers or flat; without one, all
+"""compare.py VCDKIT COMPARE DEVICES [PART..]      PART is rows, hostile, random, small, long,
+pipe, streams, machine, headers or flat; without one, all
 
 Runs vcdkit-compare under the conditions of the other scripts, and on what `vcdkit merge` writes. It
 has to write what comparison.py gives. DEVICES is devices.c, built as a shared library.
@@ -10,6 +10,8 @@ hostile  The parts of hostile.py: memory, large, devices, cut_off, pipes.
 random   random_pairs.py takes 20,000 pairs; RUNS=100000 takes so many.
 small    Every pair of small bodies is merged and compared. Up to the end of the shorter one, the
          lines are those of two dumps. Every small body of two parts is compared.
+long     Values of up to three runs of one digit are compared with their last digits, and with
+         values of one digit: by each rule, each as the first and as the second of two.
 pipe     The pipe from a merge breaks after each byte, and a byte that no dump may have comes after
          it, as vcdkit-diff writes it if the merge fails: status 2, and only lines that the whole
          dump has. The same with a shell, for a merge that is killed, and one whose device fails.
@@ -33,7 +35,7 @@ import random_pairs
 import streams
 from cases import COMPARISONS, Comparison
 from reference.comparison import ALWAYS, EACH_PAIR, FIRST, Asked
-from random_pairs import Trials, law
+from random_pairs import Trials, law, outcome
 from trials import Program, compare, outcome_of
 
 EXTENTS = [EACH_PAIR, FIRST, ALWAYS]
@@ -114,18 +116,70 @@ def small_parts(job):
 
 
 def small(programs):
+    with tempfile.TemporaryDirectory() as folder:
+        return shared("small", [
+            partial(work, (*programs[:2], folder, number, part, 32))
+            for work, numbers in ((small_pairs, range(len(HEADERS))), (small_parts, [0]))
+            for number in numbers for part in range(32)])
+
+
+def shared(name, jobs):
+    """Takes the jobs in several processes, and prints what is wrong."""
     runs, wrong = 0, []
-    with tempfile.TemporaryDirectory() as folder, ProcessPoolExecutor(os.cpu_count()) as pool:
-        for work, numbers in ((small_pairs, range(len(HEADERS))), (small_parts, [0])):
-            jobs = [(*programs[:2], folder, number, part, 32)
-                    for number in numbers for part in range(32)]
-            for more, found in pool.map(work, jobs):
-                runs += more
-                wrong += found
+    with ProcessPoolExecutor(os.cpu_count()) as pool:
+        for its in [pool.submit(job) for job in jobs]:
+            more, found = its.result()
+            runs += more
+            wrong += found
     for text in wrong[:5]:
         print(text)
-    print("small: %d runs, %d differ" % (runs, len(wrong)))
+    print("%s: %d runs, %d differ" % (name, runs, len(wrong)))
     return bool(wrong)
+
+
+# ---- long values
+
+DIGITS = [b"0", b"1", b"x", b"z"]
+LETTERS = [bytes.lower, bytes.upper, bytes.title]
+COUNTS = [1, 2, 64, 65, 200]
+
+
+def of_runs(size):
+    """Values of up to three runs of one digit. Some of the counts are how many digits the last runs
+    have, or one more."""
+    return sorted({(first * size + middle * many + last * few)[-count:]
+                   for first, middle, last in itertools.product(DIGITS, repeat=3)
+                   for many in (1, 63) for few in (1, 64) for count in (size - 1, size)})
+
+
+def long_values(path, size, loose):
+    """A dump in which each value changes into the next one, and its counterpart into so many of
+    its last digits or into a value of one digit: how many runs, and what is wrong."""
+    values, r = of_runs(size), random.Random(size)
+    its = range(len(values))
+    text = [b"$scope module %s $end " % part
+            + b"".join(b"$var wire %d %s%d v%d $end " % (size, part, n, n) for n in its)
+            + b"$upscope $end\n" for part in (b"p", b"q")] + [b"$enddefinitions $end\n"]
+    for time, (digit, count) in enumerate(itertools.product([None, *DIGITS], COUNTS)):
+        text.append(b"#%d\n" % time)
+        for n in its:
+            value = values[(n + time) % len(values)]
+            other = digit * min(count, size) if digit else value[-count:]
+            text += [b"b%s %s%d\n" % (r.choice(LETTERS)(digits), part, n)
+                     for part, digits in ((b"p", value), (b"q", other))]
+    case = Comparison("long", b"".join(text), [(b"p", b"q"), (b"q", b"p")],
+                      Asked(extent=ALWAYS, loose=loose))
+    want = case.outcome([b"(stdin)"], case.inputs)
+    got = outcome([path, *case.words([])], input=case.inputs[0])
+    lines = itertools.zip_longest(want[0].splitlines(), got[0].splitlines())
+    return 1, ["%s: want %r, got %r" % (case.words([]), *pair)
+               for pair in itertools.chain(lines, [(want[1:], got[1:])]) if pair[0] != pair[1]][:1]
+
+
+def long(programs):
+    return shared("long", [
+        partial(long_values, programs[1], size, loose)
+        for size in (65, 128, 200) for loose in itertools.product([False, True], repeat=2)])
 
 
 # ---- a pipe that ends too early
@@ -370,7 +424,7 @@ WORK = {
         *programs[1:], ["memory", "large", "devices", "cut_off", "pipes"], ["compare"]),
     "random": lambda programs: random_pairs.work(
         *programs[:2], int(os.environ.get("RUNS", "20000"))),
-    "small": small, "pipe": pipe, "streams": on_streams, "machine": on_machine,
+    "small": small, "long": long, "pipe": pipe, "streams": on_streams, "machine": on_machine,
     "headers": headers, "flat": flat}
 
 

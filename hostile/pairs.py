@@ -2,13 +2,11 @@
 are good, and some have faults."""
 from dumps import Dumps, NAMES
 
-SIZES = [1, 1, 2, 4, 8, 33, 66, 200]
+SIZES = [1, 1, 2, 4, 8, 33, 70]
 TYPES = [b"wire", b"reg", b"integer"]
 CODES = [bytes([33 + n]) for n in range(94)] + [b"ab", b"!!", b"$end", b"longer_code"]
 UNITS = [(b"1 ns", 1), (b"100ps", 10), (b"10 ns", 1), (b"1us", 1), (None, 1)]
 DIGITS = [b"01", b"01", b"01x", b"01xz", b"XZ01", b"x"]
-# What long values begin with.
-RUNS = [b"0", b"x", b"z", b"0x", b"x0", b"zX", b"Xz", b"1"]
 
 
 class Variable:
@@ -66,11 +64,8 @@ class Pairs(Dumps):
             return bytes([r.choice(b"0011xzXZ")])
         digits = r.choice(DIGITS)
         count = r.choice([1, 1, 2, one.size, one.size])
-        digits = bytes(r.choice(digits) for _ in range(min(count, one.size)))
-        if one.size > 64 and self.some(0.9):
-            count = r.choice([1, 2, 65, one.size - 1, one.size])
-            digits = (r.choice(RUNS) * count + r.choice([b"", b"0", b"0", b"1"]))[-one.size:]
-        return r.choice([b"b", b"b", b"B"]) + digits + b" "
+        return r.choice([b"b", b"b", b"B"]) + bytes(
+            r.choice(digits) for _ in range(min(count, one.size))) + b" "
 
     def steps(self, variables):
         """Times, each with a section or none and the changes: groups and texts."""
