@@ -249,29 +249,33 @@ def wrong_of(bench: Bench, folder: str, count: int) -> Iterator[Tuple[str, str]]
     """Returns the expressions of a test bench whose values are others than those of its
     simulator."""
     made = iter(lambda: bench.make(bench.random.choice([1, 2, 2, 3, 3, 4])), None)
-    of = list(itertools.islice(filter(bench.is_asked, made), count))
+    asked = list(itertools.islice(filter(bench.is_asked, made), count))
     with open(os.path.join(folder, "bench.v"), "w", encoding="ascii") as file:
-        file.write(bench.verilog(of))
+        file.write(bench.verilog(asked))
     bench.run(folder)
     dump = Dump(os.path.join(folder, "dump.vcd"))
     clock = bench.scope + ".clk" if bench.is_clocked else None
-    texts = [bench.asked(one.text).replace("t.", bench.scope + ".") for one in of]
+    paths = {one.path.partition("[")[0] for one in dump.select([bench.scope])}
+    # Icarus does not dump a wire that is always z.
+    of = {at: one for at, one in enumerate(asked) if "%s.y%d" % (bench.scope, at) in paths}
+    texts = {at: bench.asked(one.text).replace("t.", bench.scope + ".") for at, one in of.items()}
     rules = [("", "%s($unsigned(%s) === %s.y%d)" % (
         "!" * (at % 50 > 0), "$past(%s)" % text if bench.is_late else text, bench.scope, at))
-             for at, text in enumerate(texts)]
+             for at, text in texts.items()]
     asking = Questions(dump, rules, clock, None, bool(clock))
     held = {number for time, numbers in asking.times() if time >= bench.begin for number in numbers}
-    for at, text in enumerate(texts):  # each 50th has to hold, so that it is known that they can
-        if (at in held) == (at % 50 > 0):
+    # Each 50th has to hold, so that it is known that they can.
+    for number, (at, text) in enumerate(texts.items()):
+        if (number in held) == (at % 50 > 0):
             yield "vcdkit", "%s of y%d" % (text, at)
-    names = [*bench.widths, *("t.y%d" % at for at in range(count))]
+    names = [*bench.widths, *("t.y%d" % at for at in of)]
     look = None
     for time, values in dump.rows([name.replace("t.", bench.scope + ".") for name in names],
                                   rise=clock):
         row = dict(zip(names, (value if isinstance(value, float) else str(value)
                                for value in values)))
         before, look = look, Look(row, look)
-        for at, one in enumerate(of) if time >= bench.begin else ():
+        for at, one in of.items() if time >= bench.begin else ():
             wanted = one.own(before if bench.is_late else look)
             if wanted != row["t.y%d" % at]:
                 yield "the definition", "%s of y%d: %s, by the simulator %s, of %s" % (
