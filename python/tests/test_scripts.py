@@ -945,7 +945,8 @@ class Conditions(Case):
     def test_numbers_below_zero(self):
         dump = self.file("a.vcd", WORDS)
         for condition, times in (("tb.a < -0.5", ["5ns"]), ("-0.5 > tb.a", ["5ns"]),
-                                 ("tb.a <= -1", ["5ns"]), ("-1<tb.a", ["0ns", "9ns"])):
+                                 ("tb.a <= -1", ["5ns"]), ("-1<tb.a", ["0ns", "9ns"]),
+                                 ("-(1)<tb.a", ["0ns", "9ns"])):
             self.assertEqual(said("vcdkit-when", dump, condition), [*times, "status 0"])
         self.assertEqual(said("vcdkit-table", "--if", "-1<tb.a", dump, "tb.a"), [
             "time (ns),tb.a", "0,00", "9,01", "status 0"])

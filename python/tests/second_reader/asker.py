@@ -14,7 +14,7 @@ from shown import FORMS
 HERE = os.path.dirname(os.path.abspath(__file__))
 PYTHON = os.path.dirname(os.path.dirname(HERE))
 sys.path.insert(0, PYTHON)
-VALUED = {"--from", "--to", "--at", "--rise", "--fall", "--unit", "--if", "--values", "--names",
+VALUED = {"--from", "--to", "--at", "--rise", "--fall", "--unit", "--values", "--names",
           "--map", "--except", "--real-tolerance", "--junit", "--context", "--into", "--saif",
           "--scopes", "--mark", "--around", "--width", "--rules", "--reach", "--salvage"}
 

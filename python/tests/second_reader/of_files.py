@@ -102,7 +102,7 @@ def ask_rows_before(of: Asker) -> None:
         rows = with_values(looks_at_edges(bad.front, edges, 0, bad.finished), columns)
     chosen = of.conditions.make() if of.happens(.4) else None
     if chosen:
-        words += ["--if", chosen.text]
+        words += ["--if=" + chosen.text]  # it may begin with -
         rows = [row for row in rows if chosen.test(row[0])]
     said = run("table", ["--unit", "tick", *words, bad.path, "--", *names])
     of.same("rows before a fault", [bad, *words, *names], (said.status, list(csv.reader(

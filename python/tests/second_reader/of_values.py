@@ -85,7 +85,7 @@ def ask_table(of: Asker) -> None:
     rows, begin = table_rows(of, columns, rows_words)
     condition = of.conditions.make() if of.happens(.5) else None
     if condition:
-        rows_words += ["--if", condition.text]
+        rows_words += ["--if=" + condition.text]  # it may begin with -
         rows = [row for row in rows if condition.test(row[0])]
     words = of.placed([*words, *(["--unit", unit] if unit else []), *["--json"] * is_json,
                        *rows_words], [of.path, *names])

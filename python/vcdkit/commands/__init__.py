@@ -40,7 +40,7 @@ FAULT = "a name selects nothing, or not a valid dump"
 TIMES = "A TIME is a number of ticks, or has a unit, such as 115ns or 1.5us.\n"
 MARK = "\0"  # which no argument has
 FIRST, LAST = "0", str(LAST_TICK)  # of --from and --to
-NEGATIVE = re.compile(r"-[.\d].*[<>=]")
+NEGATIVE = re.compile(r"-(?:[.\d].*[<>=]|[({\"])")
 BROKEN_PIPE = 128 + 13  # the status that a shell shows of a program that SIGPIPE ended
 JSON = "write one JSON object per line, with times in ticks"
 UNIT = "the largest without a fraction"
@@ -126,7 +126,8 @@ class Parser(argparse.ArgumentParser):
     def parsed(self, words: List[str]) -> Tuple[argparse.Namespace, List[str]]:
         """Returns the arguments, and the words that fit none. Nothing behind `--` is an option:
         argparse would forget that when it looks for the names between options, so these words
-        get a mark meanwhile. So does a condition that begins with a number below 0."""
+        get a mark meanwhile. So does a condition that begins with a minus and a number, a
+        parenthesis or the like."""
         at = words.index("--") if "--" in words else len(words)
         marked = [MARK + word if NEGATIVE.match(word) else word for word in words[:at]]
         marked += [MARK + word for word in words[at + 1:]]
