@@ -26,6 +26,7 @@ import sys
 import tempfile
 import traceback
 import unittest
+import unittest.mock
 import warnings
 import xml.etree.ElementTree as xml
 from concurrent.futures import ThreadPoolExecutor
@@ -44,7 +45,7 @@ from vcdkit.forms import saif
 from vcdkit.model.names import names_for
 from vcdkit.model.times import Window
 from vcdkit.model.values import value_in
-from vcdkit.questions import lanes, picked, toggles, unknown
+from vcdkit.questions import lanes, picked, toggles, unknown, when
 from vcdkit.reading import bits, body, sections, states
 
 NESTED = os.path.join(TOP, "samples", "nested.vcd")
@@ -1031,6 +1032,9 @@ class Conditions(Case):
         status, out, messages = run("vcdkit-table", [dump, *words, "b: none"])
         self.assertEqual((status, out, messages[:34]),
                          (1, b"", b"vcdkit-table: b: none: selects noth"[:34]))
+        with unittest.mock.patch.object(when, "MAX_WAITING", 2):
+            self.assertIn(b"more than 2 transactions are open",
+                          run("vcdkit-table", [dump, *words, "b: !req & req"])[2])
 
     def test_requests_that_overlap(self):
         dump, words = self.pipelined(), ["--latency", "--rise", "clk"]

@@ -13,7 +13,7 @@ from .condition import Condition, Conditions
 from .expression import Span
 from .rows import Cells, edges_of
 
-MAX_WAITING = 1_000_000  # starts without an answer
+MAX_WAITING = 1_000_000  # starts without an answer, or open transactions
 Numbers = Tuple[int, ...]  # of conditions
 # When a request begins, when its answer comes, `None` if none comes in time, and how long that is:
 # in edges if the condition counts them, else in ticks.
@@ -144,6 +144,8 @@ class Questions:
             for time, numbers in self.times():
                 for at in numbers:
                     waiting[at].append((self.edge, Row(time, self.cells[at].row[:])))
+                    if len(waiting[at]) > MAX_WAITING:
+                        raise UsageError("more than %d transactions are open" % MAX_WAITING)
                 if all(waiting):
                     yield [its.popleft() for its in waiting]
         except DumpFault as error:
