@@ -1068,6 +1068,23 @@ class Conditions(Case):
             its = said("vcdkit-when", "--json", *clock, "--rules", rules, dump)[:-1]
             self.assertEqual([one for one in alone if one != "0"],
                              [re.findall(r"\d+", line)[-1] for line in its], clock)
+        # A word before a condition says when it has to hold. What is x does not.
+        words = self.file("words", b"a: req\nb: never ack\nc: always req | ack\n"
+                          b"d: always req -> ack within 1ns\ne: always req -> ack within 2ns\n"
+                          b"f: always req === req\ng: always ack\n")
+        found = ["a: 5ns, 2 times", "b: 7ns, 1 time", "c: 0ns, 1 time", "d: 5ns, 1 time",
+                 "g: 0ns, 1 time"]
+        self.assertEqual(said("vcdkit-when", "--rules", words, "--junit", out, dump),
+                         [*found, "status 1"])
+        self.assertEqual([one.get("name") for one in xml.parse(out).getroot() if len(one)],
+                         ["b", "c", "d", "g"])
+        well = self.file("well", b"a: req\nb: never ack & !ack\nc: always req !== 1'bx\n")
+        self.assertEqual(said("vcdkit-when", "--rules", well, dump), [
+            "a: 5ns, 2 times", "status 0"])
+        unknown_one = self.file("x.vcd", self.HEAD + b"#0 1! #5 x! #9 1! #20\n")
+        rule = self.file("rule", b"a: always req\nb: never !req\n")
+        self.assertEqual(said("vcdkit-when", "--rules", rule, unknown_one), [
+            "a: 5ns, 1 time", "status 1"])
         # An event that is never triggered is never looked at.
         events = self.file("e.vcd", b"$var wire 1 ! a $end $var event 1 e e $end "
                            b"$enddefinitions $end #0 1! #5\n")

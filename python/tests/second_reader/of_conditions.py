@@ -159,9 +159,11 @@ def ask_rules(of: Asker) -> None:
         of.conditions.reset()
         one = condition(of, 2, bool(asked.edges))
         looks = asked.looks(dump, of.conditions.codes)
-        begins = starts(looks, one.test, bool(asked.edges), asked.every)
+        word = of.random.choice(["", "never", "always"])
+        begins = starts(looks, lambda look: one.test(look) != (word == "always"),
+                        bool(asked.edges), asked.every)
         times = [look.time for look, is_one in zip(looks, begins) if is_one]
-        rules.append(("rule %d" % number, one.text, times))
+        rules.append(("rule %d" % number, (word + " " + one.text).strip(), times))
     text = "".join(of.random.choice(["", "# a note\n", "\n"]) + "%s: %s\n" % rule[:2]
                    for rule in rules)
     file = of.write(of.path + ".rules", text.encode("utf-8", "surrogateescape"))
@@ -178,12 +180,13 @@ def ask_rules(of: Asker) -> None:
         for name, _, times in held]
     if is_json:
         wanted = [{"rule": name, "first": times[0], "count": len(times)} for name, _, times in held]
-    status = int(bool(held) if is_never else len(held) < len(rules))
+    bad = [name for name, text_of, times in rules
+           if bool(times) == (is_never or text_of.split(" ")[0] in ("never", "always"))]
+    status = int(bool(bad))
     got = all_from_json(said.text) if is_json else said.lines
     of.same("rules", [*words, text], (said.status, got, said.message), (status, wanted, ""))
     if "--junit" in words:
         root = xml.parse(junit).getroot()
-        bad = [name for name, _, times in rules if bool(times) == is_never]
         of.same("rules, the report", words, [one.get("name") for one in root.iter("testcase")
                                              if one.find("failure") is not None], bad)
 

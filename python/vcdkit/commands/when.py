@@ -13,8 +13,9 @@ examples:
   vcdkit-when --latency --rise tb.clk sim.vcd 'tb.req -> tb.ack within 50'
   vcdkit-when --never --rules rules.txt --junit rules.xml --rise tb.clk sim.vcd"""
 import argparse
+import re
 import sys
-from typing import Callable, Dict, Iterable, List, Tuple
+from typing import Callable, Dict, Iterable, List, NamedTuple
 
 from ..errors import UsageError, VcdkitError
 from ..forms.junit import Test, write_tests
@@ -24,7 +25,28 @@ from ..questions.when import Questions
 from ..reading.files import check_outputs, text_of_file
 from . import FAULT, check_begin, command, dump_of, parser, part_of, question, times_of
 
-Rule = Tuple[str, str]  # its name, and its condition
+WORDED = re.compile(r"(never +|always +|)(.*)", re.S)
+
+
+class Rule(NamedTuple):
+    """A condition with a name, and the word before it: it may hold at no time (never), has to hold
+    at each (always), or has to hold at some time."""
+
+    name: str
+    word: str
+    condition: str
+
+    @property
+    def asked(self) -> str:
+        """The condition whose times are listed: with always, that it does not hold."""
+        if self.word != "always":
+            return self.condition
+        has_answer = "->" in re.sub('"[^"]*"', "", self.condition)
+        return ("!(%s)" if has_answer else "!(%s) !== 1'b0") % self.condition
+
+    def is_met(self, found: bool, is_never: bool) -> bool:
+        """Whether the rule is met, if its list has times."""
+        return found != (is_never or bool(self.word))
 
 
 def words_of(words: List[str]) -> argparse.Namespace:
@@ -37,7 +59,9 @@ def words_of(words: List[str]) -> argparse.Namespace:
     form.add_argument("--latency", action="store_true", help="for req -> ack within N, also list "
                       "when ack follows and after how long")
     form.add_argument("--rules", metavar="FILE", help="evaluate the conditions in this file, each "
-                      "on a line `name: condition`, and write a line for each that holds")
+                      "on a line `name: condition`, `name: never condition` or "
+                      "`name: always condition`, and write a line for each that holds; of those "
+                      "with always, for each that at some time does not")
     options.add_argument("--junit", metavar="FILE", help="with --rules: also write a JUnit report, "
                          "with a test for each rule")
     options.clock("evaluate at the %s edges of this signal")
@@ -67,7 +91,8 @@ def rules_of(path: str) -> List[Rule]:
         if line.strip() and line.strip()[:1] != "#":
             if not sign:
                 raise UsageError("%s:%d: a rule is `name: condition`" % (path, number))
-            found.append((name, condition))
+            word, text = re.findall(WORDED, condition)[0]
+            found.append(Rule(name, word.strip(), text))
     if not found:
         raise UsageError("%s: it has no rule" % path)
     return found
@@ -117,8 +142,8 @@ def list_latencies(asking: Questions, dump: Dump, text: Callable[[int], str],
 
 def list_rules(asking: Questions, rules: List[Rule], text: Callable[[int], str],
                asked: argparse.Namespace) -> bool:
-    """Writes a line for each rule that holds: its name, the first time, and how many there are;
-    returns whether the rules are as they have to be: all hold, or with --never none."""
+    """Writes a line for each rule whose list has times: its name, the first time, and how many
+    there are; returns whether all rules are met."""
     found: Dict[int, List[int]] = {}  # of each rule that held the first time, and the count
     fault = ""
     try:
@@ -131,21 +156,21 @@ def list_rules(asking: Questions, rules: List[Rule], text: Callable[[int], str],
         raise
     finally:
         tests = []
-        for number, (name, condition) in enumerate(rules):
-            its = found.get(number, [])
+        for number, rule in enumerate(rules):
+            name, its = rule.name, found.get(number, [])
             line = "%s, %d time%s" % (text(its[0]), its[1], "s" * (its[1] != 1)) if its else ""
             if its and asked.json:
                 write_json({"rule": name, "first": its[0], "count": its[1]})
             elif its:
                 print("%s: %s" % (name, line))
-            is_wrong = bool(its) == asked.never and (its or not fault)
+            is_wrong = not rule.is_met(bool(its), asked.never) and (its or not fault)
             tests.append(Test(asking.dump.name, name, "failure" if is_wrong else "",
-                              line or "it never held", condition))
+                              line or "it never held", rule.condition))
         if fault:
             tests.append(Test(asking.dump.name, "fault", "error", fault, ""))
         if asked.junit is not None:
             write_tests(asked.junit, "vcdkit-when", tests)
-    return not found if asked.never else len(found) == len(rules)
+    return all(one.is_met(number in found, asked.never) for number, one in enumerate(rules))
 
 
 @command
@@ -153,10 +178,12 @@ def list_rules(asking: Questions, rules: List[Rule], text: Callable[[int], str],
 def main(words: List[str]) -> int:
     asked = words_of(words)
     check_outputs([asked.junit], [asked.file, asked.rules])
-    rules = rules_of(asked.rules) if asked.rules is not None else [("", asked.condition)]
+    rules = (rules_of(asked.rules) if asked.rules is not None
+             else [Rule("", "", asked.condition)])
     dump = dump_of(asked)
     text = times_of(dump, asked)
-    asking = Questions(part_of(dump, asked), rules, asked.rise, asked.fall, asked.every)
+    asking = Questions(part_of(dump, asked), [(one.name, one.asked) for one in rules], asked.rise,
+                       asked.fall, asked.every)
     if asked.latency and not asking.each[0].has_latency:
         raise UsageError("latencies are those of a condition such as req -> ack within 50")
     check_begin(dump, asked.begin)
