@@ -23,8 +23,8 @@ fn put_end_under<W: Sink>(first: u8, id: Id<'_>, w: &mut W) -> Result<(), WriteF
     }
 }
 
-/// Writes the line of a vector: `b`, the digits from index `from` on, which is not after the last, a
-/// blank and the identifier code `id`. If a write fails, a prefix was written.
+/// Writes the line of a vector: `b`, the digits from index `from` on, which is not after the last,
+/// a blank and the identifier code `id`. If a write fails, a prefix was written.
 #[inline(never)]
 pub(crate) fn put_vector<D: Digits, W: Sink>(
     digits: D,

@@ -209,9 +209,9 @@ fn read_under<B: BuildHasher>(
     }
 }
 
-/// Returns whether a call with the lower token limit, which ended with this status and reading, found
-/// what a call with the full limit (`LIMIT`) would find: it met no token that is too long. It is
-/// false also if the feed had halted at `reading.place`.
+/// Returns whether a call with the lower token limit, which ended with this status and reading,
+/// found what a call with the full limit (`LIMIT`) would find: it met no token that is too long. It
+/// is false also if the feed had halted at `reading.place`.
 fn is_limit_enough(status: u8, reading: Reading) -> bool
     ensures { result ≡ true → IsLimitEnough reading status }
 {

@@ -192,8 +192,8 @@ impl Buffer {
     }
 
     /// Appends the byte `first`, the first `n` bytes of `from` and those of `end` to the buffer, by
-    /// copies of fixed lengths. `n` is at most 64, `from` has at least 64 bytes, and the buffer must
-    /// have room for 73.
+    /// copies of fixed lengths. `n` is at most 64, `from` has at least 64 bytes, and the buffer
+    /// must have room for 73.
     #[inline(always)]
     pub(crate) fn push_parts(&mut self, first: u8, from: &[u8], n: usize, end: Few)
         requires few { n ≤ 64 }

@@ -181,8 +181,8 @@ impl<D: Write + Drop> Sink for Buffered<D> {
         }
     }
 
-    /// Takes these bytes into the buffer, and returns true. Returns false, and takes none, if it has
-    /// no room for 8.
+    /// Takes these bytes into the buffer, and returns true. Returns false, and takes none, if it
+    /// has no room for 8.
     #[inline(always)]
     fn write_few(&mut self, few: Few) -> bool {
         if self.buffer.len > ROOM - FEW {

@@ -158,8 +158,8 @@ impl TurnOrder {
 
     /// Returns the time below which `input` comes before each of the first `count` inputs of the
     /// order, whose times are in `seats`. `input` is not in the order, which has at least `count`
-    /// inputs. Of two inputs with the same time, the one with the smaller index comes first. Returns
-    /// `u64::MAX` if `count` is 0.
+    /// inputs. Of two inputs with the same time, the one with the smaller index comes first.
+    /// Returns `u64::MAX` if `count` is 0.
     #[inline(always)]
     fn end_of(&self, input: usize, count: usize, seats: &[Seat]) -> u64
         requires count { count ≤ self.now.len }

@@ -7,8 +7,8 @@ use crate::values::bits::{binary_digit, count_in, last_binary};
 use crate::values::packed::{digit_at, last_packed};
 use crate::values::slot::{HeldValue, State, digit_of_state};
 
-/// Returns the held digit at `index`, counted from the left. `None` after the last, and if no digits
-/// are held.
+/// Returns the held digit at `index`, counted from the left. `None` after the last, and if no
+/// digits are held.
 #[inline(always)]
 fn digit_held(held: HeldValue<'_>, index: usize) -> Option<u8>
     ensures { result ≡ slice_get (digits_of held.entry) index }

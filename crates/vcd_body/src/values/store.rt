@@ -243,8 +243,8 @@ pub(crate) enum Stepped {
     Not,
     /// The value is set. If it is another one, the slot has counted the step.
     Counted,
-    /// The value is set. The slot's counter of such steps was at 255 and is 0 now, so the caller has
-    /// to add 256 steps to the counters of the share: as rises if `rises`, as falls if `falls`.
+    /// The value is set. The slot's counter of such steps was at 255 and is 0 now, so the caller
+    /// has to add 256 steps to the counters of the share: as rises if `rises`, as falls if `falls`.
     Uncounted { rises: bool, falls: bool },
 }
 
