@@ -48,7 +48,7 @@ impl White {
     /// Returns this `White` without the first of its white bytes. Some white byte has to be known
     /// (`bits` is not 0).
     #[inline(always)]
-    fn after_first(self) -> White
+    fn without_first(self) -> White
         requires some { self.bits ≢ 0 }
         ensures next { result.next ≡ self.next }
         ensures bits { (chunk : List ℕ) (at stop : ℕ) → self.next ≤ at + 64
@@ -153,7 +153,7 @@ impl<'a> Ahead<'a> {
             return self.take(at, white);
         }
         let mut start = at + 1;
-        let mut white = white_ahead(self.bytes, white.after_first())?;
+        let mut white = white_ahead(self.bytes, white.without_first())?;
         if white.begins_at(start) {
             start = past_white(self.bytes, start);
             white = white_ahead(self.bytes, White::unknown(start))?;

@@ -75,18 +75,12 @@ pub(crate) fn registers_at(offset: Offset) -> Option<Parked>
     if offset.bytes >= 1 << 63 || offset.line_feeds > offset.bytes {
         return None;
     }
-    match phase_at(offset.answer) {
-        Some(phase) => Some(Parked {
-            at: 0,
-            end: 0,
-            stop: 0,
-            size: 0,
-            kept: 0,
-            base: offset.bytes,
-            line_feeds: offset.line_feeds,
-            line: offset.line,
-            phase,
-        }),
-        None => None,
-    }
+    let phase = phase_at(offset.answer)?;
+    Some(Parked {
+        base: offset.bytes,
+        line_feeds: offset.line_feeds,
+        line: offset.line,
+        phase,
+        ..Parked::new()
+    })
 }

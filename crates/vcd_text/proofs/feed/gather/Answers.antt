@@ -148,7 +148,7 @@ returns-in-Whole-clause-turns g c =
     let full = c.loop-parked.auto.token in
     let range = c.in-Whole.ensures.fits (rw (fits, full) (rw fits at (c.skip.ensures.fits (length c.args.token.now) (rw fits t.fits)))) in
     let phase = c.in-Whole.ensures.on.phase ∙ (c.skip.ensures.on.phase ∙ t.going) in
-    let further : looked c.args.parked.now + c.collect.new.parked.size < looked c.collect.new.parked = omega (arith, c.in-Whole.ensures.whole, c.skip.ensures.on.looked, c.loop-parked.invariant.3) in
+    let further : looked c.args.parked.now + c.collect_token.new.parked.size < looked c.collect_token.new.parked = omega (arith, c.in-Whole.ensures.whole, c.skip.ensures.on.looked, c.loop-parked.invariant.3) in
     token-turns g.S.Source.failures g.S.Source.last_failed _ _ _ _ _ _ (rw (fits, full) at range) (c.in-Whole.ensures.on.kept ∙ (c.skip.ensures.on.kept ∙ c.loop-parked.invariant.2)) c.in-Going.is
     (omega (arith, further)) (some-token _ _ _ _ _ _ c.skip.ensures.begun c.skip.ensures.skips c.in-Whole.ensures.collects) (λ h e. let none = ap settled phase in cc) c.loop-parked.invariant.0
 
@@ -193,7 +193,7 @@ returns-then-parked-clause-says g c =
     let fits : length c.loop-parked.chunk ≡ length c.args.chunk.now = c.loop-parked.auto.chunk in
     let full : length c.loop-parked.token ≡ length c.args.token.now = c.loop-parked.auto.token in
     let range = c.skip.ensures.fits (length c.args.token.now) (rw fits t.fits) in
-    let full' : length c.collect.new.token ≡ length c.args.token.now = omega arith in
+    let full' : length c.collect_token.new.token ≡ length c.args.token.now = omega arith in
     let range' = rw full at (c.in-Part.ensures.fits (rw full range)) in
     record {
       gives = λ i given st.
@@ -211,7 +211,7 @@ loop-parked-preserved g c =
     let full : length c.loop-parked.token ≡ length c.args.token.now = c.loop-parked.auto.token in
     let range = c.skip.ensures.fits (length c.args.token.now) (rw fits t.fits) in
     let range' = rw full at (c.in-Part.ensures.fits (rw full range)) in
-    let used : c.collect.new.parked.end ≤ c.collect.new.parked.at = omega (arith, c.in-Part.ensures.part refl, c.if-parked.false) in (
+    let used : c.collect_token.new.parked.end ≤ c.collect_token.new.parked.at = omega (arith, c.in-Part.ensures.part refl, c.if-parked.false) in (
       c.in-More.ensures.failures (λ e. cc) ∙ c.loop-parked.invariant.0,
       record {
         fits = rw (sym fits) (c.in-More.ensures.fits _ range');
@@ -232,16 +232,16 @@ returns-in-End-clause-says g c =
     let fits : length c.loop-parked.chunk ≡ length c.args.chunk.now = c.loop-parked.auto.chunk in
     let full : length c.loop-parked.token ≡ length c.args.token.now = c.loop-parked.auto.token in
     let range = c.skip.ensures.fits (length c.args.token.now) (rw fits t.fits) in
-    let used : c.collect.new.parked.end ≤ c.collect.new.parked.at = omega (arith, c.in-Part.ensures.part refl, c.if-parked.false) in
+    let used : c.collect_token.new.parked.end ≤ c.collect_token.new.parked.at = omega (arith, c.in-Part.ensures.part refl, c.if-parked.false) in
     record {
       gives = λ i given st.
           let w = part-within _ _ _ _ _ _ _ i.bytes given range full c.in-Part.ensures.collects
           (after-skip _ _ _ _ _ _ _ _ t fits c.skip.ensures.begun c.skip.ensures.skips i given st) in
-          finish-stands _ _ _ _ _ _ _ _ i given _ (t.clean i given st) used c.in-End.ensures.fills.1 (rw c.in-End.ensures.fills.0 at c.finish.ensures.finishes) w;
+          finish-stands _ _ _ _ _ _ _ _ i given _ (t.clean i given st) used c.in-End.ensures.fills.1 (rw c.in-End.ensures.fills.0 at c.end_feed.ensures.finishes) w;
       near = λ is i given st.
           let w = part-within _ _ _ _ _ _ _ i.bytes given range full c.in-Part.ensures.collects
           (after-skip _ _ _ _ _ _ _ _ t fits c.skip.ensures.begun c.skip.ensures.skips i given st) in
-          let some : 0 < c.collect.new.parked.size = rw c.in-End.ensures.fills.0 at (c.finish.ensures.looked.1 (cc)) in
+          let some : 0 < c.collect_token.new.parked.size = rw c.in-End.ensures.fills.0 at (c.end_feed.ensures.looked.1 (cc)) in
           rw add-one (finish-near _ _ _ _ _ _ _ i given used c.in-End.ensures.fills.1 some w);
       left = λ e. absurd (cc);
     }
@@ -252,7 +252,7 @@ returns-in-Failed-clause-says g c =
     let fits : length c.loop-parked.chunk ≡ length c.args.chunk.now = c.loop-parked.auto.chunk in
     let full : length c.loop-parked.token ≡ length c.args.token.now = c.loop-parked.auto.token in
     let range = c.skip.ensures.fits (length c.args.token.now) (rw fits t.fits) in
-    let used : c.collect.new.parked.end ≤ c.collect.new.parked.at = omega (arith, c.in-Part.ensures.part refl, c.if-parked.false) in
+    let used : c.collect_token.new.parked.end ≤ c.collect_token.new.parked.at = omega (arith, c.in-Part.ensures.part refl, c.if-parked.false) in
     record {
       gives = λ i given st.
           let w = part-within _ _ _ _ _ _ _ i.bytes given range full c.in-Part.ensures.collects
@@ -262,9 +262,9 @@ returns-in-Failed-clause-says g c =
       left = λ _ i given st _.
           let w = part-within _ _ _ _ _ _ _ i.bytes given range full c.in-Part.ensures.collects
           (after-skip _ _ _ _ _ _ _ _ t fits c.skip.ensures.begun c.skip.ensures.skips i given st) in
-          let rest = fail-rest _ _ _ _ c.fill.new.chunk _ _ _ i given used c.in-Failed.ensures.fills w in
-          let same : looked c.halted-in-Failed.new.parked ≡ looked c.collect.new.parked = omega (arith, c.in-Failed.ensures.looked.0, ap looked (c.halted-in-Failed.ensures.halts)) in
-          subst (λ n. HasRest (g.S.Source.rest c.fill.new.source) n i) (sym same) rest;
+          let rest = fail-rest _ _ _ _ c.fill_chunk.new.chunk _ _ _ i given used c.in-Failed.ensures.fills w in
+          let same : looked c.halted-in-Failed.new.parked ≡ looked c.collect_token.new.parked = omega (arith, c.in-Failed.ensures.looked.0, ap looked (c.halted-in-Failed.ensures.halts)) in
+          subst (λ n. HasRest (g.S.Source.rest c.fill_chunk.new.source) n i) (sym same) rest;
     }
 
 pub returns-in-TooLong-clause-turns : goal.returns-in-TooLong-clause-turns
@@ -274,10 +274,10 @@ returns-in-TooLong-clause-turns g c =
     let full = c.loop-parked.auto.token in
     let range = c.in-TooLong.ensures.fits (rw (fits, full) (rw fits at (c.skip.ensures.fits (length c.args.token.now) (rw fits t.fits)))) in
     let on = c.in-TooLong.ensures.on in
-    let halts : c.halted.new.parked ≡ record c.collect.new.parked { size = 0; phase = Halted TokenTooLong } = c.halted.ensures.halts in
-    let far = far-enough c.args.parked.now c.loop-parked.parked c.skip.new.parked c.collect.new.parked c.loop-parked.invariant.3 c.skip.ensures.on.looked on.looked in
+    let halts : c.halted.new.parked ≡ record c.collect_token.new.parked { size = 0; phase = Halted TokenTooLong } = c.halted.ensures.halts in
+    let far = far-enough c.args.parked.now c.loop-parked.parked c.skip.new.parked c.collect_token.new.parked c.loop-parked.invariant.3 c.skip.ensures.on.looked on.looked in
     rw c.halted.ensures.result
-    (halts-turns g.S.Source.failures g.S.Source.last_failed _ _ _ _ _ _ (c.halted.ensures.fits _ _ (rw (fits, full) at range)) (c.halted.ensures.kept ∙ (on.kept ∙ (c.skip.ensures.on.kept ∙ c.loop-parked.invariant.2))) c.in-Going.is TokenTooLong c.collect.new.parked.size
+    (halts-turns g.S.Source.failures g.S.Source.last_failed _ _ _ _ _ _ (c.halted.ensures.fits _ _ (rw (fits, full) at range)) (c.halted.ensures.kept ∙ (on.kept ∙ (c.skip.ensures.on.kept ∙ c.loop-parked.invariant.2))) c.in-Going.is TokenTooLong c.collect_token.new.parked.size
     (rw (ap looked halts) far) (ap (λ (p : Parked). p.phase) halts) (ap (λ (p : Parked). p.size) halts) (λ e. absurd (cc)) (λ e. absurd (cc)) (λ _. c.loop-parked.invariant.0))
 
 pub returns-then-parked-clause-turns : goal.returns-then-parked-clause-turns
@@ -287,10 +287,10 @@ returns-then-parked-clause-turns g c =
     let full = c.loop-parked.auto.token in
     let range = c.in-Part.ensures.fits (rw (fits, full) (rw fits at (c.skip.ensures.fits (length c.args.token.now) (rw fits t.fits)))) in
     let on = c.in-Part.ensures.on in
-    let halts : c.halted-then-parked.new.parked ≡ record c.collect.new.parked { size = 0; line = c.collect.new.parked.line_feeds + 1; phase = Halted InputTooLong } = c.halted-then-parked.ensures.halts in
-    let far = far-enough c.args.parked.now c.loop-parked.parked c.skip.new.parked c.collect.new.parked c.loop-parked.invariant.3 c.skip.ensures.on.looked on.looked in
+    let halts : c.halted-then-parked.new.parked ≡ record c.collect_token.new.parked { size = 0; line = c.collect_token.new.parked.line_feeds + 1; phase = Halted InputTooLong } = c.halted-then-parked.ensures.halts in
+    let far = far-enough c.args.parked.now c.loop-parked.parked c.skip.new.parked c.collect_token.new.parked c.loop-parked.invariant.3 c.skip.ensures.on.looked on.looked in
     rw c.halted-then-parked.ensures.result
-    (halts-turns g.S.Source.failures g.S.Source.last_failed _ _ _ _ _ _ (c.halted-then-parked.ensures.fits _ _ (rw (fits, full) at range)) (c.halted-then-parked.ensures.kept ∙ (on.kept ∙ (c.skip.ensures.on.kept ∙ c.loop-parked.invariant.2))) c.in-Going.is InputTooLong c.collect.new.parked.size
+    (halts-turns g.S.Source.failures g.S.Source.last_failed _ _ _ _ _ _ (c.halted-then-parked.ensures.fits _ _ (rw (fits, full) at range)) (c.halted-then-parked.ensures.kept ∙ (on.kept ∙ (c.skip.ensures.on.kept ∙ c.loop-parked.invariant.2))) c.in-Going.is InputTooLong c.collect_token.new.parked.size
     (rw (ap looked halts) far) (ap (λ (p : Parked). p.phase) halts) (ap (λ (p : Parked). p.size) halts) (λ e. absurd (cc)) (λ e. absurd (cc)) (λ _. c.loop-parked.invariant.0))
 
 pub returns-in-Failed-clause-turns : goal.returns-in-Failed-clause-turns
@@ -301,10 +301,10 @@ returns-in-Failed-clause-turns g c =
     let range = c.in-Part.ensures.fits (rw (fits, full) (rw fits at (c.skip.ensures.fits (length c.args.token.now) (rw fits t.fits)))) in
     let on = c.in-Part.ensures.on in
     let filled = c.in-Failed.ensures in
-    let halts : c.halted-in-Failed.new.parked ≡ record c.fill.new.parked { size = 0; line = c.fill.new.parked.line_feeds + 1; phase = Halted ReadFailed } = c.halted-in-Failed.ensures.halts in
-    let far = far-enough c.args.parked.now c.loop-parked.parked c.skip.new.parked c.collect.new.parked c.loop-parked.invariant.3 c.skip.ensures.on.looked on.looked in
+    let halts : c.halted-in-Failed.new.parked ≡ record c.fill_chunk.new.parked { size = 0; line = c.fill_chunk.new.parked.line_feeds + 1; phase = Halted ReadFailed } = c.halted-in-Failed.ensures.halts in
+    let far = far-enough c.args.parked.now c.loop-parked.parked c.skip.new.parked c.collect_token.new.parked c.loop-parked.invariant.3 c.skip.ensures.on.looked on.looked in
     rw c.halted-in-Failed.ensures.result
-    (halts-turns g.S.Source.failures g.S.Source.last_failed _ _ _ _ _ _ (c.halted-in-Failed.ensures.fits _ _ (rw fits at (filled.fits _ (rw full at range)))) (c.halted-in-Failed.ensures.kept ∙ (filled.kept ∙ (on.kept ∙ (c.skip.ensures.on.kept ∙ c.loop-parked.invariant.2)))) c.in-Going.is ReadFailed c.collect.new.parked.size
+    (halts-turns g.S.Source.failures g.S.Source.last_failed _ _ _ _ _ _ (c.halted-in-Failed.ensures.fits _ _ (rw fits at (filled.fits _ (rw full at range)))) (c.halted-in-Failed.ensures.kept ∙ (filled.kept ∙ (on.kept ∙ (c.skip.ensures.on.kept ∙ c.loop-parked.invariant.2)))) c.in-Going.is ReadFailed c.collect_token.new.parked.size
     (rw (ap looked halts, filled.looked.0) far) (ap (λ (p : Parked). p.phase) halts) (ap (λ (p : Parked). p.size) halts) (λ _. filled.failed refl ∙ ap (λ n. n + 1) c.loop-parked.invariant.0) (λ _. filled.last refl) (λ n. absurd (n refl)))
 
 pub returns-in-End-clause-turns : goal.returns-in-End-clause-turns
@@ -315,22 +315,22 @@ returns-in-End-clause-turns g c =
     let range = c.in-Part.ensures.fits (rw (fits, full) (rw fits at (c.skip.ensures.fits (length c.args.token.now) (rw fits t.fits)))) in
     let on = c.in-Part.ensures.on in
     let filled = c.in-End.ensures in
-    let far = far-enough c.args.parked.now c.loop-parked.parked c.skip.new.parked c.collect.new.parked c.loop-parked.invariant.3 c.skip.ensures.on.looked on.looked in
-    ends-turns g.S.Source.failures g.S.Source.last_failed _ _ _ _ _ _ (c.finish.ensures.fits _ _ (rw fits at (filled.fits _ (rw full at range)))) (c.finish.ensures.kept ∙ (filled.kept ∙ (on.kept ∙ (c.skip.ensures.on.kept ∙ c.loop-parked.invariant.2)))) c.in-Going.is
-    c.fill.new.parked c.finish.result (rw (filled.looked.0, filled.looked.1) far) c.finish.ensures.finishes (filled.failures (λ e. cc) ∙ c.loop-parked.invariant.0)
+    let far = far-enough c.args.parked.now c.loop-parked.parked c.skip.new.parked c.collect_token.new.parked c.loop-parked.invariant.3 c.skip.ensures.on.looked on.looked in
+    ends-turns g.S.Source.failures g.S.Source.last_failed _ _ _ _ _ _ (c.end_feed.ensures.fits _ _ (rw fits at (filled.fits _ (rw full at range)))) (c.end_feed.ensures.kept ∙ (filled.kept ∙ (on.kept ∙ (c.skip.ensures.on.kept ∙ c.loop-parked.invariant.2)))) c.in-Going.is
+    c.fill_chunk.new.parked c.end_feed.result (rw (filled.looked.0, filled.looked.1) far) c.end_feed.ensures.finishes (filled.failures (λ e. cc) ∙ c.loop-parked.invariant.0)
 
 -- ---- if whole tokens lie ahead
 
 pub returns-in-Whole-clause-ahead : goal.returns-in-Whole-clause-ahead
 returns-in-Whole-clause-ahead g c = λ t ts w.
     let phase = c.in-Whole.ensures.on.phase ∙ (c.skip.ensures.on.phase ∙ c.loop-parked.invariant.1.going) in
-    let full : length c.collect.new.token ≡ length c.args.token.now = omega (arith, c.loop-parked.auto.token) in
+    let full : length c.collect_token.new.token ≡ length c.args.token.now = omega (arith, c.loop-parked.auto.token) in
     let s = stays_whole _ _ _ _ _ _ _ _ _ _ t ts c.loop-parked.invariant.1.fits c.loop-parked.auto.chunk c.skip.ensures.skips (c.loop-parked.invariant.4 t ts w) phase c.in-Whole.ensures.collects in
     (refl, s.0, s.1, rw full s.2)
 
 pub returns-in-TooLong-clause-ahead : goal.returns-in-TooLong-clause-ahead
 returns-in-TooLong-clause-ahead g c = λ t ts w.
-    absurd (stays_long _ _ _ _ _ c.collect.new.token _ _ _ _ t ts c.loop-parked.invariant.1.fits c.loop-parked.auto.chunk c.skip.ensures.skips (c.loop-parked.invariant.4 t ts w) c.loop-parked.auto.token c.in-TooLong.ensures.collects)
+    absurd (stays_long _ _ _ _ _ c.collect_token.new.token _ _ _ _ t ts c.loop-parked.invariant.1.fits c.loop-parked.auto.chunk c.skip.ensures.skips (c.loop-parked.invariant.4 t ts w) c.loop-parked.auto.token c.in-TooLong.ensures.collects)
 
 pub returns-then-parked-clause-ahead : goal.returns-then-parked-clause-ahead
 returns-then-parked-clause-ahead g c = λ t ts w.

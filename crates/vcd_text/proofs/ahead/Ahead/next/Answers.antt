@@ -26,9 +26,9 @@ returns-in_err-white-2-clause-needed c = λ _ start n front r.
     let a = c.args.self.now in
     let is = c.if-not-begins_at.false in
     let m = c.in_ok-white.ensures.bits a.at a.order a.bits in
-    let one = c.after_first.ensures.bits a.bytes.now a.at (length a.bytes.now) (c.begins_at.ensures.near is) (c.begins_at.ensures.set is) m in
+    let one = c.without_first.ensures.bits a.bytes.now a.at (length a.bytes.now) (c.begins_at.ensures.near is) (c.begins_at.ensures.set is) m in
     let white = white_one a.bytes.now a.at (c.begins_at.ensures.white is a.bytes.now (length a.bytes.now) m).1 in
-    let le : a.at + 1 ≤ c.after_first.result.next = omega (arith, one.0, c.after_first.ensures.next) in
+    let le : a.at + 1 ≤ c.without_first.result.next = omega (arith, one.0, c.without_first.ensures.next) in
     let none = c.in_err-white-2.ensures.none refl in
     let behind = run_behind a.limit a.bytes.now a.at (a.at + 1) start n white front r in
     let far = run_past a.limit a.bytes.now (a.at + 1) none.0 start n behind (none.2 (a.at + 1) le one.1) r in
@@ -40,8 +40,8 @@ begins_at-requires-2-clause-ahead c =
     let a = c.args.self.now in
     let is = c.if-not-begins_at.false in
     let m = c.in_ok-white.ensures.bits a.at a.order a.bits in
-    let one = c.after_first.ensures.bits a.bytes.now a.at (length a.bytes.now) (c.begins_at.ensures.near is) (c.begins_at.ensures.set is) m in
-    let le : a.at + 1 ≤ c.after_first.result.next = omega (arith, one.0, c.after_first.ensures.next) in
+    let one = c.without_first.ensures.bits a.bytes.now a.at (length a.bytes.now) (c.begins_at.ensures.near is) (c.begins_at.ensures.set is) m in
+    let le : a.at + 1 ≤ c.without_first.result.next = omega (arith, one.0, c.without_first.ensures.next) in
     let m2 = c.in_ok-white-2.ensures.bits (a.at + 1) le one.1 in
     m2.ahead
 
@@ -80,8 +80,8 @@ take-requires-2-clause-bits c =
     let a = c.args.self.now in
     let is = c.if-not-begins_at.false in
     let m = c.in_ok-white.ensures.bits a.at a.order a.bits in
-    let one = c.after_first.ensures.bits a.bytes.now a.at (length a.bytes.now) (c.begins_at.ensures.near is) (c.begins_at.ensures.set is) m in
-    let le : a.at + 1 ≤ c.after_first.result.next = omega (arith, one.0, c.after_first.ensures.next) in
+    let one = c.without_first.ensures.bits a.bytes.now a.at (length a.bytes.now) (c.begins_at.ensures.near is) (c.begins_at.ensures.set is) m in
+    let le : a.at + 1 ≤ c.without_first.result.next = omega (arith, one.0, c.without_first.ensures.next) in
     elim c.if-begins_at.branch [
       | then-begins_at+in_ok-white-3 w ↦ (let from = w.past_white-start.result in
           let far : from ≤ w.unknown.result.next = omega (arith, w.unknown.ensures.next) in

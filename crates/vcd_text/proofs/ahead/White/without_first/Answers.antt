@@ -1,6 +1,6 @@
 use Rattle.vcd_text.proofs.Cited.{◌+◌, ◌-◌, inl, inr, arith, cases_lt}
 use Rattle.vcd_text.proofs.Facts.{bits-on}
-use Rattle.vcd_text.proofs.ahead.White.after_first.Goals as goal
+use Rattle.vcd_text.proofs.ahead.White.without_first.Goals as goal
 
 pub returns-clause-bits : goal.returns-clause-bits
 returns-clause-bits c = λ chunk at stop near known m.

@@ -1,6 +1,6 @@
 use Rattle.vcd_text.proofs.Cited.{◌≡◌, ℕ, List, ◌∷◌, length, refl, sym, subst, arith, add-one, AreFirst, ahead_in, Parked}
 use Rattle.vcd_text.proofs.Facts.{short-going, short-near, short-skips, short-stands, stays_whole}
-use Rattle.vcd_text.proofs.feed.step.Goals as goal
+use Rattle.vcd_text.proofs.feed.take_or_gather.Goals as goal
 
 pub returns-then-collect_short-clause-says : goal.returns-then-collect_short-clause-says
 returns-then-collect_short-clause-says g c =
