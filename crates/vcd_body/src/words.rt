@@ -5,7 +5,7 @@ ghost use Rattle.vcd_body.specs.Names.{AreBinary, AreBinaryIf, AreBitsAt, Begins
 use crate::item::Section;
 use crate::values::bits::Bits;
 use std::simd::prelude::*;
-use vcd_view::{Keyword, keyword_of};
+use vcd_view::Keyword;
 
 /// What a phrase begins with, by the token's first byte.
 #[derive(Clone, Copy, PartialEq, Eq, Debug)]
@@ -130,7 +130,7 @@ fn use_of(keyword: Keyword) -> KeywordUse
 pub(crate) fn keyword_use_of(token: &[u8]) -> Option<KeywordUse>
     ensures { StandsFor token.now result }
 {
-    Some(use_of(keyword_of(token)?))
+    Some(use_of(Keyword::of(token)?))
 }
 
 /// Returns whether the byte is a digit of a value: one of `0`, `1`, `x`, `X`, `z` and `Z`.

@@ -12,7 +12,7 @@ use crate::variable::read_variable;
 use crate::words::{begins_change, is_command};
 use std::alloc::Global;
 use vcd_text::{Feed, Source};
-use vcd_view::{Keyword, keyword_of};
+use vcd_view::Keyword;
 
 /// Reads the rest of a command that is no keyword, up to its `$end`, and ignores it; the feed's
 /// token is its first one. Fails with `OutOfPlace` if that token could begin a timestamp or a value
@@ -58,7 +58,7 @@ pub(crate) fn read_phrase<S: Source>(
     ensures progress { OnOk result (2 ^ 63 - seen feed.new < 2 ^ 63 - seen feed.old) }
 {
     next_token(feed)?;
-    let keyword = keyword_of(feed.token());
+    let keyword = Keyword::of(feed.token());
     read_rest(alloc, feed, most, keyword, draft)?;
     Ok(goes_on(keyword))
 }

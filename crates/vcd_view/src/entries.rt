@@ -49,7 +49,7 @@ pub(crate) fn code_number(code: &[u8]) -> usize
             above(above(above(0, *fourth), *third), *second),
             *first,
         ),
-        _ => number_of(code),
+        _ => long_code_number(code),
     }
 }
 
@@ -64,9 +64,8 @@ fn above(number: usize, byte: u8) -> usize
         .wrapping_add(usize::from(byte).wrapping_sub(32))
 }
 
-/// Returns the number whose digits in base 99 are the bytes of a code of any length, each less 32,
-/// the first byte as the lowest digit. It wraps at 2^64.
-fn number_of(code: &[u8]) -> usize
+/// Returns what `code_number` returns for a code of any length, by a loop over its bytes.
+fn long_code_number(code: &[u8]) -> usize
     ensures { result ≡ number_in code.now }
 {
     let mut number: usize = 0;

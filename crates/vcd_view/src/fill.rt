@@ -41,7 +41,7 @@ pub fn fill_entries(entries: &mut [Entry], text: &[u8], codes: &[Code], seed: Co
 {
     for (position, code) in codes.iter().enumerate() {
         let bytes = text_in(text, code.start, code.len as usize);
-        let (key, free) = place_for(entries, bytes, seed);
+        let (key, free) = key_and_entry_for(entries, bytes, seed);
         if let Some(at) = free {
             entries[at] = entry_with(position, *code, key);
         }
@@ -52,7 +52,7 @@ pub fn fill_entries(entries: &mut [Entry], text: &[u8], codes: &[Code], seed: Co
 /// in the table `entries`: the one that its number leads to, one of the three beside it, or one
 /// that its hash by `seed` leads to, whichever of these is free first. `None` if none is free.
 #[inline(always)]
-fn place_for(entries: &[Entry], bytes: &[u8], seed: CodeSeed) -> (u64, Option<usize>)
+fn key_and_entry_for(entries: &[Entry], bytes: &[u8], seed: CodeSeed) -> (u64, Option<usize>)
     ensures key { MayHaveKey bytes.now result.0 }
     ensures free { IfSome result.1 (λ at. at < length entries.now) }
 {
@@ -100,10 +100,7 @@ fn free_by(entries: &[Entry], hash: u64) -> Option<usize>
 fn is_free(entries: &[Entry], at: usize) -> bool
     ensures { result ≡ true → at < length entries.now }
 {
-    match entries.get(at) {
-        Some(entry) => entry.key == 0,
-        None => false,
-    }
+    matches!(entries.get(at), Some(entry) if entry.key == 0)
 }
 
 /// Returns an entry for the code at index `position`, with this key and the size of the code. It is

@@ -47,7 +47,7 @@ mod view;
 pub use code_hash::{CodeHasher, CodeSeed};
 pub use fill::{entries_needed, fill_entries};
 pub use key::key_of;
-pub use keyword::{Keyword, is_end, keyword_of};
+pub use keyword::{Keyword, is_end};
 pub use look_up::{Found, find, find_counted, find_in_entry, find_sized};
 pub use new_code::{NewCode, put_code};
 pub use probes::Probes;

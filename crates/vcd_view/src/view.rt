@@ -191,13 +191,13 @@ impl<'a> HeadView<'a> {
         }
     }
 
-    /// Returns the bytes of the identifier code at index `code` of the distinct codes; no bytes if
-    /// there is no such index.
+    /// Returns the bytes of the identifier code at index `position` of the distinct codes; no bytes
+    /// if there is no such index.
     #[inline(always)]
-    pub fn code_text(self, code: usize) -> &'a [u8]
-        ensures { (h : Header) → IsViewOf self.entry h → result.now ≡ code_text h.codes code }
+    pub fn code_text(self, position: usize) -> &'a [u8]
+        ensures { (h : Header) → IsViewOf self.entry h → result.now ≡ code_text h.codes position }
     {
-        code_bytes(self.text, self.codes, code)
+        code_bytes(self.text, self.codes, position)
     }
 
     /// Returns the power of ten of the header's time scale, in seconds, such as -9 for 1 ns. It is
@@ -211,16 +211,16 @@ impl<'a> HeadView<'a> {
         }
     }
 
-    /// Returns whether the variables of the identifier code at index `code` are events; false if
-    /// there is no such index.
+    /// Returns whether the variables of the identifier code at index `position` are events; false
+    /// if there is no such index.
     #[inline(always)]
-    pub fn is_event(self, code: usize) -> bool
+    pub fn is_event(self, position: usize) -> bool
         ensures event { (h : Header) → IsViewOf self.entry h
-            → result ≡ unwrap_or (option_map (λ c. c.event) (slice_get h.codes code)) false }
+            → result ≡ unwrap_or (option_map (λ c. c.event) (slice_get h.codes position)) false }
         ensures value { result ≡ unwrap_or
-            (option_map (λ (c : Code). c.event) (slice_get self.entry.codes.now code)) false }
+            (option_map (λ (c : Code). c.event) (slice_get self.entry.codes.now position)) false }
     {
-        match self.code_at(code) {
+        match self.code_at(position) {
             Some(code) => code.event,
             None => false,
         }

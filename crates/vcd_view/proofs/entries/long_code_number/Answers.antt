@@ -1,5 +1,5 @@
 use Rattle.vcd_view.proofs.Cited.{◌≡◌, ◌-◌, ◌+◌, get_or, ap, ◌∙◌, arith, drop_more, above}
-use Rattle.vcd_view.proofs.entries.number_of.Goals as goal
+use Rattle.vcd_view.proofs.entries.long_code_number.Goals as goal
 
 pub loop-position-preserved : goal.loop-position-preserved
 loop-position-preserved c =
