@@ -45,7 +45,7 @@ pub use Rattle.vcd_head.specs.Declares.{IsBarred, MayStart, keyword_for}
 pub use Rattle.vcd_head.specs.Draft.{AtFirstToken, AtKeyword, AtOther, CodeHeld, Declares, DraftsAll, DraftsUpTo, HasCodes, IsDraftOf, IsEntered, IsNew}
 pub use Rattle.vcd_head.specs.Entered.{AddsKey, EntersKey, HasKey, code_with}
 pub use Rattle.vcd_head.specs.Fault.{fault_number}
-pub use Rattle.vcd_head.specs.Fronts.{AreRanks, AreShort, place_in_rank, prefix_in, rank_in, rank_of}
+pub use Rattle.vcd_head.specs.Fronts.{AreRanks, AreShort, position_in_rank, prefix_in, rank_in, rank_of}
 pub use Rattle.vcd_head.specs.Inside.{AreOpen, Enters, HasEntered, front}
 pub use Rattle.vcd_head.specs.Keys.{AreKeysOf, is_key, same_shape, shape_in, shape_of}
 pub use Rattle.vcd_head.specs.Marks.{AllMarked, AreClosed, Marked, is_marked}

@@ -28,5 +28,5 @@ pub record AreRanks (text : List ℕ) (codes : List Code) (ranks : List ℕ) : T
   pub numbers : ranks ≡ map (rank_in text codes) (range_with_len 0 (length codes))
 
 -- the index that a rank ends with
-abbrev pub place_in_rank : ℕ → ℕ
-place_in_rank r = r % 16777216
+abbrev pub position_in_rank : ℕ → ℕ
+position_in_rank r = r % 16777216

@@ -33,7 +33,7 @@ pub use Rattle.vcd_head.specs.Declares.{IsBarred, MayStart, Takes as TakesPhrase
 pub use Rattle.vcd_head.specs.Draft.{IsDraftOf, IsNew, goes_on}
 pub use Rattle.vcd_head.specs.Entered.{Enters, EntersKey, IsNewCode, code_with}
 pub use Rattle.vcd_head.specs.Fault.{IsFound, call_end, fault_number}
-pub use Rattle.vcd_head.specs.Fronts.{AreRanks, prefix_in, place_in_rank, rank_of}
+pub use Rattle.vcd_head.specs.Fronts.{AreRanks, prefix_in, position_in_rank, rank_of}
 pub use Rattle.vcd_head.specs.Groups.{AreRising, FlagsSome, GoesOnWith, IsRun, IsRunOn, RunsOn, names_of}
 pub use Rattle.vcd_head.specs.Inside.{AnyOpen, ComparesAt, Enters as EntersScope, FlagsSelected, GivesAround, IsOpen, KeepsOpen, SelectsAt, StaysOpen, front, row_path}
 pub use Rattle.vcd_head.specs.Keys.{AreKeysOf, is_key, same_shape, same_writes, shape_in, shape_of, writes_of}

@@ -32,7 +32,7 @@ pub(crate) fn enter_code(
 {
     let (position, new) = enter_key(alloc, known, bytes)?;
     if new {
-        add(text, &mut known.list, bytes, size, event)?;
+        add_code(text, &mut known.list, bytes, size, event)?;
         return Ok(Some(position));
     }
     if !is_declared_as(&known.list, position, size, event) {
@@ -96,7 +96,7 @@ fn enter_in_set(alloc: Global, known: &mut Codes, bytes: &[u8]) -> Result<(usize
 /// Appends the bytes of a code to `text`, and the code to `list`: with its `size`, and as that of
 /// an event if `event` is true. Fails only with `OutOfMemory`; then only the bytes may be appended.
 #[inline(always)]
-fn add(
+fn add_code(
     text: &mut Vec<u8>,
     list: &mut Vec<Code>,
     bytes: &[u8],

@@ -12,7 +12,7 @@ use vcd_view::{Code, CodeSeed, Entry, entries_needed, fill_entries};
 
 /// Returns the header that a draft has once all phrases were read into it, with the tables for
 /// look-ups of codes. Fails only with `OutOfMemory`.
-pub(crate) fn finish(alloc: Global, draft: Draft) -> Result<Head, HeadFault>
+pub(crate) fn head_of_draft(alloc: Global, draft: Draft) -> Result<Head, HeadFault>
     ensures head { (most : ℕ) (ps : List HeaderPhrase) → IsDraftOf most draft ps
         → IfOk result (λ head. Views (shown head) (header_of ps)) }
     ensures memory { IfErr result (λ fault. fault ≡ HeadFault.OutOfMemory) }

@@ -1,6 +1,6 @@
 // The order of codes by their bytes.
 ghost use Rattle.std.specs.Prelude.{◌≡◌, ◌^◌, ◌<◌, ◌≤◌, List, length, map, get_or, IfOk, IfSome};
-ghost use Rattle.vcd_head.specs.Names.{AnyHeld, AreRanks, IsIndex, prefix_in, place_in_rank, range_with_len, rank_of};
+ghost use Rattle.vcd_head.specs.Names.{AnyHeld, AreRanks, IsIndex, prefix_in, position_in_rank, range_with_len, rank_of};
 
 use std::alloc::{AllocError, Global};
 use vcd_view::{Code, code_bytes};
@@ -9,7 +9,7 @@ use vcd_view::{Code, code_bytes};
 const RANK_BYTES: usize = 4;
 
 // How many indexes a rank can distinguish.
-const PLACES: usize = 16_777_216;
+const RANK_POSITIONS: usize = 16_777_216;
 
 /// Returns the indexes of the codes in the order of the codes' bytes, which lie in `text`. Fails if
 /// there is no memory.
@@ -48,7 +48,7 @@ fn index_by_ranks(
 fn ranks_of(alloc: Global, text: &[u8], codes: &[Code]) -> Result<Option<Vec<usize>>, AllocError>
     ensures { IfOk result (λ some. IfSome some (λ ranks. AreRanks text.now codes.now ranks.items)) }
 {
-    if codes.len() > PLACES {
+    if codes.len() > RANK_POSITIONS {
         return Ok(None);
     }
     let mut ranks = Vec::with_capacity(alloc, codes.len())?;
@@ -72,15 +72,15 @@ fn rank_of(bytes: &[u8], position: usize) -> usize
     ensures { result ≡ rank_of bytes.now position }
 {
     let front = prefix_of(bytes, RANK_BYTES);
-    (front as usize * 8 + bytes.len()) * PLACES + position
+    (front as usize * 8 + bytes.len()) * RANK_POSITIONS + position
 }
 
 /// Replaces each number that `rank_of` returned by the index in it.
 fn ranks_to_indexes(ranks: &mut [usize])
-    ensures { ranks.new ≡ map place_in_rank ranks.old }
+    ensures { ranks.new ≡ map position_in_rank ranks.old }
 {
     for rank in ranks.iter_mut() {
-        *rank %= PLACES;
+        *rank %= RANK_POSITIONS;
     }
 }
 

@@ -92,7 +92,8 @@ impl<'o> Open<'o> {
                 self.entered = self.entered.min(self.depth);
                 false
             }
-            Kind::Var => self.selects(view, row, group, matched) || group.names.is_empty(),
+            Kind::Var => self.enter_and_compare(view, row, group, matched)
+                || group.names.is_empty(),
         }
     }
 
@@ -100,7 +101,7 @@ impl<'o> Open<'o> {
     /// flags in `matched` of those that do. Before that it enters the scopes around the variable
     /// that were not entered yet.
     #[inline(always)]
-    fn selects(
+    fn enter_and_compare(
         &mut self,
         view: HeadView<'_>,
         row: usize,
@@ -113,7 +114,7 @@ impl<'o> Open<'o> {
         if self.entered < self.depth {
             self.enter_around(view, row, group, matched);
         }
-        self.compare(view, row, group, matched)
+        self.compare_names(view, row, group, matched)
     }
 
     /// Enters the scopes around the variable at index `row` that were not entered yet, from the
@@ -153,16 +154,16 @@ impl<'o> Open<'o> {
             return;
         };
         let run = group.follow_scope(around.run, view.name_of(row), matched);
-        self.hold(Inside {
+        self.keep_inner(Inside {
             scope: row + 1,
             run,
         });
     }
 
     /// Keeps `inner`, the names that can select something in one more scope, which is now the
-    /// innermost one entered. If 1,000 are entered, nothing changes, and `compare` looks at each
-    /// name by itself.
-    fn hold(&mut self, inner: Inside)
+    /// innermost one entered. If 1,000 are entered, nothing changes, and `compare_names` looks at
+    /// each name by itself.
+    fn keep_inner(&mut self, inner: Inside)
         ensures { StaysOpen inner self.old self.new }
     {
         let next = self.entered.saturating_add(1);
@@ -176,7 +177,7 @@ impl<'o> Open<'o> {
     /// flags in `matched` of those that do. The scopes around the variable have been entered
     /// before.
     #[inline(always)]
-    fn compare(
+    fn compare_names(
         &self,
         view: HeadView<'_>,
         row: usize,
@@ -186,7 +187,7 @@ impl<'o> Open<'o> {
         ensures { ComparesAt view.entry row group.now matched.old matched.new self.now result }
     {
         match self.around(view, row) {
-            Some(around) => group.selects(around.run, view.name_of(row), matched),
+            Some(around) => group.note_selecting(around.run, view.name_of(row), matched),
             None => compare_each(view, row, group.names, matched),
         }
     }

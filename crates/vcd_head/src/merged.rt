@@ -4,7 +4,7 @@ ghost use Rattle.vcd_head.specs.Names.{AnyDeclared, AnyHeader, AnyRow, Counts, F
 
 use crate::enclosing::Enclosing;
 use crate::head::Head;
-use crate::write::{put_lines, put_scope, put_variable, text_of_exponent};
+use crate::write::{put_phrase, put_scope_line, put_var_line, text_of_exponent};
 use vcd_text::{Sink, WriteFailed, put, put_number};
 use vcd_view::{HeadView, Kind, NewCode};
 
@@ -66,7 +66,7 @@ fn put_openings<W: Sink>(
 {
     let mut scopes = Enclosing::innermost(row, count);
     while let Some(scope) = scopes.next(view) {
-        put_scope(view, scope, w)?;
+        put_scope_line(view, scope, w)?;
     }
     Ok(())
 }
@@ -121,7 +121,7 @@ fn put_input_row<W: Sink>(
         Kind::Var => {
             put_openings(view, row, scopes.pending, w)?;
             let id = NewCode::of(first.saturating_add(declared.code as u64));
-            put_variable(view, row, id.text(), w)
+            put_var_line(view, row, id.text(), w)
         }
     }
 }
@@ -196,7 +196,7 @@ pub fn put_merged_head<W: Sink>(heads: &[Head], w: &mut W) -> Result<(), WriteFa
         → Takes (W.device w.old) (W.device w.new) (merged_head hs) result }
     ensures counts { Counts (W.device w.old) (W.device w.new) result }
 {
-    put_lines(w, b"$timescale", text_of_exponent(least_exponent(heads)))?;
+    put_phrase(w, b"$timescale", text_of_exponent(least_exponent(heads)))?;
     put_input_heads(heads, w)?;
     put(w, b"$enddefinitions $end\n")
 }

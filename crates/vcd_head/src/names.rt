@@ -34,7 +34,7 @@ impl<'n> Group<'n> {
     ghost use Rattle.vcd_head.specs.Names.{AreRising, FlagsSome, GoesOnWith, IsRun, IsRunOn, Narrows, RunsOn, names_of};
 
     /// Returns a group of these names, at most 16,384. `order` has their indexes in the order of
-    /// their bytes, as `put_names` writes them.
+    /// their bytes, as `put_name_order` writes them.
     pub(crate) fn new(names: &'n [String], order: &'n [u16; GROUP_NAMES]) -> Self
         requires few { length names.now ≤ 16384 }
         requires order { IsOrder (map string_bytes names.now) order.now }
@@ -226,7 +226,7 @@ impl<'n> Group<'n> {
     /// Returns the names of `run`, which begin like a path, that continue with `bytes`, the next
     /// ones of this path. Sets the flags in `matched` of the names that end just before a dot in
     /// them, and so select every such path.
-    pub(crate) fn follow(
+    pub(crate) fn follow_bytes(
         &self,
         run: NameRun,
         bytes: &[u8],
@@ -259,14 +259,14 @@ impl<'n> Group<'n> {
         ensures { RunsOn self.now matched.old matched.new run
             (λ front. front ++ (component.now ++ 46 ∷ [])) result }
     {
-        let named = self.follow(run, component, matched);
+        let named = self.follow_bytes(run, component, matched);
         self.follow_byte(named, b'.', matched)
     }
 
     /// Returns whether some name selects a variable whose own name is `own`, and sets the flags in
     /// `matched` of those that do. `run` has the names that can select something inside the scopes
     /// around the variable.
-    pub(crate) fn selects(
+    pub(crate) fn note_selecting(
         &self,
         run: NameRun,
         own: &[u8],
@@ -275,7 +275,7 @@ impl<'n> Group<'n> {
         ensures { FlagsSome self.now matched.old matched.new run
             (λ front. selects_path (front ++ own.now)) result }
     {
-        let named = self.follow(run, own, matched);
+        let named = self.follow_bytes(run, own, matched);
         let ends = self.note(named, matched);
         named.whole | ends
     }
@@ -283,7 +283,7 @@ impl<'n> Group<'n> {
 
 /// Writes the indexes of the names, at most 16,384, in the order of the names' bytes, to the first
 /// elements of `order`. The elements must be 0 before, and the other ones stay so.
-pub(crate) fn put_names(order: &mut [u16; GROUP_NAMES], names: &[String])
+pub(crate) fn put_name_order(order: &mut [u16; GROUP_NAMES], names: &[String])
     requires few { length names.now ≤ 16384 }
     requires zeros { (i : ℕ) → get_or order.old i 0 ≡ 0 }
     ensures { IsOrder (map string_bytes names.now) order.new }
@@ -301,12 +301,12 @@ fn put_order(positions: &mut [u16], names: &[String])
     ensures within { All (λ p. p < length names.now) positions.new }
     ensures sorted { IsSortedBy (comes_before (map string_bytes names.now)) positions.new }
 {
-    number(positions);
+    put_indexes(positions);
     sort(positions, names);
 }
 
 /// Writes to each element, of which there are at most 16,384, its own index: 0, 1, 2, ..
-fn number(positions: &mut [u16])
+fn put_indexes(positions: &mut [u16])
     requires { length positions.old ≤ 16384 }
     ensures len { length positions.new ≡ length positions.old }
     ensures each { (i : ℕ) → i < length positions.old → get_or positions.new i 0 ≡ i }

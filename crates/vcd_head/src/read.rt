@@ -4,7 +4,7 @@ ghost use Rattle.vcd_head.specs.Names.{MovesOn, ReadsAll, ReadsHead, source_of};
 
 use crate::draft::Draft;
 use crate::fault::HeadFault;
-use crate::finish::finish;
+use crate::finish::head_of_draft;
 use crate::head::Head;
 use crate::phrases::read_phrase;
 use std::alloc::Global;
@@ -64,7 +64,7 @@ pub fn read_head_with_hasher<S: Source, B: BuildHasher>(
 {
     let mut draft = Draft::new(alloc, CodeSeed::of(hasher));
     read_phrases(alloc, feed, most, &mut draft)?;
-    finish(alloc, draft)
+    head_of_draft(alloc, draft)
 }
 
 /// Reads all phrases of a header into the draft, up to `$enddefinitions $end`. At most `most`

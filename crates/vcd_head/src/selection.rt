@@ -4,7 +4,7 @@ ghost use Rattle.vcd_head.specs.Names.{AnyDeclared, AnyHeader, AnyRow, AnyVariab
 
 use crate::enclosing::Enclosing;
 use crate::inside::{Inside, LEVELS, Open};
-use crate::names::{GROUP_NAMES, Group, put_names};
+use crate::names::{GROUP_NAMES, Group, put_name_order};
 use vcd_view::{HeadView, Kind};
 
 // What a name says of a path, once it was compared with a prefix of the path.
@@ -67,7 +67,7 @@ pub fn selects(view: HeadView<'_>, row: usize, name: &str) -> bool
 /// Sets the elements of the declaration at index `row` and of each scope around it to 1 in `marks`,
 /// which has one byte for each row. It stops at the first one that is 1 already, because the scopes
 /// around it are marked too.
-fn mark(view: HeadView<'_>, row: usize, marks: &mut [u8])
+fn mark_with_scopes(view: HeadView<'_>, row: usize, marks: &mut [u8])
     requires { row < length marks.old }
     ensures marks { AnyRow view.entry row (λ h. AreClosed h.declarations marks.old
         → Marked (row_and_scopes h row) marks.old marks.new) }
@@ -94,7 +94,7 @@ fn mark_all(view: HeadView<'_>, marks: &mut [u8])
 {
     for row in 0..view.rows.len() {
         if is_variable(view, row) {
-            mark(view, row, marks);
+            mark_with_scopes(view, row, marks);
         }
     }
 }
@@ -131,14 +131,14 @@ fn mark_selected(view: HeadView<'_>, names: &[String], marks: &mut [u8]) -> Opti
     ensures len { length marks.new ≡ length marks.old }
 {
     let mut order = [0; GROUP_NAMES];
-    put_names(&mut order, names);
+    put_name_order(&mut order, names);
     let group = Group::new(names, &order);
     let mut inside = [Inside::outermost(&group); LEVELS];
     let mut open = Open::new(&group, &mut inside);
     let mut matched = [false; GROUP_NAMES];
     for row in 0..view.rows.len() {
         if open.take(view, row, &group, &mut matched) {
-            mark(view, row, marks);
+            mark_with_scopes(view, row, marks);
         }
     }
     first_false(&matched, names.len())

@@ -10,7 +10,7 @@ use crate::fault::HeadFault;
 use crate::rows::{WideRow, push};
 use crate::texts::append_to_end;
 use crate::tokens::{next_token, next_word};
-use crate::words::{is_code, is_event, size_of};
+use crate::words::{is_code, is_event_type, size_of};
 use std::alloc::Global;
 use vcd_text::{Feed, Source};
 use vcd_view::Kind;
@@ -58,7 +58,7 @@ fn read_code<S: Source>(
     if !is_code(feed.token()) {
         return Err(HeadFault::BadVariable);
     }
-    let event = is_event(feed.value());
+    let event = is_event_type(feed.value());
     match enter_code(alloc, text, known, feed.token(), size, event)? {
         Some(code) => Ok(code),
         None => Err(HeadFault::CodeDiffers),

@@ -4,7 +4,7 @@ ghost use Rattle.vcd_head.specs.Names.{begins_change as changes, exponent_of as 
 
 /// Returns whether the word, the type of a variable, is `event`.
 #[inline(always)]
-pub(crate) fn is_event(word: &[u8]) -> bool
+pub(crate) fn is_event_type(word: &[u8]) -> bool
     ensures { result ≡ bytes_eq (codes "event") word.now }
 {
     matches!(word, [b'e', b'v', b'e', b'n', b't'])

@@ -18,7 +18,7 @@ fn put_texts<W: Sink>(w: &mut W, texts: &[&[u8]]) -> Result<(), WriteFailed>
 
 /// Writes a keyword, a text and `$end`, each on a line of its own. If a write fails, a prefix was
 /// written.
-pub(crate) fn put_lines<W: Sink>(w: &mut W, keyword: &[u8], text: &[u8]) -> Result<(), WriteFailed>
+pub(crate) fn put_phrase<W: Sink>(w: &mut W, keyword: &[u8], text: &[u8]) -> Result<(), WriteFailed>
     requires failures { (W.device w.old).failures < 2 ^ 64 - 1 }
     ensures { PutsWhere W.device w.old w.new result (λ takes. (k : Keyword)
         → keyword.now ≡ keyword_text k → takes (three_lines k text.now)) }
@@ -28,7 +28,7 @@ pub(crate) fn put_lines<W: Sink>(w: &mut W, keyword: &[u8], text: &[u8]) -> Resu
 
 /// Writes a keyword, a text and `$end`, each on a line of its own, or nothing if the text is empty.
 /// If a write fails, a prefix was written.
-fn put_section<W: Sink>(w: &mut W, keyword: &[u8], text: &[u8]) -> Result<(), WriteFailed>
+fn put_optional_phrase<W: Sink>(w: &mut W, keyword: &[u8], text: &[u8]) -> Result<(), WriteFailed>
     requires failures { (W.device w.old).failures < 2 ^ 64 - 1 }
     ensures { PutsWhere W.device w.old w.new result (λ takes. (k : Keyword)
         → keyword.now ≡ keyword_text k → takes (three_lines_of k text.now)) }
@@ -36,7 +36,7 @@ fn put_section<W: Sink>(w: &mut W, keyword: &[u8], text: &[u8]) -> Result<(), Wr
     if text.is_empty() {
         return Ok(());
     }
-    put_lines(w, keyword, text)
+    put_phrase(w, keyword, text)
 }
 
 /// Returns the time scale whose power of ten in seconds is `exponent`, as a header has it (`10ns`
@@ -86,7 +86,7 @@ fn has_mark(marks: &[u8], row: usize) -> bool
 }
 
 /// Writes the `$scope` line of the scope at index `row`. Fails if the write fails.
-pub(crate) fn put_scope<W: Sink>(
+pub(crate) fn put_scope_line<W: Sink>(
     view: HeadView<'_>,
     row: usize,
     w: &mut W,
@@ -102,7 +102,7 @@ pub(crate) fn put_scope<W: Sink>(
 
 /// Writes the `$var` line of the variable at index `row`, with `code` instead of its own code. If
 /// there is no such row, it writes nothing. Fails if the write fails.
-pub(crate) fn put_variable<W: Sink>(
+pub(crate) fn put_var_line<W: Sink>(
     view: HeadView<'_>,
     row: usize,
     code: &[u8],
@@ -127,7 +127,7 @@ pub(crate) fn put_variable<W: Sink>(
 
 /// Writes an `$upscope` line if the row at index `scope`, the scope that it closes, is marked (has
 /// 1 in `marks`). Otherwise it writes nothing. Fails if the write fails.
-fn put_up<W: Sink>(marks: &[u8], scope: usize, w: &mut W) -> Result<(), WriteFailed>
+fn put_up_line<W: Sink>(marks: &[u8], scope: usize, w: &mut W) -> Result<(), WriteFailed>
     requires failures { (W.device w.old).failures < 2 ^ 64 - 1 }
     ensures { PutsTo W.device w.old w.new (up_lines_at (is_marked marks.now) (scope ∷ [])) result }
 {
@@ -140,7 +140,7 @@ fn put_up<W: Sink>(marks: &[u8], scope: usize, w: &mut W) -> Result<(), WriteFai
 /// Writes the line of the declaration at index `row`: of a scope or a variable if it is marked (has
 /// 1 in `marks`), and of an `$upscope` if the scope that it closes is marked. Otherwise it writes
 /// nothing. A variable keeps its code. Fails if the write fails.
-fn put_row<W: Sink>(
+fn put_marked_row<W: Sink>(
     view: HeadView<'_>,
     marks: &[u8],
     row: usize,
@@ -155,12 +155,12 @@ fn put_row<W: Sink>(
     };
     match declared.kind {
         Kind::Up => match view.scope_of(row) {
-            Some(scope) => put_up(marks, scope, w),
+            Some(scope) => put_up_line(marks, scope, w),
             None => Ok(()),
         },
-        Kind::Scope if has_mark(marks, row) => put_scope(view, row, w),
+        Kind::Scope if has_mark(marks, row) => put_scope_line(view, row, w),
         Kind::Var if has_mark(marks, row) => {
-            put_variable(view, row, view.code_text(declared.code as usize), w)
+            put_var_line(view, row, view.code_text(declared.code as usize), w)
         }
         _ => Ok(()),
     }
@@ -169,20 +169,20 @@ fn put_row<W: Sink>(
 /// Writes the lines of the marked scopes and variables (those with 1 in `marks`), and each
 /// `$upscope` that closes a marked scope, in the order of the rows. If a write fails, a prefix was
 /// written.
-fn put_rows<W: Sink>(view: HeadView<'_>, marks: &[u8], w: &mut W) -> Result<(), WriteFailed>
+fn put_marked_rows<W: Sink>(view: HeadView<'_>, marks: &[u8], w: &mut W) -> Result<(), WriteFailed>
     requires failures { (W.device w.old).failures < 2 ^ 64 - 1 }
     ensures { PutsWhere W.device w.old w.new result (λ takes. AnyHeader view.entry (λ h.
         takes (concat (each (row_line (λ code. code) (is_marked marks.now)) h.declarations)))) }
 {
     for row in 0..view.rows.len() {
-        put_row(view, marks, row, w)?;
+        put_marked_row(view, marks, row, w)?;
     }
     Ok(())
 }
 
 /// Returns the index of the row of the innermost scope that is still open at the end of the header.
 /// `None` if none is open.
-fn innermost(view: HeadView<'_>) -> Option<usize>
+fn innermost_open_scope(view: HeadView<'_>) -> Option<usize>
     ensures { (h : Header) → IsViewOf view.entry h → result ≡ parent h.declarations }
 {
     let last = view.rows.len().checked_sub(1)?;
@@ -195,14 +195,14 @@ fn innermost(view: HeadView<'_>) -> Option<usize>
 
 /// Writes an `$upscope` line for each marked scope (one with 1 in `marks`) that is still open at
 /// the end of the header. If a write fails, a prefix was written.
-fn put_closing<W: Sink>(view: HeadView<'_>, marks: &[u8], w: &mut W) -> Result<(), WriteFailed>
+fn put_ups_at_end<W: Sink>(view: HeadView<'_>, marks: &[u8], w: &mut W) -> Result<(), WriteFailed>
     requires failures { (W.device w.old).failures < 2 ^ 64 - 1 }
     ensures { PutsWhere W.device w.old w.new result (λ takes. AnyHeader view.entry (λ h.
         takes (up_lines_at (is_marked marks.now) (enclosing h.declarations)))) }
 {
-    let mut next = innermost(view);
+    let mut next = innermost_open_scope(view);
     while let Some(scope) = next {
-        put_up(marks, scope, w)?;
+        put_up_line(marks, scope, w)?;
         next = view.scope_of(scope);
     }
     Ok(())
@@ -216,8 +216,8 @@ fn put_declarations<W: Sink>(view: HeadView<'_>, marks: &[u8], w: &mut W) -> Res
     ensures { PutsWhere W.device w.old w.new result (λ takes. AnyHeader view.entry (λ h.
         takes (rows_text (λ code. code) (is_marked marks.now) h.declarations))) }
 {
-    put_rows(view, marks, w)?;
-    put_closing(view, marks, w)
+    put_marked_rows(view, marks, w)?;
+    put_ups_at_end(view, marks, w)
 }
 
 /// Writes the header of the marked declarations: date, version and time scale if there are some,
@@ -235,9 +235,9 @@ pub fn put_head<W: Sink>(view: HeadView<'_>, marks: &[u8], w: &mut W) -> Result<
         → Takes (W.device w.old) (W.device w.new) (head_for h names) result }
     ensures counts { Counts (W.device w.old) (W.device w.new) result }
 {
-    put_section(w, b"$date", view.date)?;
-    put_section(w, b"$version", view.version)?;
-    put_section(w, b"$timescale", text_of_scale(view.scale))?;
+    put_optional_phrase(w, b"$date", view.date)?;
+    put_optional_phrase(w, b"$version", view.version)?;
+    put_optional_phrase(w, b"$timescale", text_of_scale(view.scale))?;
     put_declarations(view, marks, w)?;
     put(w, b"$enddefinitions $end\n")
 }

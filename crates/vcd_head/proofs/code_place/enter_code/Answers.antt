@@ -9,7 +9,7 @@ returns-then-new-clause-codes c = λ ds v h is is_size.
     let position = c.in_ok-position.position in
     let e : EntersKey bytes before c.enter_key.new.known position true = subst (EntersKey bytes before c.enter_key.new.known position) c.if-new.true (c.in_ok-position.ensures.enters h.rises) in
     entered_new c.args.text.now.items before _ ds v bytes c.args.size c.args.event position h is (all_bytes bytes c.type_inv.bytes)
-    c.add.new.text.items is_size e.rises e.entered c.in_ok-add.ensures.text (c.in_ok-add.ensures.listed ∙ ap (λ l. l ++ code_with (length c.args.text.now.items) bytes c.args.size c.args.event ∷ []) e.list)
+    c.add_code.new.text.items is_size e.rises e.entered c.in_ok-add_code.ensures.text (c.in_ok-add_code.ensures.listed ∙ ap (λ l. l ++ code_with (length c.args.text.now.items) bytes c.args.size c.args.event ∷ []) e.list)
 
 pub returns-then-not-is_declared_as-clause-codes : goal.returns-then-not-is_declared_as-clause-codes
 returns-then-not-is_declared_as-clause-codes c = λ ds v h is is_size.

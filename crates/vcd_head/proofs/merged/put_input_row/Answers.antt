@@ -31,6 +31,6 @@ returns-in_ok-put_openings-in-Var g c = counted (search rules) (λ h d v is fits
     let within = position.within in
     let is_place = position.position in
     let sum : c.saturating_add.result ≡ c.args.first + code_place h u.code = omega (arith, c.saturating_add.ensures, within, is_place, fits) in
-    let line = subst (λ (code : List ℕ). Takes (g.W.Sink.device c.put_openings.new.w) (g.W.Sink.device c.put_variable.new.w) (var_line u code) c.put_variable.result) (c.text.ensures ∙ c.of-id.ensures ∙ ap new_code sum) (c.put_variable.ensures.0 h u v (is ∙ ap Some e)) in
-    subst (λ (x : Declaration). Takes (g.W.Sink.device c.args.w.now) (g.W.Sink.device c.put_variable.new.w) (due h c.args.first c.args.scopes.pending c.args.scopes.written (take c.args.row h.declarations) x) c.put_variable.result) (sym e)
-    (takes-twice _ _ _ _ (var_line u (numbered c.args.first h u.code)) c.put_variable.result (c.in_ok-put_openings-in-Var.ensures.0 h v (slice_get_within h.declarations c.args.row d is)) line))
+    let line = subst (λ (code : List ℕ). Takes (g.W.Sink.device c.put_openings.new.w) (g.W.Sink.device c.put_var_line.new.w) (var_line u code) c.put_var_line.result) (c.text.ensures ∙ c.of-id.ensures ∙ ap new_code sum) (c.put_var_line.ensures.0 h u v (is ∙ ap Some e)) in
+    subst (λ (x : Declaration). Takes (g.W.Sink.device c.args.w.now) (g.W.Sink.device c.put_var_line.new.w) (due h c.args.first c.args.scopes.pending c.args.scopes.written (take c.args.row h.declarations) x) c.put_var_line.result) (sym e)
+    (takes-twice _ _ _ _ (var_line u (numbered c.args.first h u.code)) c.put_var_line.result (c.in_ok-put_openings-in-Var.ensures.0 h v (slice_get_within h.declarations c.args.row d is)) line))

@@ -7,16 +7,16 @@ loop-scope-init g c = record { same = refl; opens = λ h v l. opens_first h c.ar
 
 pub loop-scope-preserved : goal.loop-scope-preserved
 loop-scope-preserved g c = record {
-  same = c.in_ok-put_scope.ensures.1 ∙ c.loop-scope.invariant.same;
+  same = c.in_ok-put_scope_line.ensures.1 ∙ c.loop-scope.invariant.same;
   opens = λ h v l.
       let o = c.loop-scope.invariant.opens h v l in
       let n = opens_next h c.args.row c.in-Some.scope o.rest c.next.new.self l (c.in-Some.ensures.gives h c.args.row o.rest v o.leaves) in
-      opens_more h c.args.row c.args.count c.in-Some.scope c.loop-scope.scopes c.next.new.self _ _ _ o n (c.in_ok-put_scope.ensures.0 h n.declared v n.at);
+      opens_more h c.args.row c.args.count c.in-Some.scope c.loop-scope.scopes c.next.new.self _ _ _ o n (c.in_ok-put_scope_line.ensures.0 h n.declared v n.at);
 }
 
-pub returns-in_err-put_scope : goal.returns-in_err-put_scope
-returns-in_err-put_scope g c = counted (search rules) (λ h v l.
-    let e : c.from_residual.result ≡ Err c.in_err-put_scope.field-0.0 = search rules in
+pub returns-in_err-put_scope_line : goal.returns-in_err-put_scope_line
+returns-in_err-put_scope_line g c = counted (search rules) (λ h v l.
+    let e : c.from_residual.result ≡ Err c.in_err-put_scope_line.field-0.0 = search rules in
     let o = c.loop-scope.invariant.opens h v l in
     let n = opens_next h c.args.row c.in-Some.scope o.rest c.next.new.self l (c.in-Some.ensures.gives h c.args.row o.rest v o.leaves) in
-    rw e (opens_some h c.args.row c.args.count c.in-Some.scope c.loop-scope.scopes c.next.new.self _ _ _ o n (c.in_err-put_scope.ensures.0 h n.declared v n.at)))
+    rw e (opens_some h c.args.row c.args.count c.in-Some.scope c.loop-scope.scopes c.next.new.self _ _ _ o n (c.in_err-put_scope_line.ensures.0 h n.declared v n.at)))

@@ -21,7 +21,7 @@ loop-row-preserved c = record {
       let selected : is_selected [] (take row ds) d.0 ≡ c.is_variable.result = and_true (is_variable d.0) ∙ sym (c.is_variable.ensures h d.0 v d.1) in
       elim c.if-is_variable.branch [
         | then-is_variable w ↦
-            let more = subst (Marked (row ∷ enclosing (take row ds)) c.loop-row.marks) (sym w.marks-is) (w.mark.ensures.marks h v (omega (arith, rows)) (c.loop-row.invariant.closed h v closed)) in
+            let more = subst (Marked (row ∷ enclosing (take row ds)) c.loop-row.marks) (sym w.marks-is) (w.mark_with_scopes.ensures.marks h v (omega (arith, rows)) (c.loop-row.invariant.closed h v closed)) in
             subst (λ ps. Marked ps zeros c.if-is_variable.marks) (sym (marks_more [] ds row d.0 d.1 (selected ∙ w.if-is_variable.true)))
             (marked_both (marked_places [] (take row ds)) (row ∷ enclosing (take row ds)) zeros c.loop-row.marks c.if-is_variable.marks (c.loop-row.invariant.marks h v closed) more)
         | else-is_variable w ↦
@@ -31,7 +31,7 @@ loop-row-preserved c = record {
   closed = λ h v closed.
       let rows = rows_len c.args.view.text.now h.codes [] c.args.view.rows.now h.declarations v.rows in
       elim c.if-is_variable.branch [
-        | then-is_variable w ↦ subst (AreClosed h.declarations) (sym w.marks-is) (closed_after h.declarations c.loop-row.row c.loop-row.marks w.mark.new.marks (c.loop-row.invariant.closed h v closed) (w.mark.ensures.marks h v (omega (arith, rows)) (c.loop-row.invariant.closed h v closed)))
+        | then-is_variable w ↦ subst (AreClosed h.declarations) (sym w.marks-is) (closed_after h.declarations c.loop-row.row c.loop-row.marks w.mark_with_scopes.new.marks (c.loop-row.invariant.closed h v closed) (w.mark_with_scopes.ensures.marks h v (omega (arith, rows)) (c.loop-row.invariant.closed h v closed)))
         | else-is_variable w ↦ subst (AreClosed h.declarations) (sym w.marks-is) (c.loop-row.invariant.closed h v closed)
       ];
 }

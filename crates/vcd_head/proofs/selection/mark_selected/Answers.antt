@@ -4,7 +4,7 @@ use Rattle.vcd_head.proofs.selection.mark_selected.Goals as goal
 use Rattle.vcd_head.proofs.selection.mark_selected.Goals.{then-take, else-take}
 
 pub loop-row-init : goal.loop-row-init
-loop-row-init c = record { marks = λ h v closed. marked_first (map string_bytes c.args.names.now) h.declarations c.args.marks.now; closed = λ h v closed. closed; matched = λ h v. none_matched (map string_bytes c.args.names.now) h.declarations 16384 (omega (arith, length-map c.args.names.now string_bytes)); held = λ h v. c.new-open.ensures h _ (subst (λ ns. IsOrder (map string_bytes ns) c.new-group.result.order.now) (sym c.new-group.ensures.names) (subst (IsOrder (map string_bytes c.args.names.now)) (sym c.new-group.ensures.order) c.put_names.ensures)) (λ p q name a b. read_same false 16384 p ∙ sym (read_same false 16384 q)) }
+loop-row-init c = record { marks = λ h v closed. marked_first (map string_bytes c.args.names.now) h.declarations c.args.marks.now; closed = λ h v closed. closed; matched = λ h v. none_matched (map string_bytes c.args.names.now) h.declarations 16384 (omega (arith, length-map c.args.names.now string_bytes)); held = λ h v. c.new-open.ensures h _ (subst (λ ns. IsOrder (map string_bytes ns) c.new-group.result.order.now) (sym c.new-group.ensures.names) (subst (IsOrder (map string_bytes c.args.names.now)) (sym c.new-group.ensures.order) c.put_name_order.ensures)) (λ p q name a b. read_same false 16384 p ∙ sym (read_same false 16384 q)) }
 
 pub loop-row-preserved : goal.loop-row-preserved
 loop-row-preserved c = record {
@@ -18,7 +18,7 @@ loop-row-preserved c = record {
       let selected = c.take.ensures.selected h d.0 v d.1 (c.loop-row.invariant.held h v) ∙ ap (λ ns. is_selected (map string_bytes ns) (take row ds) d.0) c.new-group.ensures.names in
       elim c.if-take.branch [
         | then-take w ↦
-            let more = subst (Marked (row ∷ enclosing (take row ds)) c.loop-row.marks) (sym w.marks-is) (w.mark.ensures.marks h v (omega (arith, rows)) (c.loop-row.invariant.closed h v closed)) in
+            let more = subst (Marked (row ∷ enclosing (take row ds)) c.loop-row.marks) (sym w.marks-is) (w.mark_with_scopes.ensures.marks h v (omega (arith, rows)) (c.loop-row.invariant.closed h v closed)) in
             subst (λ ps. Marked ps zeros c.if-take.marks) (sym (marks_more names ds row d.0 d.1 (sym selected ∙ w.if-take.true)))
             (marked_both (marked_places names (take row ds)) (row ∷ enclosing (take row ds)) zeros c.loop-row.marks c.if-take.marks (c.loop-row.invariant.marks h v closed) more)
         | else-take w ↦
@@ -28,7 +28,7 @@ loop-row-preserved c = record {
   closed = λ h v closed.
       let rows = rows_len c.args.view.text.now h.codes [] c.args.view.rows.now h.declarations v.rows in
       elim c.if-take.branch [
-        | then-take w ↦ subst (AreClosed h.declarations) (sym w.marks-is) (closed_after h.declarations c.loop-row.row c.loop-row.marks w.mark.new.marks (c.loop-row.invariant.closed h v closed) (w.mark.ensures.marks h v (omega (arith, rows)) (c.loop-row.invariant.closed h v closed)))
+        | then-take w ↦ subst (AreClosed h.declarations) (sym w.marks-is) (closed_after h.declarations c.loop-row.row c.loop-row.marks w.mark_with_scopes.new.marks (c.loop-row.invariant.closed h v closed) (w.mark_with_scopes.ensures.marks h v (omega (arith, rows)) (c.loop-row.invariant.closed h v closed)))
         | else-take w ↦ subst (AreClosed h.declarations) (sym w.marks-is) (c.loop-row.invariant.closed h v closed)
       ];
   matched = λ h v.
@@ -58,5 +58,5 @@ returns-clause-names c = λ h v.
 pub returns-clause-within : goal.returns-clause-within
 returns-clause-within c = first_within c.loop-row.matched (length c.args.names.now) c.first_false.result c.first_false.ensures
 
-pub put_names-requires-clause-zeros : goal.put_names-requires-clause-zeros
-put_names-requires-clause-zeros c = λ i. read_same 0 16384 i
+pub put_name_order-requires-clause-zeros : goal.put_name_order-requires-clause-zeros
+put_name_order-requires-clause-zeros c = λ i. read_same 0 16384 i

@@ -66,8 +66,8 @@ returns-in-None-clause-reads g c = λ most i placed h few r.
     let sp = size_parts digits sf.0 in
     let size : IsSize c.in_ok-size.size = record { some = omega (arith, sp.1, sf.1); most = omega (arith, sp.2, sf.1) } in
     let held = c.value.ensures ∙ c.in_ok-next_token.ensures.value ∙ c.in_ok-size.ensures.value ∙ c.keep.ensures.value in
-    let event : bytes_eq (codes "event") type ≡ c.is_event-event.result = sym (c.is_event-event.ensures ∙ ap (bytes_eq (codes "event")) held) in
-    let is : code_of (variable type digits code []) ≡ record { text = c.token-2.result.now; size = c.in_ok-size.size; event = c.is_event-event.result } = λ j. record { text = sym c.token-2.ensures j; size = sf.1 j; event = event j } in
+    let event : bytes_eq (codes "event") type ≡ c.is_event_type-event.result = sym (c.is_event_type-event.ensures ∙ ap (bytes_eq (codes "event")) held) in
+    let is : code_of (variable type digits code []) ≡ record { text = c.token-2.result.now; size = c.in_ok-size.size; event = c.is_event_type-event.result } = λ j. record { text = sym c.token-2.ensures j; size = sf.1 j; event = event j } in
     let good : list_all is_code_byte code ≡ true = sym (c.is_code.ensures ∙ ap (list_all is_code_byte) c.token.ensures) ∙ c.if-not-is_code.false in
     let e = rw c.in-None.is at (c.in_ok-code.ensures.codes ds (variable type digits code []) h is size) in
     refused_inside most i placed Keyword.Var c.next_token.new.feed (type ∷ digits ∷ []) 8 (code_checked ds type digits code false good e.0)
@@ -86,8 +86,8 @@ returns-in-Some-clause-reads g c = λ most i placed h few r.
     let sp = size_parts digits sf.0 in
     let size : IsSize c.in_ok-size.size = record { some = omega (arith, sp.1, sf.1); most = omega (arith, sp.2, sf.1) } in
     let same : value_of f ≡ type = c.in_ok-next_token.ensures.value ∙ c.in_ok-size.ensures.value ∙ c.keep.ensures.value in
-    let event : bytes_eq (codes "event") (value_of f) ≡ c.is_event-event.result = sym (c.is_event-event.ensures ∙ ap (bytes_eq (codes "event")) c.value.ensures) in
-    let is : (reference : List (List ℕ)) → code_of (variable (value_of f) digits code reference) ≡ record { text = c.token-2.result.now; size = c.in_ok-size.size; event = c.is_event-event.result } = λ reference j. record { text = sym c.token-2.ensures j; size = sf.1 j; event = event j } in
+    let event : bytes_eq (codes "event") (value_of f) ≡ c.is_event_type-event.result = sym (c.is_event_type-event.ensures ∙ ap (bytes_eq (codes "event")) c.value.ensures) in
+    let is : (reference : List (List ℕ)) → code_of (variable (value_of f) digits code reference) ≡ record { text = c.token-2.result.now; size = c.in_ok-size.size; event = c.is_event_type-event.result } = λ reference j. record { text = sym c.token-2.ensures j; size = sf.1 j; event = event j } in
     let good : list_all is_code_byte code ≡ true = sym (c.is_code.ensures ∙ ap (list_all is_code_byte) c.token.ensures) ∙ c.if-not-is_code.false in
     let e : (reference : List (List ℕ)) → IsEntered c.args.text.now.items c.enter_code.new.text.items c.enter_code.new.known ds (variable (value_of f) digits code reference) (Some c.in-Some.code) = λ reference. rw c.in-Some.is at (c.in_ok-code.ensures.codes ds (variable (value_of f) digits code reference) h (is reference) size) in
     let agree = ap (λ t. agrees ds (variable t digits code [])) (sym same) ∙ (e []).0 in

@@ -36,45 +36,45 @@ returns-in-Up-clause-matched c = λ h d v at are.
     let row : slice_get c.args.view.rows.now c.args.row ≡ Some c.in-Some.declared = search rules in
     no_match (map string_bytes c.args.group.now.names.now) (take c.args.row h.declarations) d c.args.matched.now (declares_none (parts c.args.view) h c.args.row c.in-Some.declared d v row at (λ k. let other = c.in-Up.is in cc))
 
-pub returns-then-selects-clause-open : goal.returns-then-selects-clause-open
-returns-then-selects-clause-open c = λ h v are.
+pub returns-then-enter_and_compare-clause-open : goal.returns-then-enter_and_compare-clause-open
+returns-then-enter_and_compare-clause-open c = λ h v are.
     let row : slice_get c.args.view.rows.now c.args.row ≡ Some c.in-Some.declared = search rules in
     let d = declared_there (parts c.args.view) h c.args.row c.in-Some.declared v row in
-    (c.selects.ensures h d.0 v d.1 (declares_one (parts c.args.view) h c.args.row c.in-Some.declared d.0 v row d.1 c.in-Var.is) are).open_scopes
+    (c.enter_and_compare.ensures h d.0 v d.1 (declares_one (parts c.args.view) h c.args.row c.in-Some.declared d.0 v row d.1 c.in-Var.is) are).open_scopes
 
-pub returns-then-selects-clause-matched : goal.returns-then-selects-clause-matched
-returns-then-selects-clause-matched c = λ h d v at are.
+pub returns-then-enter_and_compare-clause-matched : goal.returns-then-enter_and_compare-clause-matched
+returns-then-enter_and_compare-clause-matched c = λ h d v at are.
     let row : slice_get c.args.view.rows.now c.args.row ≡ Some c.in-Some.declared = search rules in
     let var = declares_one (parts c.args.view) h c.args.row c.in-Some.declared d v row at c.in-Var.is in
-    matched_row (map string_bytes c.args.group.now.names.now) (take c.args.row h.declarations) d c.args.matched.now c.selects.new.matched c.selects.result var (c.selects.ensures h d v at var are).matches
+    matched_row (map string_bytes c.args.group.now.names.now) (take c.args.row h.declarations) d c.args.matched.now c.enter_and_compare.new.matched c.enter_and_compare.result var (c.enter_and_compare.ensures h d v at var are).matches
 
-pub returns-then-selects-clause-selected : goal.returns-then-selects-clause-selected
-returns-then-selects-clause-selected c = λ h d v at are.
+pub returns-then-enter_and_compare-clause-selected : goal.returns-then-enter_and_compare-clause-selected
+returns-then-enter_and_compare-clause-selected c = λ h d v at are.
     let names = map string_bytes c.args.group.now.names.now in
     let row : slice_get c.args.view.rows.now c.args.row ≡ Some c.in-Some.declared = search rules in
     let var = declares_one (parts c.args.view) h c.args.row c.in-Some.declared d v row at c.in-Var.is in
-    c.if-selects.true
-    ∙ sym (selected_row names (take c.args.row h.declarations) d c.args.matched.now c.selects.new.matched c.selects.result var (c.selects.ensures h d v at var are).matches ∙ or_true (is_empty names) c.selects.result c.if-selects.true)
+    c.if-enter_and_compare.true
+    ∙ sym (selected_row names (take c.args.row h.declarations) d c.args.matched.now c.enter_and_compare.new.matched c.enter_and_compare.result var (c.enter_and_compare.ensures h d v at var are).matches ∙ or_true (is_empty names) c.enter_and_compare.result c.if-enter_and_compare.true)
 
-pub returns-else-selects-clause-open : goal.returns-else-selects-clause-open
-returns-else-selects-clause-open c = λ h v are.
+pub returns-else-enter_and_compare-clause-open : goal.returns-else-enter_and_compare-clause-open
+returns-else-enter_and_compare-clause-open c = λ h v are.
     let row : slice_get c.args.view.rows.now c.args.row ≡ Some c.in-Some.declared = search rules in
     let d = declared_there (parts c.args.view) h c.args.row c.in-Some.declared v row in
-    (c.selects.ensures h d.0 v d.1 (declares_one (parts c.args.view) h c.args.row c.in-Some.declared d.0 v row d.1 c.in-Var.is) are).open_scopes
+    (c.enter_and_compare.ensures h d.0 v d.1 (declares_one (parts c.args.view) h c.args.row c.in-Some.declared d.0 v row d.1 c.in-Var.is) are).open_scopes
 
-pub returns-else-selects-clause-matched : goal.returns-else-selects-clause-matched
-returns-else-selects-clause-matched c = λ h d v at are.
+pub returns-else-enter_and_compare-clause-matched : goal.returns-else-enter_and_compare-clause-matched
+returns-else-enter_and_compare-clause-matched c = λ h d v at are.
     let row : slice_get c.args.view.rows.now c.args.row ≡ Some c.in-Some.declared = search rules in
     let var = declares_one (parts c.args.view) h c.args.row c.in-Some.declared d v row at c.in-Var.is in
-    matched_row (map string_bytes c.args.group.now.names.now) (take c.args.row h.declarations) d c.args.matched.now c.selects.new.matched c.selects.result var (c.selects.ensures h d v at var are).matches
+    matched_row (map string_bytes c.args.group.now.names.now) (take c.args.row h.declarations) d c.args.matched.now c.enter_and_compare.new.matched c.enter_and_compare.result var (c.enter_and_compare.ensures h d v at var are).matches
 
-pub returns-else-selects-clause-selected : goal.returns-else-selects-clause-selected
-returns-else-selects-clause-selected c = λ h d v at are.
+pub returns-else-enter_and_compare-clause-selected : goal.returns-else-enter_and_compare-clause-selected
+returns-else-enter_and_compare-clause-selected c = λ h d v at are.
     let names = map string_bytes c.args.group.now.names.now in
     let row : slice_get c.args.view.rows.now c.args.row ≡ Some c.in-Some.declared = search rules in
     let var = declares_one (parts c.args.view) h c.args.row c.in-Some.declared d v row at c.in-Var.is in
     c.is_empty.ensures ∙ sym (is_empty-map string_bytes c.args.group.now.names.now)
-    ∙ sym (selected_row names (take c.args.row h.declarations) d c.args.matched.now c.selects.new.matched c.selects.result var (c.selects.ensures h d v at var are).matches ∙ or_false (is_empty names) c.selects.result c.if-selects.false)
+    ∙ sym (selected_row names (take c.args.row h.declarations) d c.args.matched.now c.enter_and_compare.new.matched c.enter_and_compare.result var (c.enter_and_compare.ensures h d v at var are).matches ∙ or_false (is_empty names) c.enter_and_compare.result c.if-enter_and_compare.false)
 
 pub returns-in-Up-clause-open : goal.returns-in-Up-clause-open
 returns-in-Up-clause-open c = λ h v are. record { held = λ k s l at. are.held k s (omega (arith, l, c.min-self.ensures)) at; same = are.same }
