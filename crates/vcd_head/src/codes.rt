@@ -48,10 +48,5 @@ pub(crate) fn is_declared_as(list: &[Code], position: usize, size: usize, event:
 pub(crate) fn index_among(keys: &[CodeKey], bytes: &[u8]) -> Option<usize>
     ensures { result ≡ position (is_key bytes.now) keys.now }
 {
-    for (position, key) in keys.iter().enumerate() {
-        if key.is_of(bytes) {
-            return Some(position);
-        }
-    }
-    None
+    keys.iter().position(|key| key.is_of(bytes))
 }

@@ -23,18 +23,10 @@ pub(crate) fn check_start(draft: &Draft, most: u64, kind: Kind) -> Result<(), He
         return Err(HeadFault::TooMany);
     }
     match kind {
-        Kind::Scope => {
-            if draft.scopes.len() >= MAX_OPEN {
-                return Err(HeadFault::TooDeep);
-            }
-            Ok(())
-        }
-        Kind::Up => {
-            if draft.scopes.is_empty() {
-                return Err(HeadFault::NoScope);
-            }
-            Ok(())
-        }
+        Kind::Scope if draft.scopes.len() >= MAX_OPEN => Err(HeadFault::TooDeep),
+        Kind::Up if draft.scopes.is_empty() => Err(HeadFault::NoScope),
+        Kind::Scope => Ok(()),
+        Kind::Up => Ok(()),
         Kind::Var => Ok(()),
     }
 }

@@ -126,8 +126,5 @@ fn byte_at(bytes: &[u8], position: usize) -> u64
     ensures byte { result ≡ get_or bytes.now position 0 }
     ensures small { result < 256 }
 {
-    match bytes.get(position) {
-        Some(byte) => u64::from(*byte),
-        None => 0,
-    }
+    u64::from(bytes.get(position).copied().unwrap_or(0))
 }

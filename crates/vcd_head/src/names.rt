@@ -65,10 +65,7 @@ impl<'n> Group<'n> {
         ensures within { result < 16384 }
     {
         let order = self.order;
-        match order.get(at) {
-            Some(position) => usize::from(*position),
-            None => 0,
-        }
+        usize::from(order.get(at).copied().unwrap_or(0))
     }
 
     /// Returns 1 plus the byte after the first `front_len` bytes of a name, or 0 if the name has no
@@ -129,21 +126,6 @@ impl<'n> Group<'n> {
         true
     }
 
-    /// Sets the flags in `matched` of the names of `run` that end after the bytes of the path that
-    /// were followed so far, if `byte`, the next one of the path, is a dot. Returns whether there
-    /// are some; false for any other byte.
-    #[inline(always)]
-    fn note_at(&self, run: NameRun, byte: u8, matched: &mut [bool; GROUP_NAMES]) -> bool
-        ensures { FlagsSome self.now matched.old matched.new run
-            (λ front name. (byte == 46) && bytes_eq name front) result }
-    {
-        if byte == b'.' {
-            self.note(run, matched)
-        } else {
-            false
-        }
-    }
-
     /// Returns the names of `run` that continue with `byte`, the next one of a path: an empty run
     /// if none does. `whole` says whether some name has already selected all paths that begin like
     /// this one.
@@ -179,7 +161,7 @@ impl<'n> Group<'n> {
     fn follow_byte(&self, run: NameRun, byte: u8, matched: &mut [bool; GROUP_NAMES]) -> NameRun
         ensures { RunsOn self.now matched.old matched.new run (λ front. front ++ byte ∷ []) result }
     {
-        let ends = self.note_at(run, byte, matched);
+        let ends = byte == b'.' && self.note(run, matched);
         self.with_byte(run, byte, run.whole | ends)
     }
 

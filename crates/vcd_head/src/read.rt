@@ -80,9 +80,6 @@ fn read_phrases<S: Source>(
     ensures reads { ReadsAll most draft.old feed.old draft.new feed.new result }
     ensures advances { MovesOn S.failures feed.old feed.new result }
 {
-    'phrases: loop {
-        if !read_phrase(alloc, feed, most, draft)? {
-            return Ok(());
-        }
-    }
+    'phrases: while read_phrase(alloc, feed, most, draft)? {}
+    Ok(())
 }

@@ -20,8 +20,5 @@ pub(crate) fn index_in_rising(rising: &[u64], key: u64) -> Option<usize>
     if key > last_rising(rising) {
         return None;
     }
-    match rising.binary_search(&key) {
-        Ok(position) => Some(position),
-        Err(_) => None,
-    }
+    rising.binary_search(&key).ok()
 }

@@ -106,11 +106,7 @@ fn is_variable(view: HeadView<'_>, row: usize) -> bool
     let Some(declared) = view.row_at(row) else {
         return false;
     };
-    match declared.kind {
-        Kind::Var => true,
-        Kind::Scope => false,
-        Kind::Up => false,
-    }
+    matches!(declared.kind, Kind::Var)
 }
 
 /// Sets the elements of the variables that some name selects, and of the scopes around them, to 1
@@ -150,12 +146,7 @@ fn first_false(flags: &[bool], count: usize) -> Option<usize>
     requires { count ≤ length flags.now }
     ensures { IsFirstFalse flags.now count result }
 {
-    for position in 0..count {
-        if !flags[position] {
-            return Some(position);
-        }
-    }
-    None
+    flags[..count].iter().position(|flag| !*flag)
 }
 
 /// Marks the variables that the names select (all if there are no names) and the scopes around

@@ -14,11 +14,8 @@ pub(crate) fn skip_to_end<S: Source>(feed: &mut Feed<'_, '_, '_, '_, S>) -> Resu
     ensures reads { ReadsToEnd feed.old feed.new (λ _ inner. Unit {0}) result }
     ensures advances { MovesOn S.failures feed.old feed.new result }
 {
-    'tokens: loop {
-        if next_ends(feed)? {
-            return Ok(());
-        }
-    }
+    'tokens: while !next_ends(feed)? {}
+    Ok(())
 }
 
 /// Reads tokens up to and with the next `$end`, and appends those before it to the text, a space
@@ -35,13 +32,11 @@ pub(crate) fn append_to_end<S: Source>(
     ensures grows { IfOk result (λ _. length text.old.items ≤ length text.new.items) }
     ensures advances { MovesOn S.failures feed.old feed.new result }
 {
-    'tokens: loop {
-        if next_ends(feed)? {
-            return Ok(());
-        }
+    'tokens: while !next_ends(feed)? {
         text.push(b' ')?;
         text.extend_from_slice(feed.token())?;
     }
+    Ok(())
 }
 
 /// Reads tokens up to and with the next `$end`, and returns those before it with a space between:

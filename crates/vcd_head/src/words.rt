@@ -80,10 +80,7 @@ fn raised(unit: &[u8], power: i8) -> Option<i8>
     requires high { power ≤ℤ pos 2 }
     ensures { result ≡ option_map (λ e. e +ℤ power) (unit_in unit.now) }
 {
-    match unit_of(unit) {
-        Some(exponent) => Some(exponent + power),
-        None => None,
-    }
+    Some(unit_of(unit)? + power)
 }
 
 /// Returns the size of a variable that the digits of this token spell. `None` if the token has a

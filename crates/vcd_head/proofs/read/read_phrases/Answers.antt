@@ -14,14 +14,14 @@ returns-in_err-read_phrase-clause-advances g c =
     let p = err_from_is_err_and c.from_residual.result c.from_residual.ensures.1 in
     rw (p.1, p.2) (advances_on g.S.Source.failures c.args.feed.now c.phrases.feed c.read_phrase.new.feed _ c.phrases.invariant.0 c.in_err-read_phrase.ensures.advances)
 
-pub returns-then-not-branch-clause-reads : goal.returns-then-not-branch-clause-reads
-returns-then-not-branch-clause-reads g c = λ i b. MatchBool-at_false _ _ c.if-not-branch.true (c.in_ok-read_phrase.ensures.reads i (c.phrases.invariant.1 i b))
+pub returns-clause-reads : goal.returns-clause-reads
+returns-clause-reads g c = λ i b. MatchBool-at_false _ _ c.if-branch.false (c.in_ok-read_phrase.ensures.reads i (c.phrases.invariant.1 i b))
 
-pub returns-then-not-branch-clause-advances : goal.returns-then-not-branch-clause-advances
-returns-then-not-branch-clause-advances g c = advances_on g.S.Source.failures c.args.feed.now c.phrases.feed c.read_phrase.new.feed CallEnd.GoesOn c.phrases.invariant.0 c.in_ok-read_phrase.ensures.advances
+pub returns-clause-advances : goal.returns-clause-advances
+returns-clause-advances g c = advances_on g.S.Source.failures c.args.feed.now c.phrases.feed c.read_phrase.new.feed CallEnd.GoesOn c.phrases.invariant.0 c.in_ok-read_phrase.ensures.advances
 
 pub phrases-preserved : goal.phrases-preserved
 phrases-preserved g c = (
   advances_on g.S.Source.failures c.args.feed.now c.phrases.feed c.read_phrase.new.feed CallEnd.GoesOn c.phrases.invariant.0 c.in_ok-read_phrase.ensures.advances,
-  λ i b. MatchBool-at_true _ _ c.if-not-branch.false (c.in_ok-read_phrase.ensures.reads i (c.phrases.invariant.1 i b)),
+  λ i b. MatchBool-at_true _ _ c.if-branch.true (c.in_ok-read_phrase.ensures.reads i (c.phrases.invariant.1 i b)),
 )

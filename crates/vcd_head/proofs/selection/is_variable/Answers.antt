@@ -14,12 +14,7 @@ returns-in-Var c = λ h d v at.
     let row : slice_get c.args.view.rows.now c.args.row ≡ Some c.in-Some.declared = search rules in
     sym (declares_one (parts c.args.view) h c.args.row c.in-Some.declared d v row at c.in-Var.is)
 
-pub returns-in-Scope : goal.returns-in-Scope
-returns-in-Scope c = λ h d v at.
+pub returns-in_default-matches : goal.returns-in_default-matches
+returns-in_default-matches c = λ h d v at.
     let row : slice_get c.args.view.rows.now c.args.row ≡ Some c.in-Some.declared = search rules in
-    sym (declares_none (parts c.args.view) h c.args.row c.in-Some.declared d v row at (λ k. let other = c.in-Scope.is in cc))
-
-pub returns-in-Up : goal.returns-in-Up
-returns-in-Up c = λ h d v at.
-    let row : slice_get c.args.view.rows.now c.args.row ≡ Some c.in-Some.declared = search rules in
-    sym (declares_none (parts c.args.view) h c.args.row c.in-Some.declared d v row at (λ k. let other = c.in-Up.is in cc))
+    sym (declares_none (parts c.args.view) h c.args.row c.in-Some.declared d v row at c.in_default-matches.not-Var)
