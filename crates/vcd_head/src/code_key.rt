@@ -6,7 +6,8 @@ use std::alloc::{AllocError, Global};
 use std::hash::{Hash, Hasher};
 use vcd_view::key_of;
 
-// A code as the set has it: a short one as its key (`key_of`), a longer one as its bytes.
+// A code as the set `Codes::keys` has it: a short one as its key (`key_of`), a longer one as its
+// bytes.
 #[derive(Drop)]
 pub(crate) enum CodeKey {
     Short(u64),
@@ -14,8 +15,8 @@ pub(crate) enum CodeKey {
 }
 
 impl CodeKey {
-    /// Returns the key by which the identifier code with these bytes is found in the set. A code of
-    /// at most 7 bytes takes no memory. Fails if there is no memory for a longer one.
+    /// Returns the key by which the set `Codes::keys` finds the identifier code with these bytes. A
+    /// code of at most 7 bytes takes no memory. Fails if there is no memory for a longer one.
     #[inline(always)]
     pub(crate) fn of(alloc: Global, bytes: &[u8]) -> Result<CodeKey, AllocError>
         ensures { IfOk result (λ key. shape_of key ≡ shape_in bytes.now) }

@@ -34,20 +34,20 @@ pub(crate) fn check_start(draft: &Draft, most: u64, kind: Kind) -> Result<(), He
 /// Adds a scope of this type and name to the draft, and makes it the innermost open one. Fails only
 /// with `OutOfMemory`; then the draft may have a part of it.
 #[inline(always)]
-pub(crate) fn open_scope(draft: &mut Draft, word: &[u8], name: &[u8]) -> Result<(), HeadFault>
+pub(crate) fn open_scope(draft: &mut Draft, type_text: &[u8], name: &[u8]) -> Result<(), HeadFault>
     ensures opens { IfOk result (λ _. TakesPhrase Kind.Scope
-        (Declaration.Scope word.now name.now) draft.old draft.new) }
+        (Declaration.Scope type_text.now name.now) draft.old draft.new) }
     ensures memory { IfErr result (λ fault. fault ≡ HeadFault.OutOfMemory) }
 {
     let start = draft.text.len();
-    draft.text.extend_from_slice(word)?;
+    draft.text.extend_from_slice(type_text)?;
     draft.text.extend_from_slice(name)?;
     let parent = draft.parent();
     let row = WideRow {
         kind: Kind::Scope,
         parent,
         start,
-        word: word.len(),
+        word: type_text.len(),
         name: name.len(),
         all: name.len(),
         code: 0,

@@ -12,16 +12,8 @@ use std::hash::{BuildHasher, BuildHasherDefault, FoldHasher};
 use vcd_text::{Feed, Source};
 use vcd_view::CodeSeed;
 
-/// Reads a header up to the `$end` of `$enddefinitions`, and returns it. The feed must be at the
-/// beginning of the dump; afterwards it is right after that token. Fails with the first fault of
-/// the header, with `ReadFailed` if a read fails, and with `OutOfMemory` if memory runs out. A
-/// header with more than `most` declarations has the fault `TooMany`; `most` must be at most
-/// 16,777,216.
-///
-/// After a fault `Feed::line` returns the line of the fault, and the feed's token is the last one
-/// that was read: empty if the input or its source ended the reading, otherwise the one at fault. A
-/// type, a name or a code of 4 GiB or more, for which the windows have to be as long, counts as
-/// `OutOfMemory`.
+/// Reads a header up to the `$end` of `$enddefinitions`, and returns it, or fails, as
+/// `read_head_with_hasher` does.
 ///
 /// Codes are hashed with numbers that everybody may know, so codes can be crafted that take long to
 /// find. Read dumps that are not trusted with `read_head_with_hasher`.

@@ -2,12 +2,12 @@
 ghost use Rattle.std.specs.Prelude.{◌≡◌, codes, bytes_eq, option_map, pos, ◌≤ℤ◌, ◌+ℤ◌};
 ghost use Rattle.vcd_head.specs.Names.{begins_change as changes, exponent_of as exponent_is, is_code_byte, is_command as commands, list_all, power_in, size_in, unit_in};
 
-/// Returns whether the word, the type of a variable, is `event`.
+/// Returns whether the type of a variable is `event`.
 #[inline(always)]
-pub(crate) fn is_event_type(word: &[u8]) -> bool
-    ensures { result ≡ bytes_eq (codes "event") word.now }
+pub(crate) fn is_event_type(type_text: &[u8]) -> bool
+    ensures { result ≡ bytes_eq (codes "event") type_text.now }
 {
-    matches!(word, [b'e', b'v', b'e', b'n', b't'])
+    matches!(type_text, [b'e', b'v', b'e', b'n', b't'])
 }
 
 /// Returns whether the token could begin a timestamp or a value change: by its first byte.

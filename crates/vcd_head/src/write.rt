@@ -166,20 +166,6 @@ fn put_marked_row<W: Sink>(
     }
 }
 
-/// Writes the lines of the marked scopes and variables (those with 1 in `marks`), and each
-/// `$upscope` that closes a marked scope, in the order of the rows. If a write fails, a prefix was
-/// written.
-fn put_marked_rows<W: Sink>(view: HeadView<'_>, marks: &[u8], w: &mut W) -> Result<(), WriteFailed>
-    requires failures { (W.device w.old).failures < 2 ^ 64 - 1 }
-    ensures { PutsWhere W.device w.old w.new result (λ takes. AnyHeader view.entry (λ h.
-        takes (concat (each (row_line (λ code. code) (is_marked marks.now)) h.declarations)))) }
-{
-    for row in 0..view.rows.len() {
-        put_marked_row(view, marks, row, w)?;
-    }
-    Ok(())
-}
-
 /// Returns the index of the row of the innermost scope that is still open at the end of the header.
 /// `None` if none is open.
 fn innermost_open_scope(view: HeadView<'_>) -> Option<usize>
@@ -216,7 +202,9 @@ fn put_declarations<W: Sink>(view: HeadView<'_>, marks: &[u8], w: &mut W) -> Res
     ensures { PutsWhere W.device w.old w.new result (λ takes. AnyHeader view.entry (λ h.
         takes (rows_text (λ code. code) (is_marked marks.now) h.declarations))) }
 {
-    put_marked_rows(view, marks, w)?;
+    for row in 0..view.rows.len() {
+        put_marked_row(view, marks, row, w)?;
+    }
     put_ups_at_end(view, marks, w)
 }
 

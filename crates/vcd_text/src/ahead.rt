@@ -15,8 +15,8 @@ pub(crate) struct White {
 }
 
 impl White {
-    /// Returns what is known of the white bytes of a chunk if no byte from offset `start` on was
-    /// looked at: no white byte.
+    /// Returns a `White` that knows no white byte: no byte from offset `start` of the chunk on was
+    /// looked at.
     #[inline(always)]
     pub(crate) fn unknown(start: usize) -> Self
         ensures next { result.next ≡ start }

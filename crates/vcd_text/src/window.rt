@@ -77,7 +77,7 @@ pub(crate) fn collect_token(chunk: &[u8], token: &mut [u8], parked: &mut Parked)
     collect_any(chunk, token, parked)
 }
 
-/// Collects a token of any length as `collect_token` does.
+/// Copies the bytes of a token of any length as `collect_token` does: looks for its end first.
 #[inline(always)]
 fn collect_any(chunk: &[u8], token: &mut [u8], parked: &mut Parked) -> Collected
     requires registers { MayGoOn (length chunk.now) parked.old }

@@ -205,10 +205,7 @@ impl<'a> HeadView<'a> {
     pub fn exponent(self) -> i8
         ensures { (h : Header) → IsViewOf self.entry h → result ≡ exponent h }
     {
-        match self.scale {
-            Some(scale) => scale.exponent,
-            None => 0,
-        }
+        self.scale.map_or(0, |scale| scale.exponent)
     }
 
     /// Returns whether the variables of the identifier code at index `position` are events; false

@@ -7,7 +7,7 @@ pub returns-clause-opens : goal.returns-clause-opens
 returns-clause-opens c = λ most ps h start.
     let d = c.args.draft.now in
     let ds = declarations_of ps in
-    let type = c.args.word.now in
+    let type = c.args.type_text.now in
     let name = c.args.name.now in
     let len : c.len.result ≡ suc (length d.rows.items) = omega (arith, c.in_ok-push.ensures.len) in
     let from : c.len-start.result ≡ length d.text.items = omega arith in

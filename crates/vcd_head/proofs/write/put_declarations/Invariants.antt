@@ -1,5 +1,5 @@
 use Rattle.vcd_head.proofs.Cited.{◌≡◌, take, concat, Appends, each, Header, row_line, is_marked, parts, Views}
-use Rattle.vcd_head.proofs.write.put_marked_rows.Given as goal
+use Rattle.vcd_head.proofs.write.put_declarations.Given as goal
 
 abbrev pub invariant-loop-row : goal.invariant-loop-row
 invariant-loop-row g l = record {
