@@ -37,10 +37,8 @@ impl Codes {
 pub(crate) fn is_declared_as(list: &[Code], position: usize, size: usize, event: bool) -> bool
     ensures { result ≡ is_declared_as list.now position size event }
 {
-    match list.get(position) {
-        Some(code) => code.size == size && code.event == event,
-        None => false,
-    }
+    list.get(position)
+        .is_some_and(|code| code.size == size && code.event == event)
 }
 
 /// Returns the index in `keys` of the key of the code with these bytes, by a look at each key.

@@ -76,10 +76,7 @@ impl<'n> Group<'n> {
         ensures within { 0 < result → front_len < 2 ^ 63 }
     {
         let name = name_at(self.names, self.index_at(at));
-        match name.get(front_len) {
-            Some(byte) => usize::from(*byte) + 1,
-            None => 0,
-        }
+        name.get(front_len).map_or(0, |byte| usize::from(*byte) + 1)
     }
 
     /// Returns the first place from `first` to `end` (exclusive), in the order of the names' bytes,

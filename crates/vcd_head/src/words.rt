@@ -14,10 +14,9 @@ pub(crate) fn is_event_type(type_text: &[u8]) -> bool
 pub(crate) fn begins_change(token: &[u8]) -> bool
     ensures { result ≡ changes token.now }
 {
-    match token.first() {
-        Some(first) => b"#01xXzZbBrR".contains(first),
-        None => false,
-    }
+    token
+        .first()
+        .is_some_and(|first| b"#01xXzZbBrR".contains(first))
 }
 
 /// Returns whether the token has the form of a command: a `$` and one or more bytes after it.
