@@ -66,7 +66,7 @@ impl<'o> Open<'o> {
     /// `matched` of the names that select it, by their indexes in the group, and leaves the other
     /// flags as they are. If there is no such row, it returns false, and nothing changes.
     #[inline(always)]
-    pub(crate) fn take(
+    pub(crate) fn take_row(
         &mut self,
         view: HeadView<'_>,
         row: usize,
@@ -120,7 +120,7 @@ impl<'o> Open<'o> {
     /// Enters the scopes around the variable at index `row` that were not entered yet, from the
     /// outermost inwards: keeps in `self`, for each, the names of `group` that can select something
     /// inside it. Sets the flags in `matched` of the names that select all of a scope that it
-    /// enters, and leaves the others as they are. `row` is the argument of `take`.
+    /// enters, and leaves the others as they are. `row` is the argument of `take_row`.
     fn enter_around(
         &mut self,
         view: HeadView<'_>,

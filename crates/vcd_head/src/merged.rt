@@ -37,7 +37,7 @@ pub(crate) struct OpenScopes {
 impl OpenScopes {
     /// Changes the counts of open scopes by a row of this kind: a scope opens, a scope closes, or a
     /// variable has caused the lines of all open scopes to be written.
-    fn pass(&mut self, kind: Kind)
+    fn pass_row(&mut self, kind: Kind)
         ensures { IsPast kind self.old.pending self.old.written self.new.pending self.new.written }
     {
         match kind {
@@ -140,7 +140,7 @@ fn put_input_rows<W: Sink>(view: HeadView<'_>, first: u64, w: &mut W) -> Result<
     };
     for row in 0..view.rows.len() {
         put_input_row(view, row, first, scopes, w)?;
-        scopes.pass(view.rows[row].kind);
+        scopes.pass_row(view.rows[row].kind);
     }
     put_closings(scopes.written, w)
 }

@@ -133,7 +133,7 @@ fn mark_selected(view: HeadView<'_>, names: &[String], marks: &mut [u8]) -> Opti
     let mut open = Open::new(&group, &mut inside);
     let mut matched = [false; GROUP_NAMES];
     for row in 0..view.rows.len() {
-        if open.take(view, row, &group, &mut matched) {
+        if open.take_row(view, row, &group, &mut matched) {
             mark_with_scopes(view, row, marks);
         }
     }

@@ -12,16 +12,16 @@ loop-row-preserved g c = record {
       let i = c.loop-row.row in
       let s = parts c.args.view in
       let now = c.loop-row.scopes in
-      let behind = c.pass.new.self in
+      let behind = c.pass_row.new.self in
       let (text, w, puts) = c.loop-row.invariant.lines h v fits in
       let d = declared_there s h i v (omega arith) in
       let kind = kind_is s h i _ d.0 v (read_row s i _ (omega arith)) d.1 in
       let few = few_written c.args.first h i now.pending now.written text w in
       let is = behind_is d.0 now.pending now.written behind.pending behind.written (omega (arith, few)) (record {
-        scope = λ k. c.pass.ensures.scope (kind ∙ k);
-        pending_up = λ k. c.pass.ensures.pending_up (kind ∙ k);
-        written_up = λ k. c.pass.ensures.written_up (kind ∙ k);
-        variable = λ k. c.pass.ensures.variable (kind ∙ k);
+        scope = λ k. c.pass_row.ensures.scope (kind ∙ k);
+        pending_up = λ k. c.pass_row.ensures.pending_up (kind ∙ k);
+        written_up = λ k. c.pass_row.ensures.written_up (kind ∙ k);
+        variable = λ k. c.pass_row.ensures.variable (kind ∙ k);
       }) in
       let more = text ++ due h c.args.first now.pending now.written (take i h.declarations) d.0 in (
         more,

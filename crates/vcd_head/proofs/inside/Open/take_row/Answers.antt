@@ -2,7 +2,7 @@ use Rattle.vcd_head.proofs.Cited.{◌≡◌, Some, None, map, take, slice_get, s
 use Rattle.vcd_head.proofs.Facts.{declares_none, declares_one, is_empty-map, none_selects, matched_row, no_match, or_false, or_true, selected_row}
 use Rattle.vcd_head.proofs.InsideLemmas.{declared_there}
 use Rattle.vcd_view.proofs.RowLemmas.{there}
-use Rattle.vcd_head.proofs.inside.Open.take.Goals as goal
+use Rattle.vcd_head.proofs.inside.Open.take_row.Goals as goal
 
 pub returns-in_default-clause-selected : goal.returns-in_default-clause-selected
 returns-in_default-clause-selected c = λ h d v at are.
