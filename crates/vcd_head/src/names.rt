@@ -267,21 +267,9 @@ pub(crate) fn put_name_order(order: &mut [u16; GROUP_NAMES], names: &[String])
     requires zeros { (i : ℕ) → get_or order.old i 0 ≡ 0 }
     ensures { IsOrder (map string_bytes names.now) order.new }
 {
-    put_order(&mut order[..names.len()], names);
-}
-
-/// Writes the indexes of the names, at most 16,384, in the order of the names' bytes, to
-/// `positions`, which has as many elements.
-fn put_order(positions: &mut [u16], names: &[String])
-    requires count { length positions.old ≡ length names.now }
-    requires few { length names.now ≤ 16384 }
-    ensures len { length positions.new ≡ length names.now }
-    ensures each { (p : ℕ) → p < length names.now → Contains positions.new p }
-    ensures within { All (λ p. p < length names.now) positions.new }
-    ensures sorted { IsSortedBy (comes_before (map string_bytes names.now)) positions.new }
-{
+    let positions = &mut order[..names.len()];
     put_indexes(positions);
-    sort(positions, names);
+    positions.sort_unstable_by(|a, b| order_by(names, *a, *b));
 }
 
 /// Writes to each element, of which there are at most 16,384, its own index: 0, 1, 2, ..
@@ -293,14 +281,6 @@ fn put_indexes(positions: &mut [u16])
     for position in 0..positions.len() {
         positions[position] = position as u16;
     }
-}
-
-/// Sorts these indexes of names by the bytes of the names.
-fn sort(positions: &mut [u16], names: &[String])
-    ensures permutation { IsPermutation positions.old positions.new }
-    ensures sorted { IsSortedBy (comes_before (map string_bytes names.now)) positions.new }
-{
-    positions.sort_unstable_by(|a, b| order_by(names, *a, *b));
 }
 
 /// Returns how the name at index `a` compares with the one at `b` in the order of their bytes.
