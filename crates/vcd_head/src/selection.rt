@@ -93,20 +93,10 @@ fn mark_all(view: HeadView<'_>, marks: &mut [u8])
     ensures len { length marks.new ≡ length marks.old }
 {
     for row in 0..view.rows.len() {
-        if is_variable(view, row) {
+        if matches!(view.rows[row].kind, Kind::Var) {
             mark_with_scopes(view, row, marks);
         }
     }
-}
-
-/// Returns whether a row declares a variable; false if there is no such row.
-fn is_variable(view: HeadView<'_>, row: usize) -> bool
-    ensures { AnyDeclared view.entry row (λ _ d. result ≡ is_variable d) }
-{
-    let Some(declared) = view.row_at(row) else {
-        return false;
-    };
-    matches!(declared.kind, Kind::Var)
 }
 
 /// Sets the elements of the variables that some name selects, and of the scopes around them, to 1
