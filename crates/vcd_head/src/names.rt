@@ -1,7 +1,7 @@
 // Names in the order of their bytes. Names that begin with the same front of a path are neighbours,
 // so two indexes of the order follow them, one byte of the path after the other.
-ghost use Rattle.std.specs.Prelude.{◌≡◌, ◌==◌, ◌&&◌, ◌+◌, ◌-◌, ◌<◌, ◌≤◌, [], ◌∷◌, ◌++◌, ◌^◌, ℕ, List, Bool, length, take, drop, map, get_or, bytes_eq, string_bytes, IsPermutation};
-ghost use Rattle.vcd_head.specs.NameOrder.{All, AreSame, AreShared, Contains, IsOrder, IsSortedBy, IsSplit, Matches, Rises, comes_before, next_bytes, next_in, order_in, selects_path};
+ghost use Rattle.std.specs.Prelude.{◌≡◌, ◌==◌, ◌&&◌, ◌+◌, ◌-◌, ◌<◌, ◌≤◌, [], ◌∷◌, ◌++◌, ◌^◌, ℕ, List, Bool, length, take, drop, map, get_or, bytes_eq, string_bytes};
+ghost use Rattle.vcd_head.specs.NameOrder.{AreSame, AreShared, IsOrder, IsSplit, Matches, Rises, next_bytes, next_in, order_in, selects_path};
 
 use std::cmp::Ordering;
 

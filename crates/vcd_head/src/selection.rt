@@ -1,6 +1,6 @@
 //! Selection of variables by their paths (profile).
-ghost use Rattle.std.specs.Prelude.{◌≡◌, ◌≢◌, false, ◌+◌, ◌<◌, ◌≤◌, ◌∷◌, ◌++◌, ℕ, List, take, length, map, string_bytes, [], IfOk, IfSome};
-ghost use Rattle.vcd_head.specs.Names.{AnyDeclared, AnyHeader, AnyRow, AnyVariable, AreClosed, Declaration, GoesOnAfter, Header, IsFirstFalse, IsViewOf, Marked, RefusesUnmatched, first_unmatched, is_variable, marked_places, marks_of, row_and_scopes, row_path, selects_after, selects_path};
+ghost use Rattle.std.specs.Prelude.{◌≡◌, ◌≢◌, false, ◌+◌, ◌<◌, ◌≤◌, ◌∷◌, ◌++◌, ℕ, List, length, map, string_bytes, [], IfOk, IfSome};
+ghost use Rattle.vcd_head.specs.Names.{AnyHeader, AnyRow, AnyVariable, AreClosed, Declaration, GoesOnAfter, Header, IsFirstFalse, IsViewOf, Marked, RefusesUnmatched, first_unmatched, marked_places, marks_of, row_and_scopes, row_path, selects_after, selects_path};
 
 use crate::enclosing::Enclosing;
 use crate::inside::{Inside, LEVELS, Open};
