@@ -1,7 +1,7 @@
 use Rattle.vcd_body.proofs.Cited.{◌≡◌, ◌==◌, Bool, List, Some, ap, arith, cond, get_or, not, refl, subst, sym, ◌∙◌, eq-eqb, ne_eqb, number_in, slice_get-get_or, Kept, with_number, with_number_change, with_step, with_steps, ChangesAt, kept_in, Slot, Step}
 use Rattle.vcd_body.proofs.Facts.{change_as, change_twice, kept_steps, blank}
-use Rattle.vcd_body.proofs.values.store.step_at.Goals as goal
-use Rattle.vcd_body.proofs.values.store.step_at.Goals.{then-before-bits-via-then-before-bits, then-before-bits-via-else-before-bits+then-count_in_slot}
+use Rattle.vcd_body.proofs.values.store.step_bits_at.Goals as goal
+use Rattle.vcd_body.proofs.values.store.step_bits_at.Goals.{then-before-bits-via-then-before-bits, then-before-bits-via-else-before-bits+then-count_in_slot}
 
 pub returns-then-before-bits-clause-counted : goal.returns-then-before-bits-clause-counted
 returns-then-before-bits-clause-counted c = λ _ shares values laid.

@@ -1,5 +1,5 @@
 use Rattle.vcd_body.proofs.Cited.{◌≡◌, ◌+◌, rules, length, get_or, subst, arith, get_or-put_chunk_at, put_chunk}
-use Rattle.vcd_body.proofs.values.packed.put_few.Goals as goal
+use Rattle.vcd_body.proofs.values.packed.copy_packed.Goals as goal
 
 pub returns-then-bytes-ge16 : goal.returns-then-bytes-ge16
 returns-then-bytes-ge16 c = λ k less.

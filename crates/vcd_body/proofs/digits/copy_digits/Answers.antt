@@ -1,6 +1,6 @@
 use Rattle.vcd_body.proofs.Cited.{take, drop, ap, ◌∙◌, arith}
 use Rattle.vcd_body.proofs.Facts.{same_part}
-use Rattle.vcd_body.proofs.digits.fill.Goals as goal
+use Rattle.vcd_body.proofs.digits.copy_digits.Goals as goal
 
 pub overflow_add-from : goal.overflow_add-from
 overflow_add-from g c = let long = c.loop-index.auto.to in omega (arith, long, c.requires.within, c.requires.few)

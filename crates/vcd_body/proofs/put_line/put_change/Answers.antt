@@ -1,6 +1,6 @@
 use Rattle.vcd_body.proofs.Cited.{[], ◌∷◌, ◌++◌, sym, ap, ◌∙◌, subst, drop-map, to_ascii_lowercase, id_text, Puts}
 use Rattle.vcd_body.proofs.Facts.{bit_line, vector_line}
-use Rattle.vcd_body.proofs.put_line.put_line.Goals as goal
+use Rattle.vcd_body.proofs.put_line.put_change.Goals as goal
 
 pub returns-in-len1 : goal.returns-in-len1
 returns-in-len1 g c =
@@ -8,7 +8,7 @@ returns-in-len1 g c =
     let id = id_text c.args.id in
     let line = bit_line c.args.text.now id c.args.size c.args.event c.args.form size event form c.in-len1.len_at_least c.in-len1.len_below in
     let same = ap (λ d. d ∷ id ++ 10 ∷ []) c.to_ascii_lowercase.ensures.value in
-    subst (λ l. Puts (g.W.Sink.device c.args.w.now) (g.W.Sink.device c.put_end_under.new.w) l c.put_end_under.result) (same ∙ sym line) c.put_end_under.ensures
+    subst (λ l. Puts (g.W.Sink.device c.args.w.now) (g.W.Sink.device c.put_line_end_under.new.w) l c.put_line_end_under.result) (same ∙ sym line) c.put_line_end_under.ensures
 
 pub returns-in_default : goal.returns-in_default
 returns-in_default g c =
@@ -19,4 +19,4 @@ returns-in_default g c =
     subst (λ l. Puts (g.W.Sink.device c.args.w.now) (g.W.Sink.device c.put_vector.new.w) l c.put_vector.result) (ap (λ ds. 98 ∷ ds ++ (32 ∷ id ++ 10 ∷ [])) rest ∙ sym line) c.put_vector.ensures
 
 pub returns-in_default-2 : goal.returns-in_default-2
-returns-in_default-2 g c = c.put_other_under.ensures c.args.size (c.is_vector.ensures.other c.if-is_vector.false)
+returns-in_default-2 g c = c.put_nonvector_under.ensures c.args.size (c.is_vector.ensures.other c.if-is_vector.false)

@@ -1,6 +1,6 @@
 use Rattle.vcd_body.proofs.Cited.{◌∙◌, arith}
 use Rattle.vcd_body.proofs.Facts.{front_bit, front_fits}
-use Rattle.vcd_body.proofs.words.number_at.Goals as goal
+use Rattle.vcd_body.proofs.words.binary_number_at.Goals as goal
 
 pub returns-clause-fits : goal.returns-clause-fits
 returns-clause-fits c = front_fits c.ones_32.result c.args.n c.requires.few c.ones_32.ensures.few

@@ -1,5 +1,5 @@
 use Rattle.vcd_body.proofs.Cited.{[], ◌∷◌, ◌++◌, err_from_is_err_and, some-behind, some-first, puts-twice}
-use Rattle.vcd_body.proofs.change.put_all.Goals as goal
+use Rattle.vcd_body.proofs.change.put_bit_line.Goals as goal
 
 pub returns-in_err-put_from : goal.returns-in_err-put_from
 returns-in_err-put_from g c =
