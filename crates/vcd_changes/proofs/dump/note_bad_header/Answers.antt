@@ -1,7 +1,7 @@
 use Rattle.vcd_changes.proofs.Cited.{◌≡◌, true, arith, inl, inr, refl, rules, OutOfMemory}
 use Rattle.vcd_changes.proofs.Facts.{not_both}
 use Rattle.vcd_head.specs.Fault.{fault_number}
-use Rattle.vcd_changes.proofs.dump.refused.Goals as goal
+use Rattle.vcd_changes.proofs.dump.note_bad_header.Goals as goal
 
 pub returns-then-eq-clause-refused : goal.returns-then-eq-clause-refused
 returns-then-eq-clause-refused c = let is : c.args.fault ≡ OutOfMemory = search rules in (refl, inl (is, refl))

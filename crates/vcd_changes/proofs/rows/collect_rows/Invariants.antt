@@ -3,7 +3,7 @@ use Rattle.vcd_head.specs.Model.Header.{Header}
 use Rattle.vcd_head.specs.Model.Input.{Input}
 use Rattle.vcd_head.specs.Model.Tokens.{Token}
 use Rattle.vcd_head.specs.Views.{IsViewOf}
-use Rattle.vcd_changes.proofs.rows.collect.Given as goal
+use Rattle.vcd_changes.proofs.rows.collect_rows.Given as goal
 
 -- others were read after the items, and the rows so far have their changes of the code
 abbrev pub invariant-items : goal.invariant-items
