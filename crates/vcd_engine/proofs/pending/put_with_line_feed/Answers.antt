@@ -1,5 +1,5 @@
 use Rattle.vcd_engine.proofs.Cited.{List, ℕ, [], ◌∷◌, ◌+◌, ◌-◌, ◌++◌, ◌∙◌, ap, sym, subst, take, arith, slice_index, slice_range, Puts, end_is, one_byte}
-use Rattle.vcd_engine.proofs.pending.put_line.Goals as goal
+use Rattle.vcd_engine.proofs.pending.put_with_line_feed.Goals as goal
 
 pub returns : goal.returns
 returns g c =

@@ -1,6 +1,6 @@
 use Rattle.vcd_engine.proofs.Cited.{◌≡◌, sym, ◌∙◌, List, ℕ, [], ◌∷◌, Err, decimal, subst, rules, Declaration, Takes, AppendsSome, appends-first, appends-some, appends-twice, counted, takes-twice, parts, code_there}
 use Rattle.vcd_engine.proofs.Facts.{line_of_row, row_there}
-use Rattle.vcd_engine.proofs.rows.put_variable.Goals as goal
+use Rattle.vcd_engine.proofs.rows.put_list_line.Goals as goal
 
 pub returns-in_default : goal.returns-in_default
 returns-in_default g c = counted (search rules) (λ h v views declared. absurd (row_there (parts c.args.view) h c.args.row v views declared (sym c.row_at.ensures ∙ c.in_default.is)))

@@ -1,6 +1,6 @@
 use Rattle.vcd_engine.proofs.Cited.{◌≡◌, ◌-◌, ℕ, List, length, false, Appends, Header, BodyItem, is_settled, parts, Views, LeadOn, AreHeld}
 use Rattle.vcd_engine.proofs.Facts.{line_at, rows_before}
-use Rattle.vcd_engine.proofs.sample_lines.put_lines.Given as goal
+use Rattle.vcd_engine.proofs.sample_lines.put_sample.Given as goal
 
 abbrev pub invariant-loop-row : goal.invariant-loop-row
 invariant-loop-row g l = ((g.W.Sink.device l.out).failures ≡ (g.W.Sink.device l.fn.out).failures)

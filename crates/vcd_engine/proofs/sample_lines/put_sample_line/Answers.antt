@@ -1,7 +1,7 @@
 use Rattle.vcd_engine.proofs.Cited.{◌≡◌, sym, ◌∙◌, [], ◌∷◌, Err, true, false, subst, take, rules, Appends, Declaration, path_of, shown, Takes, AppendsSome, appends-first, appends-none, appends-some, appends-twice, counted, takes-twice, parts, codes_shown, value_in}
 use Rattle.vcd_engine.proofs.Facts.{row_there, event_is, no_line}
 use Rattle.vcd_engine.proofs.SampleLines.{line_of}
-use Rattle.vcd_engine.proofs.sample_lines.put_line.Goals as goal
+use Rattle.vcd_engine.proofs.sample_lines.put_sample_line.Goals as goal
 
 pub returns-in_default : goal.returns-in_default
 returns-in_default g c = counted (search rules) (λ h v views declared items held late. absurd (row_there (parts c.args.view) h c.args.row v views declared (sym c.row_at.ensures ∙ c.in_default.is)))

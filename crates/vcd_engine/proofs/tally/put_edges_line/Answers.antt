@@ -1,6 +1,6 @@
 use Rattle.vcd_engine.proofs.Cited.{◌≡◌, ℕ, List, [], ◌∷◌, Err, get_or, decimal, sym, subst, ◌∙◌, rules, Declaration, Takes, AppendsSome, appends-first, appends-some, appends-twice, counted, takes-twice, parts}
 use Rattle.vcd_engine.proofs.Facts.{row_there, row_is}
-use Rattle.vcd_engine.proofs.tally.put_row.Goals as goal
+use Rattle.vcd_engine.proofs.tally.put_edges_line.Goals as goal
 
 pub returns-in_default : goal.returns-in_default
 returns-in_default g c = counted (search rules) (λ h v views declared items tallied. absurd (row_there (parts c.args.view) h c.args.row v views declared (sym c.row_at.ensures ∙ c.in_default.is)))

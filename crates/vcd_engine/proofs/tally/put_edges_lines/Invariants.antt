@@ -1,6 +1,6 @@
 use Rattle.vcd_engine.proofs.Cited.{◌≡◌, ℕ, List, Appends, edges_line, Header, BodyItem, marks_of, parts, Views, AreTallied}
 use Rattle.vcd_engine.proofs.Facts.{rows_before}
-use Rattle.vcd_engine.proofs.tally.put_rows.Given as goal
+use Rattle.vcd_engine.proofs.tally.put_edges_lines.Given as goal
 
 abbrev pub invariant-loop-row : goal.invariant-loop-row
 invariant-loop-row g l = ((g.W.Sink.device l.out).failures ≡ (g.W.Sink.device l.fn.out).failures)

@@ -1,6 +1,6 @@
 use Rattle.vcd_engine.proofs.Cited.{◌≡◌, ◌++◌, Err, rules, item_line, appends-first, takes-twice, time_due, if_ok}
 use Rattle.vcd_engine.proofs.Facts.{text_with, written_with}
-use Rattle.vcd_engine.proofs.item_text.ItemText.put.Goals as goal
+use Rattle.vcd_engine.proofs.item_text.ItemText.put_with_time.Goals as goal
 
 pub returns-in_err-put_time_unless-clause-text : goal.returns-in_err-put_time_unless-clause-text
 returns-in_err-put_time_unless-clause-text g c = λ h before kept e views is at has tells.

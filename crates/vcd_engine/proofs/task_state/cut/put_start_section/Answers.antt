@@ -2,8 +2,8 @@ use Rattle.vcd_engine.proofs.Cited.{◌≡◌, List, ℕ, ◌+◌, ◌++◌, Err
 use Rattle.vcd_engine.proofs.Facts.{read_code, values_line, values_pass, values_rest}
 use Rattle.vcd_model.specs.Cut.{start_section}
 use Rattle.vcd_engine.proofs.CutLemmas.{line_at}
-use Rattle.vcd_engine.proofs.task_state.cut.put_section.Goals as goal
-use Rattle.vcd_engine.proofs.task_state.cut.put_section.Goals.{then-not-declared+in_ok-put_short, else-not-declared}
+use Rattle.vcd_engine.proofs.task_state.cut.put_start_section.Goals as goal
+use Rattle.vcd_engine.proofs.task_state.cut.put_start_section.Goals.{then-not-declared+in_ok-put_short, else-not-declared}
 
 -- what is written before the values
 abbrev front : ℕ → List ℕ

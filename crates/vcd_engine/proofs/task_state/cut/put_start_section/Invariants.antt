@@ -1,5 +1,5 @@
 use Rattle.vcd_engine.proofs.Cited.{◌≡◌, ◌++◌, List, take, Appends, as_line, Header, value_before, BodyItem, time_line, Keyword, keyword_text, IsViewOf, values_text, HasValues}
-use Rattle.vcd_engine.proofs.task_state.cut.put_section.Given as goal
+use Rattle.vcd_engine.proofs.task_state.cut.put_start_section.Given as goal
 
 abbrev pub invariant-loop-code : goal.invariant-loop-code
 invariant-loop-code g l = ((g.W.Sink.device l.out).failures ≡ (g.W.Sink.device l.fn.out).failures)
