@@ -2,7 +2,7 @@ use Rattle.vcd_merge.proofs.Cited.{true, ◌+◌, ℕ, List, ◌≡◌, ◌≤�
 use Rattle.vcd_merge.proofs.Facts.{marked_dump, out_of, turned, faulty, large, not_large, timed, no_more_at_end, no_more_at_item}
 use Rattle.vcd_body.specs.declared.fault.BodyFault.TheVariants as fault
 use Rattle.vcd_merge.proofs.SeatLemmas.{ended}
-use Rattle.vcd_merge.proofs.merging.take_item.Goals as goal
+use Rattle.vcd_merge.proofs.merging.read_item.Goals as goal
 
 pub returns-in-Err-clause-turns : goal.returns-in-Err-clause-turns
 returns-in-Err-clause-turns g c = λ scale first l items shows at.
