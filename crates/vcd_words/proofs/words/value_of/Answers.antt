@@ -1,6 +1,6 @@
 use Rattle.vcd_words.proofs.Cited.{◌∙◌, found_of, rows_of, subcommand_rows_of, first_value-rows}
 use Rattle.vcd_words.proofs.Facts.{first-after}
-use Rattle.vcd_words.proofs.words.word_of.Goals as goal
+use Rattle.vcd_words.proofs.words.value_of.Goals as goal
 
 pub returns : goal.returns
 returns c =

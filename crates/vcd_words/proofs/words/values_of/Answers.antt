@@ -1,6 +1,6 @@
 use Rattle.vcd_words.proofs.Cited.{◌∙◌, ap, map, not, option_map, sym, then_some, found_of, rows_of, subcommand_rows_of, raw_values-rows}
 use Rattle.vcd_words.proofs.Facts.{all-after, no-names, some-names}
-use Rattle.vcd_words.proofs.words.words_of.Goals as goal
+use Rattle.vcd_words.proofs.words.values_of.Goals as goal
 
 pub returns-in_err-words : goal.returns-in_err-words
 returns-in_err-words c =
