@@ -1,6 +1,6 @@
 use Rattle.vcdkit.proofs.Cited.{rules, ◌≡◌, ◌∙◌, ℕ, List, [], Option, Some, None, Err, ap, subst, IfSome, whole, Supply, supply, HasGiven, source_of, CountsRead}
 use Rattle.vcdkit.proofs.Facts.{begins, failed, seated}
-use Rattle.vcdkit.proofs.inputs.begin.Goals as goal
+use Rattle.vcdkit.proofs.inputs.begin_input.Goals as goal
 
 pub returns-in_err-head-clause-begins : goal.returns-in_err-head-clause-begins
 returns-in_err-head-clause-begins g c = λ text h.

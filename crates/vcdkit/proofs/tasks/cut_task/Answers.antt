@@ -1,5 +1,5 @@
 use Rattle.vcdkit.proofs.Cited.{◌≡◌, Err, rules, sym, asked, tick_refusal, above, from_refused, in_order, ordered, to_refused}
-use Rattle.vcdkit.proofs.tasks.cut_of.Goals as goal
+use Rattle.vcdkit.proofs.tasks.cut_task.Goals as goal
 
 pub returns-in_err-from-clause-request : goal.returns-in_err-from-clause-request
 returns-in_err-from-clause-request c = λ h v.
