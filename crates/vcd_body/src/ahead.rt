@@ -10,7 +10,7 @@ use crate::phrases::{may_have_digits, real_text, scalar_code, vector_text};
 use crate::values::bits::Bits;
 use crate::words::{
     KeywordUse, PhraseKind, after_first, are_binary_or_known, bits_at, first_byte_of, is_comment,
-    keyword_use_of, phrase_kind_by, phrase_kind_of, rest_of,
+    keyword_use_of, phrase_kind, phrase_kind_by, rest_of,
 };
 use vcd_text::{Ahead, Feed, Sink, Source, WriteFailed, decimal_at};
 use vcd_view::{Found, HeadView, find_in_entry, find_sized, is_end};
@@ -183,7 +183,7 @@ pub(crate) struct Opening<'a> {
 /// Returns the next token ahead and the kind of item that it begins, and moves past it. The kind is
 /// `PhraseKind::Other` for a section, a comment, and a token that begins no item. `None` if
 /// `Ahead::next` returns `None`; then nothing has changed.
-// Inlined into each arm of `take_next_item`, where the compiler knows what the token begins.
+// Inlined into each arm of `take_any`, where the compiler knows what the token begins.
 #[inline(always)]
 pub(crate) fn opening_ahead<'a>(ahead: &mut Ahead<'a>) -> Option<Opening<'a>>
     ensures opens { IfSome result (λ o. Opens ahead.old ahead.new o) }
@@ -368,7 +368,7 @@ pub fn item_comes(ahead: Ahead<'_>) -> bool
     let Some(token) = next.next_slowly() else {
         return false;
     };
-    match phrase_kind_of(token) {
+    match phrase_kind(token) {
         PhraseKind::Bit | PhraseKind::Scalar | PhraseKind::Timestamp => true,
         PhraseKind::Vector | PhraseKind::Real => next.next_slowly().is_some(),
         PhraseKind::Other => !is_comment(token),

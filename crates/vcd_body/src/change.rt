@@ -45,10 +45,10 @@ pub(crate) fn needless(digits: &[u8]) -> usize
     first_needed(Lower { text: digits }, lead_left_out(digits))
 }
 
-/// Writes the end of a change's line: the byte `first`, the identifier code `id` and a line feed.
-/// If a write fails, a prefix was written.
+/// Writes the byte `first`, the identifier code `id` and a line feed, which is how the line of a
+/// change ends. If a write fails, a prefix was written.
 #[inline(never)]
-pub(crate) fn put_line_end<W: Sink>(w: &mut W, first: u8, id: &[u8]) -> Result<(), WriteFailed>
+pub(crate) fn put_code_text<W: Sink>(w: &mut W, first: u8, id: &[u8]) -> Result<(), WriteFailed>
     requires { (W.device w.old).failures < 2 ^ 64 - 1 }
     ensures { Puts (W.device w.old) (W.device w.new) (first ∷ id.now ++ 10 ∷ []) result }
 {
@@ -83,7 +83,7 @@ pub(crate) fn put_real<W: Sink>(w: &mut W, text: &[u8], id: &[u8]) -> Result<(),
 {
     put(w, b"r")?;
     put(w, text)?;
-    put_line_end(w, b' ', id)
+    put_code_text(w, b' ', id)
 }
 
 /// Writes the line of a change that is not written as a vector: of an event (as `1`, whatever the
@@ -103,7 +103,7 @@ pub(crate) fn put_nonvector<W: Sink>(
         → PutsTo W.device w.old w.new (line_under id.now size event form text.now) result }
 {
     if event {
-        return put_line_end(w, b'1', id);
+        return put_code_text(w, b'1', id);
     }
     match form {
         Form::RealText => put_real(w, text, id),

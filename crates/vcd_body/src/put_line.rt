@@ -2,7 +2,7 @@
 ghost use Rattle.std.specs.Prelude.{◌≡◌, ◌≢◌, ℕ, ◌-◌, ◌^◌, ◌<◌, ◌≤◌, ◌++◌, ◌∷◌, [], false, true, drop, length};
 ghost use Rattle.vcd_body.specs.Names.{Puts, PutsTo, id_line, id_text};
 
-use crate::change::{needless, put_line_end, put_nonvector};
+use crate::change::{needless, put_code_text, put_nonvector};
 use crate::digits::{Digits, Lower, put_from};
 use crate::id::Id;
 use crate::item::Form;
@@ -10,15 +10,15 @@ use crate::renamed::put_code_line;
 use vcd_text::{Sink, WriteFailed, put};
 use vcd_view::NewCode;
 
-/// Writes the end of a change's line: the byte `first`, the identifier code `id` and a line feed.
-/// If a write fails, a prefix was written.
+/// Writes the byte `first`, the identifier code `id` and a line feed, which is how the line of a
+/// change ends. If a write fails, a prefix was written.
 #[inline(always)]
-fn put_line_end_under<W: Sink>(first: u8, id: Id<'_>, w: &mut W) -> Result<(), WriteFailed>
+fn put_code_under<W: Sink>(first: u8, id: Id<'_>, w: &mut W) -> Result<(), WriteFailed>
     requires { (W.device w.old).failures < 2 ^ 64 - 1 }
     ensures { Puts (W.device w.old) (W.device w.new) (first ∷ id_text id.entry ++ 10 ∷ []) result }
 {
     match id {
-        Id::Own(code) => put_line_end(w, first, code),
+        Id::Own(code) => put_code_text(w, first, code),
         Id::Number(number) => put_code_line(first, number, w),
     }
 }
@@ -39,7 +39,7 @@ pub(crate) fn put_vector<D: Digits, W: Sink>(
 {
     put(w, b"b")?;
     put_from(digits, from, w)?;
-    put_line_end_under(b' ', id, w)
+    put_code_under(b' ', id, w)
 }
 
 /// Writes the line of a change that is not written as a vector: of an event (as `1`, whatever the
@@ -91,6 +91,7 @@ fn is_vector(size: usize, event: bool, form: Form) -> bool
 /// vector (`b101 !`), with the shortest digits that extend to the same value. `text` is as
 /// `change_text` returns it. For a change of digits that is no event it must not be empty. If a
 /// write fails, a prefix was written.
+#[cold]
 #[inline(never)]
 pub fn put_change<W: Sink>(
     size: usize,
@@ -105,9 +106,7 @@ pub fn put_change<W: Sink>(
     ensures { PutsTo W.device w.old w.new (id_line id.entry size event form text.now) result }
 {
     match text {
-        [digit] if is_bit(size, event, form) => {
-            put_line_end_under(digit.to_ascii_lowercase(), id, w)
-        }
+        [digit] if is_bit(size, event, form) => put_code_under(digit.to_ascii_lowercase(), id, w),
         _ if is_vector(size, event, form) => put_vector(Lower { text }, needless(text), id, w),
         _ => put_nonvector_under(event, form, text, id, w),
     }

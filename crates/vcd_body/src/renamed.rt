@@ -4,7 +4,7 @@ ghost use Rattle.vcd_body.specs.Names.{AreBinaryIf, Puts, PutsTo, bytes_without,
 ghost use Rattle.vcd_body.specs.declared.item.Item.TheVariants as item;
 
 use crate::ahead::ScannedItem;
-use crate::change::put_line_end;
+use crate::change::put_code_text;
 use crate::id::Id;
 use crate::item::Form;
 use crate::lines::{is_lower, left_out_of_front};
@@ -71,7 +71,7 @@ fn put_any_code<W: Sink>(first: u8, number: u64, w: &mut W) -> Result<(), WriteF
     requires { (W.device w.old).failures < 2 ^ 64 - 1 }
     ensures { Puts (W.device w.old) (W.device w.new) (first ∷ new_code number ++ 10 ∷ []) result }
 {
-    put_line_end(w, first, NewCode::of(number).text())
+    put_code_text(w, first, NewCode::of(number).text())
 }
 
 /// Writes the byte `first`, the code that a merged dump has for this number, and a line feed: in

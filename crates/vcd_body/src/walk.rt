@@ -268,15 +268,15 @@ fn take_vector<C, V: Visit<C>, W: Sink>(
     }
 }
 
-/// Has the visitor handle the next item ahead, and sets `regs` and `ahead` to those after it.
-/// Returns `Ok(false)` if it was a change, `Ok(true)` if it was a timestamp or the begin or the end
-/// of a section, or the failure of a write. `None` if the item does not lie completely in the
-/// chunk, if it is bad or a comment, or if the visitor ends the walk before it; then nothing has
-/// changed.
+/// Has the visitor handle the next item ahead, of any kind, and sets `regs` and `ahead` to those
+/// after it. Returns `Ok(false)` if it was a change, `Ok(true)` if it was a timestamp or the begin
+/// or the end of a section, or the failure of a write. `None` if the item does not lie completely
+/// in the chunk, if it is bad or a comment, or if the visitor ends the walk before it; then nothing
+/// has changed.
 // What begins the item is asked once. Each arm is inlined: otherwise `check` takes nearly three
 // times as many instructions.
 #[inline(always)]
-fn take_next_item<C, V: Visit<C>, W: Sink>(
+fn take_any<C, V: Visit<C>, W: Sink>(
     command: &mut C,
     visit: &mut V,
     view: HeadView<'_>,
@@ -505,8 +505,7 @@ fn walk_items<'a, C, V: Visit<C>, W: Sink>(
     ensures lines { result.1 ≡ true → V.over result.0.visit ≡ false }
 {
     'items: loop {
-        let Some(taken) = take_next_item(command, &mut visit, view, &mut regs, &mut ahead, out)
-        else {
+        let Some(taken) = take_any(command, &mut visit, view, &mut regs, &mut ahead, out) else {
             ahead.forget();
             return (Walked::ended_at(ahead, regs, visit, Ok(false)), false);
         };

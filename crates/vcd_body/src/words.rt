@@ -37,7 +37,7 @@ pub(crate) enum KeywordUse {
 /// Returns what kind of phrase the token begins, by its first byte; `PhraseKind::Other` if it is
 /// empty.
 #[inline(always)]
-pub(crate) fn phrase_kind_of(token: &[u8]) -> PhraseKind
+pub(crate) fn phrase_kind(token: &[u8]) -> PhraseKind
     ensures { Begins token.now result }
 {
     match token.split_first() {

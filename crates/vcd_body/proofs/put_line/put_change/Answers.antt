@@ -8,7 +8,7 @@ returns-in-len1 g c =
     let id = id_text c.args.id in
     let line = bit_line c.args.text.now id c.args.size c.args.event c.args.form size event form c.in-len1.len_at_least c.in-len1.len_below in
     let same = ap (λ d. d ∷ id ++ 10 ∷ []) c.to_ascii_lowercase.ensures.value in
-    subst (λ l. Puts (g.W.Sink.device c.args.w.now) (g.W.Sink.device c.put_line_end_under.new.w) l c.put_line_end_under.result) (same ∙ sym line) c.put_line_end_under.ensures
+    subst (λ l. Puts (g.W.Sink.device c.args.w.now) (g.W.Sink.device c.put_code_under.new.w) l c.put_code_under.result) (same ∙ sym line) c.put_code_under.ensures
 
 pub returns-in_default : goal.returns-in_default
 returns-in_default g c =

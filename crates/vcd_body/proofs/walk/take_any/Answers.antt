@@ -1,7 +1,7 @@
 use Rattle.vcd_body.proofs.Cited.{◌≡◌, None, false, rules, TakesOne, as_done, stage_at}
 use Rattle.vcd_body.proofs.Facts.{and_done, one_taken, stands_there}
-use Rattle.vcd_body.proofs.walk.take_next_item.Goals as goal
-use Rattle.vcd_body.proofs.walk.take_next_item.Goals.{in-Bit+in_ok-change-in-Bit, in-Vector+in_ok-tokens-in-Vector+in_ok-taken-in-Vector, in-Real+in_ok-change-in-Real}
+use Rattle.vcd_body.proofs.walk.take_any.Goals as goal
+use Rattle.vcd_body.proofs.walk.take_any.Goals.{in-Bit+in_ok-change-in-Bit, in-Vector+in_ok-tokens-in-Vector+in_ok-taken-in-Vector, in-Real+in_ok-change-in-Real}
 
 pub scalar_ahead-requires-clause-opens : goal.scalar_ahead-requires-clause-opens
 scalar_ahead-requires-clause-opens g c = (c.args.ahead.now, c.in_ok-opening.ensures.opens)

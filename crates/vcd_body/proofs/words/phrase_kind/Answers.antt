@@ -1,5 +1,5 @@
 use Rattle.vcd_body.proofs.Cited.{List, ℕ, sym, subst, IsFirstAndRest, Begins}
-use Rattle.vcd_body.proofs.words.phrase_kind_of.Goals as goal
+use Rattle.vcd_body.proofs.words.phrase_kind.Goals as goal
 
 pub returns-in-Some : goal.returns-in-Some
 returns-in-Some c =

@@ -1,5 +1,5 @@
 use Rattle.vcd_body.proofs.Cited.{[], ◌∷◌, ◌++◌, err_from_is_err_and, some-behind, some-first, puts-twice}
-use Rattle.vcd_body.proofs.change.put_line_end.Goals as goal
+use Rattle.vcd_body.proofs.change.put_code_text.Goals as goal
 
 pub returns-in_err-put-2 : goal.returns-in_err-put-2
 returns-in_err-put-2 g c =
