@@ -171,23 +171,15 @@ fn read_dump<B: BuildHasher>(
     let Some(index) = find(shown, code) else {
         return Ok(NO_CODE);
     };
-    let from = reading.place;
+    let at = reading.place;
     // No call has left a place yet: the changes begin right after the header.
-    if from.limit == 0 {
+    if at.limit == 0 {
         return Ok(fill_rows(limit, &mut feed, shown, index, Regs::new(), reading, rows));
     }
     // A feed cannot go back or skip bytes, so another one begins at the place.
-    source.rest = bytes_after(dump, from.offset.bytes);
-    match Feed::at(&mut source, &mut chunk, &mut token, &mut value, from.offset) {
-        Some(mut feed) => Ok(fill_rows(
-            limit,
-            &mut feed,
-            shown,
-            index,
-            regs_of(from),
-            reading,
-            rows,
-        )),
+    source.rest = bytes_after(dump, at.offset.bytes);
+    match Feed::at(&mut source, &mut chunk, &mut token, &mut value, at.offset) {
+        Some(mut feed) => Ok(fill_rows(limit, &mut feed, shown, index, regs_of(at), reading, rows)),
         None => Ok(BAD_PLACE),
     }
 }

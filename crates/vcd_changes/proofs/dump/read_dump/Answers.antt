@@ -34,8 +34,8 @@ returns-in_default-clause-finds g c = λ items goes.
     let views = subst (λ (s : HeadShown). Views s (header_of (phrases_of head.placed))) (sym c.view-shown.ensures) head.views in
     FindsUnder.NoCode head.given (codes_in head.placed) (has_codes c.read_head_with_hasher.new.feed c.args.limit dump _ head limit) (c.in_default.ensures.found (header_of (phrases_of head.placed)) views) c.requires.none refl
 
-pub returns-then-from-eq0-clause-finds : goal.returns-then-from-eq0-clause-finds
-returns-then-from-eq0-clause-finds g c = λ items goes.
+pub returns-then-at-eq0-clause-finds : goal.returns-then-at-eq0-clause-finds
+returns-then-at-eq0-clause-finds g c = λ items goes.
     let dump = c.args.dump.now in
     let f = c.read_head_with_hasher.new.feed in
     let stands = c.new-feed.ensures.begins.stands in
@@ -44,7 +44,7 @@ returns-then-from-eq0-clause-finds g c = λ items goes.
     let h = header_of (phrases_of head.placed) in
     let views = subst (λ (s : HeadShown). Views s h) (sym c.view-shown.ensures) head.views in
     let at = c.in-Some.ensures.found h views in
-    let none = none_before c.args.limit dump items c.args.reading.now.place goes c.if-from-eq0.true in
+    let none = none_before c.args.limit dump items c.args.reading.now.place goes c.if-at-eq0.true in
     let finds = c.fill_rows.ensures.finds h dump head.given [] at.0 views (gave_nothing h.codes (whole dump) head.given f c.new.result head.stands c.new.ensures.known) at.1 in
     FindsUnder.Found head.given (codes_in head.placed) (has_codes f c.args.limit dump _ head limit)
     (finds_for c.args.limit h.codes (whole dump) head.given [] items at.0.text c.args.code.now _ _ _ none (found_text h.codes c.args.code.now at.0 at.2) finds)
@@ -60,7 +60,7 @@ returns-in-Some-at-clause-finds g c = λ items goes.
     let has = has_codes f c.args.limit dump _ head limit in
     let views = subst (λ (s : HeadShown). Views s h) (sym c.view-shown.ensures) head.views in
     let at = c.in-Some.ensures.found h views in
-    let after = goes_behind c.args.limit dump items c.args.reading.now.place goes c.if-from-eq0.false head.given (codes_in head.placed) has in
+    let after = goes_behind c.args.limit dump items c.args.reading.now.place goes c.if-at-eq0.false head.given (codes_in head.placed) has in
     let o = c.args.reading.now.place.offset in
     let chunk : length c.deref_mut-4.result.now ≡ 8192 = omega (arith, c.in_ok-chunk.ensures.len, c.deref_mut.ensures.len, c.deref_mut-4.ensures.len) in
     let token : length c.deref_mut-5.result.now ≡ c.args.limit = omega (arith, c.in_ok-token.ensures.len, c.deref_mut-2.ensures.len, c.deref_mut-5.ensures.len) in
@@ -77,5 +77,5 @@ returns-clause-finds g c = λ items goes.
     let f = c.read_head_with_hasher.new.feed in
     let limit : limit_of f ≡ c.args.limit = c.in-Ok.ensures.lengths.0 ∙ omega (arith, c.in_ok-token.ensures.len, c.deref_mut-2.ensures.len, c.new-feed.ensures.begins.limit) in
     let head = c.in-Ok.ensures.reads (whole dump) c.new-feed.ensures.begins.stands in
-    let after = goes_behind c.args.limit dump items c.args.reading.now.place goes c.if-from-eq0.false head.given (codes_in head.placed) (has_codes f c.args.limit dump _ head limit) in
+    let after = goes_behind c.args.limit dump items c.args.reading.now.place goes c.if-at-eq0.false head.given (codes_in head.placed) (has_codes f c.args.limit dump _ head limit) in
     absurd (apart (c.in-None.ensures.comes after.comes))
