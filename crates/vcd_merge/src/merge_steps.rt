@@ -137,11 +137,7 @@ impl<'h, 's> Merge<'h, 's> {
 
 /// Writes the end of a merged dump: the line of the greatest time of all inputs, unless there is
 /// none, or `written` says that it was written last. Fails if a write does.
-fn put_last_time<W: Sink>(
-    seats: &[Seat],
-    written: Option<u64>,
-    out: &mut W,
-) -> Result<(), WriteFailed>
+fn put_end<W: Sink>(seats: &[Seat], written: Option<u64>, out: &mut W) -> Result<(), WriteFailed>
     requires { (W.device out.old).failures < 2 ^ 64 - 1 }
     ensures takes { (hs : List Header) (ds : List Dump) → AreMarked hs ds seats.now
         → written ≡ last_written (merged_items ds)
@@ -188,7 +184,7 @@ fn run_step<S: Source, W: Sink>(
     if !order.is_empty() {
         return Ok(More::Again);
     }
-    put_last_time(seats, *written, out)?;
+    put_end(seats, *written, out)?;
     Ok(More::Ended(Done::Whole))
 }
 

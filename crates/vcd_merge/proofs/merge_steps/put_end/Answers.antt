@@ -1,6 +1,6 @@
 use Rattle.vcd_merge.proofs.Cited.{sym, ◌∙◌, appends-none}
 use Rattle.vcd_merge.proofs.Facts.{closes_none, closes_some}
-use Rattle.vcd_merge.proofs.merge_steps.put_last_time.Goals as goal
+use Rattle.vcd_merge.proofs.merge_steps.put_end.Goals as goal
 
 pub returns-in-Some-clause-takes : goal.returns-in-Some-clause-takes
 returns-in-Some-clause-takes g c = λ hs ds marked is. rw (closes_some hs ds c.args.seats.now c.args.written c.in-Some.time marked is (sym c.greatest_time.ensures ∙ c.in-Some.is)) c.put_time_unless.ensures.0

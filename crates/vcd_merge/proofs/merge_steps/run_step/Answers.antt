@@ -60,18 +60,18 @@ returns-then-not-is_empty-clause-runs g c =
     let en = c.in_ok-run_turn.ensures in
     went_on (took g at.In_ok-run_turn) en.seated (some_waits c.run_turn.new.seats c.join.new.self.inputs c.join.new.self.len (waiting g at.After-join) (c.is_empty.ensures.some c.if-not-is_empty.true)) en.left
 
-pub returns-in_err-put_last_time-clause-runs : goal.returns-in_err-put_last_time-clause-runs
-returns-in_err-put_last_time-clause-runs g c =
-    let at = goal.at.returns-in_err-put_last_time-clause-runs g c in
-    let close = c.in_err-put_last_time.ensures in
+pub returns-in_err-put_end-clause-runs : goal.returns-in_err-put_end-clause-runs
+returns-in_err-put_end-clause-runs g c =
+    let at = goal.at.returns-in_err-put_end-clause-runs g c in
+    let close = c.in_err-put_end.ensures in
     let all = none_waiting c.run_turn.new.seats c.join.new.self.inputs c.join.new.self.len (waiting g at.After-join) (c.is_empty.ensures.none c.if-not-is_empty.false) in
-    let e : c.from_residual-in_err-put_last_time.result ≡ Err Write = search rules in
+    let e : c.from_residual-in_err-put_end.result ≡ Err Write = search rules in
     rw e (was_cut (took g at.In_ok-run_turn) all _ (close.counts ∙ ap (λ n. n + 1) (c.in_ok-run_turn.ensures.touches.writes ∙ add-zero _)) (λ hs es marked w. (close.takes hs es marked w, close.counts)))
 
 pub returns-clause-runs : goal.returns-clause-runs
 returns-clause-runs g c =
     let at = goal.at.returns-clause-runs g c in
-    let close = c.in_ok-put_last_time.ensures in
+    let close = c.in_ok-put_end.ensures in
     let all = none_waiting c.run_turn.new.seats c.join.new.self.inputs c.join.new.self.len (waiting g at.After-join) (c.is_empty.ensures.none c.if-not-is_empty.false) in
     has_ended (took g at.In_ok-run_turn) all _ (close.counts ∙ c.in_ok-run_turn.ensures.touches.writes) (λ hs es marked w. (close.takes hs es marked w, close.counts))
 
