@@ -175,8 +175,8 @@ impl TurnOrder {
     /// Removes the input with the least time, at equal times the one with the least index, from the
     /// order, in which some input waits, and returns its turn.
     ///
-    /// After the turn, pass its input to `join` before the next call. Until then, no time of another
-    /// seat may change.
+    /// After the turn, pass its input to `join` before the next call. Until then, no time of
+    /// another seat may change.
     #[inline(always)]
     pub(crate) fn take_next(&mut self, seats: &[Seat]) -> Turn
         requires order { AllWait seats.now self.old.inputs self.old.len }

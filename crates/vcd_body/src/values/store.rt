@@ -284,10 +284,10 @@ pub(crate) fn step_digit_at(slots: &mut [Slot], code: usize, digit: u8) -> Stepp
     }
 }
 
-/// Sets the value of the code at index `code` to these binary digits, and counts the change, if that
-/// needs only the slot: if the code holds binary digits, and neither these nor the new ones are more
-/// than `size`. Returns `Stepped::Not`, and changes nothing, if there is no such code, or if that is
-/// not so.
+/// Sets the value of the code at index `code` to these binary digits, and counts the change, if
+/// that needs only the slot: if the code holds binary digits, and neither these nor the new ones
+/// are more than `size`. Returns `Stepped::Not`, and changes nothing, if there is no such code, or
+/// if that is not so.
 #[inline(always)]
 pub(crate) fn step_bits_at(slots: &mut [Slot], code: usize, size: usize, bits: Bits) -> Stepped
     ensures counted { result ≡ Stepped.Counted → StepsTo code size bits slots.old slots.new }
