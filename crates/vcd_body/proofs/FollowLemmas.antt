@@ -1,5 +1,5 @@
 -- What a table keeps of a code whose value was set and whose step was counted.
-use Rattle.vcd_body.proofs.Cited.{◌≡◌, ◌≢◌, ◌⊎◌, inl, inr, ℕ, ◌+◌, ◌<◌, ◌≤◌, ◌==◌, ◌||◌, ◌%◌, ◌^◌, max, not, Bool, true, false, cond, List, [], ◌∷◌, length, map, take, drop, slice_get, Option, Some, None, refl, subst, sym, ap, ◌∙◌, arith, option_map, unwrap_or, to_ascii_lowercase, option_eq, agree_below_at, eq-eqb, eqb-true, lt-ltb, ne_eqb, nat_tests, Value, value_with, Code, ChangesCode, GivesValue, IsLaidOut, KeepsTable, SetsCode, held_at, kept_at, IsText, binary_digits, count_in, is_proper, number_in, model_form, Held, IsStep, Kept, differs, fits, goes_from, last_digit_in, value_at_size, with_change, with_counted, with_held, with_number, with_number_change, with_step, with_text, held_digit, AreLaidOut, ChangesAt, Whole, end_at, held_by, held_of, kept_in, kept_with, len_in, number_of, one_digit, share_of, some_by, state_in, used_by, whole, Form, Share, Slot, State, Step, Table, form_in, with_value, with_value_change}
+use Rattle.vcd_body.proofs.Cited.{◌≡◌, ◌≢◌, ◌⊎◌, inl, inr, ℕ, ◌+◌, ◌<◌, ◌≤◌, ◌==◌, ◌||◌, ◌%◌, ◌^◌, max, not, Bool, true, false, cond, List, [], ◌∷◌, length, map, take, drop, slice_get, Option, Some, None, refl, subst, sym, ap, ◌∙◌, arith, option_map, unwrap_or, to_ascii_lowercase, option_eq, agree_below_at, eq-eqb, eqb-true, lt-ltb, ne_eqb, nat_tests, Value, value_with, Code, ChangesCode, GivesValue, IsLaidOut, KeepsTable, SetsCode, held_at, kept_at, IsText, binary_digits, count_in, is_proper, number_in, model_form, Held, IsStep, Kept, differs, fits, goes_from, last_digit_in, value_at_size, with_change, with_counted, with_held, with_number, with_number_change, with_step, with_text, held_digit, AreLaidOut, ChangesAt, Whole, end_at, held_by, held_of, kept_in, kept_with, len_in, tag_of, one_digit, share_of, some_by, state_in, used_by, whole, Form, Share, Slot, State, Step, Table, form_in, with_value, with_value_change}
 use Rattle.vcd_body.specs.declared.item.Form.TheVariants as form
 use Rattle.vcd_body.specs.declared.values.slot.State.TheVariants as state
 use Rattle.vcd_body.specs.declared.values.value.Value.{Value as Given}
@@ -134,7 +134,7 @@ digit_stays w digit fit one f digits size end values =
     ∙ sym (told w w.state digit (record { differs = false; rises = false; falls = false }) d one (one ∙ ap (λ x. Some x) same) (sym (ap not (eq-eqb d d refl)))
     ((no_edge d).0 ∙ ap (λ o. goes_from 48 49 o (Some d)) (sym one)) ((no_edge d).1 ∙ ap (λ o. goes_from 49 48 o (Some d)) (sym one)) f digits size end values)
 
-pub bit_digit : (one : Bool) (tag : ℕ) → tag ≡ number_of (cond one state.One state.Zero) → one_digit (state_in tag) ≡ Some (cond one 49 48)
+pub bit_digit : (one : Bool) (tag : ℕ) → tag ≡ tag_of (cond one state.One state.Zero) → one_digit (state_in tag) ≡ Some (cond one 49 48)
 bit_digit true tag is = ap (λ n. one_digit (state_in n)) is
 bit_digit false tag is = ap (λ n. one_digit (state_in n)) is
 
@@ -144,7 +144,7 @@ way_flips true way e = rw e (refl, refl)
 way_flips false way e = rw e (refl, refl)
 
 -- a slot that holds the other digit of 0 and 1
-pub other_bit : (tag : ℕ) (one : Bool) → tag ≡ number_of (cond one state.Zero state.One) → state_in tag ≡ cond one state.Zero state.One
+pub other_bit : (tag : ℕ) (one : Bool) → tag ≡ tag_of (cond one state.Zero state.One) → state_in tag ≡ cond one state.Zero state.One
 other_bit tag true other = ap state_in other
 other_bit tag false other = ap state_in other
 

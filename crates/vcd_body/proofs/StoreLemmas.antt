@@ -1,6 +1,6 @@
 -- A table where one code was written, and perhaps its bytes: what it keeps of that code, and that
 -- it keeps of the others what it kept.
-use Rattle.vcd_body.proofs.Cited.{◌≡◌, ◌≢◌, ℕ, zero, suc, ◌+◌, ◌-◌, ◌*◌, ◌/◌, ◌%◌, ◌<◌, ◌≤◌, ◌==◌, nat_lt, nat_le, Bool, true, false, cond, List, [], ◌∷◌, length, take, drop, map, slice_get, slice_set, Option, Some, None, refl, sym, subst, ap, ◌∙◌, arith, ◌⊎◌, inl, inr, get_or, option_and_then, option_map, and_right, cases_lt, eq-eqb, ne_eqb, le-leb, lt-leb, lt-ltb, drop-take, get_or-take, length-append, length-drop, length-take, byte, slice_get_past, slice_get_within, take-put_mid_below, drop-put_mid, between-put_mid, put_mid, Held, Kept, bytes_for, counts_if, counts_with, fits, held_as, one_more, room_for, with_held, with_step, with_text, digits_in, held_digit, quarter_of, counts_after, with_steps, AreLaidOut, ChangesAt, IsHeldAs, IsLaid, Whole, text_bytes, end_at, held_by, held_of, holding_of, kept_in, kept_with, len_in, number_of, one_digit, set_whole, some_by, start_or, state_in, used, used_by, whole, whole_at, Form, Share, Slot, State, there}
+use Rattle.vcd_body.proofs.Cited.{◌≡◌, ◌≢◌, ℕ, zero, suc, ◌+◌, ◌-◌, ◌*◌, ◌/◌, ◌%◌, ◌<◌, ◌≤◌, ◌==◌, nat_lt, nat_le, Bool, true, false, cond, List, [], ◌∷◌, length, take, drop, map, slice_get, slice_set, Option, Some, None, refl, sym, subst, ap, ◌∙◌, arith, ◌⊎◌, inl, inr, get_or, option_and_then, option_map, and_right, cases_lt, eq-eqb, ne_eqb, le-leb, lt-leb, lt-ltb, drop-take, get_or-take, length-append, length-drop, length-take, byte, slice_get_past, slice_get_within, take-put_mid_below, drop-put_mid, between-put_mid, put_mid, Held, Kept, bytes_for, counts_if, counts_with, fits, held_as, one_more, room_for, with_held, with_step, with_text, digits_in, held_digit, quarter_of, counts_after, with_steps, AreLaidOut, ChangesAt, IsHeldAs, IsLaid, Whole, text_bytes, end_at, held_by, held_of, holding_of, kept_in, kept_with, len_in, tag_of, one_digit, set_whole, some_by, start_or, state_in, used, used_by, whole, whole_at, Form, Share, Slot, State, there}
 use Rattle.std.proofs.Math.Seq.{take-take}
 use Rattle.vcd_body.specs.declared.item.Form.TheVariants as form
 use Rattle.vcd_body.specs.declared.values.slot.State.TheVariants as state
@@ -489,7 +489,7 @@ pub digit_kept : (st : State) (len : ℕ) (s : Whole) (d end : ℕ) (values : Li
 digit_kept st len s d end values h = ap (λ (x : Held). kept_as end s x) (held_one st len d (take (used_by st len) (drop s.start values)) h)
 
 -- a state is known by its number
-pub told_state : (st : State) → state_in (number_of st) ≡ st
+pub told_state : (st : State) → state_in (tag_of st) ≡ st
 told_state state.Unset = refl
 told_state state.Zero = refl
 told_state state.One = refl
@@ -511,13 +511,13 @@ many_bits (suc (suc (suc (suc (suc (suc zero)))))) h = absurd (omega arith)
 many_bits (suc (suc (suc (suc (suc (suc (suc n))))))) h = refl
 
 -- a length that a slot and its share hold in two parts
-pub len_told : (st : State) (tag len : ℕ) → tag ≡ number_of st → st ≢ state.Bits → len_in tag (len % 4294967296) (len / 4294967296) ≡ len
+pub len_told : (st : State) (tag len : ℕ) → tag ≡ tag_of st → st ≢ state.Bits → len_in tag (len % 4294967296) (len / 4294967296) ≡ len
 len_told st tag len e text = ap (λ n. len_in n (len % 4294967296) (len / 4294967296)) e ∙ by_state st text
   where
     parts : len / 4294967296 * 4294967296 + len % 4294967296 % 4294967296 ≡ len
     parts = omega arith
 
-    by_state : (st : State) → st ≢ state.Bits → len_in (number_of st) (len % 4294967296) (len / 4294967296) ≡ len
+    by_state : (st : State) → st ≢ state.Bits → len_in (tag_of st) (len % 4294967296) (len / 4294967296) ≡ len
     by_state state.Unset h = parts
     by_state state.Zero h = parts
     by_state state.One h = parts

@@ -52,7 +52,7 @@ pub use Rattle.vcd_body.specs.Stored.{AreLaidOut, ChangesAt, ChangesSlot, IsHeld
 pub use Rattle.vcd_body.specs.Taken.{HasTime, IsChangeBy, IsFound, IsFoundScalar, IsSection, LeavesRegs, Opens, OpensVector, TakesItem, TakesOpened, TakesOpenedAfter}
 pub use Rattle.vcd_body.specs.Values.{by_text, form_in, text_in, with_value, with_value_change}
 pub use Rattle.vcd_body.specs.Whole.{HoldsItem, IsPrompt}
-pub use Rattle.vcd_body.specs.Words.{Begins, InClear, IsScalar, StandsFor, command_is, is_comment, mark_time}
+pub use Rattle.vcd_body.specs.Words.{Begins, InClear, IsScalar, StandsFor, command_is, is_comment}
 pub use Rattle.vcd_body.specs.declared.item.Form.{Form}
 pub use Rattle.vcd_body.specs.declared.item.Item.{Item}
 pub use Rattle.vcd_body.specs.declared.words.PhraseKind.{PhraseKind}

@@ -81,15 +81,15 @@ held_line size ds id = cond (size == 1) (ds ++ (id ++ 10 ∷ [])) (byte "b" ∷ 
 
 -- the number of a state, and the state of a number; from 7 on the number also says how many binary
 -- digits there are
-abbrev pub number_of : State → ℕ
-number_of state.Unset = 0
-number_of state.One = 1
-number_of state.Zero = 2
-number_of state.Unknown = 3
-number_of state.High = 4
-number_of state.Packed = 5
-number_of state.Real = 6
-number_of state.Bits = 7
+abbrev pub tag_of : State → ℕ
+tag_of state.Unset = 0
+tag_of state.One = 1
+tag_of state.Zero = 2
+tag_of state.Unknown = 3
+tag_of state.High = 4
+tag_of state.Packed = 5
+tag_of state.Real = 6
+tag_of state.Bits = 7
 
 abbrev pub state_in : ℕ → State
 state_in zero = state.Unset

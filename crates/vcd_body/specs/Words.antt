@@ -1,9 +1,8 @@
 -- What a token is that comes where a phrase of a body begins.
-use Rattle.std.specs.Prelude.{◌≡◌, ℕ, ◌+◌, ◌<◌, ◌≤◌, ◌^◌, Bool, true, false, cond, ◌&&◌, nat_lt, IsTrue, ◌==◌, List, [], ◌∷◌, drop, Option, Some, None}
+use Rattle.std.specs.Prelude.{◌≡◌, ℕ, ◌+◌, ◌<◌, ◌≤◌, Bool, true, false, IsTrue, ◌==◌, List, [], ◌∷◌, Option, Some, None}
 use Rattle.std.specs.List.{list_any}
 use Rattle.std.specs.Str.{byte}
 use Rattle.std.specs.Prelude.{bytes_eq}
-use Rattle.vcd_model.specs.Bytes.{decimal_value, is_decimal}
 use Rattle.vcd_model.specs.Keywords.{Keyword, keyword_of, keyword_text}
 use Rattle.vcd_model.specs.BodyPhrases.{section_keyword, is_value_digit}
 use Rattle.vcd_view.specs.declared.keyword.Keyword.{Keyword as HeadKeyword}
@@ -65,10 +64,6 @@ BeginsOther (b ∷ rest) = ((b == byte "#") ≡ false) × (is_value_digit b ≡ 
 -- a digit of a value begins the token
 abbrev pub IsScalar : List ℕ → Type 0
 IsScalar token = (d : ℕ) × (code : List ℕ) × IsTrue (is_value_digit d) × (token ≡ d ∷ code)
-
--- the time that the token of a timestamp spells, if it is below 2^64
-abbrev pub mark_time : List ℕ → Option ℕ
-mark_time token = cond (is_decimal (drop 1 token) && nat_lt (decimal_value (drop 1 token)) (2 ^ 64)) (Some (decimal_value (drop 1 token))) None
 
 -- the token begins so
 abbrev pub Begins : List ℕ → PhraseKind → Type 0

@@ -6,11 +6,11 @@ ghost use Rattle.vcd_body.specs.declared.item.Item.TheVariants as item;
 ghost use Rattle.vcd_body.specs.declared.words.PhraseKind.TheVariants as kind;
 
 use crate::item::{Form, Item, Regs};
-use crate::phrases::{has_room, real_text, scalar_code, vector_text};
+use crate::phrases::{may_have_digits, real_text, scalar_code, vector_text};
 use crate::values::bits::Bits;
 use crate::words::{
     KeywordUse, PhraseKind, after_first, are_binary_or_known, bits_at, first_byte_of, is_comment,
-    keyword_use_of, kind_by, kind_of, rest_of,
+    keyword_use_of, phrase_kind, phrase_kind_by, rest_of,
 };
 use vcd_text::{Ahead, Feed, Sink, Source, WriteFailed, decimal_at};
 use vcd_view::{Found, HeadView, find_in_entry, find_sized, is_end};
@@ -149,7 +149,7 @@ fn vector_code(token: &[u8], code: &[u8], view: HeadView<'_>, binary: bool) -> O
         return None;
     };
     let found = find_sized(view, code)?;
-    if has_room(view.codes, found, digits.len()) {
+    if may_have_digits(view.codes, found, digits.len()) {
         return Some(found);
     }
     None
@@ -183,7 +183,7 @@ pub(crate) struct Opening<'a> {
 /// Returns the next token ahead and the kind of item that it begins, and moves past it. The kind is
 /// `PhraseKind::Other` for a section, a comment, and a token that begins no item. `None` if
 /// `Ahead::next` returns `None`; then nothing has changed.
-// Inlined into each arm of `take_next`, where the compiler knows what the token begins.
+// Inlined into each arm of `take_any`, where the compiler knows what the token begins.
 #[inline(always)]
 pub(crate) fn opening_ahead<'a>(ahead: &mut Ahead<'a>) -> Option<Opening<'a>>
     ensures opens { IfSome result (λ o. Opens ahead.old ahead.new o) }
@@ -191,7 +191,7 @@ pub(crate) fn opening_ahead<'a>(ahead: &mut Ahead<'a>) -> Option<Opening<'a>>
 {
     let token = ahead.next()?;
     Some(Opening {
-        kind: kind_by(token[0]),
+        kind: phrase_kind_by(token[0]),
         token,
         from_lines: false,
     })
@@ -207,7 +207,7 @@ fn short_opening<'a, const CR_LF: bool>(ahead: &mut Ahead<'a>) -> Option<Opening
 {
     let token = ahead.next_short::<CR_LF>()?;
     Some(Opening {
-        kind: kind_by(token[0]),
+        kind: phrase_kind_by(token[0]),
         token,
         from_lines: false,
     })
@@ -224,7 +224,7 @@ pub(crate) fn line_timestamp<'a, const CR_LF: bool>(ahead: &mut Ahead<'a>) -> Op
 {
     let mut next = *ahead;
     let token = next.next_in_16::<CR_LF>()?;
-    let kind = kind_by(token[0]);
+    let kind = phrase_kind_by(token[0]);
     let PhraseKind::Timestamp = kind else {
         return None;
     };
@@ -368,7 +368,7 @@ pub fn item_comes(ahead: Ahead<'_>) -> bool
     let Some(token) = next.next_slowly() else {
         return false;
     };
-    match kind_of(token) {
+    match phrase_kind(token) {
         PhraseKind::Bit | PhraseKind::Scalar | PhraseKind::Timestamp => true,
         PhraseKind::Vector | PhraseKind::Real => next.next_slowly().is_some(),
         PhraseKind::Other => !is_comment(token),

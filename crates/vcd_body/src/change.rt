@@ -45,10 +45,10 @@ pub(crate) fn needless(digits: &[u8]) -> usize
     first_needed(Lower { text: digits }, lead_left_out(digits))
 }
 
-/// Writes the byte `first`, the identifier code `id` and a line feed. If a write fails, a prefix
-/// was written.
+/// Writes the byte `first`, the identifier code `id` and a line feed, which is how the line of a
+/// change ends. If a write fails, a prefix was written.
 #[inline(never)]
-pub(crate) fn put_end<W: Sink>(w: &mut W, first: u8, id: &[u8]) -> Result<(), WriteFailed>
+pub(crate) fn put_code_text<W: Sink>(w: &mut W, first: u8, id: &[u8]) -> Result<(), WriteFailed>
     requires { (W.device w.old).failures < 2 ^ 64 - 1 }
     ensures { Puts (W.device w.old) (W.device w.new) (first ∷ id.now ++ 10 ∷ []) result }
 {
@@ -57,11 +57,11 @@ pub(crate) fn put_end<W: Sink>(w: &mut W, first: u8, id: &[u8]) -> Result<(), Wr
     put(w, b"\n")
 }
 
-/// Writes a line of all of these digits, and the identifier code `id` right after them. It is for a
-/// code of one bit. If a write fails, a prefix was written.
+/// Writes the line of a change of a code of one bit: its digits, and the identifier code `id` right
+/// after them. If a write fails, a prefix was written.
 #[cold]
 #[inline(never)]
-pub(crate) fn put_all<D: Digits, W: Sink>(
+pub(crate) fn put_bit_line<D: Digits, W: Sink>(
     digits: D,
     id: &[u8],
     w: &mut W,
@@ -83,14 +83,14 @@ pub(crate) fn put_real<W: Sink>(w: &mut W, text: &[u8], id: &[u8]) -> Result<(),
 {
     put(w, b"r")?;
     put(w, text)?;
-    put_end(w, b' ', id)
+    put_code_text(w, b' ', id)
 }
 
-/// Writes the line of a change of an event (as `1`, whatever the text is), of a real number, or of
-/// digits of a code of one bit, by its form and text, under the identifier code `id`. `event` says
-/// whether it is of an event; if it is not, digits must not be empty. If a write fails, a prefix
-/// was written.
-pub(crate) fn put_other<W: Sink>(
+/// Writes the line of a change that is not written as a vector: of an event (as `1`, whatever the
+/// text is), of a real number, or of digits of a code of one bit, by its form and text, under the
+/// identifier code `id`. `event` says whether it is of an event; if it is not, digits must not be
+/// empty. If a write fails, a prefix was written.
+pub(crate) fn put_nonvector<W: Sink>(
     event: bool,
     form: Form,
     text: &[u8],
@@ -103,10 +103,10 @@ pub(crate) fn put_other<W: Sink>(
         → PutsTo W.device w.old w.new (line_under id.now size event form text.now) result }
 {
     if event {
-        return put_end(w, b'1', id);
+        return put_code_text(w, b'1', id);
     }
     match form {
         Form::RealText => put_real(w, text, id),
-        Form::Scalar | Form::Vector => put_all(Lower { text }, id, w),
+        Form::Scalar | Form::Vector => put_bit_line(Lower { text }, id, w),
     }
 }

@@ -139,7 +139,7 @@ pub(crate) fn first_needed<D: Digits>(digits: D, least: usize) -> usize
 
 /// Fills `to` with the digits from index `from` on, counted from the left. There have to be at
 /// least as many as `to` has bytes.
-fn fill<D: Digits>(digits: D, from: usize, to: &mut [u8])
+fn copy_digits<D: Digits>(digits: D, from: usize, to: &mut [u8])
     requires within { from + length to.old ≤ length (D.digits digits) }
     requires few { length (D.digits digits) < 2 ^ 64 }
     ensures { to.new ≡ take (length to.old) (drop from (D.digits digits)) }
@@ -169,7 +169,7 @@ pub(crate) fn put_from<D: Digits, W: Sink>(
     let mut at = from;
     while at < count {
         let some = (count - at).min(BLOCK);
-        fill(digits, at, &mut block[..some]);
+        copy_digits(digits, at, &mut block[..some]);
         put(w, &block[..some])?;
         at += some;
     }

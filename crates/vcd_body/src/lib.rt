@@ -34,7 +34,7 @@
 //! `GaveLast`, which says how much was read.
 //!
 //! `Walks takes stands over shows begin end ended` is what `walk_ahead` leaves: a trail of items
-//! from where it began (`Trail`), at each of which the visit did what its `takes` says, with only
+//! from where it began (`Trail`), at each of which the visitor did what its `takes` says, with only
 //! comments between them, and how it ended. Callers turn the trail into a relation of their own.
 //!
 //! `IsSpelled view scanned` says that the bytes of an item that was taken ahead, from its first one
@@ -61,9 +61,9 @@
 //!
 //! Lines are written:
 //!
-//! - `id`: `put_change`, under an `Id`; `put_line`: the line of a change from its form and text;
-//!   `digits`: its digits, or those that are held, and how they are extended; `change`: which of
-//!   them are needed, and a code's own bytes at its end; `renamed`: a new code at its end
+//! - `put_line`: `put_change`, from form and text, under an `Id` (`id`); `digits`: the digits of a
+//!   change, or those that are held, and how they are extended; `change`: which of them are needed,
+//!   and a code's own bytes at the end of the line; `renamed`: a new code there
 //! - `lines`: `left_out`: how the bytes of a change are its line; `time_line`: `put_time`
 //!
 //! A run ends:
@@ -110,9 +110,10 @@ pub use ahead::{ScannedItem, item_comes, pass_items, pass_on_before_read};
 pub use answer::{Done, More, Stop};
 pub use current::set_item;
 pub use fault::BodyFault;
-pub use id::{Id, put_change};
+pub use id::Id;
 pub use item::{Form, Item, Regs, Section};
 pub use lines::{is_timestamp_line, left_out};
+pub use put_line::put_change;
 pub use read::{change_text, next_item};
 pub use renamed::{only_digit, put_code_line, put_renamed, put_renamed_ahead};
 pub use time_line::{put_time, put_time_unless};

@@ -1,6 +1,6 @@
 // The phrases of a body, by what they begin with.
 ghost use Rattle.std.specs.Prelude.{◌≡◌, ◌≢◌, true, false, ◌-◌, ◌^◌, ◌<◌, ◌≤◌, length, take, drop, Some, None, slice_get, OnOk, IfOk, IfErr, IfSome, ◌||◌, nat_le};
-ghost use Rattle.vcd_body.specs.Names.{Advances, AreBinaryIf, AreRegsWith, Begins, CallEnd, ChangeForm, Code, PhraseKind, Form, GoesFurther, HasGoodValue, IsFoundScalar, IsScalar, IsSized, Item, MovesPast, NeedsOneToken, OpensOrRefuses, PassesWords, PassesWordsTo, ReadsCode, ReadsComment, ReadsTimestamp, ReadsRest, RefusesIn, call_end, is_end as ends, is_value_digit, list_all, mark_time, passed_of, seen, source_of, token_of, value_of};
+ghost use Rattle.vcd_body.specs.Names.{Advances, AreBinaryIf, AreRegsWith, Begins, CallEnd, ChangeForm, Code, PhraseKind, Form, GoesFurther, HasGoodValue, IsFoundScalar, IsScalar, IsSized, Item, MovesPast, NeedsOneToken, OpensOrRefuses, PassesWords, PassesWordsTo, ReadsCode, ReadsComment, ReadsTimestamp, ReadsRest, RefusesIn, call_end, is_end as ends, is_value_digit, list_all, passed_of, seen, source_of, token_of, value_of};
 
 use crate::fault::BodyFault;
 use crate::item::Regs;
@@ -8,15 +8,6 @@ use crate::tokens::next_inner;
 use crate::words::{after_first, are_binary, are_digits_or_binary, rest_of};
 use vcd_text::{Ahead, Feed, Source, decimal_of};
 use vcd_view::{Code, Found, HeadView, find_sized, is_end};
-
-/// Returns the time that the token of a timestamp spells. `None` if it has other bytes than digits
-/// after the `#`, or none, or if the time is 2^64 or more.
-#[inline(always)]
-pub(crate) fn time_in(token: &[u8]) -> Option<u64>
-    ensures { result ≡ mark_time token.now }
-{
-    decimal_of(rest_of(token))
-}
 
 /// Returns the time of a timestamp with this token, and sets the last time of `regs` to it. Fails
 /// with `BadTime` if it spells no time below 2^64, with `TimeInSection` if a section is open, and
@@ -28,7 +19,7 @@ pub(crate) fn read_timestamp(token: &[u8], regs: &mut Regs) -> Result<u64, BodyF
     ensures regs { AreRegsWith Item.Time regs.old regs.new result }
     ensures own { IfErr result (λ fault. fault ≢ BodyFault.ReadFailed) }
 {
-    let Some(time) = time_in(token) else {
+    let Some(time) = decimal_of(rest_of(token)) else {
         return Err(BodyFault::BadTime);
     };
     regs.accept_timestamp(time)?;
@@ -180,7 +171,7 @@ fn read_code<S: Source>(
 /// less, or its variables are events.
 // The size found with it is mostly enough. Only if it is not, the code is read.
 #[inline(always)]
-pub(crate) fn has_room(codes: &[Code], found: Found, digits: usize) -> bool
+pub(crate) fn may_have_digits(codes: &[Code], found: Found, digits: usize) -> bool
     requires { IsSized codes.now found }
     ensures { (code : Code) → slice_get codes.now found.position ≡ Some code
         → result ≡ (code.event || nat_le digits code.size) }
@@ -211,7 +202,7 @@ pub(crate) fn read_vector<S: Source>(
     let token = feed.token();
     vector_text(token, are_binary(rest_of(token)))?;
     let found = read_code(feed, view)?;
-    if !has_room(view.codes, found, rest_of(feed.value()).len()) {
+    if !may_have_digits(view.codes, found, rest_of(feed.value()).len()) {
         return Err(BodyFault::TooWide);
     }
     Ok(found.position)

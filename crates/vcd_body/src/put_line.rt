@@ -2,7 +2,7 @@
 ghost use Rattle.std.specs.Prelude.{◌≡◌, ◌≢◌, ℕ, ◌-◌, ◌^◌, ◌<◌, ◌≤◌, ◌++◌, ◌∷◌, [], false, true, drop, length};
 ghost use Rattle.vcd_body.specs.Names.{Puts, PutsTo, id_line, id_text};
 
-use crate::change::{needless, put_end, put_other};
+use crate::change::{needless, put_code_text, put_nonvector};
 use crate::digits::{Digits, Lower, put_from};
 use crate::id::Id;
 use crate::item::Form;
@@ -10,15 +10,15 @@ use crate::renamed::put_code_line;
 use vcd_text::{Sink, WriteFailed, put};
 use vcd_view::NewCode;
 
-/// Writes the byte `first`, the identifier code `id` and a line feed. If a write fails, a prefix
-/// was written.
+/// Writes the byte `first`, the identifier code `id` and a line feed, which is how the line of a
+/// change ends. If a write fails, a prefix was written.
 #[inline(always)]
-fn put_end_under<W: Sink>(first: u8, id: Id<'_>, w: &mut W) -> Result<(), WriteFailed>
+fn put_code_under<W: Sink>(first: u8, id: Id<'_>, w: &mut W) -> Result<(), WriteFailed>
     requires { (W.device w.old).failures < 2 ^ 64 - 1 }
     ensures { Puts (W.device w.old) (W.device w.new) (first ∷ id_text id.entry ++ 10 ∷ []) result }
 {
     match id {
-        Id::Own(code) => put_end(w, first, code),
+        Id::Own(code) => put_code_text(w, first, code),
         Id::Number(number) => put_code_line(first, number, w),
     }
 }
@@ -39,15 +39,15 @@ pub(crate) fn put_vector<D: Digits, W: Sink>(
 {
     put(w, b"b")?;
     put_from(digits, from, w)?;
-    put_end_under(b' ', id, w)
+    put_code_under(b' ', id, w)
 }
 
-/// Writes the line of a change of an event (as `1`, whatever the text is), of a real number, or of
-/// digits of a code of one bit, by its form and text, under the identifier code `id`. `event` says
-/// whether it is of an event; if it is not, digits must not be empty. If a write fails, a prefix
-/// was written.
+/// Writes the line of a change that is not written as a vector: of an event (as `1`, whatever the
+/// text is), of a real number, or of digits of a code of one bit, by its form and text, under the
+/// identifier code `id`. `event` says whether it is of an event; if it is not, digits must not be
+/// empty. If a write fails, a prefix was written.
 #[inline(never)]
-fn put_other_under<W: Sink>(
+fn put_nonvector_under<W: Sink>(
     event: bool,
     form: Form,
     text: &[u8],
@@ -60,8 +60,8 @@ fn put_other_under<W: Sink>(
         → PutsTo W.device w.old w.new (id_line id.entry size event form text.now) result }
 {
     match id {
-        Id::Own(code) => put_other(event, form, text, code, w),
-        Id::Number(number) => put_other(event, form, text, NewCode::of(number).text(), w),
+        Id::Own(code) => put_nonvector(event, form, text, code, w),
+        Id::Number(number) => put_nonvector(event, form, text, NewCode::of(number).text(), w),
     }
 }
 
@@ -86,12 +86,14 @@ fn is_vector(size: usize, event: bool, form: Form) -> bool
 }
 
 /// Writes the line of a change of this form under the identifier code `id`. `size` and `event` are
-/// those of the change's code. An event is written as `1`, whatever its text is; a real number as
-/// `r` and its text; digits of a code of one bit as a scalar (`1!`); and those of any other code as
-/// a vector (`b101 !`), with the shortest digits that extend to the same value. For a change of
-/// digits that is no event, `text` must not be empty. If a write fails, a prefix was written.
-#[inline(always)]
-pub(crate) fn put_line<W: Sink>(
+/// those of the change's code in the header. An event is written as `1`, whatever its text is. The
+/// digits of a code of one bit are written as a scalar (`1!`), and those of any other size as a
+/// vector (`b101 !`), with the shortest digits that extend to the same value. `text` is as
+/// `change_text` returns it. For a change of digits that is no event it must not be empty. If a
+/// write fails, a prefix was written.
+#[cold]
+#[inline(never)]
+pub fn put_change<W: Sink>(
     size: usize,
     event: bool,
     form: Form,
@@ -104,8 +106,8 @@ pub(crate) fn put_line<W: Sink>(
     ensures { PutsTo W.device w.old w.new (id_line id.entry size event form text.now) result }
 {
     match text {
-        [digit] if is_bit(size, event, form) => put_end_under(digit.to_ascii_lowercase(), id, w),
+        [digit] if is_bit(size, event, form) => put_code_under(digit.to_ascii_lowercase(), id, w),
         _ if is_vector(size, event, form) => put_vector(Lower { text }, needless(text), id, w),
-        _ => put_other_under(event, form, text, id, w),
+        _ => put_nonvector_under(event, form, text, id, w),
     }
 }

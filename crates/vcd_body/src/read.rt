@@ -7,7 +7,7 @@ use crate::fault::BodyFault;
 use crate::item::{Form, Item, Regs};
 use crate::phrases::{read_real, read_timestamp, read_vector, scalar_code, skip_comment};
 use crate::tokens::next_token;
-use crate::words::{KeywordUse, PhraseKind, first_byte_of, keyword_use_of, kind_of, rest_of};
+use crate::words::{KeywordUse, PhraseKind, first_byte_of, keyword_use_of, phrase_kind, rest_of};
 use vcd_text::{Feed, Source};
 use vcd_view::HeadView;
 
@@ -82,7 +82,7 @@ fn read_phrase<S: Source>(
         return Ok(Some(Item::Finish));
     }
     let token = feed.token();
-    let item = match kind_of(token) {
+    let item = match phrase_kind(token) {
         PhraseKind::Bit | PhraseKind::Scalar => Item::Change {
             code: scalar_code(token, view)?.position,
             form: Form::Scalar,

@@ -4,11 +4,11 @@ ghost use Rattle.vcd_body.specs.Names.{AreBinaryIf, Puts, PutsTo, bytes_without,
 ghost use Rattle.vcd_body.specs.declared.item.Item.TheVariants as item;
 
 use crate::ahead::ScannedItem;
-use crate::change::put_end;
+use crate::change::put_code_text;
 use crate::id::Id;
 use crate::item::Form;
 use crate::lines::{is_lower, left_out_of_front};
-use crate::put_line::{is_bit, put_line};
+use crate::put_line::{is_bit, put_change};
 use vcd_text::{Few, Sink, WriteFailed, put, put_few, put_parts};
 use vcd_view::NewCode;
 
@@ -71,7 +71,7 @@ fn put_any_code<W: Sink>(first: u8, number: u64, w: &mut W) -> Result<(), WriteF
     requires { (W.device w.old).failures < 2 ^ 64 - 1 }
     ensures { Puts (W.device w.old) (W.device w.new) (first ∷ new_code number ++ 10 ∷ []) result }
 {
-    put_end(w, first, NewCode::of(number).text())
+    put_code_text(w, first, NewCode::of(number).text())
 }
 
 /// Writes the byte `first`, the code that a merged dump has for this number, and a line feed: in
@@ -103,7 +103,7 @@ pub fn put_renamed<W: Sink>(
     requires digits { event ≡ false → form ≢ Form.RealText → 0 < length text.now }
     ensures { PutsTo W.device w.old w.new (line_under (new_code number) size event form text.now) result }
 {
-    put_line(size, event, form, text, Id::Number(number), w)
+    put_change(size, event, form, text, Id::Number(number), w)
 }
 
 /// Writes the bytes from `from` up to `end` (exclusive), without the `left_out` bytes after the
@@ -156,27 +156,6 @@ fn put_copied<W: Sink>(
     put_parts(w, bytes[from], &bytes[rest..], end - rest, code)
 }
 
-/// Writes the line of a change under the code that a merged dump has for this number, by a look at
-/// each digit. The change's own code has this size and is no event. If a write fails, a prefix was
-/// written.
-// Not inlined, and takes no struct, since it is rare.
-#[cold]
-#[inline(never)]
-fn put_renamed_text<W: Sink>(
-    size: usize,
-    form: Form,
-    text: &[u8],
-    number: u64,
-    w: &mut W,
-) -> Result<(), WriteFailed>
-    requires failures { (W.device w.old).failures < 2 ^ 64 - 1 }
-    requires digits { form ≢ Form.RealText → 0 < length text.now }
-    ensures { Puts (W.device w.old) (W.device w.new)
-        (line_under (new_code number) size false form text.now) result }
-{
-    put_renamed(size, false, form, text, number, w)
-}
-
 /// Returns the digit of a change of this form that was taken ahead, if its line is only this digit,
 /// a code and a line feed. `None` if it is no scalar, if the size of its code is not 1, or if its
 /// digit is a capital letter.
@@ -222,6 +201,6 @@ pub fn put_renamed_ahead<W: Sink>(
             let end = scanned.code_at - 1;
             put_copied(scanned.bytes, scanned.begin, end, k, number, w)
         }
-        None => put_renamed_text(size, form, scanned.text, number, w),
+        None => put_renamed(size, false, form, scanned.text, number, w),
     }
 }

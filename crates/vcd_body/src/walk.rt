@@ -23,8 +23,8 @@ use crate::words::PhraseKind;
 use vcd_text::{Ahead, Sink, WriteFailed};
 use vcd_view::HeadView;
 
-/// What is done with the items ahead, in a command that is lent. A loop keeps the visit in CPU
-/// registers, so it is passed and returned by value.
+/// A visitor: it says what is done with each of the items ahead, in a command that is lent. A loop
+/// keeps it in CPU registers, so it is passed and returned by value.
 pub trait Visit<C>: Drop {
     // Whether it can continue in these bytes, with these registers after the items so far.
     ghost stands: { Self → C → List ℕ → Regs → Type 0 };
@@ -122,14 +122,14 @@ pub trait Visit<C>: Drop {
 /// How a walk has ended.
 #[derive(Drop)]
 pub struct Walked<'a, V> {
-    /// After the items that were taken.
+    /// The look-ahead after the items that were handled.
     pub ahead: Ahead<'a>,
     /// The registers after these items.
     pub regs: Regs,
-    /// The visit after these items.
+    /// The visitor after these items.
     pub visit: V,
-    /// Whether the visit is over after the last of these items; or that a write of its output
-    /// failed.
+    /// Whether the visitor has ended the walk after the last of these items; or that a write of its
+    /// output failed.
     pub ended: Result<bool, WriteFailed>,
 }
 
@@ -200,8 +200,8 @@ fn take_timestamp<'a, C, V: Visit<C>>(
 }
 
 /// Has the visitor handle the begin or the end of a section whose keyword is that of `opening` and
-/// lies between `ahead` and `to`. Sets `regs` and `ahead` to those after it, and returns true,
-/// since it was no change, or that a write failed. `None` if the token is anything else, if it may
+/// lies between `ahead` and `to`. Sets `regs` and `ahead` to those after it, and returns `Ok(true)`
+/// (it was no change), or the failure of a write. `None` if the token is anything else, if it may
 /// not come here, or if the visitor ends the walk before it; then nothing has changed.
 #[inline(always)]
 fn take_section<'a, C, V: Visit<C>, W: Sink>(
@@ -268,14 +268,15 @@ fn take_vector<C, V: Visit<C>, W: Sink>(
     }
 }
 
-/// Has the visitor handle the next item ahead, and sets `regs` and `ahead` to those after it.
-/// Returns false if it was a change, true if it was a timestamp or the begin or the end of a
-/// section, or that a write failed. `None` if the item does not lie completely in the chunk, if it
-/// is bad or a comment, or if the visitor ends the walk before it; then nothing has changed.
+/// Has the visitor handle the next item ahead, of any kind, and sets `regs` and `ahead` to those
+/// after it. Returns `Ok(false)` if it was a change, `Ok(true)` if it was a timestamp or the begin
+/// or the end of a section, or the failure of a write. `None` if the item does not lie completely
+/// in the chunk, if it is bad or a comment, or if the visitor ends the walk before it; then nothing
+/// has changed.
 // What begins the item is asked once. Each arm is inlined: otherwise `check` takes nearly three
 // times as many instructions.
 #[inline(always)]
-fn take_next<C, V: Visit<C>, W: Sink>(
+fn take_any<C, V: Visit<C>, W: Sink>(
     command: &mut C,
     visit: &mut V,
     view: HeadView<'_>,
@@ -504,7 +505,7 @@ fn walk_items<'a, C, V: Visit<C>, W: Sink>(
     ensures lines { result.1 ≡ true → V.over result.0.visit ≡ false }
 {
     'items: loop {
-        let Some(taken) = take_next(command, &mut visit, view, &mut regs, &mut ahead, out) else {
+        let Some(taken) = take_any(command, &mut visit, view, &mut regs, &mut ahead, out) else {
             ahead.forget();
             return (Walked::ended_at(ahead, regs, visit, Ok(false)), false);
         };
@@ -521,16 +522,16 @@ fn walk_items<'a, C, V: Visit<C>, W: Sink>(
     }
 }
 
-/// Has the visitor `visit` handle the items ahead, one after the other, and returns the look-ahead,
-/// the registers and the visitor after the last of them, and how the walk ended. Comments are
-/// skipped. The walk ends if the visitor ends it, if a write fails, or at an item that is bad or
-/// does not lie completely in the chunk. The first item is tried even if the visitor has already
-/// ended the walk.
+/// Has the visitor `visit` handle the items that lie completely in the chunk, from `ahead` on, one
+/// after the other, and returns the look-ahead, the registers and the visitor after the last of
+/// them, and how the walk ended. Comments are skipped. The walk ends if the visitor ends it, if a
+/// write fails, or at an item that is bad or does not lie completely in the chunk. The first item
+/// is tried even if the visitor has already ended the walk.
 ///
 /// Two loops take turns. `take_lines` is faster, but takes only changes of two bytes and short
 /// timestamps, each on a line of its own. `walk_items` takes any item, and stops once two such
 /// changes come next. The walk ends once a turn of both has moved past no byte.
-// Registers, offset and visit come and go by value, so that the loop over items keeps them out of
+// Registers, offset and visitor come and go by value, so that the loop over items keeps them out of
 // memory: in a struct that is kept there they cost `check` of scalars 11 %.
 #[inline(always)]
 pub fn walk_ahead<'a, C, V: Visit<C>, W: Sink>(

@@ -37,11 +37,11 @@ pub(crate) enum KeywordUse {
 /// Returns what kind of phrase the token begins, by its first byte; `PhraseKind::Other` if it is
 /// empty.
 #[inline(always)]
-pub(crate) fn kind_of(token: &[u8]) -> PhraseKind
+pub(crate) fn phrase_kind(token: &[u8]) -> PhraseKind
     ensures { Begins token.now result }
 {
     match token.split_first() {
-        Some((byte, _)) => kind_by(*byte),
+        Some((byte, _)) => phrase_kind_by(*byte),
         None => PhraseKind::Other,
     }
 }
@@ -50,7 +50,7 @@ pub(crate) fn kind_of(token: &[u8]) -> PhraseKind
 // The most frequent first bytes come first: with `#` and `r` before them, `check` of scalars takes
 // 30 % more, and of 27,505 codes 5 %.
 #[inline(always)]
-pub(crate) fn kind_by(byte: u8) -> PhraseKind
+pub(crate) fn phrase_kind_by(byte: u8) -> PhraseKind
     ensures { (rest : List ℕ) → Begins (byte ∷ rest) result }
 {
     if byte == b'0' || byte == b'1' {
@@ -334,7 +334,7 @@ fn ones_32(bytes: &[u8], at: usize) -> u64
 /// Returns the number that the `n` binary digits from offset `at` on write; `n` is at most 32. All
 /// 32 bytes from there on have to exist.
 #[inline(always)]
-fn number_at(bytes: &[u8], at: usize, n: usize) -> usize
+fn binary_number_at(bytes: &[u8], at: usize, n: usize) -> usize
     requires room { at + 32 ≤ length bytes.now }
     requires few { n ≤ 32 }
     ensures fits { result < 2 ^ n }
@@ -354,7 +354,7 @@ pub(crate) fn bits_at(bytes: &[u8], at: usize, digits: &[u8]) -> Option<Bits>
 {
     let n = digits.len();
     if 1 <= n && n <= 32 && bytes.len() - at >= 32 && are_binary_at(bytes, at, n) {
-        let number = number_at(bytes, at, n);
+        let number = binary_number_at(bytes, at, n);
         return Some(Bits { len: n, number });
     }
     None

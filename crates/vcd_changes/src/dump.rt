@@ -12,7 +12,7 @@ ghost use Rattle.vcd_changes.specs.Reading.{Finds, FindsIn, FindsUnder, GoesOnAt
 
 use crate::reading::{Reading, place_of, regs_of};
 use crate::row::ChangeRow;
-use crate::rows::{Filled, collect};
+use crate::rows::{Filled, collect_rows};
 use std::alloc::{AllocError, Global};
 use std::hash::BuildHasher;
 use vcd_body::Regs;
@@ -74,7 +74,7 @@ fn status_of(filled: Filled) -> u8
 /// With `DONE` and `FULL`, `reading.place` is where the next call continues. With `FAULT`,
 /// `reading` has the fault and its line, and `place` stays as it was. `limit` is the token limit of
 /// the feed, and `regs` are the registers where the feed is.
-fn read_on(
+fn fill_rows(
     limit: usize,
     feed: &mut Feed<'_, '_, '_, '_, Bytes<'_>>,
     view: HeadView<'_>,
@@ -95,7 +95,7 @@ fn read_on(
 {
     let mut regs = regs;
     let mut count = 0;
-    let ended = collect(feed, view, index, &mut regs, rows, &mut count);
+    let ended = collect_rows(feed, view, index, &mut regs, rows, &mut count);
     reading.count = count as u64;
     match ended {
         Ok(filled) => {
@@ -111,7 +111,7 @@ fn read_on(
 }
 
 /// Returns the bytes of the dump after the first `n`, or no bytes if it has fewer.
-fn after(dump: &[u8], n: u64) -> &[u8]
+fn bytes_after(dump: &[u8], n: u64) -> &[u8]
     ensures { result.now ≡ drop n dump.now }
 {
     if n >= dump.len() as u64 {
@@ -123,7 +123,7 @@ fn after(dump: &[u8], n: u64) -> &[u8]
 /// Sets `reading` to say that the header has this fault in this line and that no rows are filled,
 /// and returns `FAULT`. If memory ran out, it only sets that no rows are filled, and returns
 /// `NO_MEMORY`.
-fn refused(fault: HeadFault, line: u64, reading: &mut Reading) -> u8
+fn note_bad_header(fault: HeadFault, line: u64, reading: &mut Reading) -> u8
     ensures refused { Refused fault line reading.new result }
     ensures place { reading.new.place ≡ reading.old.place }
 {
@@ -140,7 +140,7 @@ fn refused(fault: HeadFault, line: u64, reading: &mut Reading) -> u8
 /// the identifier code `code` from `reading.place` on, sets `reading`, whose `count` is 0 before,
 /// and returns the status: `DONE`, `FAULT`, `NO_CODE`, `NO_MEMORY`, `FULL` or `BAD_PLACE`. Fails if
 /// there is no memory for the buffers; then `reading` does not change.
-fn read_changes<B: BuildHasher>(
+fn read_dump<B: BuildHasher>(
     alloc: Global,
     limit: usize,
     dump: &[u8],
@@ -165,29 +165,28 @@ fn read_changes<B: BuildHasher>(
     let mut feed = Feed::new(&mut source, &mut chunk, &mut token, &mut value);
     let head = match read_head_with_hasher(alloc, &mut feed, MAX_DECLARATIONS, hasher) {
         Ok(head) => head,
-        Err(fault) => return Ok(refused(fault, feed.line(), reading)),
+        Err(fault) => return Ok(note_bad_header(fault, feed.line(), reading)),
     };
     let shown = head.view();
     let Some(index) = find(shown, code) else {
         return Ok(NO_CODE);
     };
-    let from = reading.place;
+    let at = reading.place;
     // No call has left a place yet: the changes begin right after the header.
-    if from.limit == 0 {
-        return Ok(read_on(limit, &mut feed, shown, index, Regs::new(), reading, rows));
+    if at.limit == 0 {
+        return Ok(fill_rows(limit, &mut feed, shown, index, Regs::new(), reading, rows));
     }
     // A feed cannot go back or skip bytes, so another one begins at the place.
-    source.rest = after(dump, from.offset.bytes);
-    match Feed::at(&mut source, &mut chunk, &mut token, &mut value, from.offset) {
-        Some(mut feed) => Ok(read_on(limit, &mut feed, shown, index, regs_of(from), reading, rows)),
+    source.rest = bytes_after(dump, at.offset.bytes);
+    match Feed::at(&mut source, &mut chunk, &mut token, &mut value, at.offset) {
+        Some(mut feed) => Ok(fill_rows(limit, &mut feed, shown, index, regs_of(at), reading, rows)),
         None => Ok(BAD_PLACE),
     }
 }
 
-/// Reads the header of a dump with this token limit, at least 1, fills the rows with the changes of
-/// the identifier code `code` from `reading.place` on, sets `reading`, and returns the status:
-/// `DONE`, `FAULT`, `NO_CODE`, `NO_MEMORY`, `FULL` or `BAD_PLACE`.
-fn read_under<B: BuildHasher>(
+/// Fills the rows and sets `reading` as `read_dump` does, with this token limit, at least 1, and
+/// returns the status: `DONE`, `FAULT`, `NO_CODE`, `NO_MEMORY`, `FULL` or `BAD_PLACE`.
+fn read_with_limit<B: BuildHasher>(
     alloc: Global,
     limit: usize,
     dump: &[u8],
@@ -203,7 +202,7 @@ fn read_under<B: BuildHasher>(
     ensures place { StaysAt reading.old reading.new result }
 {
     reading.count = 0;
-    match read_changes(alloc, limit, dump, code, hasher, reading, rows) {
+    match read_dump(alloc, limit, dump, code, hasher, reading, rows) {
         Ok(status) => status,
         Err(_) => NO_MEMORY,
     }
@@ -242,12 +241,12 @@ pub fn changes<B: BuildHasher>(
 {
     let before = *reading;
     if before.place.limit != 0 && before.place.limit != LOWER_LIMIT as u64 {
-        return read_under(alloc, LIMIT, dump, code, hasher, reading, rows);
+        return read_with_limit(alloc, LIMIT, dump, code, hasher, reading, rows);
     }
-    let status = read_under(alloc, LOWER_LIMIT, dump, code, hasher, reading, rows);
+    let status = read_with_limit(alloc, LOWER_LIMIT, dump, code, hasher, reading, rows);
     if is_limit_enough(status, *reading) {
         return status;
     }
     *reading = before;
-    read_under(alloc, LIMIT, dump, code, hasher, reading, rows)
+    read_with_limit(alloc, LIMIT, dump, code, hasher, reading, rows)
 }

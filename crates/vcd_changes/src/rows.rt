@@ -31,7 +31,7 @@ pub(crate) enum Filled {
 /// Adds a row for `item`, which `next_item` returned last, after the first `count` rows, if it is a
 /// change of the code at `index`, and returns how many rows are filled then. `count` is less than
 /// the number of rows. Any other item changes nothing. `time` is the time of the item, in ticks.
-fn put_row<S: Source>(
+fn add_row<S: Source>(
     feed: &Feed<'_, '_, '_, '_, S>,
     item: Item,
     index: usize,
@@ -57,7 +57,7 @@ fn put_row<S: Source>(
 /// ends, and returns which of these it was. Sets `count` to the number of rows that are filled,
 /// also if it fails, and `regs` to the registers where the feed is then. Fails with the fault of
 /// the body, after the rows before it.
-pub(crate) fn collect<S: Source>(
+pub(crate) fn collect_rows<S: Source>(
     feed: &mut Feed<'_, '_, '_, '_, S>,
     view: HeadView<'_>,
     index: usize,
@@ -83,6 +83,6 @@ pub(crate) fn collect<S: Source>(
         if item == Item::Finish {
             return Ok(Filled::All);
         }
-        *count = put_row(feed, item, index, regs.time, rows, *count);
+        *count = add_row(feed, item, index, regs.time, rows, *count);
     }
 }

@@ -74,9 +74,9 @@ impl Collecting {
     }
 }
 
-// `is_over` is always false, so this visit ends a walk only before a timestamp or a section's begin
-// or end. Once the rows are full, the walk still visits the changes up to the next of these, and
-// `bytes_to_pass` leaves them out.
+// `is_over` is always false, so this visitor ends a walk only before a timestamp or a section's
+// begin or end. Once the rows are full, the walk still visits the changes up to the next of these,
+// and `bytes_to_pass` leaves them out.
 impl<'r> Visit<Rows<'r>> for Collecting {
     ghost use Rattle.std.specs.Prelude.{false};
     ghost use Rattle.vcd_changes.specs.Walk.{HasRoom, TakesRow, is_full};

@@ -1,6 +1,6 @@
 //! A run of a task over the items of a body. It knows no single command.
-ghost use Rattle.std.specs.Prelude.{◌≡◌, ◌≢◌, ◌-◌, ◌^◌, ◌<◌, [], List, true, false, MatchBool, Ok, MatchResult};
-ghost use Rattle.vcd_engine.specs.Names.{Advances, Again, BeginsAs, BodyItem, CallEnd, CanRun, close_text, Counts, CountsOn, Early, EndsAsAsked, EndsAtRead, Finish, Finishes, HasBegun, HasRoomFor, Header, Holds, is_going, IsValid, IsViewOf, IsWithinEachBound, item_text, MayRun, MayStep, parts, request_of, request_of_begun, request_of_engine, room_in, room_of_begun, room_size, RunsTask, SameHold, SameWindows, seen, StartsOver, Steps, StepsAhead, StepsOver, Takes, view_in};
+ghost use Rattle.std.specs.Prelude.{◌≡◌, ◌≢◌, ◌-◌, ◌^◌, ◌<◌, [], List, true, false, Ok, MatchResult};
+ghost use Rattle.vcd_engine.specs.Names.{Advances, Again, BeginsAs, BodyItem, CallEnd, CanRun, close_text, Counts, CountsOn, Early, EndsAsAsked, EndsAtRead, Finishes, HasBegun, HasRoomFor, Header, Holds, is_going, IsValid, IsViewOf, IsWithinEachBound, item_text, MayRun, MayStep, parts, request_of, request_of_begun, request_of_engine, room_in, room_of_begun, room_size, RunsTask, SameHold, SameWindows, seen, StartsOver, Steps, StepsAhead, StepsOver, Takes, view_in};
 ghost use Rattle.vcd_engine.specs.Waits.{StepsOrStops};
 ghost use Rattle.vcd_body.specs.Prompt.{HasPassedOn, LeavesSink};
 ghost use Rattle.vcd_body.specs.Whole.{HoldsItem, IsPrompt};
@@ -33,17 +33,6 @@ const _: () = prove!(
         + size_of::<Feed<'static, 'static, 'static, 'static, Bytes<'static>>>()
         <= 512
 );
-
-/// Returns whether the item is `Item::Finish`, the end of the body.
-#[inline(always)]
-fn is_finish(item: Item) -> bool
-    ensures { MatchBool result (item ≡ Finish) (item ≢ Finish) }
-{
-    match item {
-        Item::Finish => true,
-        Item::Time(_) | Item::Begin(_) | Item::End | Item::Change { .. } => false,
-    }
-}
 
 /// Returns the text of `item`, which `next_item` returned last: the digits or the real number of a
 /// change, and no bytes for any other item.
@@ -146,7 +135,7 @@ impl<'v, 'n, 'r> Engine<'v, 'n, 'r> {
                 return Err(Stop::of_body(fault, 0, feed.line()));
             }
         };
-        if is_finish(item) {
+        if item == Item::Finish {
             self.going = false;
             self.close(out)?;
             return Ok(More::Ended(Done::Whole));

@@ -77,7 +77,7 @@ impl ItemText {
     }
 
     /// Returns what is kept of the written text once the line of `time` was written last.
-    pub(crate) fn after(time: u64) -> ItemText
+    pub(crate) fn after_time(time: u64) -> ItemText
         ensures { HasWritten (time ∷ []) [] result }
     {
         ItemText {
@@ -89,7 +89,7 @@ impl ItemText {
     /// line of an item. `text` is a change's text; for other items it may be anything. Fails if a
     /// write does.
     #[inline(always)]
-    fn put<W: Sink>(
+    fn put_with_time<W: Sink>(
         &mut self,
         view: HeadView<'_>,
         time: u64,
@@ -135,7 +135,7 @@ impl ItemText {
         let bytes = scanned.bytes;
         let Some(n) = left_out(scanned) else {
             pending.flush(bytes, out)?;
-            return self.put(view, time, scanned.item, scanned.text, out);
+            return self.put_with_time(view, time, scanned.item, scanned.text, out);
         };
         self.queue_time(time, bytes, line, pending, out)?;
         pending.queue_line(bytes, scanned.begin, scanned.end, n, out)

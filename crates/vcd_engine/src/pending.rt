@@ -22,7 +22,7 @@ fn put_part<W: Sink>(bytes: &[u8], from: usize, to: usize, out: &mut W) -> Resul
 // It is for lines that end with CR LF. Made anew from digits and codes, these cost `pick` of all
 // scalars 30 % more.
 #[inline(never)]
-fn put_line<W: Sink>(
+fn put_with_line_feed<W: Sink>(
     bytes: &[u8],
     from: usize,
     to: usize,
@@ -159,7 +159,7 @@ impl PendingCopy {
             };
             return put_few(out, line);
         }
-        put_line(bytes, from, last, n, out)
+        put_with_line_feed(bytes, from, last, n, out)
     }
 
     /// Queues the line of `time`. If `from` is less than `to`, the bytes from `from` up to `to - 1`

@@ -18,7 +18,7 @@ fn put_word<W: Sink>(out: &mut W, word: &[u8]) -> Result<(), WriteFailed>
 
 /// Writes the line of `list` for the variable at index `row`: its path, type, size in bits and
 /// code. Writes nothing if there is no such row. Fails if a write does.
-fn put_variable<W: Sink>(view: HeadView<'_>, row: usize, out: &mut W) -> Result<(), WriteFailed>
+fn put_list_line<W: Sink>(view: HeadView<'_>, row: usize, out: &mut W) -> Result<(), WriteFailed>
     requires failures { (W.device out.old).failures < 2 ^ 64 - 1 }
     ensures { PutsWhere W.device out.old out.new result (λ takes.
         AtRow view.entry row (λ _ s. takes (list_line s))) }
@@ -51,7 +51,7 @@ pub fn list<W: Sink>(view: HeadView<'_>, out: &mut W) -> Result<Done, Stop>
 {
     for (row, declared) in view.rows.iter().enumerate() {
         if declared.kind == Kind::Var {
-            put_variable(view, row, out)?;
+            put_list_line(view, row, out)?;
         }
     }
     Ok(Done::Whole)

@@ -11,7 +11,7 @@ use vcd_view::HeadView;
 /// Writes the line of `sample` for the variable at index `row`: `time`, its path, and its value in
 /// the table. Writes nothing for an event, and if there is no such row. The table must have the
 /// values at `time`. Fails if a write does.
-fn put_line<W: Sink>(
+fn put_sample_line<W: Sink>(
     table: &Table<'_>,
     view: HeadView<'_>,
     row: usize,
@@ -40,7 +40,7 @@ fn put_line<W: Sink>(
 /// Writes the lines of `sample` for one time: one for each row whose flag in `marks` is 1. By any
 /// other flag rows are skipped (`rows_on`). `marks` is as `lead_on` leaves it, and the table must
 /// have the values at `time`. Fails if a write does.
-fn put_lines<W: Sink>(
+fn put_sample<W: Sink>(
     table: &Table<'_>,
     view: HeadView<'_>,
     marks: &[u8],
@@ -56,7 +56,7 @@ fn put_lines<W: Sink>(
     while row < marks.len() {
         let mark = marks[row];
         if mark == 1 {
-            put_line(table, view, row, time, out)?;
+            put_sample_line(table, view, row, time, out)?;
         }
         row = row.saturating_add(rows_on(mark));
     }
@@ -81,7 +81,7 @@ pub(crate) fn put_samples<W: Sink>(
     ensures counts { Counts (W.device out.old) (W.device out.new) result }
 {
     for time in times {
-        put_lines(table, view, marks, *time, out)?;
+        put_sample(table, view, marks, *time, out)?;
     }
     Ok(())
 }

@@ -62,7 +62,7 @@ fn put_counter<W: Sink>(number: u64, out: &mut W) -> Result<(), WriteFailed>
 /// Writes the line of `edges` for the variable at index `row`: its path, and how often its value
 /// changes, rises and falls, by the table. Writes nothing if there is no such row. Fails if a write
 /// does.
-fn put_row<W: Sink>(
+fn put_edges_line<W: Sink>(
     table: &Table<'_>,
     view: HeadView<'_>,
     row: usize,
@@ -85,7 +85,7 @@ fn put_row<W: Sink>(
 
 /// Writes the line of `edges` for each selected variable, in order of declaration. `marks` has a
 /// byte for each row, 1 at a selected variable. Fails if a write does.
-pub(crate) fn put_rows<W: Sink>(
+pub(crate) fn put_edges_lines<W: Sink>(
     table: &Table<'_>,
     view: HeadView<'_>,
     marks: &[u8],
@@ -100,7 +100,7 @@ pub(crate) fn put_rows<W: Sink>(
 {
     for (row, declared) in view.rows.iter().enumerate() {
         if declared.kind == Kind::Var && is_marked(marks, row) {
-            put_row(table, view, row, out)?;
+            put_edges_line(table, view, row, out)?;
         }
     }
     Ok(())

@@ -74,10 +74,10 @@ pub fn merge_run_keeps()
     ensures { MergeRunKeeps }
 {}
 
-/// The head that `pick` or `cut` writes of a header has no fault when it is read, unless a token is
-/// too long for the reader. It declares the selected variables as the header does, and ends where
-/// the text that follows it begins. The reader must allow as many declarations as such a head may
-/// have.
+/// The head that `pick` or `cut` writes can be read again: it has no fault, unless a token is too
+/// long for the reader, declares the selected variables as the header of the input does, and ends
+/// where the text that follows it begins. The reader must allow as many declarations as such a head
+/// may have.
 pub fn head_is_read_back()
     ensures { HeadIsReadBack }
 {}
@@ -339,9 +339,9 @@ pub fn settled_merge_is_final()
     ensures { SettledMergeIsFinal }
 {}
 
-/// A merge is settled once each of its inputs is settled without the others: all of it is known, or
-/// its first tokens settle it, where it may have as many declarations as those before it leave of
-/// the most that are allowed.
+/// A merge is settled (nothing that follows can change how it ends) once each of its inputs is
+/// settled without the others: all of it is known, or its first tokens settle it. Each input may
+/// have as many declarations as the inputs before it leave of the number that is allowed.
 pub fn settled_alone_settles_merge()
     ensures { SettledAloneSettlesMerge }
 {}

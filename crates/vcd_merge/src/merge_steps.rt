@@ -137,7 +137,7 @@ impl<'h, 's> Merge<'h, 's> {
 
 /// Writes the end of a merged dump: the line of the greatest time of all inputs, unless there is
 /// none, or `written` says that it was written last. Fails if a write does.
-fn close<W: Sink>(seats: &[Seat], written: Option<u64>, out: &mut W) -> Result<(), WriteFailed>
+fn put_end<W: Sink>(seats: &[Seat], written: Option<u64>, out: &mut W) -> Result<(), WriteFailed>
     requires { (W.device out.old).failures < 2 ^ 64 - 1 }
     ensures takes { (hs : List Header) (ds : List Dump) → AreMarked hs ds seats.now
         → written ≡ last_written (merged_items ds)
@@ -180,11 +180,11 @@ fn run_step<S: Source, W: Sink>(
 {
     let next = order.take_next(seats);
     run_turn(heads, next, seats, sources, windows, written, out)?;
-    order.put(next.input, seats);
+    order.join(next.input, seats);
     if !order.is_empty() {
         return Ok(More::Again);
     }
-    close(seats, *written, out)?;
+    put_end(seats, *written, out)?;
     Ok(More::Ended(Done::Whole))
 }
 

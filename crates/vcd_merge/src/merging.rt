@@ -264,7 +264,7 @@ fn time_too_large(input: usize, line: u64) -> Stop
 /// The fault of the dump, also a time that is 2^64 or more in ticks of the merged dump, or a failed
 /// read: nothing was written. `Stop::Write` if a write failed, after a prefix.
 #[inline(always)]
-fn take_item<S: Source, W: Sink>(
+fn read_item<S: Source, W: Sink>(
     head: &Head,
     input: usize,
     feed: &mut Feed<'_, '_, '_, '_, S>,
@@ -352,7 +352,7 @@ pub(crate) fn take_turn<S: Source, W: Sink>(
             return Ok(());
         }
         pass_on_before_read(feed, out)?;
-        take_item(head, turn.input, feed, seat, written, out)?;
+        read_item(head, turn.input, feed, seat, written, out)?;
         if seat.finished || seat.time >= turn.before {
             return Ok(());
         }

@@ -112,7 +112,7 @@ impl TurnOrder {
     /// Inserts an input at its place in the order, by the times in `seats`, unless it has finished.
     /// Fewer than 64 inputs wait before. It must not be there already.
     #[inline(always)]
-    pub(crate) fn put(&mut self, input: usize, seats: &[Seat])
+    pub(crate) fn join(&mut self, input: usize, seats: &[Seat])
         requires input { input < length seats.now }
         requires few { length seats.now ≤ 64 }
         requires room { self.old.len < 64 }
@@ -142,7 +142,7 @@ impl TurnOrder {
             until,
         };
         for input in 0..seats.len() {
-            order.put(input, seats);
+            order.join(input, seats);
         }
         order
     }
@@ -175,8 +175,8 @@ impl TurnOrder {
     /// Removes the input with the least time, at equal times the one with the least index, from the
     /// order, in which some input waits, and returns its turn.
     ///
-    /// After the turn, pass its input to `put` before the next call. Until then, no time of another
-    /// seat may change.
+    /// After the turn, pass its input to `join` before the next call. Until then, no time of
+    /// another seat may change.
     #[inline(always)]
     pub(crate) fn take_next(&mut self, seats: &[Seat]) -> Turn
         requires order { AllWait seats.now self.old.inputs self.old.len }

@@ -24,7 +24,7 @@ pub enum Words<'m, 'a> {
 
 /// Returns the first value of the argument `id` of the command in a parsed command line. `None` if
 /// there is no command, or if the argument has no value.
-fn word_of<'a>(matches: &ArgMatches<'a>, id: &str) -> Option<&'a str>
+fn value_of<'a>(matches: &ArgMatches<'a>, id: &str) -> Option<&'a str>
     ensures { option_map (λ word. word.now) result ≡ word_after matches.now id.now }
 {
     let (_, options) = matches.subcommand()?;
@@ -36,19 +36,19 @@ fn word_of<'a>(matches: &ArgMatches<'a>, id: &str) -> Option<&'a str>
 pub fn input_of<'a>(matches: &ArgMatches<'a>) -> Option<&'a str>
     ensures { option_map (λ name. name.now) result ≡ input_asked matches.now }
 {
-    word_of(matches, "input")
+    value_of(matches, "input")
 }
 
 /// Returns the value of `--token-limit` in a parsed command line; `None` if there is none.
 pub(crate) fn limit_word<'a>(matches: &ArgMatches<'a>) -> Option<&'a str>
     ensures { option_map (λ word. word.now) result ≡ word_after matches.now (codes "token-limit") }
 {
-    word_of(matches, "token-limit")
+    value_of(matches, "token-limit")
 }
 
 /// Returns all values of the argument `id` of the command in a parsed command line. `None` if there
 /// is no command, or if the argument has no value.
-fn words_of<'m, 'a>(matches: &'m ArgMatches<'a>, id: &str) -> Option<&'m [&'a str]>
+fn values_of<'m, 'a>(matches: &'m ArgMatches<'a>, id: &str) -> Option<&'m [&'a str]>
     ensures { texts_of result ≡ some_of (values_after matches.now id.now) }
 {
     let (_, options) = matches.subcommand()?;
@@ -60,14 +60,14 @@ fn words_of<'m, 'a>(matches: &'m ArgMatches<'a>, id: &str) -> Option<&'m [&'a st
 fn names_of<'m, 'a>(matches: &'m ArgMatches<'a>) -> Option<&'m [&'a str]>
     ensures { texts_of result ≡ some_of (values_after matches.now (codes "names")) }
 {
-    words_of(matches, "names")
+    values_of(matches, "names")
 }
 
 /// Returns the files that a parsed command line names for a merge; `None` if it names none.
 pub fn files_of<'m, 'a>(matches: &'m ArgMatches<'a>) -> Option<&'m [&'a str]>
     ensures { texts_of result ≡ some_of (files_asked matches.now) }
 {
-    words_of(matches, "files")
+    values_of(matches, "files")
 }
 
 /// Returns the command `name`, with its arguments in a parsed command line. `None` if there is no
@@ -79,8 +79,8 @@ fn words_named<'m, 'a>(name: &str, matches: &'m ArgMatches<'a>) -> Option<Words<
         "check" => Some(Words::Check),
         "list" => Some(Words::List),
         "pick" => Some(Words::Pick(names_of(matches)?)),
-        "cut" => Some(Words::Cut(word_of(matches, "from")?, word_of(matches, "to")?)),
-        "sample" => Some(Words::Sample(word_of(matches, "at")?, names_of(matches))),
+        "cut" => Some(Words::Cut(value_of(matches, "from")?, value_of(matches, "to")?)),
+        "sample" => Some(Words::Sample(value_of(matches, "at")?, names_of(matches))),
         "edges" => Some(Words::Edges(names_of(matches))),
         "merge" => Some(Words::Merge(files_of(matches)?)),
         _ => None,

@@ -93,7 +93,7 @@ pub(crate) struct BegunInput {
 /// windows, and returns the header and the parked feed. `reading` has the allocator, the hasher of
 /// codes, and how many declarations are allowed. Fails at a fault of the header, if a read fails,
 /// or if memory runs out.
-fn begin<S: Source, B: BuildHasher>(
+fn begin_input<S: Source, B: BuildHasher>(
     reading: &Reading<'_, B>,
     input: usize,
     reader: &mut S,
@@ -120,7 +120,7 @@ fn begin<S: Source, B: BuildHasher>(
 /// parked feed. `reading` has the allocator, the hasher of codes, and how many declarations are
 /// allowed. Each of the slices in `windows` has one equal part for each reader; only the parts at
 /// that index are used. Fails at a fault of the header, if a read fails, or if memory runs out.
-fn begin_at<S: Source, B: BuildHasher>(
+fn begin_input_at<S: Source, B: BuildHasher>(
     reading: &Reading<'_, B>,
     input: usize,
     readers: &mut [S],
@@ -141,7 +141,7 @@ fn begin_at<S: Source, B: BuildHasher>(
     let limit = windows.tokens.len() / readers.len();
     let chunk_at = input * chunk;
     let token_at = input * limit;
-    begin(
+    begin_input(
         reading,
         input,
         &mut readers[input],
@@ -203,7 +203,7 @@ pub(crate) fn read_heads<S: Source, B: BuildHasher>(
             hasher,
             most,
         };
-        let begun = begin_at(&reading, input, readers, windows)?;
+        let begun = begin_input_at(&reading, input, readers, windows)?;
         most = most.saturating_sub(begun.head.view().rows.len() as u64);
         inputs.push(begun)?;
     }

@@ -8,16 +8,6 @@ use vcd_body::Stop;
 use vcd_text::{Sink, WriteFailed, put, put_number, text_of};
 use vcd_words::{Refusal, UseFault};
 
-/// Writes the line `vcdkit: TEXT`, where TEXT is `text`. Fails if a write does.
-fn put_line<E: Sink>(err: &mut E, text: &str) -> Result<(), WriteFailed>
-    requires { (E.device err.old).failures < 2 ^ 64 - 1 }
-    ensures { Puts (E.device err.old) (E.device err.new) (program_line text.now) result }
-{
-    put(err, b"vcdkit: ")?;
-    put(err, text.as_bytes())?;
-    put(err, b"\n")
-}
-
 /// Writes one line of `vcdkit: `, `first` and `second`. Fails if a write does.
 fn put_both<E: Sink>(err: &mut E, first: &str, second: &str) -> Result<(), WriteFailed>
     requires { (E.device err.old).failures < 2 ^ 64 - 1 }
@@ -45,16 +35,6 @@ fn put_fault<E: Sink>(err: &mut E, name: &str, line: u64, text: &str) -> Result<
     put(err, b"\n")
 }
 
-/// Writes the line `vcdkit: TEXT`, where TEXT is `text`, and returns `status`. A failed write is
-/// ignored.
-fn say<E: Sink>(err: &mut E, text: &str, status: u8) -> u8
-    requires { (E.device err.old).failures < 2 ^ 64 - 1 }
-    ensures { Reports E.device err.old err.new (program_line text.now) status result }
-{
-    let _ = put_line(err, text);
-    status
-}
-
 /// Writes one line of `vcdkit: `, `first` and `second`, and returns `status`. A failed write is
 /// ignored.
 fn say_both<E: Sink>(err: &mut E, first: &str, second: &str, status: u8) -> u8
@@ -66,8 +46,17 @@ fn say_both<E: Sink>(err: &mut E, first: &str, second: &str, status: u8) -> u8
     status
 }
 
+/// Writes the line `vcdkit: TEXT`, where TEXT is `text`, and returns `status`. A failed write is
+/// ignored.
+fn say<E: Sink>(err: &mut E, text: &str, status: u8) -> u8
+    requires { (E.device err.old).failures < 2 ^ 64 - 1 }
+    ensures { Reports E.device err.old err.new (program_line text.now) status result }
+{
+    say_both(err, text, "", status)
+}
+
 /// Returns the name at index `place`, or an empty one if there is none.
-fn name_of(names: &[String], place: usize) -> &str
+fn name_at(names: &[String], place: usize) -> &str
     ensures { result.now ≡ name_at (map string_bytes names.now) place }
 {
     match names.get(place) {
@@ -86,12 +75,12 @@ fn report_stop<E: Sink>(stop: Stop, names: &[String], asked: &[String], err: &mu
 {
     match stop {
         Stop::Dump { input, line, fault } => {
-            let _ = put_fault(err, name_of(names, input), line, text_of(fault));
+            let _ = put_fault(err, name_at(names, input), line, text_of(fault));
             1
         }
-        Stop::Read { input } => say_both(err, name_of(names, input), ": read failed", 3),
+        Stop::Read { input } => say_both(err, name_at(names, input), ": read failed", 3),
         Stop::Write => say(err, "write failed", 3),
-        Stop::Unmatched { name } => say_both(err, name_of(asked, name), ": selects nothing", 1),
+        Stop::Unmatched { name } => say_both(err, name_at(asked, name), ": selects nothing", 1),
     }
 }
 
@@ -104,7 +93,7 @@ fn report_refusal<E: Sink>(refusal: Refusal, names: &[String], err: &mut E) -> u
         (refusal_message (map string_bytes names.now) refusal) (refusal_status refusal) result }
 {
     match refusal {
-        Refusal::NoTimescale => say_both(err, name_of(names, 0), ": no timescale", 1),
+        Refusal::NoTimescale => say_both(err, name_at(names, 0), ": no timescale", 1),
         Refusal::OutOfRange => say(err, "time out of range", 2),
         Refusal::FromAboveTo => say(err, "--from is above --to", 2),
         Refusal::NotRising => say(err, "times must rise", 2),

@@ -12,7 +12,7 @@ use vcd_words::{Refusal, Want};
 /// Returns the task of a cut between these times, in ticks of this header's time scale: the first
 /// rounded up, the last down. Fails with the reason if a time has a unit while the header has no
 /// time scale, if it is 2^64 ticks or more, or if the first is above the last in ticks.
-fn cut_of<'w>(from: Moment, to: Moment, view: HeadView<'_>) -> Result<Task<'w>, Refusal>
+fn cut_task<'w>(from: Moment, to: Moment, view: HeadView<'_>) -> Result<Task<'w>, Refusal>
     requires { is_asked (Want.Cut from to) ≡ true }
     ensures request { (h : Header) → IsViewOf view.entry h
         → request_of h.scale (ModelWant.Cut (asked from) (asked to)) ≡ cut_request result }
@@ -43,7 +43,7 @@ pub(crate) fn task_of<'w>(want: &'w Want, view: HeadView<'_>) -> Result<Option<T
         Want::List => Ok(None),
         Want::Merge => Ok(None),
         Want::Pick(names) => Ok(Some(Task::Pick(names.as_slice()))),
-        Want::Cut(from, to) => Ok(Some(cut_of(*from, *to, view)?)),
+        Want::Cut(from, to) => Ok(Some(cut_task(*from, *to, view)?)),
         Want::Sample(numbers, _, names) => Ok(Some(Task::Sample {
             times: numbers.as_slice(),
             names: names.as_slice(),

@@ -46,18 +46,21 @@ impl<'a> Failure<'a> {
 }
 
 impl From<AllocError> for Failure<'_> {
+    /// Returns `OutOfMemory`.
     fn from(_error: AllocError) -> Self {
         Failure::OutOfMemory
     }
 }
 
 impl<T: Drop> From<AllocFailed<T>> for Failure<'_> {
+    /// Returns `OutOfMemory`.
     fn from(_error: AllocFailed<T>) -> Self {
         Failure::OutOfMemory
     }
 }
 
 impl From<WriteFailed> for Failure<'_> {
+    /// Returns `Unwritten`.
     fn from(_failed: WriteFailed) -> Self {
         Failure::Unwritten
     }

@@ -8,7 +8,7 @@ use std::io::ErrorKind;
 use vcd_compare::NamePair;
 
 /// Returns a copy of these bytes. Fails if memory runs out.
-fn bytes_of(alloc: Global, bytes: &[u8]) -> Result<Vec<u8>, AllocError> {
+fn copy_of(alloc: Global, bytes: &[u8]) -> Result<Vec<u8>, AllocError> {
     let mut copy = vec![in alloc; 0u8; bytes.len()]?;
     copy.copy_from_slice(bytes);
     Ok(copy)
@@ -21,7 +21,7 @@ pub(crate) fn texts_of<'a>(
 ) -> Result<Vec<Vec<u8>>, Failure<'a>> {
     let mut texts = Vec::new(alloc);
     for word in words.unwrap_or(&[]) {
-        texts.push(bytes_of(alloc, word.as_bytes())?)?;
+        texts.push(copy_of(alloc, word.as_bytes())?)?;
     }
     Ok(texts)
 }
@@ -34,8 +34,8 @@ fn add<'a>(
     names: &mut Vec<NamePair>,
 ) -> Result<(), Failure<'a>> {
     names.push(NamePair {
-        one: bytes_of(alloc, one.as_bytes())?,
-        other: bytes_of(alloc, other.as_bytes())?,
+        one: copy_of(alloc, one.as_bytes())?,
+        other: copy_of(alloc, other.as_bytes())?,
     })?;
     Ok(())
 }
@@ -64,7 +64,7 @@ pub(crate) fn add_words<'a>(
 
 /// Returns the text of the file with this name. Fails if it cannot be read, if it is not UTF-8, or
 /// if memory runs out.
-fn text_in<'a>(alloc: Global, file: File, path: &'a str) -> Result<String, Failure<'a>> {
+fn text_of_file<'a>(alloc: Global, file: File, path: &'a str) -> Result<String, Failure<'a>> {
     io::read_to_string(alloc, file).map_err(|error| match error.kind() {
         ErrorKind::InvalidData => Failure::Usage("not UTF-8: ", path),
         _ => Failure::of_error(&error, Failure::Unread(path)),
@@ -79,7 +79,7 @@ pub(crate) fn add_file<'a>(
     path: &'a str,
     names: &mut Vec<NamePair>,
 ) -> Result<(), Failure<'a>> {
-    let text = text_in(alloc, file, path)?;
+    let text = text_of_file(alloc, file, path)?;
     let mut words = text.split_whitespace();
     'names: loop {
         let Some(one) = words.next() else {

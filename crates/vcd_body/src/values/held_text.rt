@@ -2,7 +2,7 @@
 ghost use Rattle.std.specs.Prelude.{◌-◌, ◌^◌, ◌<◌, ◌∷◌, Bool, replicate};
 ghost use Rattle.vcd_body.specs.Names.{Puts, PutsTo, digits_of, extend, held_in, line_if_set, shown, value_at_size};
 
-use crate::change::{put_all, put_real};
+use crate::change::{put_bit_line, put_real};
 use crate::digits::{BLOCK, Digits, extension, first_needed, put_from};
 use crate::id::Id;
 use crate::put_line::put_vector;
@@ -42,7 +42,7 @@ pub(crate) fn put_value_line<W: Sink>(
     match held.holding.state {
         State::Unset => Ok(()),
         State::Real => put_real(w, held.bytes, id),
-        _ if size == 1 => put_all(held, id, w),
+        _ if size == 1 => put_bit_line(held, id, w),
         _ => put_vector(held, first_needed(held, 0), Id::Own(id), w),
     }
 }

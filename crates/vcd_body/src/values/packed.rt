@@ -123,7 +123,7 @@ fn put_ends<const N: usize>(block: &mut [u8; 64], text: &[u8])
 /// Copies a text of at most 64 bytes to the front of `block`. The other bytes of `block` stay as
 /// they are.
 // The lengths of all copies but the last are known when the program is built: a copy of an unknown
-// length is a call. With calls here and in `put_few`, `cut` of `bx0 "` and `b1x "` before its
+// length is a call. With calls here and in `copy_packed`, `cut` of `bx0 "` and `b1x "` before its
 // window takes 11 % more, and of real dumps at most 2 %.
 #[inline(always)]
 fn put_text(block: &mut [u8; 64], text: &[u8])
@@ -253,7 +253,7 @@ fn pack_many(bytes: &mut [u8], text: &[u8], quarter: usize)
 /// Copies the first `quarter` bytes of `packed`, fewer than 16, to the front of `bytes`, which must
 /// have as many; all 16 if `bytes` has so many.
 #[inline(always)]
-fn put_few(bytes: &mut [u8], packed: [u8; 16], quarter: usize)
+fn copy_packed(bytes: &mut [u8], packed: [u8; 16], quarter: usize)
     requires few { quarter < 16 }
     requires room { quarter ≤ length bytes.old }
     ensures { (k : ℕ) → k < quarter → get_or bytes.new k 0 ≡ get_or packed k 0 }
@@ -275,7 +275,7 @@ pub(crate) fn pack(bytes: &mut [u8], text: &[u8])
 {
     let quarter = text.len().div_ceil(4);
     if quarter < 16 {
-        put_few(bytes, packed_few(text, quarter), quarter);
+        copy_packed(bytes, packed_few(text, quarter), quarter);
     } else {
         pack_many(bytes, text, quarter);
     }

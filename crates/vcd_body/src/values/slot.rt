@@ -1,6 +1,6 @@
 //! What is kept of a code.
 ghost use Rattle.std.specs.Prelude.{◌≡◌, ◌≢◌, ◌≤◌, ◌⊎◌, ◌==◌, Bool, cond, length, true, false};
-ghost use Rattle.vcd_body.specs.Stored.{IsUncounted, IsUnset, held_digit, holding_of, len_of, number_of, one_digit, share_from, some_by, state_in, used};
+ghost use Rattle.vcd_body.specs.Stored.{IsUncounted, IsUnset, held_digit, holding_of, len_of, tag_of, one_digit, share_from, some_by, state_in, used};
 
 /// How the value of a code is held. Each digit has a state of its own, so that a value of one digit
 /// is only in the slot.
@@ -113,7 +113,7 @@ impl Slot {
     {
         Slot {
             number: 0,
-            tag: number_of(State::Unset),
+            tag: tag_of(State::Unset),
             steps: [0; 3],
         }
     }
@@ -145,8 +145,8 @@ impl Share {
 /// Returns the `tag` of a slot whose value is held in this state; for `State::Bits` the one with no
 /// digits, to which the number of digits is added.
 #[inline(always)]
-pub(crate) fn number_of(state: State) -> u8
-    ensures { result ≡ number_of state }
+pub(crate) fn tag_of(state: State) -> u8
+    ensures { result ≡ tag_of state }
 {
     match state {
         State::Unset => 0,
@@ -172,9 +172,9 @@ pub(crate) fn is_zero_or_one(digit: u8) -> bool
 /// Returns the `tag` of a slot whose value is the other digit: `1` if the digit is `0`, and `0` if
 /// it is `1`. It takes no branch.
 #[inline(always)]
-pub(crate) fn number_of_flipped(digit: u8) -> u8
+pub(crate) fn tag_of_flipped(digit: u8) -> u8
     requires { (digit ≡ 48) ⊎ (digit ≡ 49) }
-    ensures { result ≡ number_of (cond (digit == 49) State.Zero State.One) }
+    ensures { result ≡ tag_of (cond (digit == 49) State.Zero State.One) }
 {
     digit - b'0' + 1
 }
@@ -183,8 +183,8 @@ pub(crate) fn number_of_flipped(digit: u8) -> u8
 /// way round. For any other tag the result has no meaning.
 #[inline(always)]
 pub(crate) fn flipped(tag: u8) -> u8
-    ensures { (one : Bool) → tag ≡ number_of (cond one State.Zero State.One)
-        → result ≡ number_of (cond one State.One State.Zero) }
+    ensures { (one : Bool) → tag ≡ tag_of (cond one State.Zero State.One)
+        → result ≡ tag_of (cond one State.One State.Zero) }
 {
     // They are 1 and 2, which differ in two bits.
     tag ^ 3
@@ -230,7 +230,7 @@ const NUMBERS: [u8; 16] = [2, 1, 4, 4, 4, 4, 4, 4, 3, 4, 4, 4, 4, 4, 4, 4];
 
 /// Returns the `tag` of a slot whose value is this one digit.
 #[inline(always)]
-pub(crate) fn number_of_digit(digit: u8) -> u8
+pub(crate) fn tag_of_digit(digit: u8) -> u8
     ensures { one_digit (state_in result) ≡ Some (held_digit digit) }
 {
     NUMBERS[usize::from(digit % 16)]

@@ -8,7 +8,7 @@ use crate::values::counters::{count_step, count_steps};
 use crate::values::packed::pack;
 use crate::values::slot::{
     HeldValue, Holding, Share, Slot, State, UPPER, digit_of_state, flipped, holding_of,
-    is_zero_or_one, number_of, number_of_flipped, state_in,
+    is_zero_or_one, state_in, tag_of, tag_of_flipped,
 };
 use crate::values::step::{way_between, way_to};
 use crate::values::table::Table;
@@ -66,7 +66,7 @@ impl<'a> Table<'a> {
 }
 
 /// Sets the value of the code at index `code` to the digit with this tag, which must be one that
-/// `number_of_digit` returns. It changes only the slot; nothing changes if there is no such code.
+/// `tag_of_digit` returns. It changes only the slot; nothing changes if there is no such code.
 #[inline(always)]
 pub(crate) fn set_tag(slots: &mut [Slot], code: usize, tag: u8)
     ensures changes { (d : ℕ) → one_digit (state_in tag) ≡ Some d
@@ -78,11 +78,11 @@ pub(crate) fn set_tag(slots: &mut [Slot], code: usize, tag: u8)
     }
 }
 
-/// Copies a text of this form into the bytes of a share, which must be long enough: digits are
+/// Fills the bytes of a share, which must be long enough, with a text of this form: digits are
 /// packed, four to a byte, and the text of a real number is copied as it is. Returns the state that
 /// a slot has then.
 #[inline(always)]
-fn hold(bytes: &mut [u8], form: Form, text: &[u8]) -> State
+fn fill_share(bytes: &mut [u8], form: Form, text: &[u8]) -> State
     requires room { text_bytes form (length text.now) ≤ length bytes.old }
     ensures { IsHeldAs form text.now result bytes.new }
 {
@@ -113,7 +113,7 @@ fn hold_text(slot: &mut Slot, share: &mut Share, state: State, len: usize)
     requires text { state ≢ State.Bits }
     ensures { whole slot.new share.new ≡ set_whole state len (whole slot.old share.old) }
 {
-    slot.tag = number_of(state);
+    slot.tag = tag_of(state);
     slot.number = (len % UPPER) as u32;
     share.upper = (len / UPPER) as u32;
 }
@@ -164,7 +164,7 @@ impl<'a> Table<'a> {
             return;
         }
         let values = &mut *self.values;
-        let state = hold(&mut values[start..end], form, text);
+        let state = fill_share(&mut values[start..end], form, text);
         let slots = &mut *self.slots;
         let shares = &mut *self.shares;
         hold_text(&mut slots[code], &mut shares[code], state, text.len());
@@ -248,14 +248,14 @@ pub(crate) enum Stepped {
     Uncounted { rises: bool, falls: bool },
 }
 
-/// Sets the value of the code at index `code` to `digit`, if it holds the same digit (`X` is `x`,
-/// and `Z` is `z`), or if one of the two is `0` and the other is `1`. It changes only the slot.
-/// Returns `Stepped::Not`, and changes nothing, if there is no such code, or if it holds anything
-/// else.
+/// Sets the value of the code at index `code` to `digit`, and counts the change, if that needs only
+/// the slot: if the code holds the same digit (`X` is `x`, and `Z` is `z`), or if one of the two is
+/// `0` and the other is `1`. Returns `Stepped::Not`, and changes nothing, if there is no such code,
+/// or if it holds anything else.
 // A digit is a state of the slot, so no byte of values is touched: held as a number of one digit,
 // `edges` of scalars takes 31 % more.
 #[inline(always)]
-pub(crate) fn flip_at(slots: &mut [Slot], code: usize, digit: u8) -> Stepped
+pub(crate) fn step_digit_at(slots: &mut [Slot], code: usize, digit: u8) -> Stepped
     ensures counted { result ≡ Stepped.Counted → FlipsTo code digit slots.old slots.new }
     ensures uncounted { (rises falls : Bool) → result ≡ Stepped.Uncounted rises falls
         → LeavesFlip code digit rises falls slots.old slots.new }
@@ -266,7 +266,7 @@ pub(crate) fn flip_at(slots: &mut [Slot], code: usize, digit: u8) -> Stepped
         return Stepped::Not;
     }
     let before = slots[code].tag;
-    if !is_zero_or_one(digit) || before != number_of_flipped(digit) {
+    if !is_zero_or_one(digit) || before != tag_of_flipped(digit) {
         return if digit_of_state(state_in(before)) == Some(digit.to_ascii_lowercase()) {
             Stepped::Counted
         } else {
@@ -284,11 +284,12 @@ pub(crate) fn flip_at(slots: &mut [Slot], code: usize, digit: u8) -> Stepped
     }
 }
 
-/// Sets the value of the code at index `code` to these binary digits, if it holds binary digits. It
-/// changes only the slot. Returns `Stepped::Not`, and changes nothing, if there is no such code, if
-/// it holds no such digits, or if the held or the new ones are more than `size`.
+/// Sets the value of the code at index `code` to these binary digits, and counts the change, if
+/// that needs only the slot: if the code holds binary digits, and neither these nor the new ones
+/// are more than `size`. Returns `Stepped::Not`, and changes nothing, if there is no such code, or
+/// if that is not so.
 #[inline(always)]
-pub(crate) fn step_at(slots: &mut [Slot], code: usize, size: usize, bits: Bits) -> Stepped
+pub(crate) fn step_bits_at(slots: &mut [Slot], code: usize, size: usize, bits: Bits) -> Stepped
     ensures counted { result ≡ Stepped.Counted → StepsTo code size bits slots.old slots.new }
     ensures uncounted { (rises falls : Bool) → result ≡ Stepped.Uncounted rises falls
         → LeavesNumber code size bits rises falls slots.old slots.new }

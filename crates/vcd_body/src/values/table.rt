@@ -7,9 +7,11 @@ use crate::values::bits::{Bits, put_digits};
 use crate::values::compare::value_differs;
 use crate::values::counters::{CARRY, count_more, counts_of};
 use crate::values::held::{digit_shown, last_held};
-use crate::values::slot::{Share, Shown, Slot, State, number_of_digit, state_in};
+use crate::values::slot::{Share, Shown, Slot, State, state_in, tag_of_digit};
 use crate::values::step::{Step, step_to_text, way_of};
-use crate::values::store::{Stepped, count_in_slot, flip_at, lay_out, set_bits, set_tag, step_at};
+use crate::values::store::{
+    Stepped, count_in_slot, lay_out, set_bits, set_tag, step_bits_at, step_digit_at,
+};
 use crate::values::value::Value;
 use vcd_view::HeadView;
 
@@ -80,7 +82,7 @@ impl<'a> Table<'a> {
     {
         match value {
             Value::Digits(text) => match text {
-                [digit] => set_tag(self.slots, code, number_of_digit(*digit)),
+                [digit] => set_tag(self.slots, code, tag_of_digit(*digit)),
                 _ => self.set_text(code, Form::Vector, text),
             },
             Value::Real(text) => self.set_text(code, Form::RealText, text),
@@ -117,7 +119,7 @@ impl<'a> Table<'a> {
         ensures { SetsCode code (with_change size Form.Vector text.now) self.old self.new }
     {
         match text {
-            [digit] => match flip_at(self.slots, code, *digit) {
+            [digit] => match step_digit_at(self.slots, code, *digit) {
                 Stepped::Counted => {}
                 Stepped::Uncounted { rises, falls } => self.add_steps(code, CARRY, rises, falls),
                 Stepped::Not => self.follow_any(code, size, Form::Vector, text),
@@ -137,7 +139,7 @@ impl<'a> Table<'a> {
     fn follow_bits(&mut self, code: usize, size: usize, bits: Bits)
         ensures { SetsCode code (with_number_change size bits.len bits.number) self.old self.new }
     {
-        match step_at(self.slots, code, size, bits) {
+        match step_bits_at(self.slots, code, size, bits) {
             Stepped::Counted => {}
             Stepped::Uncounted { rises, falls } => self.add_steps(code, CARRY, rises, falls),
             Stepped::Not => self.follow_any_bits(code, size, bits),

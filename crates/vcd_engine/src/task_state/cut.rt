@@ -27,7 +27,7 @@ pub(crate) struct Cut<'r> {
 /// Writes the start section of a `cut`: the line of the time `from`, and inside `$dumpvars` the
 /// value in the table of each code that has one and is no event. Fails if a write does.
 #[inline(never)]
-fn put_section<W: Sink>(
+fn put_start_section<W: Sink>(
     table: &Table<'_>,
     view: HeadView<'_>,
     from: u64,
@@ -103,8 +103,8 @@ impl<'r> Cut<'r> {
         if self.started || time < self.from {
             return Ok(());
         }
-        put_section(&self.table, view, self.from, out)?;
-        self.text = ItemText::after(self.from);
+        put_start_section(&self.table, view, self.from, out)?;
+        self.text = ItemText::after_time(self.from);
         self.started = true;
         Ok(())
     }
@@ -186,7 +186,7 @@ impl<'r> Cut<'r> {
         ensures counts { Counts (W.device out.old) (W.device out.new) result }
     {
         if !self.started {
-            return put_section(&self.table, view, self.from, out);
+            return put_start_section(&self.table, view, self.from, out);
         }
         self.text.close(last_time_of(regs), out)
     }

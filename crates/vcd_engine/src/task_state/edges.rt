@@ -4,7 +4,7 @@ ghost use Rattle.vcd_engine.specs.Names.{AreEdges, BodyItem, change_to, ClosesOv
 ghost use Rattle.vcd_engine.specs.declared.task.Task.TheVariants as task;
 
 use crate::pending::PendingCopy;
-use crate::tally::{count_trigger, put_rows, take_value};
+use crate::tally::{count_trigger, put_edges_lines, take_value};
 use crate::task::Room;
 use crate::task_state::walk::{AheadTask, NoLine};
 use vcd_body::{Form, Item, Regs, ScannedItem, Stop, Table};
@@ -83,7 +83,7 @@ impl<'n, 'r> Edges<'n, 'r> {
             (W.device out.old) (W.device out.new) result }
         ensures counts { Counts (W.device out.old) (W.device out.new) result }
     {
-        put_rows(&self.table, view, self.marks, out)
+        put_edges_lines(&self.table, view, self.marks, out)
     }
 }
 

@@ -31,14 +31,14 @@ either first token begins (inl e) = inl (subst (Begins token) e begins)
 either first token begins (inr e) = inr (subst (Begins token) e begins)
 
 pub returns-in-Bit : goal.returns-in-Bit
-returns-in-Bit c = λ _. one c.args.ahead c.next_slowly.new.self c.in-Some.token.now c.kind_of.result c.requires c.in-Some.ensures.takes c.kind_of.ensures (alone c.kind_of.result c.in-Some.token.now c.in-Bit.is)
+returns-in-Bit c = λ _. one c.args.ahead c.next_slowly.new.self c.in-Some.token.now c.phrase_kind.result c.requires c.in-Some.ensures.takes c.phrase_kind.ensures (alone c.phrase_kind.result c.in-Some.token.now c.in-Bit.is)
 
 pub returns-in-Vector : goal.returns-in-Vector
 returns-in-Vector c = λ some. by_next c.next_slowly-in-Vector.result (sym c.is_some.ensures ∙ some) c.next_slowly-in-Vector.ensures.takes
   where
     by_next : (o : Option (Bor (List ℕ))) → is_some o ≡ true → IfSome o (λ token. TakesToken c.next_slowly.new.self c.next_slowly-in-Vector.new.self token.now) → HoldsItem (longest_of c.args.ahead) (bytes_of c.args.ahead)
     by_next None e t = cc
-    by_next (Some next) e t = two c.args.ahead c.next_slowly.new.self c.next_slowly-in-Vector.new.self c.in-Some.token.now next.now c.requires c.in-Some.ensures.takes t (either c.kind_of.result c.in-Some.token.now c.kind_of.ensures c.in-Vector.is)
+    by_next (Some next) e t = two c.args.ahead c.next_slowly.new.self c.next_slowly-in-Vector.new.self c.in-Some.token.now next.now c.requires c.in-Some.ensures.takes t (either c.phrase_kind.result c.in-Some.token.now c.phrase_kind.ensures c.in-Vector.is)
 
 other : (first : PhraseKind) (token : List ℕ) (b : Bool) → first ≡ Other → b ≡ is_comment token → not b ≡ true → IsAlone first token
 other first token b e is no_comment = subst (λ (f : PhraseKind). IsAlone f token) (sym e) (sym is ∙ by_case b no_comment)
@@ -48,4 +48,4 @@ other first token b e is no_comment = subst (λ (f : PhraseKind). IsAlone f toke
     by_case false e = refl
 
 pub returns-in-Other : goal.returns-in-Other
-returns-in-Other c = λ told. one c.args.ahead c.next_slowly.new.self c.in-Some.token.now c.kind_of.result c.requires c.in-Some.ensures.takes c.kind_of.ensures (other c.kind_of.result c.in-Some.token.now c.is_comment.result c.in-Other.is c.is_comment.ensures told)
+returns-in-Other c = λ told. one c.args.ahead c.next_slowly.new.self c.in-Some.token.now c.phrase_kind.result c.requires c.in-Some.ensures.takes c.phrase_kind.ensures (other c.phrase_kind.result c.in-Some.token.now c.is_comment.result c.in-Other.is c.is_comment.ensures told)

@@ -8,5 +8,5 @@ returns-clause-opens g c =
     let token = c.in_ok-token.token.now in
     record {
       token = n.takes;
-      begins = subst (λ t. Begins t c.kind_by-kind.result) (first_rest token n.takes.some) (c.kind_by-kind.ensures (drop 1 token));
+      begins = subst (λ t. Begins t c.phrase_kind_by-kind.result) (first_rest token n.takes.some) (c.phrase_kind_by-kind.ensures (drop 1 token));
     }

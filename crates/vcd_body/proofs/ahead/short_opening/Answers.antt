@@ -8,5 +8,5 @@ returns-clause-opens g c =
     let token = c.in_ok-token.token.now in
     record {
       token = t;
-      begins = subst (λ t. Begins t c.kind_by.result) (first_rest token t.some) (c.kind_by.ensures (drop 1 token));
+      begins = subst (λ t. Begins t c.phrase_kind_by.result) (first_rest token t.some) (c.phrase_kind_by.ensures (drop 1 token));
     }

@@ -2,15 +2,15 @@ use Rattle.vcd_body.proofs.Cited.{◌||◌, nat_le, true, drop, length, sym, ap,
 use Rattle.vcd_body.proofs.Facts.{vector_passes, same_room, vector_sound, found_named}
 use Rattle.vcd_body.proofs.ahead.vector_code.Goals as goal
 
-pub returns-then-has_room : goal.returns-then-has_room
-returns-then-has_room c =
+pub returns-then-may_have_digits : goal.returns-then-may_have_digits
+returns-then-may_have_digits c =
     let t = c.args.token.now in
     let position = c.in_ok-found.found.position in
     let x = c.in_ok-found.ensures.sized in
     let text = c.in-Ok.ensures.text in
     let long = ap length text in
     let some = c.in-Ok.ensures.digits.0 in
-    let takes = sym (c.has_room.ensures x.0 x.1) ∙ c.if-has_room.true in
+    let takes = sym (c.may_have_digits.ensures x.0 x.1) ∙ c.if-may_have_digits.true in
     let room = ap (λ m. x.0.event || nat_le m x.0.size) (sym long) ∙ takes in
     record {
       code = λ h v.

@@ -17,5 +17,5 @@ pub returns : goal.returns
 returns g c =
     let text = c.args.text.now in
     let end = 32 ∷ c.args.id.now ++ 10 ∷ [] in
-    let result = c.put_end.result in
-    puts-twice (g.W.Sink.device _) (g.W.Sink.device _) (g.W.Sink.device _) (114 ∷ []) (text ++ end) result c.in_ok-put.ensures (puts-twice (g.W.Sink.device _) (g.W.Sink.device _) (g.W.Sink.device _) text end result c.in_ok-put-2.ensures c.put_end.ensures)
+    let result = c.put_code_text.result in
+    puts-twice (g.W.Sink.device _) (g.W.Sink.device _) (g.W.Sink.device _) (114 ∷ []) (text ++ end) result c.in_ok-put.ensures (puts-twice (g.W.Sink.device _) (g.W.Sink.device _) (g.W.Sink.device _) text end result c.in_ok-put-2.ensures c.put_code_text.ensures)

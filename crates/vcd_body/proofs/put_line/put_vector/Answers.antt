@@ -17,5 +17,5 @@ pub returns : goal.returns
 returns g c =
     let digits = drop c.args.from (g.D.Digits.digits c.args.digits) in
     let end = 32 ∷ id_text c.args.id ++ 10 ∷ [] in
-    let result = c.put_end_under.result in
-    puts-twice (g.W.Sink.device _) (g.W.Sink.device _) (g.W.Sink.device _) (98 ∷ []) (digits ++ end) result c.in_ok-put.ensures (puts-twice (g.W.Sink.device _) (g.W.Sink.device _) (g.W.Sink.device _) digits end result c.in_ok-put_from.ensures c.put_end_under.ensures)
+    let result = c.put_code_under.result in
+    puts-twice (g.W.Sink.device _) (g.W.Sink.device _) (g.W.Sink.device _) (98 ∷ []) (digits ++ end) result c.in_ok-put.ensures (puts-twice (g.W.Sink.device _) (g.W.Sink.device _) (g.W.Sink.device _) digits end result c.in_ok-put_from.ensures c.put_code_under.ensures)

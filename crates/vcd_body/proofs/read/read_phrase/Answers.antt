@@ -4,7 +4,7 @@ use Rattle.vcd_body.proofs.ReadLemmas as given
 use Rattle.vcd_body.proofs.read.read_phrase.Goals as goal
 
 pub scalar_code-requires : goal.scalar_code-requires
-scalar_code-requires g c = record { begins = scalar_begins c.token-token.result.now c.kind_of.result c.in-Bit.is c.kind_of.ensures }
+scalar_code-requires g c = record { begins = scalar_begins c.token-token.result.now c.phrase_kind.result c.in-Bit.is c.phrase_kind.ensures }
 
 pub returns-in_err-next_token-clause-reads : goal.returns-in_err-next_token-clause-reads
 returns-in_err-next_token-clause-reads g c =
@@ -96,29 +96,29 @@ returns-in_ok-read_timestamp-in-Timestamp-clause-ahead g c = λ w. (search rules
 pub returns-in_err-read_vector-in-Vector-clause-ahead : goal.returns-in_err-read_vector-in-Vector-clause-ahead
 returns-in_err-read_vector-in-Vector-clause-ahead g c = λ w.
     let f = first_of_item c.args.feed.now c.next_token.new.feed _ c.in_ok-next_token.ensures.ahead w in
-    let m = f.letter_more (inl (begins_as _ _ _ _ c.kind_of.ensures c.in-Vector.is c.token-token.ensures)) in
+    let m = f.letter_more (inl (begins_as _ _ _ _ c.phrase_kind.ensures c.in-Vector.is c.token-token.ensures)) in
     (search rules, c.in_err-read_vector-in-Vector.ensures.ahead m.0 m.1 m.2 ∙ f.source_is)
 
 pub returns-in_ok-read_vector-in-Vector-clause-ahead : goal.returns-in_ok-read_vector-in-Vector-clause-ahead
 returns-in_ok-read_vector-in-Vector-clause-ahead g c = λ w.
     let f = first_of_item c.args.feed.now c.next_token.new.feed _ c.in_ok-next_token.ensures.ahead w in
-    let m = f.letter_more (inl (begins_as _ _ _ _ c.kind_of.ensures c.in-Vector.is c.token-token.ensures)) in
+    let m = f.letter_more (inl (begins_as _ _ _ _ c.phrase_kind.ensures c.in-Vector.is c.token-token.ensures)) in
     (search rules, c.in_ok-read_vector-in-Vector.ensures.ahead m.0 m.1 m.2 ∙ f.source_is)
 
 pub returns-in_err-read_real-in-Real-clause-ahead : goal.returns-in_err-read_real-in-Real-clause-ahead
 returns-in_err-read_real-in-Real-clause-ahead g c = λ w.
     let f = first_of_item c.args.feed.now c.next_token.new.feed _ c.in_ok-next_token.ensures.ahead w in
-    let m = f.letter_more (inr (begins_as _ _ _ _ c.kind_of.ensures c.in-Real.is c.token-token.ensures)) in
+    let m = f.letter_more (inr (begins_as _ _ _ _ c.phrase_kind.ensures c.in-Real.is c.token-token.ensures)) in
     (search rules, c.in_err-read_real-in-Real.ensures.ahead m.0 m.1 m.2 ∙ f.source_is)
 
 pub returns-in_ok-read_real-in-Real-clause-ahead : goal.returns-in_ok-read_real-in-Real-clause-ahead
 returns-in_ok-read_real-in-Real-clause-ahead g c = λ w.
     let f = first_of_item c.args.feed.now c.next_token.new.feed _ c.in_ok-next_token.ensures.ahead w in
-    let m = f.letter_more (inr (begins_as _ _ _ _ c.kind_of.ensures c.in-Real.is c.token-token.ensures)) in
+    let m = f.letter_more (inr (begins_as _ _ _ _ c.phrase_kind.ensures c.in-Real.is c.token-token.ensures)) in
     (search rules, c.in_ok-read_real-in-Real.ensures.ahead m.0 m.1 m.2 ∙ f.source_is)
 
 pub returns-in-Other-clause-ahead : goal.returns-in-Other-clause-ahead
 returns-in-Other-clause-ahead g c = λ w.
     let f = first_of_item c.args.feed.now c.next_token.new.feed _ c.in_ok-next_token.ensures.ahead w in
-    let a = c.read_command.ensures.ahead (f.no_comment (begins_as _ _ _ _ c.kind_of.ensures c.in-Other.is c.token-token.ensures)) in
+    let a = c.read_command.ensures.ahead (f.no_comment (begins_as _ _ _ _ c.phrase_kind.ensures c.in-Other.is c.token-token.ensures)) in
     (a.0, a.1 ∙ f.source_is)

@@ -7,7 +7,7 @@ items-init g c = record { come = come_begins _ _ _ _ _ c.requires.stands c.requi
 
 pub returns-in_default-clause-walks : goal.returns-in_default-clause-walks
 returns-in_default-clause-walks g c =
-    let come : HasCome g.V.Visit.takes g.V.Visit.stands g.V.Visit.over c.args.view (stage_at c.args.ahead c.args.regs c.args.visit c.args.command.now (g.W.Sink.device c.args.out.now)) (stage_at c.take_next.new.ahead c.take_next.new.regs c.take_next.new.visit c.take_next.new.command (g.W.Sink.device c.take_next.new.out)) = rw c.in_default.ensures.next c.items.invariant.come in
+    let come : HasCome g.V.Visit.takes g.V.Visit.stands g.V.Visit.over c.args.view (stage_at c.args.ahead c.args.regs c.args.visit c.args.command.now (g.W.Sink.device c.args.out.now)) (stage_at c.take_any.new.ahead c.take_any.new.regs c.take_any.new.visit c.take_any.new.command (g.W.Sink.device c.take_any.new.out)) = rw c.in_default.ensures.next c.items.invariant.come in
     rw c.ended_at.ensures (come_past _ _ _ _ _ _ _ come (same_place _ _ c.forget.ensures))
 
 pub returns-in-Err-clause-walks : goal.returns-in-Err-clause-walks

@@ -12,5 +12,5 @@ returns-then-is_limit_enough-clause-finds g c = λ items goes.
       | else-before-ne0-via-else-before-ne0 w ↦ inl w.if-before-ne0.false
     ] in
     let enough = c.is_limit_enough.ensures c.if-is_limit_enough.true in
-    finds_more 65536 1048576 (omega arith) dump items c.args.code.now c.read_under-status.new.reading c.read_under-status.new.rows c.read_under-status.result enough
-    (c.read_under-status.ensures.finds items (goes_on_lower 1048576 dump items p lower goes))
+    finds_more 65536 1048576 (omega arith) dump items c.args.code.now c.read_with_limit-status.new.reading c.read_with_limit-status.new.rows c.read_with_limit-status.result enough
+    (c.read_with_limit-status.ensures.finds items (goes_on_lower 1048576 dump items p lower goes))

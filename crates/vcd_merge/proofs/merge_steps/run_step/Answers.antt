@@ -2,7 +2,7 @@ use Rattle.vcd_merge.proofs.Cited.{◌≡◌, ◌+◌, ◌∙◌, ap, refl, leng
 use Rattle.vcd_merge.proofs.Facts.{TookTurn, has_ended, none_waiting, others_stay, some_waits, was_cut, was_stopped, went_on}
 use Rattle.vcd_merge.specs.Order.{AllWait}
 use Rattle.vcd_merge.proofs.merge_steps.run_step.Given.{Over}
-use Rattle.vcd_merge.proofs.merge_steps.run_step.Goals.{After-put, In_ok-run_turn}
+use Rattle.vcd_merge.proofs.merge_steps.run_step.Goals.{After-join, In_ok-run_turn}
 use Rattle.vcd_merge.proofs.merge_steps.run_step.Goals as goal
 
 -- the turn that was taken
@@ -14,13 +14,13 @@ took g c =
     record { ready = c.requires.ready; next = next.next; early = next.before; within = next.until; heads = refl; sources = en.sources; touches = en.touches; turns = en.turns }
 
 -- all that have not finished wait again
-waiting : (g : Over) (c : After-put g) → AllWait c.run_turn.new.seats c.put.new.self.inputs c.put.new.self.len
+waiting : (g : Over) (c : After-join g) → AllWait c.run_turn.new.seats c.join.new.self.inputs c.join.new.self.len
 waiting g c =
     let next = c.take_next-next.ensures in
     let en = c.in_ok-run_turn.ensures in
     let w = slice_get_within c.args.seats.now c.take_next-next.result.input next.next.seat next.next.there in
     let e = en.touches.seats in
-    c.put.ensures.back (length c.run_turn.new.seats) (others_stay c.args.seats.now c.run_turn.new.seats c.take_next-next.result.input c.take_next-next.new.self.inputs c.take_next-next.new.self.len e en.kept next.others) (omega (arith, w, e))
+    c.join.ensures.back (length c.run_turn.new.seats) (others_stay c.args.seats.now c.run_turn.new.seats c.take_next-next.result.input c.take_next-next.new.self.inputs c.take_next-next.new.self.len e en.kept next.others) (omega (arith, w, e))
 
 pub take_next-next-requires-clause-some : goal.take_next-next-requires-clause-some
 take_next-next-requires-clause-some g c =
@@ -33,18 +33,18 @@ take_next-next-requires-clause-some g c =
 pub run_turn-requires-clause-input : goal.run_turn-requires-clause-input
 run_turn-requires-clause-input g c = let next = c.take_next-next.ensures.next in slice_get_within c.args.seats.now c.take_next-next.result.input next.seat next.there
 
-pub put-requires-clause-input : goal.put-requires-clause-input
-put-requires-clause-input g c =
+pub join-requires-clause-input : goal.join-requires-clause-input
+join-requires-clause-input g c =
     let next = c.take_next-next.ensures.next in
     let w = slice_get_within c.args.seats.now c.take_next-next.result.input next.seat next.there in
     let e = c.in_ok-run_turn.ensures.touches.seats in
     omega (arith, w, e)
 
-pub put-requires-clause-order : goal.put-requires-clause-order
-put-requires-clause-order g c = (length c.run_turn.new.seats, c.take_next-next.result.input, omega arith, others_stay c.args.seats.now c.run_turn.new.seats c.take_next-next.result.input c.take_next-next.new.self.inputs c.take_next-next.new.self.len c.in_ok-run_turn.ensures.touches.seats c.in_ok-run_turn.ensures.kept c.take_next-next.ensures.others, inr refl)
+pub join-requires-clause-order : goal.join-requires-clause-order
+join-requires-clause-order g c = (length c.run_turn.new.seats, c.take_next-next.result.input, omega arith, others_stay c.args.seats.now c.run_turn.new.seats c.take_next-next.result.input c.take_next-next.new.self.inputs c.take_next-next.new.self.len c.in_ok-run_turn.ensures.touches.seats c.in_ok-run_turn.ensures.kept c.take_next-next.ensures.others, inr refl)
 
 pub returns-then-not-is_empty-clause-order : goal.returns-then-not-is_empty-clause-order
-returns-then-not-is_empty-clause-order g c = λ again. waiting g (goal.at.returns-then-not-is_empty-clause-order g c).After-put
+returns-then-not-is_empty-clause-order g c = λ again. waiting g (goal.at.returns-then-not-is_empty-clause-order g c).After-join
 
 pub returns-in_err-run_turn-clause-runs : goal.returns-in_err-run_turn-clause-runs
 returns-in_err-run_turn-clause-runs g c =
@@ -58,21 +58,21 @@ pub returns-then-not-is_empty-clause-runs : goal.returns-then-not-is_empty-claus
 returns-then-not-is_empty-clause-runs g c =
     let at = goal.at.returns-then-not-is_empty-clause-runs g c in
     let en = c.in_ok-run_turn.ensures in
-    went_on (took g at.In_ok-run_turn) en.seated (some_waits c.run_turn.new.seats c.put.new.self.inputs c.put.new.self.len (waiting g at.After-put) (c.is_empty.ensures.some c.if-not-is_empty.true)) en.left
+    went_on (took g at.In_ok-run_turn) en.seated (some_waits c.run_turn.new.seats c.join.new.self.inputs c.join.new.self.len (waiting g at.After-join) (c.is_empty.ensures.some c.if-not-is_empty.true)) en.left
 
-pub returns-in_err-close-clause-runs : goal.returns-in_err-close-clause-runs
-returns-in_err-close-clause-runs g c =
-    let at = goal.at.returns-in_err-close-clause-runs g c in
-    let close = c.in_err-close.ensures in
-    let all = none_waiting c.run_turn.new.seats c.put.new.self.inputs c.put.new.self.len (waiting g at.After-put) (c.is_empty.ensures.none c.if-not-is_empty.false) in
-    let e : c.from_residual-in_err-close.result ≡ Err Write = search rules in
+pub returns-in_err-put_end-clause-runs : goal.returns-in_err-put_end-clause-runs
+returns-in_err-put_end-clause-runs g c =
+    let at = goal.at.returns-in_err-put_end-clause-runs g c in
+    let close = c.in_err-put_end.ensures in
+    let all = none_waiting c.run_turn.new.seats c.join.new.self.inputs c.join.new.self.len (waiting g at.After-join) (c.is_empty.ensures.none c.if-not-is_empty.false) in
+    let e : c.from_residual-in_err-put_end.result ≡ Err Write = search rules in
     rw e (was_cut (took g at.In_ok-run_turn) all _ (close.counts ∙ ap (λ n. n + 1) (c.in_ok-run_turn.ensures.touches.writes ∙ add-zero _)) (λ hs es marked w. (close.takes hs es marked w, close.counts)))
 
 pub returns-clause-runs : goal.returns-clause-runs
 returns-clause-runs g c =
     let at = goal.at.returns-clause-runs g c in
-    let close = c.in_ok-close.ensures in
-    let all = none_waiting c.run_turn.new.seats c.put.new.self.inputs c.put.new.self.len (waiting g at.After-put) (c.is_empty.ensures.none c.if-not-is_empty.false) in
+    let close = c.in_ok-put_end.ensures in
+    let all = none_waiting c.run_turn.new.seats c.join.new.self.inputs c.join.new.self.len (waiting g at.After-join) (c.is_empty.ensures.none c.if-not-is_empty.false) in
     has_ended (took g at.In_ok-run_turn) all _ (close.counts ∙ c.in_ok-run_turn.ensures.touches.writes) (λ hs es marked w. (close.takes hs es marked w, close.counts))
 
 pub returns-in_err-run_turn-clause-last : goal.returns-in_err-run_turn-clause-last

@@ -7,12 +7,12 @@ returns-in-Write g c = rw c.in-Write.is c.say.ensures
 
 pub returns-in-Dump : goal.returns-in-Dump
 returns-in-Dump g c =
-    rw (c.in-Dump.is, ← c.name_of.ensures, ← c.text_of.ensures) (record { line = puts-shows (g.E.Sink.device _) (g.E.Sink.device _) _ c.put_fault.result c.put_fault.ensures; status = refl })
+    rw (c.in-Dump.is, ← c.name_at.ensures, ← c.text_of.ensures) (record { line = puts-shows (g.E.Sink.device _) (g.E.Sink.device _) _ c.put_fault.result c.put_fault.ensures; status = refl })
 
 pub returns-in-Read : goal.returns-in-Read
 returns-in-Read g c =
-    rw (c.in-Read.is, ← c.name_of-in-Read.ensures) c.say_both.ensures
+    rw (c.in-Read.is, ← c.name_at-in-Read.ensures) c.say_both.ensures
 
 pub returns-in-Unmatched : goal.returns-in-Unmatched
 returns-in-Unmatched g c =
-    rw (c.in-Unmatched.is, ← c.name_of-in-Unmatched.ensures) c.say_both-in-Unmatched.ensures
+    rw (c.in-Unmatched.is, ← c.name_at-in-Unmatched.ensures) c.say_both-in-Unmatched.ensures

@@ -1,6 +1,5 @@
-use Rattle.vcdkit.proofs.Cited.{refl}
-use Rattle.vcdkit.proofs.Facts.{puts-shows}
+use Rattle.vcdkit.proofs.Cited.{append-nil}
 use Rattle.vcdkit.proofs.message.say.Goals as goal
 
 pub returns : goal.returns
-returns g c = record { line = puts-shows (g.E.Sink.device _) (g.E.Sink.device _) _ _ c.put_line.ensures; status = refl }
+returns g c = rw (append-nil c.args.text.now) at c.say_both.ensures

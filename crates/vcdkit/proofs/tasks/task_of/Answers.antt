@@ -18,8 +18,8 @@ pub returns-in-Pick-clause-request : goal.returns-in-Pick-clause-request
 unfolding request_of
 returns-in-Pick-clause-request c = λ h v. rw (c.in-Pick.is, c.as_slice.ensures.value) refl
 
-pub returns-in_ok-cut_of-in-Cut-clause-request : goal.returns-in_ok-cut_of-in-Cut-clause-request
-returns-in_ok-cut_of-in-Cut-clause-request c = λ h v. rw c.in-Cut.is (c.in_ok-cut_of-in-Cut.ensures.request h v)
+pub returns-in_ok-cut_task-in-Cut-clause-request : goal.returns-in_ok-cut_task-in-Cut-clause-request
+returns-in_ok-cut_task-in-Cut-clause-request c = λ h v. rw c.in-Cut.is (c.in_ok-cut_task-in-Cut.ensures.request h v)
 
 pub returns-in-Sample-clause-request : goal.returns-in-Sample-clause-request
 returns-in-Sample-clause-request c = λ h v.

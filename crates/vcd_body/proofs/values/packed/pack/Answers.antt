@@ -4,8 +4,8 @@ use Rattle.vcd_body.proofs.values.packed.pack.Goals as goal
 
 pub returns-then-quarter-lt16 : goal.returns-then-quarter-lt16
 returns-then-quarter-lt16 c =
-    packs_by c.args.text.now c.put_few.new.bytes c.div_ceil-quarter.result (omega (arith, c.div_ceil-quarter.ensures)) (λ j less.
-    c.put_few.ensures j less ∙ c.packed_few.ensures j less)
+    packs_by c.args.text.now c.copy_packed.new.bytes c.div_ceil-quarter.result (omega (arith, c.div_ceil-quarter.ensures)) (λ j less.
+    c.copy_packed.ensures j less ∙ c.packed_few.ensures j less)
 
 pub returns-else-quarter-lt16 : goal.returns-else-quarter-lt16
 returns-else-quarter-lt16 c = packs_by c.args.text.now c.pack_many.new.bytes c.div_ceil-quarter.result (omega (arith, c.div_ceil-quarter.ensures)) c.pack_many.ensures

@@ -42,7 +42,7 @@ returns-in_err-flush-clause-text g c = λ h before kept e views is at has tells.
 
 pub returns-in_default-clause-text : goal.returns-in_default-clause-text
 returns-in_default-clause-text g c = λ h before kept e views is at has tells.
-    let one = c.put.ensures.text h before kept e views is at has tells in (
-      (one.0.0, one.0.1, put_on _ _ _ (g.W.Sink.device _) (g.W.Sink.device _) (g.W.Sink.device _) c.put.result c.in_ok-flush.ensures.puts c.in_ok-flush.ensures.pending.0 (one.0.2, c.put.ensures.counts)),
+    let one = c.put_with_time.ensures.text h before kept e views is at has tells in (
+      (one.0.0, one.0.1, put_on _ _ _ (g.W.Sink.device _) (g.W.Sink.device _) (g.W.Sink.device _) c.put_with_time.result c.in_ok-flush.ensures.puts c.in_ok-flush.ensures.pending.0 (one.0.2, c.put_with_time.ensures.counts)),
       one.1,
     )

@@ -11,11 +11,11 @@ returns-in-len1-clause-sets c =
     let digit = get_or text 0 0 in
     let one : digit ∷ [] ≡ text = alone text c.in-len1.len_at_least c.in-len1.len_below in
     record {
-      keeps = record { laid = c.set_tag.ensures.laid (held_digit digit) c.number_of_digit.ensures old.shares.now (length old.values.now); codes = cc; bytes = refl };
+      keeps = record { laid = c.set_tag.ensures.laid (held_digit digit) c.tag_of_digit.ensures old.shares.now (length old.values.now); codes = cc; bytes = refl };
       changes = λ laid. subst (λ (v : Value). ChangesAt c.args.code (with_value v) old.values.now old.slots.now old.shares.now old.values.now c.set_tag.new.slots old.shares.now) (sym c.in-Digits.is)
           (change_as c.args.code (with_held (Held.Digits (held_digit digit ∷ []))) (with_text form.Vector text) old.values.now old.values.now old.slots.now c.set_tag.new.slots old.shares.now old.shares.now
           (λ k kept. sym (one_text form.Vector digit k (λ e. cc)) ∙ ap (λ (l : List ℕ). with_text form.Vector l k) one)
-          (c.set_tag.ensures.changes (held_digit digit) c.number_of_digit.ensures old.shares.now old.values.now));
+          (c.set_tag.ensures.changes (held_digit digit) c.tag_of_digit.ensures old.shares.now old.values.now));
     }
 
 pub returns-in-len1-clause-as_text : goal.returns-in-len1-clause-as_text

@@ -5,8 +5,8 @@ use Rattle.vcd_engine.proofs.task_state.cut.Cut.close.Goals as goal
 pub returns-then-not-self-clause-takes : goal.returns-then-not-self-clause-takes
 returns-then-not-self-clause-takes g c = λ h items views known last is.
     let m = c.args.self.now in
-    subst (λ l. Takes (g.W.Sink.device c.args.out.now) (g.W.Sink.device c.put_section.new.out) l c.put_section.result) (closes_unstarted h m items c.args.regs is known last c.if-not-self.true)
-    (c.put_section.ensures.takes h items views (values_due h items m is c.if-not-self.true))
+    subst (λ l. Takes (g.W.Sink.device c.args.out.now) (g.W.Sink.device c.put_start_section.new.out) l c.put_start_section.result) (closes_unstarted h m items c.args.regs is known last c.if-not-self.true)
+    (c.put_start_section.ensures.takes h items views (values_due h items m is c.if-not-self.true))
 
 pub returns-clause-takes : goal.returns-clause-takes
 returns-clause-takes g c = λ h items views known last is.

@@ -1,7 +1,0 @@
-use Rattle.vcd_body.proofs.Cited.{List, ℕ, sym, subst, IsFirstAndRest, Begins}
-use Rattle.vcd_body.proofs.words.kind_of.Goals as goal
-
-pub returns-in-Some : goal.returns-in-Some
-returns-in-Some c =
-    let parts : IsFirstAndRest c.args.token.now c.in-Some.byte.now c.in-Some.field-0-1.now = c.in-Some.ensures.cases in
-    subst (λ (t : List ℕ). Begins t c.kind_by.result) (sym parts.0) (c.kind_by.ensures c.in-Some.field-0-1.now)
