@@ -43,7 +43,7 @@ pub(crate) struct PairRow {
 pub(crate) struct End {
     pub(crate) code: usize,
     // 1 plus the index of the last end before this one that has the same code, or 0.
-    pub(crate) next: usize,
+    pub(crate) earlier: usize,
 }
 
 /// The rows of two variables of different kinds.
@@ -177,23 +177,23 @@ fn number_texts(
 }
 
 /// Adds the variables that the first of two names selects, each with its counterpart. They have
-/// the indexes `below`, and `places` are the counterparts of their paths.
+/// the indexes `selected`, and `places` are the counterparts of their paths.
 fn add_pairs(
     view: HeadView<'_>,
     variables: &Variables,
     places: &[Option<usize>],
-    below: &[usize],
+    selected: &[usize],
     keys: &mut IndexSet<(usize, usize), CodeSeed>,
     pairs: &mut Pairs,
 ) -> Result<(), AllocError>
     ensures { IfOk result (λ _. (q : Asked) (h : Header) (n : Names) (texts : List (List ℕ))
         (compared unlike : List Pair) (ones others : List Named) → IsViewOf view.entry h
-        → FindPlaces q h n texts variables.now places.now → AreSelected q h n below.now
+        → FindPlaces q h n texts variables.now places.now → AreSelected q h n selected.now
         → HasPairs keys.old.keys pairs.old h compared unlike ones others
         → HasPairs keys.new.keys pairs.new h (compared ++ compared_in q h (n ∷ []))
         (unlike ++ unlike_in q h (n ∷ [])) (ones ++ alone_in q h n) others) }
 {
-    for index in below {
+    for index in selected {
         take_variable(view, variables, places, *index, keys, pairs)?;
     }
     Ok(())
@@ -229,19 +229,19 @@ fn take_variable(
 }
 
 /// Adds the variables that a name selects and that have no counterpart to `alone`. The name selects
-/// those with the indexes `below`.
+/// those with the indexes `selected`.
 fn add_alone(
     variables: &Variables,
     places: &[Option<usize>],
-    below: &[usize],
+    selected: &[usize],
     alone: &mut Vec<usize>,
 ) -> Result<(), AllocError>
     ensures { IfOk result (λ _. (q : Asked) (h : Header) (n : Names) (texts : List (List ℕ))
         (others : List Named) → FindPlaces q h n texts variables.now places.now
-        → AreSelected q h n below.now → AllZip (IsNamedAt h) alone.old.items others
+        → AreSelected q h n selected.now → AllZip (IsNamedAt h) alone.old.items others
         → AllZip (IsNamedAt h) alone.new.items (others ++ alone_in q h n)) }
 {
-    for index in below {
+    for index in selected {
         if counterpart_of(variables, places, *index).is_none() {
             alone.push(number_at(&variables.rows, *index))?;
         }
@@ -311,7 +311,7 @@ fn add_end(code: usize, ends: &mut Vec<End>, last: &mut Vec<usize>) -> Result<()
     }
     ends.push(End {
         code,
-        next: last[code],
+        earlier: last[code],
     })?;
     last[code] = ends.len();
     Ok(())
