@@ -12,10 +12,10 @@ ghost use Rattle.vcd_compare.specs.Paths.{HasTexts};
 ghost use Rattle.vcd_compare.specs.Pairs.{AreFew, ArePairs, IsAt, IsNamedAt, names_in};
 ghost use Rattle.vcd_compare.specs.HasPairs.{AreNumbersOf, EntersNames, EntersTexts, HasPairs, HasSelected, alone_at, compared_at, compared_of, unlike_at, unlike_of};
 
-use crate::counterparts::{counterpart_of, place_paths};
+use crate::counterparts::{Places, counterpart_of, place_paths};
 use crate::kinds::{code_of, is_same_kind, kind_of};
 use crate::paths::{Paths, enter_path};
-use crate::selected::{Selections, list_at, selected_by};
+use crate::selected::{list_at, selected_by};
 use crate::variables::{Variables, number_at, number_rows, variables_of};
 use indexmap::IndexSet;
 use std::alloc::{AllocError, Global};
@@ -72,8 +72,9 @@ pub struct Pairs {
 }
 
 /// Returns the pairs that these names make of the variables of a header. The variables that one of
-/// `exceptions` selects are left out. The time grows with the header, the names, and the variables,
-/// paths and other names that each name selects. Fails if there is no memory.
+/// `exceptions` selects are left out. The time grows with the header, the names, and for each name
+/// the variables that it selects and the paths above them inside the name. Fails if there is no
+/// memory.
 pub fn pairs_of(
     alloc: Global,
     view: HeadView<'_>,
@@ -91,37 +92,35 @@ pub fn pairs_of(
     let rows = number_rows(alloc, view, &mut paths)?;
     let variables = variables_of(alloc, view, &rows, paths.nodes.len())?;
     drop(rows);
-    let selected = selected_by(alloc, &paths, &variables, &numbers, named, &exceptions)?;
-    pairs_between(alloc, view, &paths, &variables, &selected, &numbers)
+    let lists = selected_by(alloc, &paths, &variables, &numbers, named, &exceptions)?;
+    pairs_between(alloc, view, &paths, &variables, &lists, &numbers)
 }
 
 /// Returns the pairs that names make of the variables of a header: `numbers` are those of the
-/// names' paths, and `selected` is what the names select.
+/// names' paths, and `lists` has for each the indexes of the variables that the name selects.
 fn pairs_between(
     alloc: Global,
     view: HeadView<'_>,
     paths: &Paths,
     variables: &Variables,
-    selected: &Selections,
+    lists: &[Vec<usize>],
     numbers: &[(usize, usize)],
 ) -> Result<Pairs, AllocError>
     ensures { IfOk result (λ ps. (q : Asked) (h : Header) (ns : List Names)
         (texts : List (List ℕ)) → IsViewOf view.entry h
-        → HasSelected paths.now variables.now selected.now q h ns texts
+        → HasSelected paths.now variables.now lists.now q h ns texts
         → AllZip (AreNumbersOf texts) numbers.now ns → ArePairs ps h q ns) }
 {
-    let mut places = vec![in alloc; None; paths.nodes.len() + 1]?;
+    let mut places = Places::new(alloc, paths.nodes.len())?;
     let mut pairs = no_pairs(alloc, view.codes.len())?;
     let mut keys = IndexSet::with_hasher(alloc, view.seed);
     for (one, other) in numbers {
-        let inside = list_at(&selected.paths, *one);
-        place_paths(paths, *one, *other, inside, &mut places);
-        let below = list_at(&selected.variables, *one);
-        add_pairs(view, variables, &places, below, &mut keys, &mut pairs)?;
-        let inside = list_at(&selected.paths, *other);
-        place_paths(paths, *other, *one, inside, &mut places);
-        let below = list_at(&selected.variables, *other);
-        add_alone(variables, &places, below, &mut pairs.alone_other)?;
+        let selected = list_at(lists, *one);
+        place_paths(paths, variables, *one, *other, selected, &mut places)?;
+        add_pairs(view, variables, &places.numbers, selected, &mut keys, &mut pairs)?;
+        let selected = list_at(lists, *other);
+        place_paths(paths, variables, *other, *one, selected, &mut places)?;
+        add_alone(variables, &places.numbers, selected, &mut pairs.alone_other)?;
     }
     Ok(pairs)
 }
