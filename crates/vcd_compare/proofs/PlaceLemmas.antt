@@ -1,8 +1,7 @@
 -- What has another name in place of a first one: paths, and variables.
-use Rattle.vcd_compare.proofs.Cited.{◌≡◌, ◌≢◌, ℕ, suc, ◌+◌, ◌<◌, ◌≤◌, ◌==◌, ◌&&◌, ◌||◌, not, nat_eq, Bool, true, false, cond, List, [], ◌∷◌, ◌++◌, length, drop, set, get_or, slice_get, filter, find, position, bytes_eq, cases_lt, Option, Some, None, inl, inr, refl, sym, ap, subst, ◌∙◌, arith, option_map, AllZip, list_any, position_or_len, find_at, take_all, eq-eqb, eqb-false, eqb-true, ne_eqb, false_from_ne_true, and_parts, length-append, length-set, get_or-set_other, get_or-set_same, get_or_from_slice_get, same_Some, slice_get-get_or, slice_get_past, slice_get_within, bytes_eq-Decides, ◌⊎◌, Header, selects_path, Asked, Named, all_named, Names, bytes_flip, there, selected_begins, ArePlaces, AreSelected, AreWithin, FindPlaces, IsCounterpart, IsNth, IsPlace, looked_up, place_of_node, replaced, selected_in, AreApart, AreTexts, IsNumberOf, has_dot, joined, both_names, chosen, is_inside, is_kept, is_one_of, lists_in, AreVariables, IsKeyOf, same_key, HasSelected, Paths, Variables, Vec, AreCounterparts, BeginsTurn, Climbs, IsBelow, IsPlacing, IsReady, IsSettled, Settles, StaySettled, node_at, Places, min, ◌-◌}
+use Rattle.vcd_compare.proofs.Cited.{◌≡◌, ◌≢◌, ℕ, suc, ◌+◌, ◌<◌, ◌≤◌, ◌==◌, ◌&&◌, ◌||◌, not, nat_eq, Bool, true, false, cond, List, [], ◌∷◌, ◌++◌, length, drop, set, get_or, slice_get, filter, find, position, bytes_eq, cases_lt, Option, Some, None, inl, inr, refl, sym, ap, subst, ◌∙◌, arith, option_map, AllZip, list_any, position_or_len, find_at, take_all, eq-eqb, eqb-false, eqb-true, ne_eqb, false_from_ne_true, and_parts, length-append, length-set, get_or-set_other, get_or-set_same, get_or_from_slice_get, same_Some, slice_get-get_or, slice_get_past, slice_get_within, bytes_eq-Decides, ◌⊎◌, Header, selects_path, Asked, Named, all_named, Names, bytes_flip, there, selected_begins, ArePlaces, AreSelected, AreWithin, FindPlaces, IsCounterpart, IsNth, IsPlace, looked_up, place_of_node, replaced, selected_in, AreApart, AreTexts, IsNumberOf, has_dot, joined, both_names, chosen, is_inside, is_kept, is_one_of, lists_in, AreVariables, IsKeyOf, same_key, HasSelected, Paths, Variables, Vec, AreCounterparts, Climbs, IsBelow, IsPlacing, IsReady, IsSettled, Settles, StaySettled, node_at, Places, min, ◌-◌}
 use Rattle.std.proofs.Common.{zero}
 use Rattle.std.proofs.lemmas.List.{append_assoc, append-nil, drop-append-le}
-use Rattle.std.proofs.lemmas.List.Folds.{list_any-append}
 use Rattle.vcd_compare.proofs.PathTexts.{joined_number, last_dot, no_dot, number_within, node_of, none_first, not_there, position_first, position_none, position_passes, same_is, is_same, text_of}
 use Rattle.vcd_compare.proofs.SelectedLemmas.{chosen_zip, plain_selected, selects_inside, selects_itself}
 use Rattle.vcd_compare.proofs.VariableLemmas.{same_number}
@@ -29,30 +28,15 @@ and_next P k below here i l = elim (cases_lt i k) [ inl b ↦ below i b | inr pa
 
 -- ---- what is settled in a turn
 
--- in a new turn nothing is
-turn_begun : (count : ℕ) (old new : Places) → BeginsTurn old new → IsReady count old → IsReady count new × ((m : ℕ) → get_or new.turns.items m 0 ≢ new.turn)
-turn_begun count old new b ready = (
-  (
-    ap (λ (v : Vec (Option ℕ)). length v.items) b.numbers ∙ ready.0,
-    ap (λ (v : Vec ℕ). length v.items) b.turns ∙ ready.1,
-    λ m. let l = before m in omega (arith, l),
-  ),
-  λ m e. let l = before m in omega (arith, l, e),
-)
-  where
-    before : (m : ℕ) → get_or new.turns.items m 0 < new.turn
-    before m = let l = ready.2 m in let e = ap (λ (v : Vec ℕ). get_or v.items m 0) b.turns in let t = b.turn in omega (arith, l, e, t)
-
-module _ (count : ℕ) (old new : Places) (k : ℕ) (place : Option ℕ) (s : Settles old new k place) (l : k ≤ count) (ready : IsReady count old) where
-  -- it is the path that is settled, or nothing of it changes
-  turn_either : (m : ℕ)
-      → ((k ≡ m) × IsSettled new m × (get_or new.numbers.items m None ≡ place)) ⊎ ((k ≢ m) × (get_or new.turns.items m 0 ≡ get_or old.turns.items m 0) × (get_or new.numbers.items m None ≡ get_or old.numbers.items m None))
+module _ (n : Names) (texts : List (List ℕ)) (old new : Places) (k : ℕ) (t : List ℕ) (place : Option ℕ) (s : Settles old new k place) (is : IsNumberOf texts k t) (ready : IsReady (length texts) old) where
+  -- a path is the one that is settled, or nothing of it changes
+  turn_either : (m : ℕ) → ((k ≡ m) × IsSettled new m × (get_or new.numbers.items m None ≡ place)) ⊎ ((k ≢ m) × (get_or new.turns.items m 0 ≡ get_or old.turns.items m 0) × (get_or new.numbers.items m None ≡ get_or old.numbers.items m None))
   turn_either m = by_test (nat_eq k m) refl
     where
-      by_test : (b : Bool) → nat_eq k m ≡ b
-          → ((k ≡ m) × IsSettled new m × (get_or new.numbers.items m None ≡ place)) ⊎ ((k ≢ m) × (get_or new.turns.items m 0 ≡ get_or old.turns.items m 0) × (get_or new.numbers.items m None ≡ get_or old.numbers.items m None))
+      by_test : (b : Bool) → nat_eq k m ≡ b → ((k ≡ m) × IsSettled new m × (get_or new.numbers.items m None ≡ place)) ⊎ ((k ≢ m) × (get_or new.turns.items m 0 ≡ get_or old.turns.items m 0) × (get_or new.numbers.items m None ≡ get_or old.numbers.items m None))
       by_test true q =
           let same = eqb-true k m q in
+          let l = number_within texts k t is in
           let one = ready.0 in
           let two = ready.1 in
           inl (
@@ -65,34 +49,27 @@ module _ (count : ℕ) (old new : Places) (k : ℕ) (place : Option ℕ) (s : Se
           let turned : m ≢ k = λ e. differs (sym e) in
           inr (differs, ap (λ ts. get_or ts m 0) s.turns ∙ get_or-set_other old.turns.items k m old.turn 0 turned, ap (λ ns. get_or ns m None) s.numbers ∙ get_or-set_other old.numbers.items k m place None turned)
 
-  still_ready : IsReady count new
-  still_ready = (
-    ap length s.numbers ∙ length-set old.numbers.items k place ∙ ready.0,
-    ap length s.turns ∙ length-set old.turns.items k old.turn ∙ ready.1,
-    λ m. elim (turn_either m) [ inl is ↦ let e = is.1 in omega (arith, e) | inr other ↦ let e = other.1 in let past = ready.2 m in let t = s.turn in omega (arith, e, past, t) ],
+  settled_more : selects_path t n.0 ≡ true → IsCounterpart texts n t place → AreCounterparts n texts old → IsReady (length texts) new × AreCounterparts n texts new × IsSettled new k × StaySettled old new
+  settled_more selected here each = (
+    (
+      ap length s.numbers ∙ length-set old.numbers.items k place ∙ ready.0,
+      ap length s.turns ∙ length-set old.turns.items k old.turn ∙ ready.1,
+      λ m. elim (turn_either m) [ inl same ↦ let e = same.1 in omega (arith, e) | inr other ↦ let e = other.1 in let past = ready.2 m in let t = s.turn in omega (arith, e, past, t) ],
+    ),
+    λ m at. elim (turn_either m) [
+      | inl same ↦ (t, subst (λ j. IsNumberOf texts j t) same.0 is, selected, subst (IsCounterpart texts n t) (sym same.2) here)
+      | inr other ↦ let b = each m (sym other.1 ∙ at ∙ s.turn) in (b.0, b.1, b.2, subst (IsCounterpart texts n b.0) (sym other.2) b.3)
+    ],
+    elim (turn_either k) [ inl same ↦ same.1 | inr other ↦ absurd (other.0 refl) ],
+    λ m at. elim (turn_either m) [ inl same ↦ same.1 | inr other ↦ other.1 ∙ at ∙ sym s.turn ],
   )
 
-  stay_settled : StaySettled old new
-  stay_settled m at = elim (turn_either m) [ inl is ↦ is.1 | inr other ↦ other.1 ∙ at ∙ sym s.turn ]
-
-  now_settled : IsSettled new k
-  now_settled = elim (turn_either k) [ inl is ↦ is.1 | inr other ↦ absurd (other.0 refl) ]
-
-  counterparts_more : (n : Names) (texts : List (List ℕ)) (t : List ℕ) → IsNumberOf texts k t → selects_path t n.0 ≡ true → IsCounterpart texts n t place → AreCounterparts n texts old → AreCounterparts n texts new
-  counterparts_more n texts t is selected here each m at = elim (turn_either m) [
-    | inl same ↦ (t, subst (λ j. IsNumberOf texts j t) same.0 is, selected, subst (IsCounterpart texts n t) (sym same.2) here)
-    | inr other ↦ let b = each m (sym other.1 ∙ at ∙ s.turn) in (b.0, b.1, b.2, subst (IsCounterpart texts n b.0) (sym other.2) b.3)
-  ]
-
--- the first name is settled first
-pub placing_first : (n : Names) (texts : List (List ℕ)) (one other : ℕ) (old mid new : Places) → AreApart texts → IsNumberOf texts one n.0 → IsNumberOf texts other n.1 → IsReady (length texts) old → BeginsTurn old mid → Settles mid new one (Some other) → IsPlacing n texts new
-placing_first n texts one other old mid new apart a b ready begins s =
-    let begun = turn_begun (length texts) old mid begins ready in
-    let within = number_within texts one n.0 a in (
-      still_ready (length texts) mid new one (Some other) s within begun.0,
-      λ m is. subst (IsSettled new) (a.1 ∙ ap suc (apart a.0 is.0 n.0 a.2 is.2) ∙ sym is.1) (now_settled (length texts) mid new one (Some other) s within begun.0),
-      counterparts_more (length texts) mid new one (Some other) s within begun.0 n texts n.0 a (selects_itself n.0) (subst (IsNumberOf texts other) (sym (replaced_itself n)) b) (λ m at. absurd (begun.1 m at)),
-    )
+-- the first name is settled first: in a new turn nothing is
+pub placing_first : (n : Names) (texts : List (List ℕ)) (one other turn : ℕ) (old new : Places) → AreApart texts → IsNumberOf texts one n.0 → IsNumberOf texts other n.1 → IsReady (length texts) old → turn ≡ old.turn + 1 → Settles (record old { turn = turn }) new one (Some other) → IsPlacing n texts new
+placing_first n texts one other turn old new apart a b ready next s =
+    let begun : IsReady (length texts) (record old { turn = turn }) = (ready.0, ready.1, λ m. let l = ready.2 m in omega (arith, l, next)) in
+    let more = settled_more n texts (record old { turn = turn }) new one n.0 (Some other) s a begun (selects_itself n.0) (subst (IsNumberOf texts other) (sym (replaced_itself n)) b) (λ m at. let l = ready.2 m in absurd (omega (arith, l, next, at))) in
+    (more.0, λ m is. subst (IsSettled new) (a.1 ∙ ap suc (apart a.0 is.0 n.0 a.2 is.2) ∙ sym is.1) more.2, more.1)
 
 -- ---- counterparts of paths
 
@@ -175,27 +152,21 @@ module _ (parts : List (List ℕ)) (nodes : List (ℕ × ℕ)) (texts : List (Li
     -- a path is settled after the one around it
     pub placing_next : (old new : Places) (m top : ℕ) → IsPlacing n texts old → IsBelow n texts m → (node_at nodes m).0 ≡ top → IsSettled old top → Settles old new m (place_of_node nodes old.numbers.items m) → IsPlacing n texts new × IsSettled new m × StaySettled old new
     placing_next old new m top p (t, is, selected) around at s =
-        let i = is.0 in
-        let within = number_within texts m t is in
-        let stay = stay_settled (length texts) old new m place s within p.0 in
-        ((still_ready (length texts) old new m place s within p.0, λ k own. stay k (p.1 k own), counterparts_more (length texts) old new m place s within p.0 n texts t is selected here p.2), now_settled (length texts) old new m place s within p.0, stay)
+        let more = settled_more n texts old new m t (place_of_node nodes old.numbers.items m) s is p.0 selected here p.2 in
+        ((more.0, λ k own. more.3 k (p.1 k own), more.1), more.2, more.3)
       where
-        place : Option ℕ
-        place = place_of_node nodes old.numbers.items m
-
-        here : IsCounterpart texts n t place
+        here : IsCounterpart texts n t (place_of_node nodes old.numbers.items m)
         here =
             let i = is.0 in
             let node = get_or nodes i (0, 0) in
             let within = slice_get_within texts i t is.2 in
-            let at_node = slice_get-get_or nodes i (0, 0) (let l = are.len in omega (arith, within, l)) in
-            let node_is = are.each i node at_node in
+            let node_is = are.each i node (slice_get-get_or nodes i (0, 0) (let l = are.len in omega (arith, within, l))) in
             let up : node.0 ≡ top = ap (λ k. (node_at nodes k).0) (sym is.1) ∙ around in
             let outer = p.2 top at in
             let text : outer.0 ++ 46 ∷ node_is.part ≡ t = sym (joined_number texts top outer.0 node_is.part outer.1) ∙ ap (λ k. joined texts k node_is.part) (sym up) ∙ same_Some _ _ (sym node_is.text_is ∙ is.2) in
-            let same : place ≡ option_map suc (looked_up nodes node.1 (get_or old.numbers.items top None)) = ap (place_of_node nodes old.numbers.items) is.1 ∙ ap (λ k. option_map suc (looked_up nodes node.1 (get_or old.numbers.items k None))) up in
-            subst (IsCounterpart texts n t) (sym same) (subst (λ x. IsCounterpart texts n x (option_map suc (looked_up nodes node.1 (get_or old.numbers.items top None)))) text
-            (place_inside node.1 node_is.part outer.0 (get_or old.numbers.items top None) node_is.plain node_is.part_is outer.2 outer.3))
+            let inside = place_inside node.1 node_is.part outer.0 (get_or old.numbers.items top None) node_is.plain node_is.part_is outer.2 outer.3 in
+            subst (IsCounterpart texts n t) (sym (ap (place_of_node nodes old.numbers.items) is.1 ∙ ap (λ k. option_map suc (looked_up nodes node.1 (get_or old.numbers.items k None))) up))
+            (subst (λ x. IsCounterpart texts n x (option_map suc (looked_up nodes node.1 (get_or old.numbers.items top None)))) text inside)
 
 -- ---- counterparts of variables
 

@@ -51,12 +51,6 @@ StaySettled old new = (m : ℕ) → IsSettled old m → IsSettled new m
 abbrev pub IsReady : ℕ → Places → Type 0
 IsReady count p = (length p.numbers.items ≡ count + 1) × (length p.turns.items ≡ count + 1) × ((m : ℕ) → get_or p.turns.items m 0 ≤ p.turn)
 
--- the places are the same, in the next turn
-pub record BeginsTurn (old new : Places) : Type 0 where
-  pub numbers : new.numbers ≡ old.numbers
-  pub turns : new.turns ≡ old.turns
-  pub turn : new.turn ≡ old.turn + 1
-
 -- the path with this number gets this place
 pub record Settles (old new : Places) (number : ℕ) (place : Option ℕ) : Type 0 where
   pub numbers : new.numbers.items ≡ set old.numbers.items number place

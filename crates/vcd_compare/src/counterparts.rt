@@ -3,7 +3,7 @@ ghost use Rattle.std.specs.Prelude.{◌≡◌, ◌<◌, ◌≤◌, ◌^◌, ℕ,
 ghost use Rattle.vcd_model.specs.Compare.{Asked, Named};
 ghost use Rattle.vcd_model.specs.Header.{Header};
 ghost use Rattle.vcd_model.specs.Within.{Names};
-ghost use Rattle.vcd_compare.specs.Counterparts.{ArePlaces, AreSelected, BeginsTurn, Climbs, FindPlaces, IsBelow, IsNth, IsPlace, IsPlacing, IsReady, IsSettled, Settles, StaySettled, looked_up, place_of_node, selected_in};
+ghost use Rattle.vcd_compare.specs.Counterparts.{ArePlaces, AreSelected, Climbs, FindPlaces, IsBelow, IsNth, IsPlace, IsPlacing, IsReady, IsSettled, Settles, StaySettled, looked_up, place_of_node, selected_in};
 ghost use Rattle.vcd_compare.specs.Paths.{HasTexts, IsNumberOf};
 ghost use Rattle.vcd_compare.specs.Variables.{AreVariables};
 
@@ -19,10 +19,10 @@ pub(crate) struct Places {
     // The number of the counterpart, or `None` if there is no such path.
     pub(crate) numbers: Vec<Option<usize>>,
     // The last turn in which that was settled, or 0. Each two names have a turn of their own.
-    pub(crate) turns: Vec<usize>,
-    pub(crate) turn: usize,
+    turns: Vec<usize>,
+    turn: usize,
     // Paths that are not settled yet: the path around each is the next one.
-    pub(crate) climbed: Vec<usize>,
+    climbed: Vec<usize>,
 }
 
 impl Places {
@@ -57,23 +57,15 @@ pub(crate) fn place_paths(
         → IsReady (length texts) places.old → IsReady (length texts) places.new
         × ArePlaces q h n texts places.new.numbers.items) }
 {
-    begin_turn(places)?;
+    let Some(turn) = places.turn.checked_add(1) else {
+        return Err(AllocError);
+    };
+    places.turn = turn;
     settle(places, one, Some(other));
     for index in selected {
         let (path, _) = key_at(&variables.keys, *index);
         place_path(paths, path, places)?;
     }
-    Ok(())
-}
-
-/// Begins a turn, in which no path is settled yet.
-fn begin_turn(places: &mut Places) -> Result<(), AllocError>
-    ensures { IfOk result (λ _. BeginsTurn places.old places.new) }
-{
-    let Some(turn) = places.turn.checked_add(1) else {
-        return Err(AllocError);
-    };
-    places.turn = turn;
     Ok(())
 }
 
@@ -85,7 +77,13 @@ fn place_path(paths: &Paths, number: usize, places: &mut Places) -> Result<(), A
         → IsPlacing n texts places.new × IsSettled places.new number
         × StaySettled places.old places.new) }
 {
-    climb(paths, number, &places.turns, places.turn, &mut places.climbed)?;
+    climb(
+        paths,
+        number,
+        &places.turns,
+        places.turn,
+        &mut places.climbed,
+    )?;
     while let Some(inner) = places.climbed.pop() {
         let place = place_inside(paths, inner, &places.numbers);
         settle(places, inner, place);

@@ -117,7 +117,14 @@ fn pairs_between(
     for (one, other) in numbers {
         let selected = list_at(lists, *one);
         place_paths(paths, variables, *one, *other, selected, &mut places)?;
-        add_pairs(view, variables, &places.numbers, selected, &mut keys, &mut pairs)?;
+        add_pairs(
+            view,
+            variables,
+            &places.numbers,
+            selected,
+            &mut keys,
+            &mut pairs,
+        )?;
         let selected = list_at(lists, *other);
         place_paths(paths, variables, *other, *one, selected, &mut places)?;
         add_alone(variables, &places.numbers, selected, &mut pairs.alone_other)?;

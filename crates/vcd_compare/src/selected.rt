@@ -31,7 +31,14 @@ pub(crate) fn selected_by(
     let numbers = both_of(alloc, names)?;
     let nearest = nearest_of(alloc, paths, &numbers)?;
     let left_out = nearest_of(alloc, paths, exceptions)?;
-    inside_of(alloc, paths, &nearest, &left_out, variables.keys.as_slice(), named)
+    inside_of(
+        alloc,
+        paths,
+        &nearest,
+        &left_out,
+        variables.keys.as_slice(),
+        named,
+    )
 }
 
 /// Returns both numbers of each pair, in one list.

@@ -1,4 +1,4 @@
-use Rattle.vcd_compare.proofs.Cited.{◌≡◌, ◌≢◌, ◌-◌, ◌++◌, ◌∷◌, [], ℕ, min, get_or, refl, sym, ap, subst, ◌∙◌, arith, texts_in, node_at, Climbs, IsBelow, IsNumberOf}
+use Rattle.vcd_compare.proofs.Cited.{◌≡◌, ◌≢◌, ◌-◌, ◌++◌, ◌∷◌, [], ℕ, min, refl, sym, ap, subst, ◌∙◌, arith, texts_in, node_at, Climbs, IsBelow, IsNumberOf}
 use Rattle.vcd_compare.proofs.Facts.{climbs_on}
 use Rattle.vcd_compare.proofs.counterparts.climb.Goals as goal
 

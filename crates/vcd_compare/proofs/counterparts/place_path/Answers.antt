@@ -1,4 +1,4 @@
-use Rattle.vcd_compare.proofs.Cited.{◌≡◌, ◌++◌, ◌∷◌, [], ℕ, List, Option, get_or, sym, ap, subst, ◌∙◌, arith, Vec, texts_in, Climbs, IsSettled, Places, Settles, place_of_node}
+use Rattle.vcd_compare.proofs.Cited.{◌≡◌, ℕ, List, Option, get_or, sym, ap, subst, ◌∙◌, arith, Vec, texts_in, Climbs, IsSettled, Places, Settles, place_of_node}
 use Rattle.vcd_compare.proofs.Facts.{climbs_back, climbs_none, number_within, placing_next}
 use Rattle.vcd_compare.proofs.counterparts.place_path.Goals as goal
 

@@ -4,7 +4,7 @@ use Rattle.vcd_compare.proofs.counterparts.place_paths.Goals as goal
 
 pub loop-index-init : goal.loop-index-init
 loop-index-init c = λ q h n texts has are one other selected ready. (
-  placing_first n texts c.args.one c.args.other c.args.places.now c.begin_turn.new.places c.settle.new.places has.apart one other ready c.in_ok-begin_turn.ensures c.settle.ensures,
+  placing_first n texts c.args.one c.args.other c.in-Some.turn c.args.places.now c.settle.new.places has.apart one other ready c.in-Some.ensures.1 c.settle.ensures,
   λ i l. absurd (omega (arith, l)),
 )
 

@@ -1,4 +1,4 @@
-use Rattle.vcd_compare.proofs.Cited.{◌≤◌, [], length, flat_map, get_or, take, sym, ap, subst, ◌∙◌, add-one, arith, take_all, slice_get-get_or, alone_in, compared_in, turned, unlike_in, IsCode, IsReady, AreNumbersOf, ArePlaces, FindPlaces, HasPairs, Pairs}
+use Rattle.vcd_compare.proofs.Cited.{◌≤◌, [], length, flat_map, get_or, take, sym, subst, ◌∙◌, add-one, arith, take_all, slice_get-get_or, alone_in, compared_in, turned, unlike_in, IsCode, IsReady, AreNumbersOf, ArePlaces, FindPlaces, HasPairs, Pairs}
 use Rattle.vcd_compare.proofs.Facts.{HeldNames, both_one, listed_variables, names_next, same_len, zip_from}
 use Rattle.vcd_compare.proofs.pairs.pairs_between.Goals as goal
 
