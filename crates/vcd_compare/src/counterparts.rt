@@ -18,10 +18,11 @@ use vcd_view::CodeSeed;
 pub(crate) struct Places {
     // The number of the counterpart, or `None` if there is no such path.
     pub(crate) numbers: Vec<Option<usize>>,
-    // The last turn in which that was settled, or 0. Each two names have a turn of their own.
+    // The turn in which that was last settled, or 0. Each call of `place_paths` is a turn.
     turns: Vec<usize>,
+    // The number of this turn.
     turn: usize,
-    // Paths that are not settled yet: the path around each is the next one.
+    // Paths that are still to be settled, each inside the next one.
     climbed: Vec<usize>,
 }
 
@@ -40,9 +41,9 @@ impl Places {
     }
 }
 
-/// Sets the places of the paths of these variables, which the name with number `one` selects: the
-/// number of the path that has the path with number `other` in place of that with number `one`, or
-/// `None` if there is no such path. Fails if there is no memory.
+/// Sets the place of the path of each of these variables, which the name with number `one` selects:
+/// the number of the path that has the path with number `other` in place of that with number `one`,
+/// or `None` if there is no such path. `selected` has the indexes of the variables.
 pub(crate) fn place_paths(
     paths: &Paths,
     variables: &Variables,
@@ -69,21 +70,16 @@ pub(crate) fn place_paths(
     Ok(())
 }
 
-/// Sets the place of the path with this number, and those of the paths around it up to one that is
-/// settled.
+/// Sets the place of the path with this number, and of each path around it that is not settled in
+/// this turn.
 fn place_path(paths: &Paths, number: usize, places: &mut Places) -> Result<(), AllocError>
     ensures { IfOk result (λ _. (n : Names) (texts : List (List ℕ)) → HasTexts paths.now texts
         → IsPlacing n texts places.old → IsBelow n texts number
         → IsPlacing n texts places.new × IsSettled places.new number
         × StaySettled places.old places.new) }
 {
-    climb(
-        paths,
-        number,
-        &places.turns,
-        places.turn,
-        &mut places.climbed,
-    )?;
+    let turn = places.turn;
+    climb(paths, number, &places.turns, turn, &mut places.climbed)?;
     while let Some(inner) = places.climbed.pop() {
         let place = place_inside(paths, inner, &places.numbers);
         settle(places, inner, place);
@@ -91,8 +87,8 @@ fn place_path(paths: &Paths, number: usize, places: &mut Places) -> Result<(), A
     Ok(())
 }
 
-/// Lists the numbers of a path, of the one around it, and so on, before the first that is settled
-/// in this turn.
+/// Lists in `climbed` the number of a path, then that of the path around it, and so on, up to the
+/// first that is settled in this turn, which is not listed.
 fn climb(
     paths: &Paths,
     from: usize,

@@ -28,7 +28,7 @@ impl Paths {
     }
 }
 
-/// Returns the key at this index, two times 0 if there is none.
+/// Returns the key at this index, or two zeros if there is none.
 pub(crate) fn key_at(keys: &IndexSet<(usize, usize), CodeSeed>, index: usize) -> (usize, usize)
     ensures { result ≡ get_or keys.now.keys index (0, 0) }
 {
@@ -38,7 +38,8 @@ pub(crate) fn key_at(keys: &IndexSet<(usize, usize), CodeSeed>, index: usize) ->
     }
 }
 
-/// Returns what the path with this number consists of, two times 0 if there is none.
+/// Returns what the path with this number consists of (`nodes` of `Paths`), or two zeros if there is
+/// no such path.
 pub(crate) fn node_at(nodes: &IndexSet<(usize, usize), CodeSeed>, number: usize) -> (usize, usize)
     ensures { result ≡ node_at nodes.now.keys number }
 {

@@ -31,14 +31,8 @@ pub(crate) fn selected_by(
     let numbers = both_of(alloc, names)?;
     let nearest = nearest_of(alloc, paths, &numbers)?;
     let left_out = nearest_of(alloc, paths, exceptions)?;
-    inside_of(
-        alloc,
-        paths,
-        &nearest,
-        &left_out,
-        variables.keys.as_slice(),
-        named,
-    )
+    let keys = variables.keys.as_slice();
+    inside_of(alloc, paths, &nearest, &left_out, keys, named)
 }
 
 /// Returns both numbers of each pair, in one list.
