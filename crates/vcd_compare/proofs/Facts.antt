@@ -11,7 +11,7 @@ pub use Rattle.vcd_compare.proofs.NeededLemmas.{HasRead, given_past, needed_befo
 pub use Rattle.vcd_compare.proofs.PairLoops.{AloneBefore, HeldBefore, HeldNames, alone_all, alone_one, alone_same, few_kept, held_all, held_next, names_next, places_before}
 pub use Rattle.vcd_compare.proofs.PairSteps.{fits_as, held_alone, held_unlike, kind_apart, kind_same, named_row, pair_more, place_both, place_missing}
 pub use Rattle.vcd_compare.proofs.PathTexts.{IsEntering, entering_more, number_within, path_entered, text_entered, text_found}
-pub use Rattle.vcd_compare.proofs.PlaceLemmas.{and_next, climbs_back, climbs_none, climbs_on, keys_within, listed_below, listed_variables, places_found, placing_first, placing_next, same_len, variable_place, zip_from}
+pub use Rattle.vcd_compare.proofs.PlaceLemmas.{and_next, climbs_back, climbs_none, climbs_on, keys_within, listed_below, listed_variables, looked_next, places_found, placing_first, placing_next, same_len, variable_place, zip_from}
 pub use Rattle.vcd_compare.proofs.RowPaths.{NumbersSome, around_at, around_joined, names_more, ok_then, some_row, texts_stay, zip_stays}
 pub use Rattle.vcd_compare.proofs.RunSteps.{begins_none, change_given, close_fails, come_passed, ends_whole, goes_quiet, not_over, pass_fails, section_come, stopped, time_ends, time_fails, time_forth, time_on}
 pub use Rattle.vcd_compare.proofs.SelectedLemmas.{both_one, both_zip, named_below}

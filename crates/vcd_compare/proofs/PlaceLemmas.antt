@@ -88,6 +88,22 @@ module _ (parts : List (List ℕ)) (nodes : List (ℕ × ℕ)) (texts : List (Li
           let same = (last_dot (get_or texts j []) v q p d plain e).0 in
           (j, slice_get-get_or texts j [] (omega (arith, l)) ∙ ap Some same)
 
+  -- a node right after the path around it
+  pub looked_next : (m k : ℕ) → slice_get nodes m ≡ Some (m, k) → looked_up nodes k (Some m) ≡ Some m
+  looked_next m k at = by_found (position (same_key (m, k)) nodes) refl
+    where
+      by_found : (o : Option ℕ) → position (same_key (m, k)) nodes ≡ o → position (same_key (m, k)) nodes ≡ Some m
+      by_found (Some f) q =
+          let found = position_passes (same_key (m, k)) nodes f q in
+          let one = are.each f (m, k) (found.1 ∙ ap Some (sym (same_is (m, k) found.0 found.2))) in
+          let two = are.each m (m, k) at in
+          let part : two.part ≡ one.part = same_Some _ _ (sym two.part_is ∙ one.part_is) in
+          q ∙ ap Some (are.apart f m (joined texts m one.part) one.text_is (two.text_is ∙ ap (λ p. Some (joined texts m p)) part))
+      by_found None q =
+          let fails = not_there (same_key (m, k)) nodes m (m, k) (position_none (same_key (m, k)) nodes q) at in
+          let passes = is_same (m, k) in
+          absurd (cc)
+
   module _ (n : Names) where
     -- of a path inside another one
     place_inside : (k : ℕ) (p u : List ℕ) (old : Option ℕ) → has_dot p ≡ false → slice_get parts k ≡ Some p → selects_path u n.0 ≡ true → IsCounterpart texts n u old → IsCounterpart texts n (u ++ 46 ∷ p) (option_map suc (looked_up nodes k old))

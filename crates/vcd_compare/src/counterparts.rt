@@ -113,17 +113,33 @@ fn climb(
 
 /// Returns the place of the path with this number, by that of the path around it.
 fn place_inside(paths: &Paths, number: usize, places: &[Option<usize>]) -> Option<usize>
-    ensures { number ≤ length paths.now.nodes.keys
+    ensures { (texts : List (List ℕ)) → HasTexts paths.now texts
+        → number ≤ length paths.now.nodes.keys
         → result ≡ place_of_node paths.now.nodes.keys places.now number }
 {
     if number > paths.nodes.len() {
         return None;
     }
     let (around, part) = node_at(&paths.nodes, number);
-    match looked_up(&paths.nodes, place_at(places, around), part) {
+    match node_inside(paths, place_at(places, around), part) {
         Some(found) => Some(found.saturating_add(1)),
         None => None,
     }
+}
+
+/// Returns the index of the node that consists of the number in `place` and of `part`, or `None`.
+/// It first tries the node that was entered right after that path. Along a path of many parts this
+/// is the one, and then there is no look-up.
+fn node_inside(paths: &Paths, place: Option<usize>, part: usize) -> Option<usize>
+    ensures { (texts : List (List ℕ)) → HasTexts paths.now texts
+        → result ≡ looked_up paths.now.nodes.keys part place }
+{
+    let around = place?;
+    let (first, last) = key_at(&paths.nodes, around);
+    if around < paths.nodes.len() && first == around && last == part {
+        return place;
+    }
+    looked_up(&paths.nodes, place, part)
 }
 
 /// Sets the place of the path with this number. It is settled in this turn.

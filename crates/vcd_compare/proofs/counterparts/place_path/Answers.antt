@@ -17,7 +17,7 @@ loop-inner-preserved c = λ n texts has p below.
     let popped : Places = record c.loop-inner.places { climbed = c.pop.new.self } in
     let within = number_within texts inner back.1.0 back.1.1 in
     let place : c.place_inside-place.result ≡ place_of_node nodes popped.numbers.items inner =
-    c.place_inside-place.ensures (let l = has.len in omega (arith, within, l)) ∙ ap (λ (l : List (Option ℕ)). place_of_node nodes l inner) c.deref-in-Some.ensures.value in
+    c.place_inside-place.ensures texts has (let l = has.len in omega (arith, within, l)) ∙ ap (λ (l : List (Option ℕ)). place_of_node nodes l inner) c.deref-in-Some.ensures.value in
     let next = placing_next (texts_in c.args.paths.now.parts) nodes texts has n popped c.settle.new.places inner s.2.0 s.0 back.1 back.2 s.2.2 (subst (Settles popped c.settle.new.places inner) place c.settle.ensures) in
     (next.0, λ m at. next.2 m (s.1 m at), (inner, subst (λ (v : Vec ℕ). Climbs nodes n texts c.args.number v.items inner) (sym c.settle.ensures.climbed) back.0, next.1))
 
