@@ -20,7 +20,8 @@ machine  The stack has 112 KB, and memory is limited, in steps of 16 KB; words a
          comparison.
 headers  A header of twice as many declarations takes at most three times the CPU time: in any
          order, with deep scopes, with one path or one code for all, with dots in names. So does a
-         value of twice as many digits with twice as many changes of its counterpart.
+         value of twice as many digits with twice as many changes of its counterpart, and a path of
+         twice as many parts with 99 names inside each other, in 32 MB of memory.
 flat     Two streams of 64 MB are merged and compared, each program in 32 MB of memory. FLAT=2048
          takes streams of so many megabytes."""
 import itertools, os, random, subprocess, sys, tempfile, threading
@@ -310,8 +311,21 @@ def deep(count):
     return b"".join(text) + b"$enddefinitions $end\n", each * 1980
 
 
+def nested(count):
+    """Two paths of so many parts, and 99 names inside each other: each with the same path in the
+    other scope, or with that scope. Of the latter only the first has a pair."""
+    path = b".".join([b"a"] * count)
+    names = [b".".join([b"a"] * n) for n in range(100)]
+    text = b"".join(b"$scope module %s $end $var wire 1 %s %s $end $upscope $end\n" % (
+        part, part, path) for part in (b"a", b"b")) + b"$enddefinitions $end\n"
+    yield "of nested names", text, 99, [b"a.%s=b.%s" % (name, name) for name in names[1:]], b""
+    yield ("of nested names and one", text, 1, [b"%s=b" % name for name in names[1:]],
+           b"".join(b"alone %s %s.%s\n" % (part.upper(), part, path) * 98 for part in (b"a", b"b")))
+
+
 def headers_of(count):
-    """Headers with what they are, and how many pairs they have."""
+    """Headers with what they are, and how many pairs they have. Some have little memory; with them
+    are the words, and the lines before the last."""
     r = random.Random(1)
     parts = [b"p", b"q"]
     yield "in order", declared(parts, count), count
@@ -330,10 +344,11 @@ def headers_of(count):
     yield ("of equal length", declared(parts, count, name=lambda n: b"%09d" % n,
                                        order=list.reverse), count)
     yield ("deep", *deep(count))
+    yield from nested(count // 20)
 
 
 def cpu_of(command, given):
-    """The output of a process, and how much CPU time and memory it took."""
+    """The output of a process, and how much CPU time it took."""
     process = subprocess.Popen(command, stdin=subprocess.PIPE, stdout=subprocess.PIPE)
 
     def feed():
@@ -348,24 +363,30 @@ def cpu_of(command, given):
     thread.join()
     _, status, usage = os.wait4(process.pid, 0)
     process.returncode = os.WEXITSTATUS(status)
-    return output, usage.ru_utime + usage.ru_stime, usage.ru_maxrss
+    return output, usage.ru_utime + usage.ru_stime
+
+
+def asked(program, text, pairs, words=None, lines=b""):
+    """The command and the dump of a run, and what it has to write."""
+    command = [*SMALL, program, *words] if words else [program, "p=q"]
+    return command, text + b"#0\n", lines + b"compared %d\n" % pairs
 
 
 def headers(programs):
     """Each header with a change of one variable of the first part, and with half of it."""
     bad = runs = 0
     count = int(os.environ.get("DECLARATIONS", "1000000")) // 2
-    for (what, less, few), (_, more, many) in zip(headers_of(count // 2), headers_of(count)):
+    for (what, *less), (_, *more) in zip(headers_of(count // 2), headers_of(count)):
         times = []
-        for text, pairs in ((less, few), (more, many)):
-            output, time, _ = cpu_of([programs[1], "p=q"], text + b"#0\n")
+        for command, text, want in (asked(programs[1], *less), asked(programs[1], *more)):
+            output, time = cpu_of(command, text)
             runs += 1
             times.append(time)
-            if output != b"compared %d\n" % pairs:
+            if output != want:
                 bad += 1
-                print("headers %s: %.200r, not %d pairs" % (what, output, pairs))
-        print("headers %s: %d declarations in %.2f s, %d in %.2f s" % (
-            what, 2 * few, times[0], 2 * many, times[1]))
+                print("headers %s: %.200r, not %.200r" % (what, output, want))
+        print("headers %s: %d bytes in %.2f s, %d in %.2f s" % (
+            what, len(less[0]), times[0], len(more[0]), times[1]))
         if times[1] > 3 * times[0] + 0.2:
             bad += 1
             print("headers %s: more than three times as long" % what)

@@ -52,7 +52,7 @@ pub use Rattle.vcd_body.specs.declared.values.table.Table.{Table}
 pub use Rattle.vcd_compare.specs.Asked.{model_asked, model_extent, rule_of}
 pub use Rattle.vcd_compare.specs.Classes.{AddsEnd, EntersClass, HasClasses}
 pub use Rattle.vcd_compare.specs.Comparing.{AreCodes, AreCurrent, AreFlags, AreMarked, AreTriggers, Compares, ComparesOne, GivesNew, HasNoEnd, IsCounted, IsLastTrigger, SameRequest, differ_from, is_last, partner, stops_before, triggers_with}
-pub use Rattle.vcd_compare.specs.Counterparts.{ArePlaces, AreSelected, FindPlaces, IsCounterpart, IsNth, IsPlace, looked_up, place_of, place_of_node, replaced, selected_in}
+pub use Rattle.vcd_compare.specs.Counterparts.{AreCounterparts, ArePlaces, AreSelected, Climbs, FindPlaces, IsBelow, IsCounterpart, IsNth, IsPlace, IsPlacing, IsReady, IsSettled, Settles, StaySettled, looked_up, place_of, place_of_node, replaced, selected_in}
 pub use Rattle.vcd_compare.specs.Flags.{differing, marked, settled_as}
 pub use Rattle.vcd_compare.specs.HasPairs.{AreNumbersOf, EntersNames, EntersTexts, HasPairs, HasSelected, alone_at, compared_at, compared_of, unlike_at, unlike_of}
 pub use Rattle.vcd_compare.specs.Kinds.{model_kind}
@@ -62,12 +62,13 @@ pub use Rattle.vcd_compare.specs.Lines.{DoNotFall, IsQuiet, changed_at, codes_di
 pub use Rattle.vcd_compare.specs.Needed.{StepReads, due_with, is_settled_with}
 pub use Rattle.vcd_compare.specs.Outcomes.{AnswersGiveOutcomes, Belongs, BodiesGiveOutcomes, left_of}
 pub use Rattle.vcd_compare.specs.Pairs.{AreFew, AreLinked, ArePairs, HasEnd, HoldsPairs, IsClassOf, IsLastEnd, IsPairAt, IsUnlikeAt, names_in}
-pub use Rattle.vcd_compare.specs.Paths.{AreApart, AreTexts, EntersPath, EntersText, HasTexts, IsNumberOf, has_dot, joined, texts_in}
+pub use Rattle.vcd_compare.specs.Paths.{AreApart, AreTexts, EntersPath, EntersText, HasTexts, IsNumberOf, has_dot, joined, node_at, texts_in}
 pub use Rattle.vcd_compare.specs.Run.{BodyBegins, BodyGives, HasCome, RunStands, StepGives, StepsAhead, TellsEnd, flag_after, is_due_now, settled_by, step_end}
 pub use Rattle.vcd_compare.specs.Selected.{AreInside, AreMarks, AreNamedBelow, AreNearest, AreWithin, IsNearest, IsPutInside, both_names, chosen, first_above, is_inside, is_kept, is_one_of, lists_in}
 pub use Rattle.vcd_compare.specs.Variables.{AddsVariable, AreCounted, AreNumbered, AreVariables, HasSome, IsAround, IsAt, IsKeyOf, IsNamedAt, IsScopeNumber, named_in, same_key}
 pub use Rattle.vcd_compare.specs.declared.comparing.Comparison.{Comparison}
 pub use Rattle.vcd_compare.specs.declared.comparing.Watched.{Watched}
+pub use Rattle.vcd_compare.specs.declared.counterparts.Places.{Places}
 pub use Rattle.vcd_compare.specs.declared.current.Current.{Current}
 pub use Rattle.vcd_compare.specs.declared.pairs.End.{End}
 pub use Rattle.vcd_compare.specs.declared.pairs.NamePair.{NamePair}
@@ -75,7 +76,6 @@ pub use Rattle.vcd_compare.specs.declared.pairs.PairRow.{PairRow}
 pub use Rattle.vcd_compare.specs.declared.pairs.Pairs.{Pairs}
 pub use Rattle.vcd_compare.specs.declared.pairs.UnlikeRows.{UnlikeRows}
 pub use Rattle.vcd_compare.specs.declared.paths.Paths.{Paths}
-pub use Rattle.vcd_compare.specs.declared.selected.Selections.{Selections}
 pub use Rattle.vcd_compare.specs.declared.variables.Variables.{Variables}
 pub use Rattle.vcd_compare.specs.declared.whole.Answer.{Answer}
 pub use Rattle.vcd_compare.specs.declared.whole.Run.{Run}

@@ -35,21 +35,21 @@ last_new ends e = record {
 }
 
 pub linked_more : (ends : List End) (last : List ℕ) (code : ℕ) → code < length last → AreLinked ends last
-    → AreLinked (ends ++ record { code = code; next = get_or last code 0 } ∷ []) (set last code (suc (length ends)))
+    → AreLinked (ends ++ record { code = code; earlier = get_or last code 0 } ∷ []) (set last code (suc (length ends)))
 linked_more ends last code l are = record {
-  each = λ i e at. elim (at_most ends (record { code = code; next = get_or last code 0 }) e i at) [
-    | inl old ↦ last_stays ends (record { code = code; next = get_or last code 0 }) i e.code e.next (let w = slice_get_within ends i e old in omega (arith, w)) (are.each i e old)
+  each = λ i e at. elim (at_most ends (record { code = code; earlier = get_or last code 0 }) e i at) [
+    | inl old ↦ last_stays ends (record { code = code; earlier = get_or last code 0 }) i e.code e.earlier (let w = slice_get_within ends i e old in omega (arith, w)) (are.each i e old)
     | inr new ↦
         let old = are.from code (get_or last code 0) (slice_get-get_or last code 0 l) in
-        let stays = last_stays ends (record { code = code; next = get_or last code 0 }) (length ends) code (get_or last code 0) (omega arith) old in
-        subst (λ (x : End). IsLastEnd (ends ++ record { code = code; next = get_or last code 0 } ∷ []) i x.code x.next) (sym new.1)
-        (subst (λ b. IsLastEnd (ends ++ record { code = code; next = get_or last code 0 } ∷ []) b code (get_or last code 0)) (sym new.0) stays)
+        let stays = last_stays ends (record { code = code; earlier = get_or last code 0 }) (length ends) code (get_or last code 0) (omega arith) old in
+        subst (λ (x : End). IsLastEnd (ends ++ record { code = code; earlier = get_or last code 0 } ∷ []) i x.code x.earlier) (sym new.1)
+        (subst (λ b. IsLastEnd (ends ++ record { code = code; earlier = get_or last code 0 } ∷ []) b code (get_or last code 0)) (sym new.0) stays)
   ];
   from = λ other n at. by_code other n at (other == code) refl;
 }
   where
     here : End
-    here = record { code = code; next = get_or last code 0 }
+    here = record { code = code; earlier = get_or last code 0 }
 
     len : length (ends ++ here ∷ []) ≡ suc (length ends)
     len = let m = length-append ends (here ∷ []) in omega (arith, m)
@@ -72,8 +72,8 @@ linked_more ends last code l are = record {
 two_more : (keys : List (ℕ × ℕ)) (ends : List End) (last : List ℕ) (codes : ℕ × ℕ) → codes.0 < length last → codes.1 < length last → HasClasses keys ends last
     → (mid new : List End) (mid_last new_last : List ℕ) → AddsEnd ends mid last mid_last codes.0 → AddsEnd mid new mid_last new_last codes.1 → EntersClass keys (keys ++ codes ∷ []) ends new last new_last codes (length keys)
 two_more keys ends last codes a b has mid new mid_last new_last one two =
-    let first : End = record { code = codes.0; next = get_or last codes.0 0 } in
-    let second : End = record { code = codes.1; next = get_or mid_last codes.1 0 } in
+    let first : End = record { code = codes.0; earlier = get_or last codes.0 0 } in
+    let second : End = record { code = codes.1; earlier = get_or mid_last codes.1 0 } in
     let room_one : length mid_last ≡ length last = ap length one.last_is ∙ length-set last codes.0 (suc (length ends)) in
     let room_two : length new_last ≡ length mid_last = ap length two.last_is ∙ length-set mid_last codes.1 (suc (length mid)) in
     let linked_one : AreLinked mid mid_last = subst (λ l. AreLinked mid l) (sym one.last_is) (subst (λ e. AreLinked e (set last codes.0 (suc (length ends)))) (sym one.ends_are) (linked_more ends last codes.0 a has.linked)) in

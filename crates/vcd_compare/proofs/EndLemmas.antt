@@ -188,11 +188,11 @@ module _ (v : HeadView) (c : Current) (n at : ℕ) (old : List ℕ) (h : Header)
           was (inl done) = inl done
           was (inr stays) = inr stays.0
 
-      linked : IsLastEnd ends i e.code e.next
+      linked : IsLastEnd ends i e.code e.earlier
       linked = g.pairs.linked.each i e there
 
       -- no end of another class comes in between
-      none_between : (k : ℕ) → k ≢ class → HasNoEnd ends n k (suc i) → HasNoEnd ends n k (min e.next i)
+      none_between : (k : ℕ) → k ≢ class → HasNoEnd ends n k (suc i) → HasNoEnd ends n k (min e.earlier i)
       none_between k apart none j y le half at_j = by_order (cases_lt j i)
         where
           by_order : (j < i) ⊎ (i ≤ j) → y.code ≢ n
@@ -203,17 +203,17 @@ module _ (v : HeadView) (c : Current) (n at : ℕ) (old : List ℕ) (h : Header)
               again (inl more) = none j y (omega arith) half at_j
               again (inr back) = let same : j ≡ i = omega arith in absurd (apart (sym half ∙ ap (λ (m : ℕ). m / 2) same))
 
-      pub marked_on : AreMarked ps h q items (items ++ x ∷ []) n (min e.next i) (marked flags class d)
+      pub marked_on : AreMarked ps h q items (items ++ x ∷ []) n (min e.earlier i) (marked flags class d)
       marked_on = record { many = marked_many flags class d ∙ m.many; within = (let low = linked.within in let ends_in = in_ends in omega arith); next = λ j y at at_j. let within = linked.within in let its = linked.is j (omega arith) in let same : its.0 ≡ y = same_Some its.0 y (sym its.1 ∙ at_j) in ap (λ (z : End). z.code) (sym same) ∙ its.2 ∙ code; each = λ k p low is. by_class k p low is (k == class) refl }
         where
           by_class : (k : ℕ) (p : Pair) → k < ps.classes → IsClassOf h ends k p → (b : Bool) → (k == class) ≡ b
               → (get_or (marked flags class d) k 0 ≡ flag_of q (items ++ x ∷ []) (code_of p.one) (code_of p.other))
-              ⊎ ((get_or (marked flags class d) k 0 ≡ flag_of q items (code_of p.one) (code_of p.other)) × HasNoEnd ends n k (min e.next i))
+              ⊎ ((get_or (marked flags class d) k 0 ≡ flag_of q items (code_of p.one) (code_of p.other)) × HasNoEnd ends n k (min e.earlier i))
           by_class k p low is true same = inl (rw (eqb-true k class same) (new_there p (subst (λ (j : ℕ). IsClassOf h ends j p) (eqb-true k class same) is)))
           by_class k p low is false other = by_case (m.each k p low is)
             where
               by_case : (get_or flags k 0 ≡ flag_of q (items ++ x ∷ []) (code_of p.one) (code_of p.other)) ⊎ ((get_or flags k 0 ≡ flag_of q items (code_of p.one) (code_of p.other)) × HasNoEnd ends n k (suc i))
                   → (get_or (marked flags class d) k 0 ≡ flag_of q (items ++ x ∷ []) (code_of p.one) (code_of p.other))
-                  ⊎ ((get_or (marked flags class d) k 0 ≡ flag_of q items (code_of p.one) (code_of p.other)) × HasNoEnd ends n k (min e.next i))
+                  ⊎ ((get_or (marked flags class d) k 0 ≡ flag_of q items (code_of p.one) (code_of p.other)) × HasNoEnd ends n k (min e.earlier i))
               by_case (inl done) = inl (marked_other flags class k d (eqb-false k class other) ∙ done)
               by_case (inr stays) = inr (marked_other flags class k d (eqb-false k class other) ∙ stays.0, none_between k (eqb-false k class other) stays.1)

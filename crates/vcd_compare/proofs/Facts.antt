@@ -10,11 +10,11 @@ pub use Rattle.vcd_compare.proofs.MatchLemmas.{match_self}
 pub use Rattle.vcd_compare.proofs.NeededLemmas.{HasRead, given_past, needed_before, needed_last, read_more, read_same, read_step, step_goes, step_refused, step_unwritten}
 pub use Rattle.vcd_compare.proofs.PairLoops.{AloneBefore, HeldBefore, HeldNames, alone_all, alone_one, alone_same, few_kept, held_all, held_next, names_next, places_before}
 pub use Rattle.vcd_compare.proofs.PairSteps.{fits_as, held_alone, held_unlike, kind_apart, kind_same, named_row, pair_more, place_both, place_missing}
-pub use Rattle.vcd_compare.proofs.PathTexts.{IsEntering, entering_more, path_entered, text_entered, text_found}
-pub use Rattle.vcd_compare.proofs.PlaceLemmas.{found_places, keys_within, listed_paths, listed_variables, same_len, zip_from}
+pub use Rattle.vcd_compare.proofs.PathTexts.{IsEntering, entering_more, number_within, path_entered, text_entered, text_found}
+pub use Rattle.vcd_compare.proofs.PlaceLemmas.{and_next, climbs_back, climbs_none, climbs_on, keys_within, listed_below, listed_variables, looked_next, places_found, placing_first, placing_next, same_len, variable_place, zip_from}
 pub use Rattle.vcd_compare.proofs.RowPaths.{NumbersSome, around_at, around_joined, names_more, ok_then, some_row, texts_stay, zip_stays}
 pub use Rattle.vcd_compare.proofs.RunSteps.{begins_none, change_given, close_fails, come_passed, ends_whole, goes_quiet, not_over, pass_fails, section_come, stopped, time_ends, time_fails, time_forth, time_on}
-pub use Rattle.vcd_compare.proofs.SelectedLemmas.{both_one, named_below}
+pub use Rattle.vcd_compare.proofs.SelectedLemmas.{both_one, both_zip, named_below}
 pub use Rattle.vcd_compare.proofs.StartLemmas.{come_first, compares_first, open_first}
 pub use Rattle.vcd_compare.proofs.StatesNow.{apart_from, bits_real, bits_there, both_real, few_match, held_final, held_state, lengths_match, shown_digits, some_unset, told_same, triggered_now, unset_some}
 pub use Rattle.vcd_compare.proofs.TimeSteps.{counted_none, differs_none, differs_some, left_due, none_now, puts_now, settles_due, settles_none, tells_again, tells_first, tells_later, tells_none}

@@ -1,10 +1,9 @@
 -- What has another name in place of a first one: paths, and variables.
-use Rattle.vcd_compare.proofs.Cited.{◌≡◌, ◌≢◌, ℕ, suc, ◌+◌, ◌<◌, ◌≤◌, ◌==◌, ◌&&◌, ◌||◌, not, nat_eq, Bool, true, false, cond, List, [], ◌∷◌, ◌++◌, length, drop, set, get_or, slice_get, filter, find, position, bytes_eq, Option, Some, None, inl, inr, refl, sym, ap, subst, ◌∙◌, arith, option_map, AllZip, list_any, position_or_len, find_at, take_all, eq-eqb, eqb-false, eqb-true, ne_eqb, false_from_ne_true, and_parts, or-false, length-append, length-set, get_or-set_other, get_or-set_same, get_or_from_slice_get, same_Some, slice_get-get_or, slice_get_past, slice_get_within, bytes_eq-Decides, ◌⊎◌, Header, selects_path, Asked, Named, all_named, Names, bytes_flip, there, selected_begins, ArePlaces, AreSelected, AreWithin, FindPlaces, IsCounterpart, IsNth, IsPlace, looked_up, place_of_node, replaced, selected_in, AreApart, AreTexts, IsNumberOf, has_dot, joined, both_names, chosen, is_inside, is_kept, is_one_of, lists_in, AreVariables, IsKeyOf, same_key, HasSelected, Paths, Selections, Variables, Vec}
+use Rattle.vcd_compare.proofs.Cited.{◌≡◌, ◌≢◌, ℕ, suc, ◌+◌, ◌<◌, ◌≤◌, ◌==◌, ◌&&◌, ◌||◌, not, nat_eq, Bool, true, false, cond, List, [], ◌∷◌, ◌++◌, length, drop, set, get_or, slice_get, filter, find, position, bytes_eq, cases_lt, Option, Some, None, inl, inr, refl, sym, ap, subst, ◌∙◌, arith, option_map, AllZip, list_any, position_or_len, find_at, take_all, eq-eqb, eqb-false, eqb-true, ne_eqb, false_from_ne_true, and_parts, length-append, length-set, get_or-set_other, get_or-set_same, get_or_from_slice_get, same_Some, slice_get-get_or, slice_get_past, slice_get_within, bytes_eq-Decides, ◌⊎◌, Header, selects_path, Asked, Named, all_named, Names, bytes_flip, there, selected_begins, ArePlaces, AreSelected, AreWithin, FindPlaces, IsCounterpart, IsNth, IsPlace, looked_up, place_of_node, replaced, selected_in, AreApart, AreTexts, IsNumberOf, has_dot, joined, both_names, chosen, is_inside, is_kept, is_one_of, lists_in, AreVariables, IsKeyOf, same_key, HasSelected, Paths, Variables, Vec, AreCounterparts, Climbs, IsBelow, IsPlacing, IsReady, IsSettled, Settles, StaySettled, node_at, Places, min, ◌-◌}
 use Rattle.std.proofs.Common.{zero}
 use Rattle.std.proofs.lemmas.List.{append_assoc, append-nil, drop-append-le}
-use Rattle.std.proofs.lemmas.List.Folds.{list_any-append}
 use Rattle.vcd_compare.proofs.PathTexts.{joined_number, last_dot, no_dot, number_within, node_of, none_first, not_there, position_first, position_none, position_passes, same_is, is_same, text_of}
-use Rattle.vcd_compare.proofs.SelectedLemmas.{chosen_has, chosen_zip, kept_around, plain_selected, selects_inside}
+use Rattle.vcd_compare.proofs.SelectedLemmas.{chosen_zip, plain_selected, selects_inside, selects_itself}
 use Rattle.vcd_compare.proofs.VariableLemmas.{same_number}
 
 -- ---- a path with the second name in place of the first
@@ -23,6 +22,55 @@ replaced_itself n = ap (λ t. n.1 ++ t) (passed n.0) ∙ append-nil n.1
     passed [] = refl
     passed (x ∷ a) = passed a
 
+-- what holds below a number and of it
+pub and_next : (P : ℕ → Type 0) (k : ℕ) → ((i : ℕ) → i < k → P i) → P k → (i : ℕ) → i < k + 1 → P i
+and_next P k below here i l = elim (cases_lt i k) [ inl b ↦ below i b | inr past ↦ subst P (omega (arith, l, past)) here ]
+
+-- ---- what is settled in a turn
+
+module _ (n : Names) (texts : List (List ℕ)) (old new : Places) (k : ℕ) (t : List ℕ) (place : Option ℕ) (s : Settles old new k place) (is : IsNumberOf texts k t) (ready : IsReady (length texts) old) where
+  -- a path is the one that is settled, or nothing of it changes
+  turn_either : (m : ℕ) → ((k ≡ m) × IsSettled new m × (get_or new.numbers.items m None ≡ place)) ⊎ ((k ≢ m) × (get_or new.turns.items m 0 ≡ get_or old.turns.items m 0) × (get_or new.numbers.items m None ≡ get_or old.numbers.items m None))
+  turn_either m = by_test (nat_eq k m) refl
+    where
+      by_test : (b : Bool) → nat_eq k m ≡ b → ((k ≡ m) × IsSettled new m × (get_or new.numbers.items m None ≡ place)) ⊎ ((k ≢ m) × (get_or new.turns.items m 0 ≡ get_or old.turns.items m 0) × (get_or new.numbers.items m None ≡ get_or old.numbers.items m None))
+      by_test true q =
+          let same = eqb-true k m q in
+          let l = number_within texts k t is in
+          let one = ready.0 in
+          let two = ready.1 in
+          inl (
+            same,
+            ap (λ ts. get_or ts m 0) s.turns ∙ ap (λ j. get_or (set old.turns.items k old.turn) j 0) (sym same) ∙ get_or-set_same old.turns.items k old.turn 0 (omega (arith, l, two)) ∙ sym s.turn,
+            ap (λ ns. get_or ns m None) s.numbers ∙ ap (λ j. get_or (set old.numbers.items k place) j None) (sym same) ∙ get_or-set_same old.numbers.items k place None (omega (arith, l, one)),
+          )
+      by_test false q =
+          let differs = eqb-false k m q in
+          let turned : m ≢ k = λ e. differs (sym e) in
+          inr (differs, ap (λ ts. get_or ts m 0) s.turns ∙ get_or-set_other old.turns.items k m old.turn 0 turned, ap (λ ns. get_or ns m None) s.numbers ∙ get_or-set_other old.numbers.items k m place None turned)
+
+  settled_more : selects_path t n.0 ≡ true → IsCounterpart texts n t place → AreCounterparts n texts old → IsReady (length texts) new × AreCounterparts n texts new × IsSettled new k × StaySettled old new
+  settled_more selected here each = (
+    (
+      ap length s.numbers ∙ length-set old.numbers.items k place ∙ ready.0,
+      ap length s.turns ∙ length-set old.turns.items k old.turn ∙ ready.1,
+      λ m. elim (turn_either m) [ inl same ↦ let e = same.1 in omega (arith, e) | inr other ↦ let e = other.1 in let past = ready.2 m in let t = s.turn in omega (arith, e, past, t) ],
+    ),
+    λ m at. elim (turn_either m) [
+      | inl same ↦ (t, subst (λ j. IsNumberOf texts j t) same.0 is, selected, subst (IsCounterpart texts n t) (sym same.2) here)
+      | inr other ↦ let b = each m (sym other.1 ∙ at ∙ s.turn) in (b.0, b.1, b.2, subst (IsCounterpart texts n b.0) (sym other.2) b.3)
+    ],
+    elim (turn_either k) [ inl same ↦ same.1 | inr other ↦ absurd (other.0 refl) ],
+    λ m at. elim (turn_either m) [ inl same ↦ same.1 | inr other ↦ other.1 ∙ at ∙ sym s.turn ],
+  )
+
+-- the first name is settled first: in a new turn nothing is
+pub placing_first : (n : Names) (texts : List (List ℕ)) (one other turn : ℕ) (old new : Places) → AreApart texts → IsNumberOf texts one n.0 → IsNumberOf texts other n.1 → IsReady (length texts) old → turn ≡ old.turn + 1 → Settles (record old { turn = turn }) new one (Some other) → IsPlacing n texts new
+placing_first n texts one other turn old new apart a b ready next s =
+    let begun : IsReady (length texts) (record old { turn = turn }) = (ready.0, ready.1, λ m. let l = ready.2 m in omega (arith, l, next)) in
+    let more = settled_more n texts (record old { turn = turn }) new one n.0 (Some other) s a begun (selects_itself n.0) (subst (IsNumberOf texts other) (sym (replaced_itself n)) b) (λ m at. let l = ready.2 m in absurd (omega (arith, l, next, at))) in
+    (more.0, λ m is. subst (IsSettled new) (a.1 ∙ ap suc (apart a.0 is.0 n.0 a.2 is.2) ∙ sym is.1) more.2, more.1)
+
 -- ---- counterparts of paths
 
 module _ (parts : List (List ℕ)) (nodes : List (ℕ × ℕ)) (texts : List (List ℕ)) (are : AreTexts parts nodes texts) where
@@ -39,6 +87,22 @@ module _ (parts : List (List ℕ)) (nodes : List (ℕ × ℕ)) (texts : List (Li
       by_around (suc j) l q d e =
           let same = (last_dot (get_or texts j []) v q p d plain e).0 in
           (j, slice_get-get_or texts j [] (omega (arith, l)) ∙ ap Some same)
+
+  -- a node right after the path around it
+  pub looked_next : (m k : ℕ) → slice_get nodes m ≡ Some (m, k) → looked_up nodes k (Some m) ≡ Some m
+  looked_next m k at = by_found (position (same_key (m, k)) nodes) refl
+    where
+      by_found : (o : Option ℕ) → position (same_key (m, k)) nodes ≡ o → position (same_key (m, k)) nodes ≡ Some m
+      by_found (Some f) q =
+          let found = position_passes (same_key (m, k)) nodes f q in
+          let one = are.each f (m, k) (found.1 ∙ ap Some (sym (same_is (m, k) found.0 found.2))) in
+          let two = are.each m (m, k) at in
+          let part : two.part ≡ one.part = same_Some _ _ (sym two.part_is ∙ one.part_is) in
+          q ∙ ap Some (are.apart f m (joined texts m one.part) one.text_is (two.text_is ∙ ap (λ p. Some (joined texts m p)) part))
+      by_found None q =
+          let fails = not_there (same_key (m, k)) nodes m (m, k) (position_none (same_key (m, k)) nodes q) at in
+          let passes = is_same (m, k) in
+          absurd (cc)
 
   module _ (n : Names) where
     -- of a path inside another one
@@ -61,107 +125,64 @@ module _ (parts : List (List ℕ)) (nodes : List (ℕ × ℕ)) (texts : List (Li
             let passes = is_same (m, k) in
             cc
 
-    module _ (es : List (List ℕ)) where
-      -- which nodes are inside the first name
-      abbrev pub node_inside : ℕ → Bool
-      node_inside i = is_inside texts es n.0 (get_or nodes i (0, 0)).0
+    -- the path around one that the first name selects, and that is not that name
+    below_around : (m : ℕ) (b : IsBelow n texts m) → b.0 ≢ n.0 → IsBelow n texts (node_at nodes m).0 × ((node_at nodes m).0 < m)
+    below_around m (t, is, selected) differs =
+        let i = is.0 in
+        let node = get_or nodes i (0, 0) in
+        let within = slice_get_within texts i t is.2 in
+        let at = slice_get-get_or nodes i (0, 0) (let l = are.len in omega (arith, within, l)) in
+        let node_is = are.each i node at in
+        let l = node_is.around in
+        let e = is.1 in
+        subst (λ (x : ℕ × ℕ). IsBelow n texts x.0 × (x.0 < m)) (sym (ap (node_at nodes) is.1)) (by_around node.0 (omega (arith, l, within)) node_is.part node_is.plain (same_Some _ _ (sym node_is.text_is ∙ is.2)), omega (arith, l, e))
+      where
+        by_around : (a : ℕ) → a ≤ length texts → (p : List ℕ) → has_dot p ≡ false → joined texts a p ≡ t → IsBelow n texts a
+        by_around zero l p plain e = absurd (differs (plain_selected t n.0 (ap has_dot (sym e) ∙ plain) selected))
+        by_around (suc j) l p plain e =
+            let u = get_or texts j [] in
+            let one : selects_path u n.0 ≡ true = sym (selects_inside u p n.0 plain (λ q. differs (sym e ∙ q))) ∙ ap (λ x. selects_path x n.0) e ∙ selected in
+            (u, (j, refl, slice_get-get_or texts j [] (omega (arith, l))), one)
 
-      -- a path that the first name selects is it, or is inside of it
-      selected_inside : (i : ℕ) (t : List ℕ) → slice_get texts i ≡ Some t → is_kept es t ≡ true → selects_path t n.0 ≡ true → t ≢ n.0 → node_inside i ≡ true
-      selected_inside i t text kept selected differs =
-          let within = slice_get_within texts i t text in
-          let node = get_or nodes i (0, 0) in
-          let at = slice_get-get_or nodes i (0, 0) (let l = are.len in omega (arith, within, l)) in
-          let is = are.each i node at in
-          by_around node.0 is.part is.plain (same_Some _ _ (sym is.text_is ∙ text))
-        where
-          by_around : (a : ℕ) (p : List ℕ) → has_dot p ≡ false → joined texts a p ≡ t → is_inside texts es n.0 a ≡ true
-          by_around zero p plain e = absurd (differs (plain_selected t n.0 (ap has_dot (sym e) ∙ plain) selected))
-          by_around (suc j) p plain e =
-              let u = get_or texts j [] in
-              let one = kept_around u p es (ap (is_kept es) e ∙ kept) in
-              let two : selects_path u n.0 ≡ true = sym (selects_inside u p n.0 plain (λ q. differs (sym e ∙ q))) ∙ ap (λ x. selects_path x n.0) e ∙ selected in
-              rw (one, two) refl
+    -- one path further up
+    pub climbs_on : (from m : ℕ) (ms : List ℕ) (b : IsBelow n texts m) → b.0 ≢ n.0 → Climbs nodes n texts from ms m → let next : ℕ = min (node_at nodes m).0 (m - 1) in Climbs nodes n texts from (ms ++ m ∷ []) next × IsBelow n texts next
+    climbs_on from m ms b differs c =
+        let around = below_around m b differs in
+        let l = around.1 in
+        let same : (node_at nodes m).0 ≡ min (node_at nodes m).0 (m - 1) = omega (arith, l) in
+        subst (λ next. Climbs nodes n texts from (ms ++ m ∷ []) next × IsBelow n texts next) same (more from ms c, around.0)
+      where
+        more : (from : ℕ) (ms : List ℕ) → Climbs nodes n texts from ms m → Climbs nodes n texts from (ms ++ m ∷ []) (node_at nodes m).0
+        more from [] c = (c, b, refl)
+        more from (k ∷ ms) c = (c.0, c.1, more (node_at nodes k).0 ms c.2)
 
-      -- the places of the first name and of those nodes are set
-      pub record IsPlacing (one : ℕ) (done : List ℕ) (places : List (Option ℕ)) : Type 0 where
-        pub len : length places ≡ length texts + 1
-        pub each : (i : ℕ) (t : List ℕ) → slice_get texts i ≡ Some t → is_kept es t ≡ true → selects_path t n.0 ≡ true → (suc i ≡ one) ⊎ (list_any (λ x. x == i) done ≡ true) → IsCounterpart texts n t (get_or places (suc i) None)
+    -- and one back
+    pub climbs_back : (from m top : ℕ) (ms : List ℕ) → Climbs nodes n texts from (ms ++ m ∷ []) top → Climbs nodes n texts from ms m × IsBelow n texts m × ((node_at nodes m).0 ≡ top)
+    climbs_back from m top [] c = (c.0, c.1, c.2)
+    climbs_back from m top (k ∷ ms) c = let rest = climbs_back (node_at nodes k).0 m top ms c.2 in ((c.0, c.1, rest.0), rest.1, rest.2)
 
-      pub placing_first : (one other : ℕ) (old new : List (Option ℕ)) → IsNumberOf texts one n.0 → IsNumberOf texts other n.1 → length old ≡ length texts + 1 → new ≡ set old one (Some other) → IsPlacing one [] new
-      placing_first one other old new a b len is = record {
-        len = ap length is ∙ length-set old one (Some other) ∙ len;
-        each = λ i t text kept selected at. elim at [
-          | inl e ↦
-              let index : i ≡ a.0 = let f = a.1 in omega (arith, e, f) in
-              let same : t ≡ n.0 = same_Some t n.0 (sym text ∙ ap (slice_get texts) index ∙ a.2) in
-              let within = slice_get_within texts i t text in
-              let place : get_or new (suc i) None ≡ Some other = ap (get_or new (suc i)) refl ∙ ap (λ l. get_or l (suc i) None) is ∙ ap (λ m. get_or (set old one (Some other)) m None) e ∙ get_or-set_same old one (Some other) None (omega (arith, within, e, len)) in
-              subst (IsCounterpart texts n t) (sym place) (subst (IsNumberOf texts other) (sym (ap (replaced n) same ∙ replaced_itself n)) b)
-          | inr e ↦ absurd (let no : false ≡ true = e in cc)
-        ];
-      }
+    pub climbs_none : (from top : ℕ) (ms : List ℕ) → length ms ≡ 0 → Climbs nodes n texts from ms top → from ≡ top
+    climbs_none from top [] e c = c
+    climbs_none from top (k ∷ ms) e c = cc
 
-      pub placing_next : (one k : ℕ) (done : List ℕ) (old new : List (Option ℕ)) → IsNumberOf texts one n.0 → done ≡ chosen node_inside k → node_inside k ≡ true → k < length texts → new ≡ set old (k + 1) (place_of_node nodes old k) → IsPlacing one done old
-          → IsPlacing one (done ++ k ∷ []) new
-      placing_next one k done old new a before pass within is s = record {
-        len = ap length is ∙ length-set old (k + 1) (place_of_node nodes old k) ∙ s.len;
-        each = λ i t text kept selected at. by_index i t text kept selected at (nat_eq k i) refl;
-      }
-        where
-          node : ℕ × ℕ
-          node = get_or nodes k (0, 0)
-
-          at_node : slice_get nodes k ≡ Some node
-          at_node = slice_get-get_or nodes k (0, 0) (let l = are.len in omega (arith, within, l))
-
-          here : (t : List ℕ) → slice_get texts k ≡ Some t → IsCounterpart texts n t (place_of_node nodes old k)
-          here t text = let is = are.each k node at_node in by_around node.0 is.around (same_Some _ _ (sym is.text_is ∙ text)) pass
-            where
-              by_around : (a : ℕ) → a ≤ k → joined texts a (are.each k node at_node).part ≡ t → is_inside texts es n.0 a ≡ true → IsCounterpart texts n t (option_map suc (looked_up nodes node.1 (get_or old a None)))
-              by_around zero l e h = cc
-              by_around (suc j) l e h =
-                  let is = are.each k node at_node in
-                  let u = get_or texts j [] in
-                  let both = and_parts (is_kept es u) (selects_path u n.0) h in
-                  let text_u = slice_get-get_or texts j [] (omega (arith, l, within)) in
-                  let place = s.each j u text_u both.0 both.1 (by_same j u l text_u both.0 both.1 (bytes_eq u n.0) refl) in
-                  subst (λ x. IsCounterpart texts n x (option_map suc (looked_up nodes node.1 (get_or old (suc j) None)))) e (place_inside node.1 is.part u (get_or old (suc j) None) is.plain is.part_is both.1 place)
-                where
-                  by_same : (j : ℕ) (u : List ℕ) → suc j ≤ k → slice_get texts j ≡ Some u → is_kept es u ≡ true → selects_path u n.0 ≡ true → (b : Bool) → bytes_eq u n.0 ≡ b → (suc j ≡ one) ⊎ (list_any (λ x. x == j) done ≡ true)
-                  by_same j u l text kept selected true q =
-                      let index : j ≡ a.0 = are.apart j a.0 n.0 (text ∙ ap Some ((bytes_eq-Decides u n.0).0 q)) a.2 in
-                      inl (ap suc index ∙ sym a.1)
-                  by_same j u l text kept selected false q =
-                      let inside = selected_inside j u text kept selected (λ e. let yes = (bytes_eq-Decides u n.0).1 e in absurd (cc)) in
-                      inr (ap (list_any (λ x. x == j)) before ∙ chosen_has node_inside j k inside (omega (arith, l)))
-
-          by_index : (i : ℕ) (t : List ℕ) → slice_get texts i ≡ Some t → is_kept es t ≡ true → selects_path t n.0 ≡ true → (suc i ≡ one) ⊎ (list_any (λ x. x == i) (done ++ k ∷ []) ≡ true) → (b : Bool) → nat_eq k i ≡ b
-              → IsCounterpart texts n t (get_or new (suc i) None)
-          by_index i t text kept selected at true q =
-              let same : k ≡ i = eqb-true k i q in
-              let len = s.len in
-              let index : suc i ≡ k + 1 = omega (arith, same) in
-              let place : get_or new (suc i) None ≡ place_of_node nodes old k =
-              ap (λ l. get_or l (suc i) None) is ∙ ap (λ m. get_or (set old (k + 1) (place_of_node nodes old k)) m None) index ∙ get_or-set_same old (k + 1) (place_of_node nodes old k) None (omega (arith, within, len)) in
-              subst (IsCounterpart texts n t) (sym place) (here t (ap (slice_get texts) same ∙ text))
-          by_index i t text kept selected at false q =
-              let d = eqb-false k i q in
-              let other : suc i ≢ k + 1 = λ e. d (omega (arith, e)) in
-              let place : get_or new (suc i) None ≡ get_or old (suc i) None = ap (λ l. get_or l (suc i) None) is ∙ get_or-set_other old (k + 1) (suc i) (place_of_node nodes old k) None other in
-              let done_is : list_any (λ x. x == i) (done ++ k ∷ []) ≡ list_any (λ x. x == i) done =
-              list_any-append (λ x. x == i) done (k ∷ []) ∙ ap (λ b. list_any (λ x. x == i) done || (b || false)) q ∙ or-false (list_any (λ x. x == i) done) in
-              subst (IsCounterpart texts n t) (sym place) (s.each i t text kept selected (elim at [ inl e ↦ inl e | inr e ↦ inr (sym done_is ∙ e) ]))
-
-      pub placing_last : (one : ℕ) (places : List (Option ℕ)) → IsNumberOf texts one n.0 → IsPlacing one (chosen node_inside (length nodes)) places → ArePlaces texts es n places
-      placing_last one places a s = λ i t text kept selected. s.each i t text kept selected (by_same i t text kept selected (bytes_eq t n.0) refl)
-        where
-          by_same : (i : ℕ) (t : List ℕ) → slice_get texts i ≡ Some t → is_kept es t ≡ true → selects_path t n.0 ≡ true → (b : Bool) → bytes_eq t n.0 ≡ b → (suc i ≡ one) ⊎ (list_any (λ x. x == i) (chosen node_inside (length nodes)) ≡ true)
-          by_same i t text kept selected true q = let index : i ≡ a.0 = are.apart i a.0 n.0 (text ∙ ap Some ((bytes_eq-Decides t n.0).0 q)) a.2 in inl (ap suc index ∙ sym a.1)
-          by_same i t text kept selected false q =
-              let inside = selected_inside i t text kept selected (λ e. let yes = (bytes_eq-Decides t n.0).1 e in absurd (cc)) in
-              let within = slice_get_within texts i t text in
-              inr (chosen_has node_inside i (length nodes) inside (let l = are.len in omega (arith, within, l)))
+    -- a path is settled after the one around it
+    pub placing_next : (old new : Places) (m top : ℕ) → IsPlacing n texts old → IsBelow n texts m → (node_at nodes m).0 ≡ top → IsSettled old top → Settles old new m (place_of_node nodes old.numbers.items m) → IsPlacing n texts new × IsSettled new m × StaySettled old new
+    placing_next old new m top p (t, is, selected) around at s =
+        let more = settled_more n texts old new m t (place_of_node nodes old.numbers.items m) s is p.0 selected here p.2 in
+        ((more.0, λ k own. more.3 k (p.1 k own), more.1), more.2, more.3)
+      where
+        here : IsCounterpart texts n t (place_of_node nodes old.numbers.items m)
+        here =
+            let i = is.0 in
+            let node = get_or nodes i (0, 0) in
+            let within = slice_get_within texts i t is.2 in
+            let node_is = are.each i node (slice_get-get_or nodes i (0, 0) (let l = are.len in omega (arith, within, l))) in
+            let up : node.0 ≡ top = ap (λ k. (node_at nodes k).0) (sym is.1) ∙ around in
+            let outer = p.2 top at in
+            let text : outer.0 ++ 46 ∷ node_is.part ≡ t = sym (joined_number texts top outer.0 node_is.part outer.1) ∙ ap (λ k. joined texts k node_is.part) (sym up) ∙ same_Some _ _ (sym node_is.text_is ∙ is.2) in
+            let inside = place_inside node.1 node_is.part outer.0 (get_or old.numbers.items top None) node_is.plain node_is.part_is outer.2 outer.3 in
+            subst (IsCounterpart texts n t) (sym (ap (place_of_node nodes old.numbers.items) is.1 ∙ ap (λ k. option_map suc (looked_up nodes node.1 (get_or old.numbers.items k None))) up))
+            (subst (λ x. IsCounterpart texts n x (option_map suc (looked_up nodes node.1 (get_or old.numbers.items top None)))) text inside)
 
 -- ---- counterparts of variables
 
@@ -264,21 +285,36 @@ module _ (h : Header) (n : Names) (texts : List (List ℕ)) (v : Named) (apart :
           find_at test (all_named h) ∙ slice_get_past (all_named h) (position_or_len test (all_named h)) (omega (arith, last))
 
 -- what the code finds for a variable
-pub variable_place : (q : Asked) (h : Header) (n : Names) (texts : List (List ℕ)) (vs : Variables) (places : List (Option ℕ)) (index j : ℕ) (v : Named) (list : List (ℕ × ℕ)) (place result : Option ℕ) → FindPlaces q h n texts vs places → IsNth h index v → slice_get (selected_in q h n) j ≡ Some v
-    → list ≡ vs.keys.keys → place ≡ get_or places (get_or list index (0, 0)).0 None → result ≡ looked_up vs.keys.keys (get_or list index (0, 0)).1 place → IsPlace h n v result
-variable_place q h n texts vs places index j v list place result finds nth at same is looks =
+pub variable_place : (q : Asked) (h : Header) (n : Names) (texts : List (List ℕ)) (vs : Variables) (places : List (Option ℕ)) (index j : ℕ) (v : Named) (key : ℕ × ℕ) (place result : Option ℕ) → FindPlaces q h n texts vs places → IsNth h index v → slice_get (selected_in q h n) j ≡ Some v
+    → key ≡ get_or vs.keys.keys index (0, 0) → place ≡ get_or places key.0 None → result ≡ looked_up vs.keys.keys key.1 place → IsPlace h n v result
+variable_place q h n texts vs places index j v key place result finds nth at same is looks =
     let k = zip_at (IsKeyOf texts) vs.keys.keys (all_named h) index v finds.are.keys nth in
-    let key : get_or list index (0, 0) ≡ k.0 = ap (λ (l : List (ℕ × ℕ)). get_or l index (0, 0)) same ∙ get_or_from_slice_get vs.keys.keys index k.0 (0, 0) k.1 in
-    let path = k.2.path in
-    let both = selected_nth q h n j v at in
-    let p = finds.placed path.0 v.path path.2 both.0 both.1 in
-    let place_is : place ≡ get_or places (suc path.0) None = is ∙ ap (λ (x : ℕ × ℕ). get_or places x.0 None) key ∙ ap (λ m. get_or places m None) path.1 in
-    subst (IsPlace h n v) (sym (looks ∙ ap (λ (x : ℕ × ℕ). looked_up vs.keys.keys x.1 place) key ∙ ap (λ m. looked_up vs.keys.keys m place) k.2.nth ∙ ap (looked_up vs.keys.keys v.nth) place_is))
-    (by_path h n texts v finds.apart vs finds.are (get_or places (suc path.0) None) p)
+    let key_is : key ≡ k.0 = same ∙ get_or_from_slice_get vs.keys.keys index k.0 (0, 0) k.1 in
+    let place_is : place ≡ get_or places k.0.0 None = is ∙ ap (λ (x : ℕ × ℕ). get_or places x.0 None) key_is in
+    subst (IsPlace h n v) (sym (looks ∙ ap (λ (x : ℕ × ℕ). looked_up vs.keys.keys x.1 place) key_is ∙ ap (λ m. looked_up vs.keys.keys m place) k.2.nth ∙ ap (looked_up vs.keys.keys v.nth) place_is))
+    (by_path h n texts v finds.apart vs finds.are (get_or places k.0.0 None) (finds.placed j k.0.0 v at k.2.path))
 
--- the index is that of a variable
-pub nth_within : (q : Asked) (h : Header) (n : Names) (texts : List (List ℕ)) (vs : Variables) (places : List (Option ℕ)) (index : ℕ) (v : Named) → FindPlaces q h n texts vs places → IsNth h index v → index < length vs.keys.keys
-nth_within q h n texts vs places index v finds nth = let k = zip_at (IsKeyOf texts) vs.keys.keys (all_named h) index v finds.are.keys nth in slice_get_within vs.keys.keys index k.0 k.1
+module _ (q : Asked) (h : Header) (n : Names) (texts : List (List ℕ)) (vs : Variables) (list : List ℕ) (are : AreVariables h texts vs) (selected : AreSelected q h n list) where
+  -- the name selects the paths of these variables
+  pub listed_below : (i : ℕ) → i < length list → IsBelow n texts (get_or vs.keys.keys (get_or list i 0) (0, 0)).0
+  listed_below i l =
+      let index = get_or list i 0 in
+      let v = zip_from (IsNth h) list (selected_in q h n) i index selected (slice_get-get_or list i 0 l) in
+      let k = zip_at (IsKeyOf texts) vs.keys.keys (all_named h) index v.0 are.keys v.2 in
+      subst (λ (x : ℕ × ℕ). IsBelow n texts x.0) (sym (get_or_from_slice_get vs.keys.keys index k.0 (0, 0) k.1)) (v.0.path, k.2.path, (selected_nth q h n i v.0 v.1).1)
+
+  -- their places are found once their paths are settled
+  pub places_found : (p : Places) → AreApart texts → AreCounterparts n texts p → ((i : ℕ) → i < length list → IsSettled p (get_or vs.keys.keys (get_or list i 0) (0, 0)).0) → ArePlaces q h n texts p.numbers.items
+  places_found p apart each settled j m v at is =
+      let index = zip_at (IsNth h) list (selected_in q h n) j v selected at in
+      let k = zip_at (IsKeyOf texts) vs.keys.keys (all_named h) index.0 v are.keys index.2 in
+      let path = k.2.path in
+      let key : (get_or vs.keys.keys (get_or list j 0) (0, 0)).0 ≡ m =
+      ap (λ i. (get_or vs.keys.keys i (0, 0)).0) (get_or_from_slice_get list j index.0 0 index.1) ∙ ap (λ (x : ℕ × ℕ). x.0) (get_or_from_slice_get vs.keys.keys index.0 k.0 (0, 0) k.1) ∙ path.1 ∙ ap suc (apart path.0 is.0 v.path path.2 is.2) ∙ sym is.1 in
+      let its = each m (subst (IsSettled p) key (settled j (slice_get_within list j index.0 index.1))) in
+      let number = its.1 in
+      let text : its.0 ≡ v.path = same_Some its.0 v.path (sym number.2 ∙ ap (slice_get texts) (let a = number.1 in let b = is.1 in omega (arith, a, b)) ∙ is.2) in
+      subst (λ t. IsCounterpart texts n t (get_or p.numbers.items m None)) text its.3
 
 -- the variables that a name selects are those that are inside its path
 pub selected_zip : (q : Asked) (h : Header) (n : Names) (texts : List (List ℕ)) (vs : Variables) (list : List ℕ) → AreVariables h texts vs → list ≡ chosen (λ i. is_inside texts q.exceptions n.0 (get_or vs.keys.keys i (0, 0)).0) (length vs.keys.keys) → AreSelected q h n list
@@ -305,12 +341,6 @@ keys_within h texts vs are = λ i x at.
     omega (arith, l, e)
 
 -- what is listed for a name of some pair of names
-module _ (paths : Paths) (vs : Variables) (s : Selections) (q : Asked) (h : Header) (ns : List Names) (texts : List (List ℕ)) (ready : HasSelected paths vs s q h ns texts) (n : Names) (one : ℕ) (number : IsNumberOf texts one n.0) (name : is_one_of (both_names ns) n.0 ≡ true) where
-  pub listed_paths : (lists : List (Vec ℕ)) (list : List ℕ) → lists ≡ s.paths.items → list ≡ get_or (lists_in lists) one [] → list ≡ chosen (λ i. is_inside texts q.exceptions n.0 (get_or paths.nodes.keys i (0, 0)).0) (length paths.nodes.keys)
-  listed_paths lists list same is = is ∙ ap (λ (l : List (Vec ℕ)). get_or (lists_in l) one []) same ∙ ready.inside one n.0 number name
-
-  pub listed_variables : (lists : List (Vec ℕ)) (list : List ℕ) → lists ≡ s.variables.items → list ≡ get_or (lists_in lists) one [] → AreSelected q h n list
-  listed_variables lists list same is = selected_zip q h n texts vs list ready.are (is ∙ ap (λ (l : List (Vec ℕ)). get_or (lists_in l) one []) same ∙ ready.variables one n.0 number name)
-
-  pub found_places : (places list : List (Option ℕ)) → list ≡ places → ArePlaces texts q.exceptions n places → FindPlaces q h n texts vs list
-  found_places places list same placed = record { apart = ready.has.apart; are = ready.are; placed = subst (ArePlaces texts q.exceptions n) (sym same) placed }
+pub listed_variables : (paths : Paths) (vs : Variables) (lists : List (Vec ℕ)) (q : Asked) (h : Header) (ns : List Names) (texts : List (List ℕ)) → HasSelected paths vs lists q h ns texts → (n : Names) (one : ℕ) → IsNumberOf texts one n.0 → is_one_of (both_names ns) n.0 ≡ true → (list : List ℕ)
+    → list ≡ get_or (lists_in lists) one [] → AreSelected q h n list
+listed_variables paths vs lists q h ns texts ready n one number name list is = selected_zip q h n texts vs list ready.are (is ∙ ready.inside one n.0 number name)

@@ -1,13 +1,11 @@
 -- What names select, by number: the nearest of them, path by path, and what is inside of each.
-use Rattle.vcd_compare.proofs.Cited.{◌≡◌, ◌≢◌, ℕ, suc, ◌+◌, ◌<◌, ◌≤◌, ◌==◌, ◌&&◌, ◌||◌, not, nat_eq, nat_lt, Bool, true, false, cond, List, [], ◌∷◌, ◌++◌, length, set, take, get_or, slice_get, filter, flat_map, bytes_eq, Some, inl, inr, refl, sym, ap, subst, ◌∙◌, arith, Vec, AllZip, list_any, starts_with, eqb-false, eqb-true, ne_eqb, lt-ltb, ltb-true, ltb-false, false_from_ne_true, or_left, or_parts, or_right, length-append, length-map, length-set, get_or-set_other, get_or-set_same, get_or_from_slice_get, same_Some, slice_get-get_or, slice_get_within, bytes_eq-Decides, filter-append, selects_path, Names, all_zip_push, there, selected_begins, selects_behind_byte, selects-front, selects-longer, selects_split, slice_get-front, AreApart, AreTexts, IsNumberOf, has_dot, joined, AreNumbersOf}
+use Rattle.vcd_compare.proofs.Cited.{◌≡◌, ◌≢◌, ℕ, suc, ◌+◌, ◌<◌, ◌≤◌, ◌==◌, ◌&&◌, ◌||◌, not, nat_eq, nat_lt, Bool, true, false, cond, List, [], ◌∷◌, ◌++◌, length, set, take, get_or, slice_get, filter, flat_map, bytes_eq, Some, inl, inr, refl, sym, ap, subst, ◌∙◌, arith, Vec, AllZip, list_any, starts_with, eqb-false, eqb-true, ne_eqb, lt-ltb, ltb-true, ltb-false, false_from_ne_true, or_parts, or_right, length-append, length-map, length-set, get_or-set_other, get_or-set_same, get_or_from_slice_get, same_Some, slice_get-get_or, slice_get_within, bytes_eq-Decides, filter-append, selects_path, Names, all_zip_push, there, selected_begins, selects_behind_byte, selects-front, selects-longer, selects_split, slice_get-front, AreApart, AreTexts, IsNumberOf, has_dot, joined, AreNumbersOf}
 use Rattle.std.proofs.Common.{zero}
 use Rattle.std.proofs.Math.ListN.{get_or-append}
-use Rattle.std.proofs.Math.Seq.{get_or-append_seam, take-append_seam}
-use Rattle.std.proofs.lemmas.List.{append-nil, get_or_past, take-append-le}
-use Rattle.std.proofs.lemmas.List.Folds.{list_any-append}
-use Rattle.vcd_compare.proofs.PathTexts.{at_most}
+use Rattle.std.proofs.Math.Seq.{get_or-append_seam}
+use Rattle.std.proofs.lemmas.List.{append-nil, get_or_past}
 use Rattle.vcd_compare.proofs.VariableLemmas.{take_next}
-use Rattle.vcd_compare.specs.Selected.{AreNamedBelow, AreNearest, AreWithin, IsNearest, IsPutInside, both_names, chosen, first_above, is_inside, is_kept, is_one_of, lists_in}
+use Rattle.vcd_compare.specs.Selected.{AreNamedBelow, AreNearest, IsNearest, IsPutInside, both_names, chosen, first_above, is_inside, is_kept, is_one_of, lists_in}
 
 -- ---- a path and one inside it
 
@@ -164,24 +162,6 @@ kept_by texts es t (suc j) is = ap not (one_selects t is.0 es is.2 is.3)
 not_zero : (n : ℕ) → n ≢ 0 → is_zero n ≡ false
 not_zero zero some = absurd (some refl)
 not_zero (suc n) some = refl
-
--- what is around a path that is not left out is not either
-pub kept_around : (u p : List ℕ) (es : List (List ℕ)) → is_kept es (u ++ 46 ∷ p) ≡ true → is_kept es u ≡ true
-kept_around u p [] h = refl
-kept_around u p (e ∷ es) h = by_tests (selects_path u e) refl (list_any (selects_path u) es) refl (kept_around u p es)
-  where
-    not_false : (b : Bool) → not b ≡ true → b ≡ false
-    not_false true k = cc
-    not_false false k = refl
-
-    by_tests : (b : Bool) → selects_path u e ≡ b → (c : Bool) → list_any (selects_path u) es ≡ c → (is_kept es (u ++ 46 ∷ p) ≡ true → is_kept es u ≡ true) → not (b || c) ≡ true
-    by_tests true q c r more = let one = ap (λ b. not (b || list_any (selects_path (u ++ 46 ∷ p)) es)) (selects-longer u e p q) in cc
-    by_tests false q false r more = refl
-    by_tests false q true r more =
-        let parts = or_parts (selects_path (u ++ 46 ∷ p) e) (list_any (selects_path (u ++ 46 ∷ p)) es) (not_false _ h) in
-        let rest = more (ap not parts.1) in
-        let other = ap not r in
-        cc
 
 -- ---- the lists of what is inside
 
@@ -351,40 +331,6 @@ module _ (parts : List (List ℕ)) (nodes : List (ℕ × ℕ)) (texts : List (Li
 
 -- ---- what is chosen
 
--- what is chosen passes, and before it is what is chosen below it
-pub chosen_at : (f : ℕ → Bool) (n j k : ℕ) → slice_get (chosen f n) j ≡ Some k → (take j (chosen f n) ≡ chosen f k) × (f k ≡ true) × (k < n)
-chosen_at f zero j k at = cc
-chosen_at f (suc n) j k at = by_test (f n) refl at (chosen_at f n j k)
-  where
-    by_test : (b : Bool) → f n ≡ b → slice_get (chosen f n ++ cond b (n ∷ []) []) j ≡ Some k → (slice_get (chosen f n) j ≡ Some k → (take j (chosen f n) ≡ chosen f k) × (f k ≡ true) × (k < n))
-        → (take j (chosen f n ++ cond b (n ∷ []) []) ≡ chosen f k) × (f k ≡ true) × (k < suc n)
-    by_test false q at more =
-        let same = append-nil (chosen f n) in
-        let m = more (ap (λ l. slice_get l j) (sym same) ∙ at) in
-        (ap (take j) same ∙ m.0, m.1, let l = m.2 in omega (arith, l))
-    by_test true q at more =
-        elim (at_most (chosen f n) n k j at) [
-          | inl old ↦
-              let m = more old in
-              let within = slice_get_within (chosen f n) j k old in
-              (take-append-le j (chosen f n) (n ∷ []) (omega (arith, within)) ∙ m.0, m.1, let l = m.2 in omega (arith, l))
-          | inr last ↦
-              let is = last.1 in
-              (ap (λ i. take i (chosen f n ++ n ∷ [])) last.0 ∙ take-append_seam (chosen f n) (n ∷ []) ∙ ap (chosen f) (sym is), ap f is ∙ q, omega (arith, is))
-        ]
-
--- what passes is chosen
-pub chosen_has : (f : ℕ → Bool) (i k : ℕ) → f i ≡ true → i < k → list_any (λ x. x == i) (chosen f k) ≡ true
-chosen_has f i zero pass l = absurd (omega arith)
-chosen_has f i (suc k) pass l = list_any-append (λ x. x == i) (chosen f k) (cond (f k) (k ∷ []) []) ∙ by_test (nat_eq k i) refl (chosen_has f i k pass)
-  where
-    by_test : (b : Bool) → nat_eq k i ≡ b → (i < k → list_any (λ x. x == i) (chosen f k) ≡ true) → (list_any (λ x. x == i) (chosen f k) || list_any (λ x. x == i) (cond (f k) (k ∷ []) [])) ≡ true
-    by_test true q more =
-        let is : f k ≡ true = ap f (eqb-true k i q) ∙ pass in
-        let last : list_any (λ x. x == i) (cond (f k) (k ∷ []) []) ≡ true = ap (λ b. list_any (λ x. x == i) (cond b (k ∷ []) [])) is ∙ ap (λ b. b || false) q in
-        or_right (list_any (λ x. x == i) (chosen f k)) (list_any (λ x. x == i) (cond (f k) (k ∷ []) [])) last
-    by_test false q more = let d = eqb-false k i q in or_left (list_any (λ x. x == i) (chosen f k)) (list_any (λ x. x == i) (cond (f k) (k ∷ []) [])) (more (omega (arith, l, d)))
-
 -- the indexes of what passes
 pub chosen_zip : {X : Type 0} (xs : List X) (f : ℕ → Bool) (g : X → Bool) → ((i : ℕ) (x : X) → slice_get xs i ≡ Some x → f i ≡ g x) → (i : ℕ) → i ≤ length xs → AllZip (λ j x. slice_get xs j ≡ Some x) (chosen f i) (filter g (take i xs))
 chosen_zip xs f g same zero l = tt
@@ -445,7 +391,3 @@ both_one (m ∷ ns) (suc i) n at =
       or_right (bytes_eq n.0 m.0) _ (or_right (bytes_eq n.0 m.1) _ rest.0),
       or_right (bytes_eq n.1 m.0) _ (or_right (bytes_eq n.1 m.1) _ rest.1),
     )
-
--- the paths are inside of paths
-pub nodes_within : (parts : List (List ℕ)) (nodes : List (ℕ × ℕ)) (texts : List (List ℕ)) → AreTexts parts nodes texts → AreWithin nodes (length texts)
-nodes_within parts nodes texts are = λ i x at. let l = slice_get_within nodes i x at in let a = (are.each i x at).around in let m = are.len in omega (arith, l, a, m)

@@ -6,7 +6,7 @@ use Rattle.vcd_compare.specs.declared.pairs.End.{End}
 
 -- an end with the code, behind the others
 pub record AddsEnd (ends new_ends : List End) (last new_last : List ℕ) (code : ℕ) : Type 0 where
-  pub ends_are : new_ends ≡ ends ++ record { code = code; next = get_or last code 0 } ∷ []
+  pub ends_are : new_ends ≡ ends ++ record { code = code; earlier = get_or last code 0 } ∷ []
   pub last_is : new_last ≡ set last code (suc (length ends))
 
 -- an end at this index has the code

@@ -1,5 +1,6 @@
 -- The pairs while they are made: what is held of some places, and the classes by their codes.
 use Rattle.std.specs.Prelude.{◌≡◌, ℕ, not, cond, is_none, List, [], ◌∷◌, ◌++◌, filter, filter_map, length, Option, Some, None}
+use Rattle.std.specs.Global.{Vec}
 use Rattle.std.specs.List.{AllZip}
 use Rattle.vcd_model.specs.Header.{Header}
 use Rattle.vcd_model.specs.Compare.{Asked, Named, Pair, is_fit}
@@ -11,7 +12,6 @@ use Rattle.vcd_compare.specs.declared.pairs.Pairs.{Pairs}
 use Rattle.vcd_compare.specs.Selected.{AreInside, both_names}
 use Rattle.vcd_compare.specs.Variables.{AreVariables}
 use Rattle.vcd_compare.specs.declared.paths.Paths.{Paths}
-use Rattle.vcd_compare.specs.declared.selected.Selections.{Selections}
 use Rattle.vcd_compare.specs.declared.variables.Variables.{Variables}
 
 -- a pair, if it is compared, and if it is not
@@ -49,9 +49,8 @@ EntersNames texts new ns numbers = (more : List (List ℕ)) × HasTexts new (tex
 abbrev pub EntersTexts : List (List ℕ) → Paths → List (List ℕ) → List ℕ → Type 0
 EntersTexts texts new ts numbers = (more : List (List ℕ)) × HasTexts new (texts ++ more) × AllZip (IsNumberOf (texts ++ more)) numbers ts
 
--- the lists of what the names select, and no exception, among the paths and the header's variables
-pub record HasSelected (paths : Paths) (vs : Variables) (s : Selections) (q : Asked) (h : Header) (ns : List Names) (texts : List (List ℕ)) : Type 0 where
+-- the lists of the variables that the names select, and no exception
+pub record HasSelected (paths : Paths) (vs : Variables) (lists : List (Vec ℕ)) (q : Asked) (h : Header) (ns : List Names) (texts : List (List ℕ)) : Type 0 where
   pub has : HasTexts paths texts
   pub are : AreVariables h texts vs
-  pub inside : AreInside texts (both_names ns) q.exceptions paths.nodes.keys (length paths.nodes.keys) s.paths.items
-  pub variables : AreInside texts (both_names ns) q.exceptions vs.keys.keys (length vs.keys.keys) s.variables.items
+  pub inside : AreInside texts (both_names ns) q.exceptions vs.keys.keys (length vs.keys.keys) lists

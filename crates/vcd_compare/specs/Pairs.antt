@@ -43,7 +43,7 @@ pub record IsLastEnd (ends : List End) (below code n : ℕ) : Type 0 where
 
 -- from the last end of each code on, each end leads to the one before it of the same code
 pub record AreLinked (ends : List End) (last : List ℕ) : Type 0 where
-  pub each : (i : ℕ) (e : End) → slice_get ends i ≡ Some e → IsLastEnd ends i e.code e.next
+  pub each : (i : ℕ) (e : End) → slice_get ends i ≡ Some e → IsLastEnd ends i e.code e.earlier
   pub from : (code n : ℕ) → slice_get last code ≡ Some n → IsLastEnd ends (length ends) code n
 
 -- The pairs that are compared, those of different kinds, and the variables without a counterpart. Of

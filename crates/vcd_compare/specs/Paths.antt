@@ -14,6 +14,11 @@ joined texts (suc i) part = get_or texts i [] ++ 46 ∷ part
 abbrev pub has_dot : List ℕ → Bool
 has_dot text = list_any (λ b. b == 46) text
 
+-- what the path with this number consists of: the number of the path around it, and the index of its last part
+abbrev pub node_at : List (ℕ × ℕ) → ℕ → ℕ × ℕ
+node_at nodes zero = (0, 0)
+node_at nodes (suc i) = get_or nodes i (0, 0)
+
 -- the path at this index consists of an earlier one, or none, and of a part without a dot
 pub record IsNode (parts texts : List (List ℕ)) (i : ℕ) (node : ℕ × ℕ) : Type 0 where
   pub around : node.0 ≤ i

@@ -4,7 +4,7 @@ use Rattle.std.specs.List.{list_any}
 use Rattle.std.specs.Global.{Vec}
 use Rattle.vcd_model.specs.Selection.{selects_path}
 use Rattle.vcd_model.specs.Within.{Names}
-use Rattle.vcd_compare.specs.Paths.{IsNumberOf}
+use Rattle.vcd_compare.specs.Paths.{IsNumberOf, node_at}
 
 -- of each number up to `count` whether it is among these
 abbrev pub AreMarks : List ℕ → ℕ → List Bool → Type 0
@@ -64,8 +64,7 @@ pub record IsPutInside (texts names es : List (List ℕ)) (around index : ℕ) (
 
 -- what is nearest to the path around the one with a number, if it is smaller
 abbrev pub first_above : List (ℕ × ℕ) → List ℕ → ℕ → ℕ
-first_above nodes nearest zero = 0
-first_above nodes nearest (suc i) = let above : ℕ = get_or nearest (get_or nodes i (0, 0)).0 0 in cond (nat_lt above (suc i)) above 0
+first_above nodes nearest number = let above : ℕ = get_or nearest (node_at nodes number).0 0 in cond (nat_lt above number) above 0
 
 -- both of two names
 abbrev pub both_names : List Names → List (List ℕ)

@@ -89,7 +89,7 @@ fn mark_ends(
         };
         let differs = current.differs(view, code, declared, other.code, index % 2 == 0, at);
         count = mark(flags, index / 2, differs, count);
-        left = end.next.min(index);
+        left = end.earlier.min(index);
     }
     count
 }

@@ -1,64 +1,161 @@
 // The counterpart of a path: the same path with the second name in place of the first.
-ghost use Rattle.std.specs.Prelude.{◌≡◌, ◌<◌, ◌+◌, ℕ, List, Some, None, get_or, length, set, slice_get};
+ghost use Rattle.std.specs.Prelude.{◌≡◌, ◌<◌, ◌≤◌, ◌^◌, ℕ, List, Some, None, get_or, length, set, slice_get, IfOk};
 ghost use Rattle.vcd_model.specs.Compare.{Asked, Named};
 ghost use Rattle.vcd_model.specs.Header.{Header};
 ghost use Rattle.vcd_model.specs.Within.{Names};
-ghost use Rattle.vcd_compare.specs.Counterparts.{ArePlaces, FindPlaces, IsNth, IsPlace, looked_up, place_of_node, selected_in};
+ghost use Rattle.vcd_compare.specs.Counterparts.{ArePlaces, AreSelected, Climbs, FindPlaces, IsBelow, IsNth, IsPlace, IsPlacing, IsReady, IsSettled, Settles, StaySettled, looked_up, place_of_node, selected_in};
 ghost use Rattle.vcd_compare.specs.Paths.{HasTexts, IsNumberOf};
-ghost use Rattle.vcd_compare.specs.Selected.{chosen, is_inside};
+ghost use Rattle.vcd_compare.specs.Variables.{AreVariables};
 
-use crate::paths::Paths;
-use crate::variables::Variables;
+use crate::paths::{Paths, key_at, node_at};
+use crate::variables::{Variables, number_at};
 use indexmap::IndexSet;
+use std::alloc::{AllocError, Global};
 use vcd_view::CodeSeed;
 
-/// Sets the places of the path with number `one` and of the paths inside it, which have these
-/// indexes: the number of the path that has the path with number `other` in place of that with
-/// number `one`, or `None` if there is no such path. `places` has one for each number of a path.
+// What is known of the counterparts of paths, by the number of a path.
+#[derive(Drop)]
+pub(crate) struct Places {
+    // The number of the counterpart, or `None` if there is no such path.
+    pub(crate) numbers: Vec<Option<usize>>,
+    // The turn in which that was last settled, or 0. Each call of `place_paths` is a turn.
+    turns: Vec<usize>,
+    // The number of this turn.
+    turn: usize,
+    // Paths that are still to be settled, each inside the next one.
+    climbed: Vec<usize>,
+}
+
+impl Places {
+    /// Returns room for `count` paths, before the first turn.
+    pub(crate) fn new(alloc: Global, count: usize) -> Result<Self, AllocError>
+        requires { count < 2 ^ 63 }
+        ensures { IfOk result (IsReady count) }
+    {
+        Ok(Places {
+            numbers: vec![in alloc; None; count + 1]?,
+            turns: vec![in alloc; 0usize; count + 1]?,
+            turn: 0,
+            climbed: Vec::new(alloc),
+        })
+    }
+}
+
+/// Sets the place of the path of each of these variables, which the name with number `one` selects:
+/// the number of the path that has the path with number `other` in place of that with number `one`,
+/// or `None` if there is no such path. `selected` has the indexes of the variables.
 pub(crate) fn place_paths(
     paths: &Paths,
+    variables: &Variables,
     one: usize,
     other: usize,
-    inside: &[usize],
-    places: &mut Vec<Option<usize>>,
-)
-    ensures placed { (texts es : List (List ℕ)) (n : Names) → HasTexts paths.now texts
-        → IsNumberOf texts one n.0 → IsNumberOf texts other n.1
-        → length places.old.items ≡ length texts + 1
-        → inside.now ≡ chosen (λ i. is_inside texts es n.0 (get_or paths.now.nodes.keys i (0, 0)).0)
-        (length paths.now.nodes.keys) → ArePlaces texts es n places.new.items }
-    ensures len { length places.new.items ≡ length places.old.items }
+    selected: &[usize],
+    places: &mut Places,
+) -> Result<(), AllocError>
+    ensures { IfOk result (λ _. (q : Asked) (h : Header) (n : Names) (texts : List (List ℕ))
+        → HasTexts paths.now texts → AreVariables h texts variables.now
+        → IsNumberOf texts one n.0 → IsNumberOf texts other n.1 → AreSelected q h n selected.now
+        → IsReady (length texts) places.old → IsReady (length texts) places.new
+        × ArePlaces q h n texts places.new.numbers.items) }
 {
-    set_place(places, one, Some(other));
-    for index in inside {
-        place_path(paths, *index, places);
+    let Some(turn) = places.turn.checked_add(1) else {
+        return Err(AllocError);
+    };
+    places.turn = turn;
+    settle(places, one, Some(other));
+    for index in selected {
+        let (path, _) = key_at(&variables.keys, *index);
+        place_path(paths, path, places)?;
     }
+    Ok(())
 }
 
-/// Sets the place of the path at this index, if that of the path around it is set.
-fn place_path(paths: &Paths, index: usize, places: &mut Vec<Option<usize>>)
-    ensures placed { index < length paths.now.nodes.keys
-        → places.new.items ≡ set places.old.items (index + 1)
-        (place_of_node paths.now.nodes.keys places.old.items index) }
-    ensures len { length places.new.items ≡ length places.old.items }
+/// Sets the place of the path with this number, and of each path around it that is not settled in
+/// this turn.
+fn place_path(paths: &Paths, number: usize, places: &mut Places) -> Result<(), AllocError>
+    ensures { IfOk result (λ _. (n : Names) (texts : List (List ℕ)) → HasTexts paths.now texts
+        → IsPlacing n texts places.old → IsBelow n texts number
+        → IsPlacing n texts places.new × IsSettled places.new number
+        × StaySettled places.old places.new) }
 {
-    if index >= paths.nodes.len() {
-        return;
+    let turn = places.turn;
+    climb(paths, number, &places.turns, turn, &mut places.climbed)?;
+    while let Some(inner) = places.climbed.pop() {
+        let place = place_inside(paths, inner, &places.numbers);
+        settle(places, inner, place);
     }
-    let (around, part) = paths.nodes.as_slice()[index];
-    let place = match looked_up(&paths.nodes, place_at(places, around), part) {
+    Ok(())
+}
+
+/// Lists in `climbed` the number of a path, then that of the path around it, and so on, up to the
+/// first that is settled in this turn, which is not listed.
+fn climb(
+    paths: &Paths,
+    from: usize,
+    turns: &[usize],
+    turn: usize,
+    climbed: &mut Vec<usize>,
+) -> Result<(), AllocError>
+    ensures { IfOk result (λ _. (n : Names) (texts : List (List ℕ)) → HasTexts paths.now texts
+        → ((m : ℕ) → IsNumberOf texts m n.0 → get_or turns.now m 0 ≡ turn) → IsBelow n texts from
+        → (top : ℕ) × Climbs paths.now.nodes.keys n texts from climbed.new.items top
+        × (get_or turns.now top 0 ≡ turn)) }
+{
+    climbed.clear();
+    let mut number = from;
+    while number > 0 && number_at(turns, number) != turn {
+        climbed.push(number)?;
+        let (around, _) = node_at(&paths.nodes, number);
+        number = around.min(number - 1);
+    }
+    Ok(())
+}
+
+/// Returns the place of the path with this number, by that of the path around it.
+fn place_inside(paths: &Paths, number: usize, places: &[Option<usize>]) -> Option<usize>
+    ensures { (texts : List (List ℕ)) → HasTexts paths.now texts
+        → number ≤ length paths.now.nodes.keys
+        → result ≡ place_of_node paths.now.nodes.keys places.now number }
+{
+    if number > paths.nodes.len() {
+        return None;
+    }
+    let (around, part) = node_at(&paths.nodes, number);
+    match node_inside(paths, place_at(places, around), part) {
         Some(found) => Some(found.saturating_add(1)),
         None => None,
-    };
-    set_place(places, index + 1, place);
+    }
 }
 
-/// Sets the place at this index, if there is one.
-fn set_place(places: &mut Vec<Option<usize>>, index: usize, place: Option<usize>)
-    ensures { places.new.items ≡ set places.old.items index place }
+/// Returns the index of the node that consists of the number in `place` and of `part`, or `None`.
+/// It first tries the node that was entered right after that path. Along a path of many parts this
+/// is the one, and then there is no look-up.
+fn node_inside(paths: &Paths, place: Option<usize>, part: usize) -> Option<usize>
+    ensures { (texts : List (List ℕ)) → HasTexts paths.now texts
+        → result ≡ looked_up paths.now.nodes.keys part place }
 {
-    if index < places.len() {
-        places[index] = place;
+    let around = place?;
+    let (first, last) = key_at(&paths.nodes, around);
+    if around < paths.nodes.len() && first == around && last == part {
+        return place;
+    }
+    looked_up(&paths.nodes, place, part)
+}
+
+/// Sets the place of the path with this number. It is settled in this turn.
+fn settle(places: &mut Places, number: usize, place: Option<usize>)
+    ensures { Settles places.old places.new number place }
+{
+    set_at(&mut places.numbers, number, place);
+    set_at(&mut places.turns, number, places.turn);
+}
+
+/// Sets the item at this index, if there is one.
+fn set_at<T: Copy>(items: &mut Vec<T>, index: usize, item: T)
+    ensures { items.new.items ≡ set items.old.items index item }
+{
+    if index < items.len() {
+        items[index] = item;
     }
 }
 
@@ -95,9 +192,6 @@ pub(crate) fn counterpart_of(
         → FindPlaces q h n texts variables.now places.now → IsNth h index v
         → slice_get (selected_in q h n) j ≡ Some v → IsPlace h n v result }
 {
-    if index >= variables.keys.len() {
-        return None;
-    }
-    let (path, nth) = variables.keys.as_slice()[index];
+    let (path, nth) = key_at(&variables.keys, index);
     looked_up(&variables.keys, place_at(places, path), nth)
 }

@@ -12,10 +12,10 @@ ghost use Rattle.vcd_compare.specs.Paths.{HasTexts};
 ghost use Rattle.vcd_compare.specs.Pairs.{AreFew, ArePairs, IsAt, IsNamedAt, names_in};
 ghost use Rattle.vcd_compare.specs.HasPairs.{AreNumbersOf, EntersNames, EntersTexts, HasPairs, HasSelected, alone_at, compared_at, compared_of, unlike_at, unlike_of};
 
-use crate::counterparts::{counterpart_of, place_paths};
+use crate::counterparts::{Places, counterpart_of, place_paths};
 use crate::kinds::{code_of, is_same_kind, kind_of};
 use crate::paths::{Paths, enter_path};
-use crate::selected::{Selections, list_at, selected_by};
+use crate::selected::{list_at, selected_by};
 use crate::variables::{Variables, number_at, number_rows, variables_of};
 use indexmap::IndexSet;
 use std::alloc::{AllocError, Global};
@@ -43,7 +43,7 @@ pub(crate) struct PairRow {
 pub(crate) struct End {
     pub(crate) code: usize,
     // 1 plus the index of the last end before this one that has the same code, or 0.
-    pub(crate) next: usize,
+    pub(crate) earlier: usize,
 }
 
 /// The rows of two variables of different kinds.
@@ -72,8 +72,9 @@ pub struct Pairs {
 }
 
 /// Returns the pairs that these names make of the variables of a header. The variables that one of
-/// `exceptions` selects are left out. The time grows with the header, the names, and the variables,
-/// paths and other names that each name selects. Fails if there is no memory.
+/// `exceptions` selects are left out. The time grows with the header, the names, and for each name
+/// the variables that it selects and the paths above them inside the name. Fails if there is no
+/// memory.
 pub fn pairs_of(
     alloc: Global,
     view: HeadView<'_>,
@@ -91,37 +92,42 @@ pub fn pairs_of(
     let rows = number_rows(alloc, view, &mut paths)?;
     let variables = variables_of(alloc, view, &rows, paths.nodes.len())?;
     drop(rows);
-    let selected = selected_by(alloc, &paths, &variables, &numbers, named, &exceptions)?;
-    pairs_between(alloc, view, &paths, &variables, &selected, &numbers)
+    let lists = selected_by(alloc, &paths, &variables, &numbers, named, &exceptions)?;
+    pairs_between(alloc, view, &paths, &variables, &lists, &numbers)
 }
 
 /// Returns the pairs that names make of the variables of a header: `numbers` are those of the
-/// names' paths, and `selected` is what the names select.
+/// names' paths, and `lists` has for each the indexes of the variables that the name selects.
 fn pairs_between(
     alloc: Global,
     view: HeadView<'_>,
     paths: &Paths,
     variables: &Variables,
-    selected: &Selections,
+    lists: &[Vec<usize>],
     numbers: &[(usize, usize)],
 ) -> Result<Pairs, AllocError>
     ensures { IfOk result (λ ps. (q : Asked) (h : Header) (ns : List Names)
         (texts : List (List ℕ)) → IsViewOf view.entry h
-        → HasSelected paths.now variables.now selected.now q h ns texts
+        → HasSelected paths.now variables.now lists.now q h ns texts
         → AllZip (AreNumbersOf texts) numbers.now ns → ArePairs ps h q ns) }
 {
-    let mut places = vec![in alloc; None; paths.nodes.len() + 1]?;
+    let mut places = Places::new(alloc, paths.nodes.len())?;
     let mut pairs = no_pairs(alloc, view.codes.len())?;
     let mut keys = IndexSet::with_hasher(alloc, view.seed);
     for (one, other) in numbers {
-        let inside = list_at(&selected.paths, *one);
-        place_paths(paths, *one, *other, inside, &mut places);
-        let below = list_at(&selected.variables, *one);
-        add_pairs(view, variables, &places, below, &mut keys, &mut pairs)?;
-        let inside = list_at(&selected.paths, *other);
-        place_paths(paths, *other, *one, inside, &mut places);
-        let below = list_at(&selected.variables, *other);
-        add_alone(variables, &places, below, &mut pairs.alone_other)?;
+        let selected = list_at(lists, *one);
+        place_paths(paths, variables, *one, *other, selected, &mut places)?;
+        add_pairs(
+            view,
+            variables,
+            &places.numbers,
+            selected,
+            &mut keys,
+            &mut pairs,
+        )?;
+        let selected = list_at(lists, *other);
+        place_paths(paths, variables, *other, *one, selected, &mut places)?;
+        add_alone(variables, &places.numbers, selected, &mut pairs.alone_other)?;
     }
     Ok(pairs)
 }
@@ -177,23 +183,23 @@ fn number_texts(
 }
 
 /// Adds the variables that the first of two names selects, each with its counterpart. They have
-/// the indexes `below`, and `places` are the counterparts of their paths.
+/// the indexes `selected`, and `places` are the counterparts of their paths.
 fn add_pairs(
     view: HeadView<'_>,
     variables: &Variables,
     places: &[Option<usize>],
-    below: &[usize],
+    selected: &[usize],
     keys: &mut IndexSet<(usize, usize), CodeSeed>,
     pairs: &mut Pairs,
 ) -> Result<(), AllocError>
     ensures { IfOk result (λ _. (q : Asked) (h : Header) (n : Names) (texts : List (List ℕ))
         (compared unlike : List Pair) (ones others : List Named) → IsViewOf view.entry h
-        → FindPlaces q h n texts variables.now places.now → AreSelected q h n below.now
+        → FindPlaces q h n texts variables.now places.now → AreSelected q h n selected.now
         → HasPairs keys.old.keys pairs.old h compared unlike ones others
         → HasPairs keys.new.keys pairs.new h (compared ++ compared_in q h (n ∷ []))
         (unlike ++ unlike_in q h (n ∷ [])) (ones ++ alone_in q h n) others) }
 {
-    for index in below {
+    for index in selected {
         take_variable(view, variables, places, *index, keys, pairs)?;
     }
     Ok(())
@@ -229,19 +235,19 @@ fn take_variable(
 }
 
 /// Adds the variables that a name selects and that have no counterpart to `alone`. The name selects
-/// those with the indexes `below`.
+/// those with the indexes `selected`.
 fn add_alone(
     variables: &Variables,
     places: &[Option<usize>],
-    below: &[usize],
+    selected: &[usize],
     alone: &mut Vec<usize>,
 ) -> Result<(), AllocError>
     ensures { IfOk result (λ _. (q : Asked) (h : Header) (n : Names) (texts : List (List ℕ))
         (others : List Named) → FindPlaces q h n texts variables.now places.now
-        → AreSelected q h n below.now → AllZip (IsNamedAt h) alone.old.items others
+        → AreSelected q h n selected.now → AllZip (IsNamedAt h) alone.old.items others
         → AllZip (IsNamedAt h) alone.new.items (others ++ alone_in q h n)) }
 {
-    for index in below {
+    for index in selected {
         if counterpart_of(variables, places, *index).is_none() {
             alone.push(number_at(&variables.rows, *index))?;
         }
@@ -311,7 +317,7 @@ fn add_end(code: usize, ends: &mut Vec<End>, last: &mut Vec<usize>) -> Result<()
     }
     ends.push(End {
         code,
-        next: last[code],
+        earlier: last[code],
     })?;
     last[code] = ends.len();
     Ok(())

@@ -1,6 +1,6 @@
 // The paths of a header by number, each stored as the path around it and its last part.
-ghost use Rattle.std.specs.Prelude.{◌≡◌, ◌≤◌, ◌++◌, ◌∷◌, [], ℕ, List, None, false, length, IfOk, IfSome};
-ghost use Rattle.vcd_compare.specs.Paths.{EntersPath, EntersText, HasTexts, has_dot, joined};
+ghost use Rattle.std.specs.Prelude.{◌≡◌, ◌≤◌, ◌++◌, ◌∷◌, [], ℕ, List, None, false, get_or, length, IfOk, IfSome};
+ghost use Rattle.vcd_compare.specs.Paths.{EntersPath, EntersText, HasTexts, has_dot, joined, node_at};
 
 use indexmap::IndexSet;
 use std::alloc::{AllocError, Global};
@@ -25,6 +25,27 @@ impl Paths {
             parts: IndexSet::with_hasher(alloc, seed),
             nodes: IndexSet::with_hasher(alloc, seed),
         }
+    }
+}
+
+/// Returns the key at this index, or two zeros if there is none.
+pub(crate) fn key_at(keys: &IndexSet<(usize, usize), CodeSeed>, index: usize) -> (usize, usize)
+    ensures { result ≡ get_or keys.now.keys index (0, 0) }
+{
+    match keys.as_slice().get(index) {
+        Some(key) => *key,
+        None => (0, 0),
+    }
+}
+
+/// Returns what the path with this number consists of (`nodes` of `Paths`), or two zeros if there is
+/// no such path.
+pub(crate) fn node_at(nodes: &IndexSet<(usize, usize), CodeSeed>, number: usize) -> (usize, usize)
+    ensures { result ≡ node_at nodes.now.keys number }
+{
+    match number.checked_sub(1) {
+        Some(index) => key_at(nodes, index),
+        None => (0, 0),
     }
 }
 

@@ -1,4 +1,4 @@
-// What names select: the paths and the variables inside each of some paths.
+// What names select: the variables inside each of some paths.
 ghost use Rattle.std.specs.Prelude.{◌≡◌, ◌∷◌, [], ◌<◌, ◌≤◌, ◌^◌, ◌+◌, ◌++◌, ℕ, List, cond, false, get_or, length, flat_map, replicate, set, IfOk};
 ghost use Rattle.std.specs.List.{AllZip};
 ghost use Rattle.vcd_compare.specs.Paths.{HasTexts, IsNumberOf};
@@ -6,20 +6,12 @@ ghost use Rattle.vcd_compare.specs.HasPairs.{AreNumbersOf};
 ghost use Rattle.vcd_compare.specs.Selected.{AreInside, AreMarks, AreNamedBelow, AreNearest, AreWithin, IsPutInside, both_names, first_above, lists_in};
 ghost use Rattle.vcd_model.specs.Within.{Names};
 
-use crate::paths::Paths;
+use crate::paths::{Paths, node_at};
 use crate::variables::{Variables, number_at};
 use std::alloc::{AllocError, Global};
 
-// By the number of a name's path: what the name selects, and no exception.
-#[derive(Drop)]
-pub(crate) struct Selections {
-    // The indexes of the header's paths inside that path.
-    pub(crate) paths: Vec<Vec<usize>>,
-    // The indexes of the variables.
-    pub(crate) variables: Vec<Vec<usize>>,
-}
-
-/// Returns what these names select. Their numbers are at most `named`.
+/// Returns by the number of a name's path the indexes of the variables that the name selects, and
+/// no exception. The numbers of the names are at most `named`.
 pub(crate) fn selected_by(
     alloc: Global,
     paths: &Paths,
@@ -27,25 +19,20 @@ pub(crate) fn selected_by(
     names: &[(usize, usize)],
     named: usize,
     exceptions: &[usize],
-) -> Result<Selections, AllocError>
+) -> Result<Vec<Vec<usize>>, AllocError>
     requires { named < 2 ^ 63 }
-    ensures { IfOk result (λ s. (texts es : List (List ℕ)) (ns : List Names)
+    ensures { IfOk result (λ lists. (texts es : List (List ℕ)) (ns : List Names)
         → HasTexts paths.now texts → AreNamedBelow texts (both_names ns) (named + 1)
         → AreWithin variables.now.keys.keys (length texts)
         → AllZip (AreNumbersOf texts) names.now ns → AllZip (IsNumberOf texts) exceptions.now es
-        → AreInside texts (both_names ns) es paths.now.nodes.keys (length paths.now.nodes.keys)
-        s.paths.items × AreInside texts (both_names ns) es variables.now.keys.keys
-        (length variables.now.keys.keys) s.variables.items) }
+        → AreInside texts (both_names ns) es variables.now.keys.keys
+        (length variables.now.keys.keys) lists.items) }
 {
     let numbers = both_of(alloc, names)?;
     let nearest = nearest_of(alloc, paths, &numbers)?;
     let left_out = nearest_of(alloc, paths, exceptions)?;
-    let nodes = paths.nodes.as_slice();
     let keys = variables.keys.as_slice();
-    Ok(Selections {
-        paths: inside_of(alloc, paths, &nearest, &left_out, nodes, named)?,
-        variables: inside_of(alloc, paths, &nearest, &left_out, keys, named)?,
-    })
+    inside_of(alloc, paths, &nearest, &left_out, keys, named)
 }
 
 /// Returns both numbers of each pair, in one list.
@@ -173,14 +160,10 @@ fn put_inside(
 /// Returns the number that is nearest to the path around the one with this number. It is smaller.
 fn number_above(paths: &Paths, nearest: &[usize], number: usize) -> usize
     requires { 0 < number }
-    ensures is { number ≤ length paths.now.nodes.keys
-        → result ≡ first_above paths.now.nodes.keys nearest.now number }
+    ensures is { result ≡ first_above paths.now.nodes.keys nearest.now number }
     ensures smaller { result < number }
 {
-    if number > paths.nodes.len() {
-        return 0;
-    }
-    let (around, _) = paths.nodes.as_slice()[number - 1];
+    let (around, _) = node_at(&paths.nodes, number);
     let above = number_at(nearest, around);
     if above < number { above } else { 0 }
 }

@@ -36,7 +36,7 @@ ends-preserved c = (
       let b = its_code v k n c.args.at old h exceptions ns items x a g i e f there its code in
       let differs = c.differs-differs.ensures h after a b.0 g.views g.current b.1 (not_before v k n c.args.at old h exceptions ns items x a g) in
       let all = marked_on v k n c.args.at old h exceptions ns items x a g i e f there its code c.ends.flags m c.differs-differs.result differs in
-      subst (λ low. AreMarked ps h q items after n low c.mark-count.new.flags) (sym c.min-left.ensures) (subst (λ (flags : List ℕ). AreMarked ps h q items after n (min e.next i) flags) (sym c.mark-count.ensures.flags) all),
+      subst (λ low. AreMarked ps h q items after n low c.mark-count.new.flags) (sym c.min-left.ensures) (subst (λ (flags : List ℕ). AreMarked ps h q items after n (min e.earlier i) flags) (sym c.mark-count.ensures.flags) all),
 )
 
 pub returns-clause-marks : goal.returns-clause-marks

@@ -6,12 +6,12 @@ use Rattle.vcd_compare.proofs.pairs.add_alone.Goals.{else-is_none, then-is_none+
 pub loop-index-preserved : goal.loop-index-preserved
 loop-index-preserved c = λ q h n texts others finds selected all.
     let i = c.loop-index.index-index in
-    let below = c.args.below.now in
-    let index = get_or below i 0 in
+    let list = c.args.selected.now in
+    let index = get_or list i 0 in
     let rows = c.args.variables.now.rows.items in
     let old = c.loop-index.alone.items in
     let s = c.loop-index.invariant q h n texts others finds selected all in
-    let v = zip_from (IsNth h) below (selected_in q h n) i index selected (slice_get-get_or below i 0 (omega arith)) in
+    let v = zip_from (IsNth h) list (selected_in q h n) i index selected (slice_get-get_or list i 0 (omega arith)) in
     let place = c.counterpart_of.ensures q h n texts i v.0 finds v.2 v.1 in
     let next : AloneBefore q h n others c.if-is_none.alone.items (suc i) = elim c.if-is_none.branch [
       | then-is_none+in_ok-push w ↦
@@ -23,6 +23,6 @@ loop-index-preserved c = λ q h n texts others finds selected all.
 
 pub returns : goal.returns
 returns c = λ q h n texts others finds selected all.
-    let len = same_len (IsNth h) c.args.below.now (selected_in q h n) selected in
+    let len = same_len (IsNth h) c.args.selected.now (selected_in q h n) selected in
     let past : length (selected_in q h n) ≤ c.loop-index.index-index = omega (arith, len) in
     alone_all q h n others c.loop-index.alone.items c.loop-index.index-index past (c.loop-index.invariant q h n texts others finds selected all)

@@ -21,11 +21,10 @@ returns c = ok_then c.pairs_between.result _ _ (λ ps pairs h q view except.
     let below : AreNamedBelow texts (both_names ns) (c.len-named.result + 1) =
     subst (λ ts. AreNamedBelow ts (both_names ns) (c.len-named.result + 1)) (sym (append_assoc known left.0 rows.0))
     (subst (λ n. AreNamedBelow (known ++ (left.0 ++ rows.0)) (both_names ns) (n + 1)) (named.1.len ∙ sym c.len-named.ensures.len) numbers_below) in
-    let lists = c.in_ok-selected.ensures texts es ns has below (keys_within h texts vs header) (subst (λ l. AllZip (AreNumbersOf texts) l ns) (sym c.deref-2.ensures.value) numbers) (subst (λ l. AllZip (IsNumberOf texts) l es) (sym c.deref-3.ensures.value) (texts_stay entered rows.0 c.in_ok-exceptions.exceptions.items es left.2)) in
+    let inside = c.in_ok-lists.ensures texts es ns has below (keys_within h texts vs header) (subst (λ l. AllZip (AreNumbersOf texts) l ns) (sym c.deref-2.ensures.value) numbers) (subst (λ l. AllZip (IsNumberOf texts) l es) (sym c.deref-3.ensures.value) (texts_stay entered rows.0 c.in_ok-exceptions.exceptions.items es left.2)) in
     let are = pairs q h ns texts view (record {
       has = has;
       are = header;
-      inside = subst (λ l. AreInside texts (both_names ns) l c.number_rows.new.paths.nodes.keys (length c.number_rows.new.paths.nodes.keys) c.in_ok-selected.selected.paths.items) (sym except) lists.0;
-      variables = subst (λ l. AreInside texts (both_names ns) l vs.keys.keys (length vs.keys.keys) c.in_ok-selected.selected.variables.items) (sym except) lists.1;
-    }) (subst (λ l. AllZip (AreNumbersOf texts) l ns) (sym c.deref-4.ensures.value) numbers) in
+      inside = subst (λ ls. AreInside texts (both_names ns) q.exceptions vs.keys.keys (length vs.keys.keys) ls) (sym c.deref-4.ensures.value) (subst (λ l. AreInside texts (both_names ns) l vs.keys.keys (length vs.keys.keys) c.in_ok-lists.lists.items) (sym except) inside);
+    }) (subst (λ l. AllZip (AreNumbersOf texts) l ns) (sym c.deref-5.ensures.value) numbers) in
     (are, few_kept ps h q ns are)) c.pairs_between.ensures

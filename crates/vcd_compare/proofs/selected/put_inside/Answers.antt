@@ -1,5 +1,4 @@
-use Rattle.vcd_compare.proofs.Cited.{sym, subst, ◌∙◌, arith, texts_in}
-use Rattle.vcd_compare.proofs.PathTexts.{number_within}
+use Rattle.vcd_compare.proofs.Cited.{sym, subst, ◌∙◌, texts_in}
 use Rattle.vcd_compare.proofs.SelectedLemmas.{IsPutting, put_all, put_none, putting_first, putting_next}
 use Rattle.vcd_compare.proofs.selected.put_inside.Goals as goal
 
@@ -15,10 +14,8 @@ pub loop-number-preserved : goal.loop-number-preserved
 loop-number-preserved c = λ texts names has near l room.
     let s = c.loop-number.invariant texts names has near l room in
     let some = c.loop-number-test.true in
-    let name = s.name some in
-    let within = number_within texts c.loop-number.number name.0 name.1 in
     putting_next (texts_in c.args.paths.now.parts) c.args.paths.now.nodes.keys texts has names c.args.nearest.now near c.args.around c.args.index c.loop-number.number c.number_above-number.result c.args.lists.now.items c.loop-number.lists.items c.push_at.new.lists.items
-    room some (c.number_above-number.ensures.is (let m = has.len in omega (arith, within, m))) c.in_ok-push_at.ensures s
+    room some c.number_above-number.ensures.is c.in_ok-push_at.ensures s
 
 pub returns : goal.returns
 returns c = λ texts names es has near left l room.
