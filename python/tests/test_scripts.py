@@ -721,6 +721,26 @@ class Rules(Case):
             self.assertEqual(said("vcdkit-diff", "--common", *dumps), ["status 2"])
             self.assertEqual(said("vcdkit-diff", "--common", "--to", "1s", *dumps)[-1], "status 1")
 
+    def test_a_window_between_two_ticks(self):
+        text = (b"$timescale %s $end $var wire 1 ! c $end $var wire 4 v v $end "
+                b"$enddefinitions $end #0 0! b0 v ")
+        one = self.file("a.vcd", text % b"1ns" + b"#40 1! #100 b1 v #200 b0 v #2000\n")
+        other = self.file("b.vcd", text % b"1us" + b"#2\n")
+        words = ["--common", "--except", "c"]
+        for window, wanted in (
+                (["--to", "99"], ""), (["--to", "100"], "100ns"), (["--from", "50"], "100ns"),
+                (["--from", "150ns", "--to", "180ns"], "150ns"), (["--from", "200"], "")):
+            lines = ["differs %s v 0001 0000" % wanted, "status 1"] if wanted else ["status 0"]
+            self.assertEqual(said("vcdkit-diff", *words, *window, one, other), lines, window)
+        for window in ["--from", "2001"], ["--from", "50", "--to", "40"]:
+            self.assertEqual(said("vcdkit-diff", *words, *window, one, other), ["status 2"])
+        other = self.file("b.vcd", text % b"10ns" + b"#4 1! #5 0! #10 b1 v 1! #20 b0 v #200\n")
+        one = self.file("a.vcd", text % b"1ns" + b"#42 1! #43 0! #100 b1 v 1! #200 b0 v #2000\n")
+        for window, wanted in ((["--from", "41"], ["edges 2 1", "status 1"]),
+                               (["--from", "43"], ["status 1"]), (["--to", "41"], ["status 2"])):
+            self.assertEqual(said("vcdkit-diff", "--rise", "c", *window, one, other),
+                             ["timescale 1ns 10ns", *wanted], window)
+
     @unittest.skipIf(not shutil.which("unshare") or subprocess.run(
         ["unshare", "-rm", "true"], stderr=subprocess.DEVNULL).returncode, "needs a namespace")
     def test_without_proc(self):
