@@ -721,6 +721,16 @@ class Rules(Case):
             self.assertEqual(said("vcdkit-diff", "--common", *dumps), ["status 2"])
             self.assertEqual(said("vcdkit-diff", "--common", "--to", "1s", *dumps)[-1], "status 1")
 
+    def test_two_mixtures_of_unknown_digits(self):
+        text = b"$var wire 8 ! q $end $enddefinitions $end #0 b%s !\n"
+        one = self.file("a.vcd", text % b"10100x10")
+        for digits, wanted in ((b"10100x1x", "10100x10 10100x1x"), (b"10110x10", "aX bX")):
+            other = self.file("b.vcd", text % digits)
+            self.assertEqual(said("vcdkit-diff", "--hex", one, other),
+                             ["differs 0 q " + wanted, "status 1"])
+            self.assertIn(json.dumps(wanted.split()[1]), said(
+                "vcdkit-diff", "--hex", "--json", one, other)[0])
+
     def test_a_window_between_two_ticks(self):
         text = (b"$timescale %s $end $var wire 1 ! c $end $var wire 4 v v $end "
                 b"$enddefinitions $end #0 0! b0 v ")

@@ -55,13 +55,20 @@ class Lines:
         self.lines: Dict[str, List[str]] = {}
         self.fault = ""
 
+    def _form(self, line: Line) -> Optional[str]:
+        """Returns the form of both values. In hexadecimal, two mixtures of x or z may be the same
+        digit, X: then it is binary."""
+        form: Optional[str] = self._asked.form
+        is_alike = form == "hex" and len({value_text(one, form) for one in line[3:]}) < 2
+        return "binary" if is_alike else form
+
     def _text(self, line: Line) -> str:
         """Returns a line as a reader sees it."""
         what, *fields = line
         if what == "differs":
             fields[0] = self.times[0](fields[0])
             fields[2:] = [one if isinstance(one, str) and one in ("-", "triggered")
-                          else value_text(one, self._asked.form) for one in fields[2:]]
+                          else value_text(one, self._form(line)) for one in fields[2:]]
         if what == "ends":
             fields = [None if end is None else text(end) for text, end in zip(self.times, fields)]
         return " ".join(map(str, [what, *("-" if one is None else one for one in fields)]))
@@ -74,7 +81,7 @@ class Lines:
             if self._asked.junit is not None or not kept:
                 kept.append(text)
             if self._asked.json:
-                values = [in_json(one, self._asked.form) if what == "differs" and at > 2 else one
+                values = [in_json(one, self._form(line)) if what == "differs" and at > 2 else one
                           for at, one in enumerate(line)]
                 write_json(dict(zip(("kind", *FIELDS[what]), values)))
             else:
