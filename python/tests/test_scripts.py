@@ -701,6 +701,8 @@ class Rules(Case):
             lines = said("vcdkit-diff", *words, one, other)
             self.assertEqual(lines, [wanted, "status 1"] if wanted else ["status 0"], words)
         self.assertEqual(said("vcdkit-diff", "--from", "21ns", one, other), ["status 2"])
+        self.assertEqual(run("vcdkit-diff", ["--rise", "c", "--to", "4", one, other])[2].decode(),
+                         "vcdkit-diff: %s: c never rises in this window\n" % one)
         self.assertEqual(said("vcdkit-diff", "--always", one, other), [
             v % ("0ns", "0000", "xxxx"), v % ("10ns", "0011", "001x"),
             v % ("15ns", "0011", "0100"), "status 1"])

@@ -266,8 +266,9 @@ def compare(asked: argparse.Namespace, report: Lines) -> None:
     found = say_values(report, asked, comparison)
     for side, count in zip(sides, comparison.counts):
         if clocks and pairs and not count:
-            raise UsageError("%s: %s never %s" % (
-                side.dump.name, name, "rises" if asked.rise else "falls"))
+            raise UsageError("%s: %s never %s%s" % (
+                side.dump.name, name, "rises" if asked.rise else "falls",
+                " in this window" * is_part(asked)))
     if not asked.common and not (clocks and found):
         say_ends(report, sides, comparison, bool(clocks))
     if not pairs and not report.differs():
