@@ -519,6 +519,8 @@ class Answers(Case):
                 ("table", [torn, "a"], "see: vcdkit-explain " + torn),
                 ("when", ["tb.clk", "a"], "vcdkit-when: tb.clk: No such file or directory (the "
                  "first argument is the dump; - is standard input)"),
+                ("diff", [whole, "tb.clk"], "vcdkit-diff: tb.clk: No such file or directory (the "
+                 "first two arguments are the dumps; - is standard input)"),
                 ("when", ["none.vcd", "a"], "vcdkit-when: none.vcd: No such file or directory"),
                 ("when", [whole, "(a == 1"], "vcdkit-when: bad condition: a ) is missing"),
                 ("when", [whole, "a -> b within 5 us"], "vcdkit-when: bad condition: write 5us"),
