@@ -327,6 +327,8 @@ def words_of(words: List[str]) -> argparse.Namespace:
     asked.maps.sort(key=lambda pair: -len(pair[0]))
     if not 0 <= asked.tolerance < float("inf"):
         options.error("--real-tolerance is a number from 0, as 1e-9")
+    if asked.one == asked.other == "-":
+        options.error("standard input twice")
     if asked.into is not None and not asked.context:
         options.error("--into is for the files of --context")
     if asked.context is not None:
