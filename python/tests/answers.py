@@ -756,9 +756,10 @@ def differences(dumps: Sequence[Dump], both: Sequence[Tuple[Variable, Variable]]
                  [(code, asked.edge) for code in asked.codes(dump)])
            for at, dump in enumerate(dumps)]
     last = min(last_time(dump) * factor for dump, factor in zip(dumps, factors))
-    marks = list(range(min(map(len, its)))) if asked.edge else sorted({
+    begin, end = window_of_both(dumps, asked)
+    marks = list(range(min(map(len, its)))) if asked.edge else sorted({begin, *(
         one.time * factor for side, factor in zip(its, factors) for one in side
-        if one.time * factor <= last})
+        if begin <= one.time * factor <= min(last, last if end is None else end))})
     for pair in both:
         for mark in marks:
             values = [compared_value(side, of, mark, factor, bool(asked.edge))
@@ -797,17 +798,22 @@ def alike(one: Optional[Value], other: Optional[Value], asked: Compare) -> bool:
     return one == other
 
 
+def window_of_both(dumps: Sequence[Dump], asked: Compare) -> Tuple[int, Optional[int]]:
+    """The first and the last tick of both dumps at which they are compared."""
+    tick = factors_of([dump.tick for dump in dumps])[0]
+    return (0 if asked.begin is None else ceil(asked.begin * tick),
+            None if asked.end is None else floor(asked.end * tick))
+
+
 def windows(dumps: Sequence[Dump], asked: Compare) -> List[Dump]:
-    """The window of both dumps. Decided: it begins and ends at ticks of both, so that it is the
-    same time in both."""
+    """The window of both dumps. If the time of an option is between two ticks of a dump, the window
+    is longer, or with a clock shorter."""
     if asked.begin is None:
         return [*dumps]
-    factors = factors_of([dump.tick for dump in dumps])
-    longest = max(factors)
-    begin = ceil(asked.begin * factors[0] / longest) * longest
-    end = None if asked.end is None else floor(asked.end * factors[0] / longest) * longest
-    return [cut(dump, begin // factor, FOREVER if end is None else end // factor)
-            for dump, factor in zip(dumps, factors)]
+    begin, end = window_of_both(dumps, asked)
+    return [cut(dump, -(-begin // factor) if asked.edge else begin // factor,
+                FOREVER if end is None else end // factor if asked.edge else -(-end // factor))
+            for dump, factor in zip(dumps, factors_of([dump.tick for dump in dumps]))]
 
 
 def in_a_line(value: Optional[Value], of: Variable) -> str:
@@ -830,7 +836,8 @@ def compare(dumps: Sequence[Dump], asked: Compare) -> Tuple[List[str], bool]:
     end of a dump, a NAME that is not in both dumps, an exception that is in neither, no clock,
     nothing in common, no edge, or no line where no variable is compared."""
     whole, dumps = dumps, windows(dumps, asked)
-    if any(part.begin > last_time(dump) for part, dump in zip(dumps, whole)):
+    if any(window_of_both(whole, asked)[0] > last_time(dump) * factor for dump, factor in zip(
+            whole, factors_of([dump.tick for dump in whole]))):
         return [], True
     sides = [dump.variables for dump in dumps]
     each = [[compared(sides, [name], [])[at] for at in (0, 1)]
@@ -883,7 +890,9 @@ def ends(dumps: Sequence[Dump], counts: Sequence[int], asked: Compare, is_differ
     if asked.edge:
         return ["edges %d %d" % tuple(counts)] * (counts[0] != counts[1] and not is_different)
     factors = factors_of([dump.tick for dump in dumps])
+    end = window_of_both(dumps, asked)[1]
     last = [max([0, *dump.times]) * factor for dump, factor in zip(dumps, factors)]
+    last = last if end is None else [min(one, end) for one in last]
     texts = [time_text(dump.tick, dump.times[-1]) if dump.times else "-" for dump in dumps]
     return ["ends %s %s" % tuple(texts)] * (last[0] != last[1])
 

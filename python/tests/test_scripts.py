@@ -519,6 +519,8 @@ class Answers(Case):
                 ("table", [torn, "a"], "see: vcdkit-explain " + torn),
                 ("when", ["tb.clk", "a"], "vcdkit-when: tb.clk: No such file or directory (the "
                  "first argument is the dump; - is standard input)"),
+                ("diff", [whole, "tb.clk"], "vcdkit-diff: tb.clk: No such file or directory (the "
+                 "first two arguments are the dumps; - is standard input)"),
                 ("when", ["none.vcd", "a"], "vcdkit-when: none.vcd: No such file or directory"),
                 ("when", [whole, "(a == 1"], "vcdkit-when: bad condition: a ) is missing"),
                 ("when", [whole, "a -> b within 5 us"], "vcdkit-when: bad condition: write 5us"),
@@ -701,6 +703,8 @@ class Rules(Case):
             lines = said("vcdkit-diff", *words, one, other)
             self.assertEqual(lines, [wanted, "status 1"] if wanted else ["status 0"], words)
         self.assertEqual(said("vcdkit-diff", "--from", "21ns", one, other), ["status 2"])
+        self.assertEqual(run("vcdkit-diff", ["--rise", "c", "--to", "4", one, other])[2].decode(),
+                         "vcdkit-diff: %s: c never rises in this window\n" % one)
         self.assertEqual(said("vcdkit-diff", "--always", one, other), [
             v % ("0ns", "0000", "xxxx"), v % ("10ns", "0011", "001x"),
             v % ("15ns", "0011", "0100"), "status 1"])
@@ -720,6 +724,36 @@ class Rules(Case):
         for dumps in (one, late), (late, one):
             self.assertEqual(said("vcdkit-diff", "--common", *dumps), ["status 2"])
             self.assertEqual(said("vcdkit-diff", "--common", "--to", "1s", *dumps)[-1], "status 1")
+
+    def test_two_mixtures_of_unknown_digits(self):
+        text = b"$var wire 8 ! q $end $enddefinitions $end #0 b%s !\n"
+        one = self.file("a.vcd", text % b"10100x10")
+        for digits, wanted in ((b"10100x1x", "10100x10 10100x1x"), (b"10110x10", "aX bX")):
+            other = self.file("b.vcd", text % digits)
+            self.assertEqual(said("vcdkit-diff", "--hex", one, other),
+                             ["differs 0 q " + wanted, "status 1"])
+            self.assertIn(json.dumps(wanted.split()[1]), said(
+                "vcdkit-diff", "--hex", "--json", one, other)[0])
+
+    def test_a_window_between_two_ticks(self):
+        text = (b"$timescale %s $end $var wire 1 ! c $end $var wire 4 v v $end "
+                b"$enddefinitions $end #0 0! b0 v ")
+        one = self.file("a.vcd", text % b"1ns" + b"#40 1! #100 b1 v #200 b0 v #2000\n")
+        other = self.file("b.vcd", text % b"1us" + b"#2\n")
+        words = ["--common", "--except", "c"]
+        for window, wanted in (
+                (["--to", "99"], ""), (["--to", "100"], "100ns"), (["--from", "50"], "100ns"),
+                (["--from", "150ns", "--to", "180ns"], "150ns"), (["--from", "200"], "")):
+            lines = ["differs %s v 0001 0000" % wanted, "status 1"] if wanted else ["status 0"]
+            self.assertEqual(said("vcdkit-diff", *words, *window, one, other), lines, window)
+        for window in ["--from", "2001"], ["--from", "50", "--to", "40"]:
+            self.assertEqual(said("vcdkit-diff", *words, *window, one, other), ["status 2"])
+        other = self.file("b.vcd", text % b"10ns" + b"#4 1! #5 0! #10 b1 v 1! #20 b0 v #200\n")
+        one = self.file("a.vcd", text % b"1ns" + b"#42 1! #43 0! #100 b1 v 1! #200 b0 v #2000\n")
+        for window, wanted in ((["--from", "41"], ["edges 2 1", "status 1"]),
+                               (["--from", "43"], ["status 1"]), (["--to", "41"], ["status 2"])):
+            self.assertEqual(said("vcdkit-diff", "--rise", "c", *window, one, other),
+                             ["timescale 1ns 10ns", *wanted], window)
 
     @unittest.skipIf(not shutil.which("unshare") or subprocess.run(
         ["unshare", "-rm", "true"], stderr=subprocess.DEVNULL).returncode, "needs a namespace")

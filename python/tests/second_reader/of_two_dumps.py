@@ -313,8 +313,10 @@ def same_lines(of: Asker, words: List[str], said: Said, sides: Sides, found: Lis
     for each in found:
         if asked.every or each.mark == least:
             time = each.time if is_json else one.time_text(each.time, unit)
+            is_alike = not each.is_event and len({shown(value, form) for value in each.values}) < 2
             wanted.append(["differs", time, each.name, *([] if each.is_event else [
-                (in_json if is_json else shown)(value, form) for value in each.values])])
+                (in_json if is_json else shown)(value, "--binary" if is_alike else form)
+                for value in each.values])])
     got = [list(row.values()) for row in all_from_json(said.text)] if is_json else [
         line.split(" ") for line in said.lines]
     got = [row for row in got if row[0] not in ("page", "more") and "more" not in row]

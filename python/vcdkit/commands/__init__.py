@@ -284,7 +284,7 @@ def command(function: Callable[[List[str]], int]) -> Main:
         except VcdkitError as error:
             asked = sys.argv[1:] if words is None else words
             status = max(error.status, getattr(function, "least", 0))
-            return _said(name, str(error) + _remedy(error, asked), status)
+            return _said(name, str(error) + _remedy(error, asked, name), status)
         except BrokenPipeError:
             _drop(sys.stdout)
             return BROKEN_PIPE
@@ -299,14 +299,16 @@ def command(function: Callable[[List[str]], int]) -> Main:
     return main
 
 
-def _remedy(error: VcdkitError, words: List[str]) -> str:
+def _remedy(error: VcdkitError, words: List[str], command_name: str) -> str:
     """Returns what to add to a message: of a fault what helps, and of a name in place of a file
-    what the first argument is."""
+    which arguments are dumps."""
     if isinstance(error, RunFailed):
         name, _, said = str(error).partition(": ")
         is_name = said.startswith("No such file") and not re.search("[/ ]", name)
         is_file = name.endswith(tuple("." + one for one in ENDINGS))
-        return (" (the first argument is the dump; - is standard input)"
+        dumps = ("two arguments are the dumps" if command_name == "vcdkit-diff" else
+                 "argument is the dump")
+        return (" (the first %s; - is standard input)" % dumps
                 if is_name and not is_file else "")
     if not isinstance(error, DumpFault):
         return ""

@@ -26,7 +26,7 @@ from ..forms.text import in_json, write_json
 from ..forms.text import shown as value_text
 from ..model.names import hint
 from ..model.signals import Signal
-from ..model.times import LAST_TICK, amount_of
+from ..model.times import LAST_TICK, Timescale, amount_of
 from ..model.values import Cell, value_in
 from ..questions.compare import (ALWAYS, EACH_PAIR, FIRST, Comparison, Difference, Pair, Side,
                                  Sides, choose, in_common, kind, same_within)
@@ -55,13 +55,20 @@ class Lines:
         self.lines: Dict[str, List[str]] = {}
         self.fault = ""
 
+    def _form(self, line: Line) -> Optional[str]:
+        """Returns the form of both values. In hexadecimal, two mixtures of x or z may be the same
+        digit, X: then it is binary."""
+        form: Optional[str] = self._asked.form
+        is_alike = form == "hex" and len({value_text(one, form) for one in line[3:]}) < 2
+        return "binary" if is_alike else form
+
     def _text(self, line: Line) -> str:
         """Returns a line as a reader sees it."""
         what, *fields = line
         if what == "differs":
             fields[0] = self.times[0](fields[0])
             fields[2:] = [one if isinstance(one, str) and one in ("-", "triggered")
-                          else value_text(one, self._asked.form) for one in fields[2:]]
+                          else value_text(one, self._form(line)) for one in fields[2:]]
         if what == "ends":
             fields = [None if end is None else text(end) for text, end in zip(self.times, fields)]
         return " ".join(map(str, [what, *("-" if one is None else one for one in fields)]))
@@ -74,7 +81,7 @@ class Lines:
             if self._asked.junit is not None or not kept:
                 kept.append(text)
             if self._asked.json:
-                values = [in_json(one, self._asked.form) if what == "differs" and at > 2 else one
+                values = [in_json(one, self._form(line)) if what == "differs" and at > 2 else one
                           for at, one in enumerate(line)]
                 write_json(dict(zip(("kind", *FIELDS[what]), values)))
             else:
@@ -148,22 +155,33 @@ def sides_of(asked: argparse.Namespace) -> Sides:
     return one, other
 
 
+def window_of_both(scales: Sequence[Timescale], asked: argparse.Namespace) -> Tuple[int, int]:
+    """Returns the window in the shorter tick of both. A number of ticks counts those of A."""
+    tick = min(scale.femtoseconds for scale in scales)
+    begin, end = -(-scales[0].span(asked.begin) // tick), LAST_TICK
+    if asked.end != LAST:
+        end = min(scales[0].span(asked.end) // tick, LAST_TICK)
+    if begin > end:
+        raise UsageError("--from is above --to")
+    return begin, end
+
+
 def parts_of(dumps: Sequence[Dump], asked: argparse.Namespace) -> List[Dump]:
-    """Returns the window of both dumps. If their ticks differ, it begins and ends at ticks of both,
-    and a number of ticks counts those of A."""
+    """Returns the window of both dumps. Without a clock, that of the longer tick may begin before
+    the window and end after it."""
     scales = [dump.timescale for dump in dumps if dump.timescale]
     if len(set(scales)) < 2:
         for dump in dumps:
             check_begin(dump, asked.begin)
         return [part_of(dump, asked) for dump in dumps]
-    longest = max(scale.femtoseconds for scale in scales)
-    begin = -(-scales[0].span(asked.begin) // longest) * longest
-    end = scales[0].span(asked.end) // longest * longest if asked.end != LAST else None
-    parts = []
-    for dump, span in zip(dumps, (scale.femtoseconds for scale in scales)):
-        check_begin(dump, dump.time(begin // span), is_up=False)
-        parts.append(dump.cut(begin // span, LAST_TICK if end is None else
-                              min(end // span, LAST_TICK)))
+    (begin, end), shorter = window_of_both(scales, asked), min(
+        scales, key=lambda scale: scale.femtoseconds)
+    parts, has_clock = [], bool(asked.rise or asked.fall)
+    for dump, scale in zip(dumps, scales):
+        check_begin(dump, shorter.text(begin))
+        factor = scale.femtoseconds // shorter.femtoseconds
+        parts.append(dump.cut(-(-begin // factor), end // factor) if has_clock else
+                     dump.cut(begin // factor, -(-end // factor)))
     return parts
 
 
@@ -190,7 +208,8 @@ def say_ends(report: Lines, sides: Sides, comparison: Comparison, has_clock: boo
                    if len(set(comparison.counts)) > 1 else [])
         return
     ends = [side.report.last for side in sides]
-    spans = {(end or 0) * factor for end, factor in zip(ends, comparison.factors)}
+    spans = {min((end or 0) * factor, comparison.window[1])
+             for end, factor in zip(ends, comparison.factors)}
     report.say("ends", [("ends", *ends)] if len(spans) > 1 else [])
 
 
@@ -241,11 +260,15 @@ def compare(asked: argparse.Namespace, report: Lines) -> None:
     same = same_within(asked.tolerance, asked.x_matches)
     comparison = Comparison(sides, pairs, same, asked.extent, clocks,
                             (b"0", b"1") if asked.rise else (b"1", b"0"))
+    scales = [side.scale for side in sides if side.scale]
+    if is_part(asked) and len(set(scales)) > 1:
+        comparison.window = window_of_both(scales, asked)
     found = say_values(report, asked, comparison)
     for side, count in zip(sides, comparison.counts):
         if clocks and pairs and not count:
-            raise UsageError("%s: %s never %s" % (
-                side.dump.name, name, "rises" if asked.rise else "falls"))
+            raise UsageError("%s: %s never %s%s" % (
+                side.dump.name, name, "rises" if asked.rise else "falls",
+                " in this window" * is_part(asked)))
     if not asked.common and not (clocks and found):
         say_ends(report, sides, comparison, bool(clocks))
     if not pairs and not report.differs():
@@ -304,6 +327,8 @@ def words_of(words: List[str]) -> argparse.Namespace:
     asked.maps.sort(key=lambda pair: -len(pair[0]))
     if not 0 <= asked.tolerance < float("inf"):
         options.error("--real-tolerance is a number from 0, as 1e-9")
+    if asked.one == asked.other == "-":
+        options.error("standard input twice")
     if asked.into is not None and not asked.context:
         options.error("--into is for the files of --context")
     if asked.context is not None:

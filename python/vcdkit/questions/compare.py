@@ -246,6 +246,7 @@ class Comparison:
         self._clocks, self._edge = clocks, edge
         self.factors = factors_of([side.scale for side in sides])
         self.counts = [0, 0]  # of edges, up to now
+        self.window = (0, LAST_TICK)  # without a clock, in ticks of both
 
     def differences(self) -> Generator[List[Difference], None, None]:
         """Returns the differences of each time together."""
@@ -280,7 +281,7 @@ class Comparison:
         each time at which they are not equal."""
         is_loose = self._same(b"x", b"1") or any(
             kind(pair.signals[0]) == "real" for pair in self._pairs)
-        dumps, end = [], LAST_TICK
+        dumps, (begin, end) = [], self.window
         for at, (side, factor) in enumerate(zip(self._sides, self.factors)):
             # To pick most signals takes longer than to merge all.
             part = (side.picked([pair.signals[at].path for pair in self._pairs])
@@ -296,7 +297,8 @@ class Comparison:
             end = min(end, last)
         keys = [[side.keys[place] for side, place in zip(self._sides, pair.places)]
                 for pair in self._pairs]
-        words = [*filter(None, [ALWAYS if is_loose else self._extent]), "--to", str(end)]
+        words = [*filter(None, [ALWAYS if is_loose else self._extent]), "--from", str(begin),
+                 "--to", str(end)]
         return (line for line in differing(dumps, keys, words) if not self._same(*line[2]))
 
     def _edges_of(self, at: int) -> Iterator[Tuple[int, body.Changes]]:

@@ -114,7 +114,8 @@ class _Part:
         if self.of is None:
             return RunFailed("%s: %s" % (self.names["(stdin)"], self.said or "%s: status %d" % (
                 self.words[0], self.status)))
-        error = error_of(self.said or "vcdkit: status %d" % self.status, self.status, self.names)
+        error = error_of(self.said or "%s: status %d" % (" ".join(self.words[:2]), self.status),
+                         self.status, self.names)
         if isinstance(error, UnknownName):
             error.of = self.of
         return error
