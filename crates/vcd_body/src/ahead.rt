@@ -137,8 +137,8 @@ fn without_text<'a>(item: Item, token: &[u8], ahead: Ahead<'a>) -> ScannedItem<'
 
 /// Returns the index and the size of the code of a vector change, looked up by the token `code`.
 /// `None` if `token` (`b` and digits) has bad digits or none, if the header does not declare the
-/// code, or if its size is less than the number of digits. `binary` says that all digits are known
-/// to be `0` and `1`.
+/// code, or if there are more digits than its size, which an event may have. `binary` says that all
+/// digits are known to be `0` and `1`.
 #[inline(always)]
 fn vector_code(token: &[u8], code: &[u8], view: HeadView<'_>, binary: bool) -> Option<Found>
     requires begins { Begins token.now kind.Vector }

@@ -148,7 +148,9 @@ fn no_pairs(alloc: Global, codes: usize) -> Result<Pairs, AllocError>
     })
 }
 
-/// Returns the numbers of these names among `paths`. Those that are new are entered.
+/// Returns for each pair of these names the numbers that its two names have among `paths`. A name
+/// that is new is entered, as is each path that it begins with, up to a dot. Fails if memory runs
+/// out.
 fn number_names(
     alloc: Global,
     names: &[NamePair],

@@ -54,9 +54,9 @@ fn put_item<W: Sink>(
     }
 }
 
-/// Returns whether a dump that is written may have this item: a section's begin or end, or a
-/// change, but not of an event inside a section. Timestamps are written by themselves. `regs` are
-/// the registers after the item.
+/// Returns whether the output may have this item: a section's begin or end, or a change, but not of
+/// an event inside a section. It is false for a timestamp, whose line is written by itself, and for
+/// the end of the body. `regs` are the registers after the item.
 #[inline(always)]
 pub(crate) fn may_keep(view: HeadView<'_>, regs: Regs, item: Item) -> bool
     ensures { result ≡ may_be_kept view.entry regs item }

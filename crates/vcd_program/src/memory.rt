@@ -160,9 +160,10 @@ pub struct Filled {
     pub status: u8,
 }
 
-/// Runs the program with these arguments, its own name first among them, over the files in
-/// `memory`, which has opened no input yet, and returns its exit status. Output goes to `out`, and
-/// messages go to `err`. Nothing was written to either before.
+/// Runs the program with these arguments, its own name first among them, over the files and the
+/// standard input in `memory`, and returns its exit status. Output goes to `out`, and messages go
+/// to `err`. Before the call, no input may have been opened from `memory`, and nothing written to
+/// `out` or `err`. Codes are hashed with numbers that `hasher` returns.
 fn run_into_lent<B: BuildHasher>(
     alloc: Global,
     words: &[String],

@@ -51,9 +51,10 @@ fn are_same(held: HeldValue<'_>, text: &[u8], size: usize) -> bool
     true
 }
 
-/// Returns whether the held value, which has to be one of digits, and a text of digits are
-/// different values of a code of this size. It is for several digits, held or in the text, and its
-/// time grows with their number, not with the size.
+/// Returns whether the held value, which has to be one of digits, and a text of digits differ once
+/// both are extended on the left to `size` digits; a longer one is not cut. A capital letter equals
+/// its small one. It is for several digits, held or in the text, and its time grows with their
+/// number, not with the size.
 #[inline(never)]
 fn several_differ(held: HeldValue<'_>, size: usize, text: &[u8]) -> bool
     requires digits { HasDigits held }
