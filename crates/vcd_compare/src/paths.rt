@@ -38,8 +38,8 @@ pub(crate) fn key_at(keys: &IndexSet<(usize, usize), CodeSeed>, index: usize) ->
     }
 }
 
-/// Returns what the path with this number consists of (`nodes` of `Paths`), or two zeros if there is
-/// no such path.
+/// Returns what the path with this number consists of (`nodes` of `Paths`), or two zeros if there
+/// is no such path.
 pub(crate) fn node_at(nodes: &IndexSet<(usize, usize), CodeSeed>, number: usize) -> (usize, usize)
     ensures { result ≡ node_at nodes.now.keys number }
 {

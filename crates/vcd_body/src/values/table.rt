@@ -181,10 +181,10 @@ impl<'a> Table<'a> {
         }
     }
 
-    /// Returns what a change of this form and text, which must not be empty, would do to the code at
-    /// index `code`: whether its value would be another one, both extended to `size` digits, and
-    /// whether its last digit would rise from 0 to 1 or fall from 1 to 0. None of this is so if it
-    /// has no value yet, or if there is no such code.
+    /// Returns what a change of this form and text, which must not be empty, would do to the code
+    /// at index `code`: whether its value would be another one, both extended to `size` digits,
+    /// and whether its last digit would rise from 0 to 1 or fall from 1 to 0. None of this is so if
+    /// it has no value yet, or if there is no such code.
     #[inline(always)]
     fn step_to(&self, code: usize, size: usize, form: Form, text: &[u8]) -> Step
         ensures { IsLaidOut self.now → 0 < length text.now
