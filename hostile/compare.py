@@ -20,8 +20,9 @@ machine  The stack has 112 KB, and memory is limited, in steps of 16 KB; words a
          comparison.
 headers  A header of twice as many declarations takes at most three times the CPU time: in any
          order, with deep scopes, with one path or one code for all, with dots in names. So does a
-         value of twice as many digits with twice as many changes of its counterpart, and a path of
-         twice as many parts with 99 names inside each other, in 32 MB of memory.
+         value of twice as many digits with twice as many changes of its counterpart, a comparison
+         of twice as many pairs that differ one after another, and a path of twice as many parts
+         with 99 names inside each other, in 32 MB of memory.
 flat     Two streams of 64 MB are merged and compared, each program in 32 MB of memory. FLAT=2048
          takes streams of so many megabytes."""
 import itertools, os, random, subprocess, sys, tempfile, threading
@@ -324,8 +325,8 @@ def nested(count):
 
 
 def headers_of(count):
-    """Headers with what they are, and how many pairs they have. Some have little memory; with them
-    are the words, and the lines before the last."""
+    """Dumps with what they are, and how many pairs they have; with some of them the words of a run
+    in little memory, and the lines before the last."""
     r = random.Random(1)
     parts = [b"p", b"q"]
     yield "in order", declared(parts, count), count
@@ -345,6 +346,9 @@ def headers_of(count):
                                        order=list.reverse), count)
     yield ("deep", *deep(count))
     yield from nested(count // 20)
+    yield ("that differ one after another", declared(parts, count) + b"".join(
+        b"#%d\n0p%d\n1q%d\n" % (n, n, n) for n in range(count)), count, None, b"".join(
+            b"differs %d p.v%d 0 1\n" % (n, n) for n in range(count)))
 
 
 def cpu_of(command, given):
@@ -369,7 +373,7 @@ def cpu_of(command, given):
 def asked(program, text, pairs, words=None, lines=b""):
     """The command and the dump of a run, and what it has to write."""
     command = [*SMALL, program, *words] if words else [program, "p=q"]
-    return command, text + b"#0\n", lines + b"compared %d\n" % pairs
+    return command, text + b"#%d\n" % 10**9, lines + b"compared %d\n" % pairs
 
 
 def headers(programs):

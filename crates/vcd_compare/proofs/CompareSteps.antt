@@ -57,7 +57,7 @@ module _ (h : Header) (exceptions : List (List ℕ)) (ns : List Names) (items : 
   open_same = open_other q h ns items x other
 
   -- with other states and flags
-  pub compares_with : (c' : Comparison) (w' : Watched) → c'.current.pairs.now ≡ c.current.pairs.now → c'.current.asked ≡ c.current.asked → w'.at ≡ w.at → AreCurrent c'.current h (items ++ x ∷ []) → AreFlags c.current.pairs.now h q (items ++ x ∷ []) c'.flags.now → Compares h exceptions ns (items ++ x ∷ []) c' w'
+  pub compares_with : (c' : Comparison) (w' : Watched) → c'.current.pairs.now ≡ c.current.pairs.now → c'.current.asked ≡ c.current.asked → w'.at ≡ w.at → AreCurrent c'.current h (items ++ x ∷ []) → AreFlags c.current.pairs.now h q (items ++ x ∷ []) c'.flags.bytes.now → Compares h exceptions ns (items ++ x ∷ []) c' w'
   compares_with c' w' pairs asked at current flags = record {
     pairs = rw (pairs, asked) stands.pairs;
     current = current;
@@ -69,7 +69,7 @@ module _ (h : Header) (exceptions : List (List ℕ)) (ns : List Names) (items : 
   }
 
   -- an item that gives nothing
-  flags_still : ((d : IdCode) → gives_to d x ≡ false) → AreFlags c.current.pairs.now h q (items ++ x ∷ []) c.flags.now
+  flags_still : ((d : IdCode) → gives_to d x ≡ false) → AreFlags c.current.pairs.now h q (items ++ x ∷ []) c.flags.bytes.now
   flags_still none = record {
     many = stands.flags.many;
     each = λ class p below is.
@@ -132,8 +132,8 @@ module _ (h : Header) (exceptions : List (List ℕ)) (ns : List Names) (items : 
     abbrev NoneNow : Type 0
     NoneNow = asked.extent ≡ Extent.First → list_any (λ p. differs asked.rule (side items) (side items) p (time_compared asked items)) (compared_in asked h ns) ≡ false
 
-    pub compares_later : (c' : Comparison) (w' : Watched) → c'.current ≡ c.current → w'.at ≡ t → length c'.flags.now ≡ length c.flags.now
-        → ((k : ℕ) → k < length c.flags.now → get_or c'.flags.now k 0 ≡ settled_flag asked.extent (get_or c.flags.now k 0)) → NoneNow → Compares h exceptions ns after c' w'
+    pub compares_later : (c' : Comparison) (w' : Watched) → c'.current ≡ c.current → w'.at ≡ t → length c'.flags.bytes.now ≡ length c.flags.bytes.now
+        → ((k : ℕ) → k < length c.flags.bytes.now → get_or c'.flags.bytes.now k 0 ≡ settled_flag asked.extent (get_or c.flags.bytes.now k 0)) → NoneNow → Compares h exceptions ns after c' w'
     compares_later c' w' same at many each none = record {
       pairs = rw same stands.pairs;
       current = rw same current_after;
@@ -234,12 +234,12 @@ module _ (h : Header) (exceptions : List (List ℕ)) (ns : List Names) (items : 
   within_window : nat_lt c.current.asked.to t ≡ false
   within_window = (or_parts (nat_lt c.current.asked.to t) (nat_lt 0 w.differing && nat_lt w.at t) on).0
 
-  none_one : w.at < t → differing c.flags.now ≡ 0
+  none_one : w.at < t → differing c.flags.bytes.now ≡ 0
   none_one high =
       let second = (or_parts (nat_lt c.current.asked.to t) (nat_lt 0 w.differing && nat_lt w.at t) on).1 in
       let first : nat_lt 0 w.differing ≡ false = by_test (nat_lt 0 w.differing) (rw (lt-ltb w.at t high) at second) in
       let zero = ltb-false 0 w.differing first in
-      sym counted ∙ omega arith
+      sym counted.differing ∙ omega arith
     where
       by_test : (b : Bool) → (b && true) ≡ false → b ≡ false
       by_test true e = cc
@@ -251,8 +251,8 @@ module _ (h : Header) (exceptions : List (List ℕ)) (ns : List Names) (items : 
       by_order : (w.at < t) ⊎ (t ≤ w.at) → Compares h exceptions ns (items ++ BodyItem.Time t ∷ []) c w' × (within_open its h ns (items ++ BodyItem.Time t ∷ []) ≡ within_open its h ns items)
       by_order (inl high) =
           let none = none_one high in
-          let flags = none_for_all c.current.pairs.now h its ns items c.flags.now stands.pairs stands.flags none in (
-            compares_later h exceptions ns items t c w stands forth high within_window c w' refl (at ∙ omega arith) refl (λ k below. rw (none_flagged c.flags.now k none) refl)
+          let flags = none_for_all c.current.pairs.now h its ns items c.flags.bytes.now stands.pairs stands.flags none in (
+            compares_later h exceptions ns items t c w stands forth high within_window c w' refl (at ∙ omega arith) refl (λ k below. rw (none_flagged c.flags.bytes.now k none) refl)
                 (λ e. none_differ its items (compared_in its h ns) e flags (none_had its items (compared_in its h ns) (filter (is_settled items) (times_in its items)) (stands.quiet e))),
             open_grows h exceptions ns items t c w stands forth high
                 ∙ ap (λ l. within_open its h ns items ++ l) (none_due its h ns items stands.up stands.quiet flags)

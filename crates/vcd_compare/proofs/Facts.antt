@@ -17,6 +17,6 @@ pub use Rattle.vcd_compare.proofs.RunSteps.{begins_none, change_given, close_fai
 pub use Rattle.vcd_compare.proofs.SelectedLemmas.{both_one, both_zip, named_below}
 pub use Rattle.vcd_compare.proofs.StartLemmas.{come_first, compares_first, open_first}
 pub use Rattle.vcd_compare.proofs.StatesNow.{apart_from, bits_real, bits_there, both_real, few_match, held_final, held_state, lengths_match, shown_digits, some_unset, told_same, triggered_now, unset_some}
-pub use Rattle.vcd_compare.proofs.TimeSteps.{counted_none, differs_none, differs_some, left_due, none_now, puts_now, settles_due, settles_none, tells_again, tells_first, tells_later, tells_none}
+pub use Rattle.vcd_compare.proofs.TimeSteps.{counted_none, listed_none, differs_none, differs_some, left_due, none_now, puts_now, settles_due, settles_none, tells_again, tells_first, tells_later, tells_none}
 pub use Rattle.vcd_compare.proofs.TriggerLemmas.{triggers_after}
 pub use Rattle.vcd_compare.proofs.VariableLemmas.{is_variable, not_variable, some_more, some_none, some_same}

@@ -30,5 +30,6 @@ pub mod AheadSteps
 pub mod RunSteps
 pub mod NeededLemmas
 pub mod StartLemmas
+pub mod RowLemmas
 pub mod Cited
 pub mod Facts

@@ -9,6 +9,7 @@ use Rattle.vcd_compare.proofs.DueSome.{due_some, more_lines, none_one, with_flag
 use Rattle.vcd_compare.proofs.FlagLemmas.{compared_is}
 use Rattle.vcd_compare.proofs.OpenGrows.{close_is}
 use Rattle.vcd_compare.proofs.RunEnds.{first_ends, not_ended, open_settled, open_some, past_ends}
+use Rattle.vcd_compare.proofs.Cited.{AreListed, eq-eqb}
 
 both_true : (a b : Bool) → (a && b) ≡ true → (a ≡ true) × (b ≡ true)
 both_true true b e = (refl, e)
@@ -34,8 +35,8 @@ module _ (h : Header) (exceptions : List (List ℕ)) (ns : List Names) (items : 
       by_cases : (nat_lt 0 w.differing ≡ false) ⊎ (nat_le w.at c.current.asked.to ≡ false) → lines_due q h ns items ≡ []
       by_cases (inl e) =
           let few = ltb-false 0 w.differing e in
-          let zero : differing c.flags.now ≡ 0 = sym counted ∙ omega arith in
-          none_due q h ns items stands.up stands.quiet (none_for_all c.current.pairs.now h q ns items c.flags.now stands.pairs stands.flags zero)
+          let zero : differing c.flags.bytes.now ≡ 0 = sym counted.differing ∙ omega arith in
+          none_due q h ns items stands.up stands.quiet (none_for_all c.current.pairs.now h q ns items c.flags.bytes.now stands.pairs stands.flags zero)
       by_cases (inr e) = late (ap (λ (t : ℕ). nat_le t c.current.asked.to) (sym stands.at) ∙ e)
 
   module _ (due : is_due_now w c ≡ true) where
@@ -49,17 +50,17 @@ module _ (h : Header) (exceptions : List (List ℕ)) (ns : List Names) (items : 
         ∙ sym (due_by_flags q h ns items stands.up stands.quiet ∙ rw (le-leb (time_compared q items) q.to asked_now) refl)
 
     -- and they are put by the flags
-    pub puts_now : (v : HeadView) (takes : List ℕ → Type 0) → IsViewOf v h → ArePairLines v c.current c.flags.now w.at takes → takes (lines_due q h ns items)
+    pub puts_now : (v : HeadView) (takes : List ℕ → Type 0) → IsViewOf v h → ArePairLines v c.current c.flags.bytes.now w.at takes → takes (lines_due q h ns items)
     puts_now v takes views lines =
         let ps = c.current.pairs.now in
         subst takes lines_now
-        (lines h items (compared_in q h ns) (flag_for q items) views stands.current not_before (with_flags ps h q ns items c.flags.now stands.pairs stands.flags ps.rows.items (compared_in q h ns) stands.pairs.rows))
+        (lines h items (compared_in q h ns) (flag_for q items) views stands.current not_before (with_flags ps h q ns items c.flags.bytes.now stands.pairs stands.flags ps.rows.items (compared_in q h ns) stands.pairs.rows))
 
     -- and there are some
     pub some_now : IsCounted w c → is_empty (lines_due q h ns items) ≡ false
     some_now counted =
-        due_some c.current.pairs.now h q ns items c.flags.now stands.pairs stands.flags stands.up stands.quiet asked_now
-        (let some : 0 < w.differing = ltb-true 0 w.differing (both_true (nat_lt 0 w.differing) (nat_le w.at c.current.asked.to) due).0 in omega (arith, some, counted))
+        due_some c.current.pairs.now h q ns items c.flags.bytes.now stands.pairs stands.flags stands.up stands.quiet asked_now
+        (let some : 0 < w.differing = ltb-true 0 w.differing (both_true (nat_lt 0 w.differing) (nat_le w.at c.current.asked.to) due).0 in omega (arith, some, counted.differing))
 
 -- ---- the end of the body
 
@@ -170,8 +171,8 @@ module _ (h : Header) (exceptions : List (List ℕ)) (ns : List Names) (items : 
         differs = differs ∙ differs_after;
       }
 
-      pub tells_later : (run' : Run) → run'.comparison.current ≡ run.comparison.current → run'.watched.at ≡ t → length run'.comparison.flags.now ≡ length run.comparison.flags.now
-          → ((k : ℕ) → k < length run.comparison.flags.now → get_or run'.comparison.flags.now k 0 ≡ settled_as (flag_after request.extent) (get_or run.comparison.flags.now k 0)) → (request.extent ≡ Extent.First → ⊥) → run'.differs ≡ true
+      pub tells_later : (run' : Run) → run'.comparison.current ≡ run.comparison.current → run'.watched.at ≡ t → length run'.comparison.flags.bytes.now ≡ length run.comparison.flags.bytes.now
+          → ((k : ℕ) → k < length run.comparison.flags.bytes.now → get_or run'.comparison.flags.bytes.now k 0 ≡ settled_as (flag_after request.extent) (get_or run.comparison.flags.bytes.now k 0)) → (request.extent ≡ Extent.First → ⊥) → run'.differs ≡ true
           → TellsEnd request h exceptions ns after run' (nat_lt to t)
       tells_later run' same at many each others differs =
           tells_past run' (ap (λ c. c.asked) same)
@@ -189,3 +190,10 @@ not_one e f = by_tests (f == 1) (is_always e) refl
 
 pub counted_none : (e : Extent) (old new : List ℕ) → length new ≡ length old → ((k : ℕ) → k < length old → get_or new k 0 ≡ settled_as (flag_after e) (get_or old k 0)) → 0 ≡ differing new
 counted_none e old new many each = sym (none_one new (λ k low. ap (λ f. f == 1) (each k (omega arith)) ∙ not_one e (get_or old k 0)))
+
+-- none of them has to be listed
+pub listed_none : (e : Extent) (old new classes : List ℕ) (listed : ℕ) → ((k : ℕ) → get_or new k 0 ≡ settled_as (flag_after e) (get_or old k 0)) → AreListed new classes listed
+listed_none e old new classes listed each le class one = let no = not_one e (get_or old class 0) in let yes = eq-eqb (get_or new class 0) 1 one in let same = ap (λ f. f == 1) (each class) in absurd (true-false (sym yes ∙ same ∙ no))
+  where
+    true-false : true ≡ false → ⊥
+    true-false e = cc

@@ -1,5 +1,5 @@
 -- What a comparison keeps between two items.
-use Rattle.std.specs.Prelude.{◌≡◌, ◌≢◌, ◌⊎◌, ℕ, suc, ◌+◌, ◌-◌, ◌/◌, ◌%◌, ◌<◌, ◌≤◌, Bool, true, false, cond, ◌&&◌, ◌||◌, ◌==◌, nat_lt, List, [], ◌∷◌, ◌++◌, length, is_none, slice_get, slice_set, get_or, Option, Some, None, IfSome, Result, Ok}
+use Rattle.std.specs.Prelude.{◌≡◌, ◌≢◌, ◌⊎◌, ℕ, suc, ◌+◌, ◌-◌, ◌/◌, ◌%◌, ◌<◌, ◌≤◌, Bool, true, false, cond, ◌&&◌, ◌||◌, ◌==◌, nat_lt, List, [], ◌∷◌, ◌++◌, length, is_none, slice_get, slice_set, get_or, take, Option, Some, None, IfSome, Result, Ok}
 use Rattle.std.specs.Bool.{Decides}
 use Rattle.std.specs.List.{list_any}
 use Rattle.vcd_model.specs.Declarations.{IdCode, code_of}
@@ -21,7 +21,7 @@ use Rattle.vcd_body.specs.declared.ahead.ScannedItem.{ScannedItem}
 use Rattle.vcd_body.specs.declared.item.Item.{Item}
 use Rattle.vcd_body.specs.declared.item.Regs.{Regs}
 use Rattle.vcd_compare.specs.Asked.{model_asked}
-use Rattle.vcd_compare.specs.Flags.{differing}
+use Rattle.vcd_compare.specs.Flags.{AreListed, differing, settled_as}
 use Rattle.vcd_compare.specs.Leads.{AreLeads}
 use Rattle.vcd_compare.specs.Lines.{DoNotFall, IsQuiet, codes_differ, flag_of, time_compared}
 use Rattle.vcd_compare.specs.Pairs.{ArePairs, IsClassOf}
@@ -29,7 +29,10 @@ use Rattle.vcd_compare.specs.declared.comparing.Comparison.{Comparison}
 use Rattle.vcd_compare.specs.declared.current.Current.{Current}
 use Rattle.vcd_compare.specs.declared.comparing.Watched.{Watched}
 use Rattle.vcd_compare.specs.declared.pairs.End.{End}
+use Rattle.vcd_compare.specs.declared.pairs.PairRow.{PairRow}
 use Rattle.vcd_compare.specs.declared.pairs.Pairs.{Pairs}
+use Rattle.vcd_compare.specs.Rows.{HaveRows, classes_of, is_flagged}
+use Rattle.vcd_compare.specs.Selected.{chosen}
 
 -- ---- events
 
@@ -106,7 +109,7 @@ differ_from is_first r items a b t = cond is_first (codes_differ r items a b t) 
 pub record Compares (h : Header) (exceptions : List (List ℕ)) (ns : List Names) (items : List BodyItem) (c : Comparison) (w : Watched) : Type 0 where
   pub pairs : ArePairs c.current.pairs.now h (model_asked c.current.asked exceptions) ns
   pub current : AreCurrent c.current h items
-  pub flags : AreFlags c.current.pairs.now h (model_asked c.current.asked exceptions) items c.flags.now
+  pub flags : AreFlags c.current.pairs.now h (model_asked c.current.asked exceptions) items c.flags.bytes.now
   pub at : w.at ≡ time_compared (model_asked c.current.asked exceptions) items
   pub up : DoNotFall 0 (marks items)
   pub quiet : (model_asked c.current.asked exceptions).extent ≡ Extent.First → IsQuiet (model_asked c.current.asked exceptions) h ns items
@@ -117,9 +120,20 @@ pub record SameRequest (c c' : Comparison) : Type 0 where
   pub pairs : c'.current.pairs.now ≡ c.current.pairs.now
   pub asked : c'.current.asked ≡ c.current.asked
 
--- it is counted how many flags are 1
-abbrev pub IsCounted : Watched → Comparison → Type 0
-IsCounted w c = w.differing ≡ differing c.flags.now
+-- it is counted how many flags are 1, and the rows of their classes are found
+pub record IsCounted (w : Watched) (c : Comparison) : Type 0 where
+  pub differing : w.differing ≡ differing c.flags.bytes.now
+  pub listed : AreListed c.flags.bytes.now c.flags.classes.now c.flags.listed
+  pub rows : HaveRows c.current.pairs.now.rows.items c.flags c.links c.due.now
+
+-- the rows whose flag was 1 are due, in order, and their flags became another number
+pub record Settles (after : ℕ) (c c' : Comparison) (count : ℕ) : Type 0 where
+  pub current : c'.current ≡ c.current
+  pub many : length c'.flags.bytes.now ≡ length c.flags.bytes.now
+  pub each : (k : ℕ) → get_or c'.flags.bytes.now k 0 ≡ settled_as after (get_or c.flags.bytes.now k 0)
+  pub rows : HaveRows c'.current.pairs.now.rows.items c'.flags c'.links c'.due.now
+  pub within : count ≤ length c'.due.now
+  pub due : let rows : List PairRow = c.current.pairs.now.rows.items in take count c'.due.now ≡ chosen (is_flagged c.flags.bytes.now (classes_of rows)) (length rows)
 
 -- a timestamp of this time ends the run, or settles lines that are due
 abbrev pub stops_before : Watched → Comparison → ℕ → Bool

@@ -1,6 +1,7 @@
 pub mod Asked
 pub mod Comparing
 pub mod Flags
+pub mod Rows
 pub mod Lines
 pub mod LineTexts
 pub mod Pairs

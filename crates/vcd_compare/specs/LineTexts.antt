@@ -1,5 +1,5 @@
 -- What the functions that write lines are about.
-use Rattle.std.specs.Prelude.{◌≡◌, ℕ, ◌≤◌, ◌==◌, cond, List, [], ◌∷◌, flat_map, get_or, slice_get, Some}
+use Rattle.std.specs.Prelude.{◌≡◌, ℕ, ◌≤◌, ◌==◌, cond, List, [], ◌∷◌, flat_map, get_or, slice_get, Option, Some, None}
 use Rattle.std.specs.List.{AllZip}
 use Rattle.vcd_model.specs.Declarations.{IdCode, code_of}
 use Rattle.vcd_model.specs.HeadText.{words}
@@ -44,6 +44,16 @@ AtAlone v row holds = (h : Header) (n : Named) → IsViewOf v h → IsNamedAt h 
 -- it holds of the two variables of these rows
 abbrev pub AtUnlike : HeadView → UnlikeRows → (Pair → Type 0) → Type 0
 AtUnlike v rows holds = (h : Header) (p : Pair) → IsViewOf v h → IsUnlikeAt h rows p → holds p
+
+-- the line of a pair, if there is one
+abbrev pub line_at : List BodyItem → ℕ → Option Pair → List ℕ
+line_at items time None = []
+line_at items time (Some p) = value_line (side items) (side items) p time
+
+-- it takes the lines of the pairs in these rows
+abbrev pub AreRowLines : HeadView → Current → List ℕ → ℕ → (List ℕ → Type 0) → Type 0
+AreRowLines v current rows time takes = (h : Header) (items : List BodyItem) (ps : List Pair) → IsViewOf v h → AreCurrent current h items → time_after items ≤ time
+    → AllZip (IsPairAt h current.pairs.now.ends.items) current.pairs.now.rows.items ps → takes (flat_map (λ row. line_at items time (slice_get ps row)) rows)
 
 -- it takes the line of each pair whose class has the flag 1
 abbrev pub ArePairLines : HeadView → Current → List ℕ → ℕ → (List ℕ → Type 0) → Type 0

@@ -25,8 +25,8 @@ use Rattle.vcd_body.specs.declared.answer.More.{More}
 use Rattle.vcd_body.specs.declared.answer.More.TheVariants.{Again, Ended}
 use Rattle.vcd_body.specs.declared.answer.Stop.{Stop}
 use Rattle.vcd_body.specs.declared.answer.Stop.TheVariants.{Dump, Read, Write, Unmatched}
-use Rattle.vcd_compare.specs.Asked.{model_asked}
-use Rattle.vcd_compare.specs.Comparing.{Compares, IsCounted}
+use Rattle.vcd_compare.specs.Asked.{model_asked, model_extent}
+use Rattle.vcd_compare.specs.Comparing.{Compares, IsCounted, Settles}
 use Rattle.vcd_compare.specs.Lines.{is_always, lines_due, time_compared}
 use Rattle.vcd_compare.specs.declared.comparing.Comparison.{Comparison}
 use Rattle.vcd_compare.specs.declared.comparing.Watched.{Watched}
@@ -57,6 +57,11 @@ flag_after e = cond (is_always e) 0 2
 abbrev pub PutsDue : HeadView → Run → (out out' : Device) → Result Bool WriteFailed → Type 0
 PutsDue v run out out' result = (h : Header) (exceptions : List (List ℕ)) (ns : List Names) (items : List BodyItem) → IsViewOf v h → Compares h exceptions ns items run.comparison run.watched
     → Takes out out' (lines_due (model_asked run.comparison.current.asked exceptions) h ns items) result
+
+-- if some line was due, the flags are settled; otherwise nothing changes
+abbrev pub LeavesDue : Bool → Run → Run → Type 0
+LeavesDue false run run' = run' ≡ run
+LeavesDue true run run' = (count : ℕ) × Settles (flag_after (model_extent run.comparison.current.asked.extent)) run.comparison run'.comparison count × (run'.watched ≡ run.watched) × (run'.regs ≡ run.regs) × (run'.differs ≡ run.differs)
 
 -- the lines that a timestamp of this time settles
 abbrev pub settled_by : ModelAsked → Header → List Names → List BodyItem → ℕ → List ℕ

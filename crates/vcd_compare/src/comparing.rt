@@ -1,5 +1,5 @@
 //! The comparison between two items of a body.
-ghost use Rattle.std.specs.Prelude.{◌≡◌, ◌<◌, ℕ, List, Some, length, slice_get, unwrap_or};
+ghost use Rattle.std.specs.Prelude.{◌≡◌, ◌≢◌, ◌<◌, ℕ, List, Some, length, slice_get, unwrap_or};
 ghost use Rattle.vcd_body.specs.Ahead.{HasBits};
 ghost use Rattle.vcd_body.specs.Given.{HasGoodText};
 ghost use Rattle.vcd_body.specs.declared.item.Item.TheVariants as body_item;
@@ -8,22 +8,27 @@ ghost use Rattle.vcd_model.specs.Declarations.{IdCode};
 ghost use Rattle.vcd_model.specs.Header.{Header};
 ghost use Rattle.vcd_model.specs.Items.{BodyItem};
 ghost use Rattle.vcd_view.specs.Views.{IsViewOf};
-ghost use Rattle.vcd_compare.specs.Comparing.{ComparesOn, IsCounted, MarksChange, SameRequest, partner};
-ghost use Rattle.vcd_compare.specs.Flags.{differing, marked};
+ghost use Rattle.vcd_compare.specs.Comparing.{ComparesOn, IsCounted, MarksChange, SameRequest, Settles, partner};
+ghost use Rattle.vcd_compare.specs.Flags.{AreListed, differing, marked};
+ghost use Rattle.vcd_compare.specs.Rows.{HaveRows};
 
 use crate::current::{Current, note_trigger};
-use crate::flags::mark;
+use crate::flags::{Flags, mark};
 use crate::leads::note_lead;
 use crate::pairs::End;
+use crate::rows::{Links, sort_front, take_due};
 use vcd_body::{Bits, Item, Regs, ScannedItem, Visit, set_item};
 use vcd_text::{Sink, WriteFailed};
 use vcd_view::{Code, HeadView};
 
-/// What a comparison keeps between two items: the current states, and a flag for each class.
+/// What a comparison keeps between two items: the current states, the flags of the classes, where
+/// their rows are, and room for the rows that have a line due.
 #[derive(Drop)]
 pub(crate) struct Comparison<'p, 'r> {
     pub current: Current<'p, 'r>,
-    pub flags: &'r mut [u8],
+    pub flags: Flags<'r>,
+    pub links: Links<'r>,
+    pub due: &'r mut [usize],
 }
 
 /// What a walk keeps in registers.
@@ -66,7 +71,7 @@ fn last_end(last: &[usize], code: usize) -> usize
 #[inline(always)]
 fn mark_ends(
     current: &Current<'_, '_>,
-    flags: &mut [u8],
+    flags: &mut Flags<'_>,
     view: HeadView<'_>,
     code: usize,
     declared: Code,
@@ -74,9 +79,13 @@ fn mark_ends(
     count: usize,
 ) -> usize
     requires declared { slice_get view.codes.now code ≡ Some declared }
-    requires count { count ≡ differing flags.old }
-    ensures count { result ≡ differing flags.new }
-    ensures marks { MarksChange view.entry current.now code at flags.old flags.new }
+    requires count { count ≡ differing flags.old.bytes.now }
+    requires listed { AreListed flags.old.bytes.now flags.old.classes.now flags.old.listed }
+    ensures count { result ≡ differing flags.new.bytes.now }
+    ensures listed { AreListed flags.new.bytes.now flags.new.classes.now flags.new.listed }
+    ensures many { length flags.new.bytes.now ≡ length flags.old.bytes.now }
+    ensures marks { MarksChange view.entry current.now code at
+        flags.old.bytes.now flags.new.bytes.now }
 {
     let mut count = count;
     let mut left = last_end(&current.pairs.last, code);
@@ -113,7 +122,7 @@ impl Comparison<'_, '_> {
         requires sound { HasGoodText view.codes.now text.now item }
         requires bits { HasBits item text.now bits }
         requires other { (time : ℕ) → item ≡ body_item.Time time → ⊥ }
-        ensures counted { result ≡ differing self.new.flags.now }
+        ensures counted { IsCounted (record watched { differing = result }) self.new }
         ensures same { SameRequest self.old self.new }
         ensures on { ComparesOn view.entry text.now item regs self.old self.new watched
             (record watched { differing = result }) }
@@ -129,13 +138,28 @@ impl Comparison<'_, '_> {
         note_lead(self.current.leads, code, declared, text);
         mark_ends(
             &self.current,
-            self.flags,
+            &mut self.flags,
             view,
             code,
             declared,
             watched.at,
             watched.differing,
         )
+    }
+
+    /// Finds the rows of the pairs that have a line due, in order, and sets the flags of their
+    /// classes to `after`. Returns how many rows there are.
+    pub(crate) fn settle(&mut self, after: u8) -> usize
+        requires after { after ≢ 1 }
+        requires listed { AreListed self.old.flags.bytes.now self.old.flags.classes.now
+            self.old.flags.listed }
+        requires rows { HaveRows self.old.current.pairs.now.rows.items self.old.flags
+            self.old.links self.old.due.now }
+        ensures { Settles after self.old self.new result }
+    {
+        let count = take_due(&mut self.flags, after, &self.links, self.due);
+        sort_front(self.due, count);
+        count
     }
 }
 

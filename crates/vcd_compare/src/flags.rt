@@ -1,25 +1,60 @@
-//! A byte for each class of pairs: 1 if a line is due at the time that is compared, 2 if the class
-//! has had its only line, otherwise 0.
-ghost use Rattle.std.specs.Prelude.{◌≡◌, ◌<◌, ℕ, get_or, length};
-ghost use Rattle.vcd_compare.specs.Flags.{differing, marked, settled_as};
+//! A flag for each class of pairs, and the classes whose flag may be 1.
+ghost use Rattle.std.specs.Prelude.{◌≡◌, ◌==◌, get_or, length, slice_set};
+ghost use Rattle.vcd_compare.specs.Flags.{AreListed, differing, marked, taken};
+
+/// The flags of the classes, and which of them became 1.
+#[derive(Drop)]
+pub(crate) struct Flags<'r> {
+    /// For each class 1 if a line is due at the time that is compared, 2 if the class has had its
+    /// only line, otherwise 0.
+    pub bytes: &'r mut [u8],
+    /// The classes whose flags became 1 since none was 1: the first of them, if there is no room
+    /// for all. A class may be there several times.
+    pub classes: &'r mut [usize],
+    /// How many these are, with those that there is no room for.
+    pub listed: usize,
+}
+
+/// Lists a class whose flag becomes 1. `count` is how many others are 1; if none is, the list
+/// begins anew.
+#[inline(always)]
+fn list(flags: &mut Flags<'_>, class: usize, count: usize)
+    requires count { count ≡ differing flags.old.bytes.now }
+    requires listed { AreListed flags.old.bytes.now flags.old.classes.now flags.old.listed }
+    ensures bytes { flags.new.bytes ≡ flags.old.bytes }
+    ensures listed { AreListed (slice_set flags.old.bytes.now class 1)
+        flags.new.classes.now flags.new.listed }
+{
+    let at = if count == 0 { 0 } else { flags.listed };
+    if at < flags.classes.len() {
+        flags.classes[at] = class;
+    }
+    flags.listed = at.saturating_add(1);
+}
 
 /// Sets the flag of a class to whether its two codes differ now, unless the class has had its line.
 /// `count` is how many flags are 1; returns how many are after it. Nothing changes if there is no
 /// such class.
 #[inline(always)]
-pub(crate) fn mark(flags: &mut [u8], class: usize, differs: bool, count: usize) -> usize
-    requires count { count ≡ differing flags.old }
-    ensures flags { flags.new ≡ marked flags.old class differs }
-    ensures count { result ≡ differing flags.new }
+pub(crate) fn mark(flags: &mut Flags<'_>, class: usize, differs: bool, count: usize) -> usize
+    requires count { count ≡ differing flags.old.bytes.now }
+    requires listed { AreListed flags.old.bytes.now flags.old.classes.now flags.old.listed }
+    ensures flags { flags.new.bytes.now ≡ marked flags.old.bytes.now class differs }
+    ensures count { result ≡ differing flags.new.bytes.now }
+    ensures many { length flags.new.bytes.now ≡ length flags.old.bytes.now }
+    ensures listed { AreListed flags.new.bytes.now flags.new.classes.now flags.new.listed }
 {
-    if class >= flags.len() {
+    if class >= flags.bytes.len() {
         return count;
     }
-    let was = flags[class];
+    let was = flags.bytes[class];
     if was == 2 {
         return count;
     }
-    flags[class] = u8::from(differs);
+    if differs && was != 1 {
+        list(flags, class, count);
+    }
+    flags.bytes[class] = u8::from(differs);
     if was == 1 {
         if differs { count } else { count - 1 }
     } else if differs {
@@ -29,15 +64,14 @@ pub(crate) fn mark(flags: &mut [u8], class: usize, differs: bool, count: usize) 
     }
 }
 
-/// Sets each flag that is 1 to `after`, once its line was written.
-pub(crate) fn settle(flags: &mut [u8], after: u8)
-    ensures length { length flags.new ≡ length flags.old }
-    ensures each { (k : ℕ) → k < length flags.old
-        → get_or flags.new k 0 ≡ settled_as after (get_or flags.old k 0) }
+/// Sets the flag of a class, if it is 1, to `after`, and returns whether it was 1.
+pub(crate) fn take_flag(flags: &mut [u8], class: usize, after: u8) -> bool
+    ensures is { result ≡ (get_or flags.old class 0 == 1) }
+    ensures flags { flags.new ≡ taken class after flags.old }
 {
-    for index in 0..flags.len() {
-        if flags[index] == 1 {
-            flags[index] = after;
-        }
+    if class >= flags.len() || flags[class] != 1 {
+        return false;
     }
+    flags[class] = after;
+    true
 }

@@ -13,7 +13,7 @@
 //! - `pairs`: `Pairs`, `pairs_of`
 //! - `current`, `values`: the current states of all codes, and whether two of them match; `leads`:
 //!   how long values begin
-//! - `flags`: a flag for each two codes that are compared
+//! - `flags`: a flag for each two codes that are compared; `rows`: the pairs that have a line due
 //! - `comparing`: what an item changes; the visit of the walk over the items ahead
 //! - `lines`: how the lines are written
 //! - `whole`: `compare`, `Room`, `Answer`
@@ -31,6 +31,7 @@ mod leads;
 mod lines;
 mod pairs;
 mod paths;
+mod rows;
 mod selected;
 mod values;
 mod variables;

@@ -1,5 +1,5 @@
 //! The lines of a comparison.
-ghost use Rattle.std.specs.Prelude.{◌≡◌, ◌-◌, ◌^◌, ◌<◌, ◌≤◌, ℕ, List, [], ◌∷◌, Some, IsSomeAnd, cond, codes, flat_map, slice_get, ◌==◌, get_or, not};
+ghost use Rattle.std.specs.Prelude.{◌≡◌, ◌-◌, ◌^◌, ◌<◌, ◌≤◌, ℕ, List, [], ◌∷◌, Some, IsSomeAnd, cond, codes, flat_map, slice_get, ◌==◌, get_or, length, not, take};
 ghost use Rattle.std.specs.List.{AllZip};
 ghost use Rattle.vcd_model.specs.Bytes.{is_empty};
 ghost use Rattle.vcd_model.specs.Compare.{Asked, Named, Pair, alone_lines, kind_of as kind_of_variable, kind_shown, state_at, unlike_lines, value_line};
@@ -11,12 +11,14 @@ ghost use Rattle.vcd_model.specs.Within.{Names, side, within_head};
 ghost use Rattle.vcd_text.specs.Device.{Counts, PutsWhere, Takes};
 ghost use Rattle.vcd_view.specs.Views.{IsViewOf};
 ghost use Rattle.vcd_compare.specs.Comparing.{AreCurrent};
-ghost use Rattle.vcd_compare.specs.LineTexts.{ArePairLines, AtAlone, AtClass, AtCode, AtPair, AtUnlike, HasCodes, states_of};
+ghost use Rattle.vcd_compare.specs.LineTexts.{AreRowLines, AtAlone, AtClass, AtCode, AtPair, AtUnlike, HasCodes, states_of};
 ghost use Rattle.vcd_compare.specs.Pairs.{ArePairs, IsClassOf, IsNamedAt, IsUnlikeAt};
 
+use crate::comparing::Comparison;
 use crate::current::Current;
 use crate::kinds::{VariableKind, kind_of};
 use crate::pairs::{PairRow, Pairs, UnlikeRows};
+use crate::variables::number_at;
 use vcd_body::put_full;
 use vcd_head::put_path;
 use vcd_text::{Sink, WriteFailed, put, put_number};
@@ -101,28 +103,25 @@ fn put_line<W: Sink>(
     put_states(current, view, pair.class, time, out)
 }
 
-/// Returns the flag of this class; 0 if there is no such class.
-fn flag_at(flags: &[u8], class: usize) -> u8
-    ensures { result ≡ get_or flags.now class 0 }
-{
-    flags.get(class).copied().unwrap_or(0)
-}
-
-/// Writes the lines of this time, which is not before the last timestamp: one for each pair whose
-/// class has the flag 1. Fails if a write does.
+/// Writes the lines of the first `count` rows that are due, at this time, which is not before the
+/// last timestamp. Fails if a write does.
 pub(crate) fn put_lines<W: Sink>(
-    current: &Current<'_, '_>,
+    comparison: &Comparison<'_, '_>,
     view: HeadView<'_>,
-    flags: &[u8],
+    count: usize,
     time: u64,
     out: &mut W,
 ) -> Result<(), WriteFailed>
     requires failures { (W.device out.old).failures < 2 ^ 64 - 1 }
+    requires within { count ≤ length comparison.now.due.now }
     ensures { PutsWhere W.device out.old out.new result (λ takes.
-        ArePairLines view.entry current.now flags.now time takes) }
+        AreRowLines view.entry comparison.now.current (take count comparison.now.due.now)
+        time takes) }
 {
-    for pair in &current.pairs.rows {
-        if flag_at(flags, pair.class) == 1 {
+    let current = &comparison.current;
+    for index in 0..count {
+        let row = number_at(comparison.due, index);
+        if let Some(pair) = current.pairs.rows.get(row) {
             put_line(current, view, *pair, time, out)?;
         }
     }

@@ -17,15 +17,16 @@ ghost use Rattle.vcd_compare.specs.Asked.{model_asked, model_extent};
 ghost use Rattle.vcd_compare.specs.Comparing.{IsCounted};
 ghost use Rattle.vcd_compare.specs.Needed.{ReadsNeeded, ReadsOn, ReadsStep};
 ghost use Rattle.vcd_compare.specs.Pairs.{ArePairs};
-ghost use Rattle.vcd_compare.specs.Run.{BodyGives, Closes, PutsDue, RunStands, RunsOn, SameRun, Steps, StepsAhead, StepsOver, TakesTime, flag_after, is_due_now};
+ghost use Rattle.vcd_compare.specs.Run.{BodyGives, Closes, LeavesDue, PutsDue, RunStands, RunsOn, SameRun, Steps, StepsAhead, StepsOver, TakesTime, flag_after, is_due_now};
 
 use crate::asked::{Asked, Extent};
 use crate::comparing::{Comparison, Watched};
 use crate::current::Current;
-use crate::flags::settle;
+use crate::flags::Flags;
 use crate::leads::Lead;
 use crate::lines::{has_header_lines, put_header_lines, put_lines};
 use crate::pairs::Pairs;
+use crate::rows::Links;
 use std::io;
 use vcd_body::{
     Done, Item, More, Regs, Share, Slot, Stop, Table, change_text, next_item, pass_items,
@@ -49,6 +50,14 @@ pub struct Room<'r> {
     pub leads: &'r mut [Lead],
     /// A 0 for each class of the pairs.
     pub flags: &'r mut [u8],
+    /// A number for each class of the pairs, whatever it is.
+    pub classes: &'r mut [usize],
+    /// A 0 for each class of the pairs.
+    pub last: &'r mut [usize],
+    /// A number for each pair, whatever it is.
+    pub earlier: &'r mut [usize],
+    /// A number for each pair, whatever it is.
+    pub due: &'r mut [usize],
 }
 
 /// How a comparison ended.
@@ -68,8 +77,8 @@ impl Pairs {
         self.rows.len()
     }
 
-    /// Returns how many bytes `Room::flags` has to have.
-    pub fn flag_count(&self) -> usize
+    /// Returns how many classes there are: pairs of the same two codes have one.
+    pub fn class_count(&self) -> usize
         ensures { result ≡ self.now.classes }
     {
         self.classes
@@ -95,6 +104,9 @@ impl<'p, 'r> Run<'p, 'r> {
         requires leads { length view.codes.now ≤ length room.leads.now }
         requires triggers { room.triggers.now ≡ replicate (length view.codes.now) None }
         requires flags { room.flags.now ≡ replicate pairs.now.classes 0 }
+        requires last { room.last.now ≡ replicate pairs.now.classes 0 }
+        requires earlier { length pairs.now.rows.items ≤ length room.earlier.now }
+        requires due { length pairs.now.rows.items ≤ length room.due.now }
         ensures stands { (h : Header) (exceptions : List (List ℕ)) (ns : List Names)
             → IsViewOf view.entry h → ArePairs pairs.now h (model_asked asked exceptions) ns
             → RunStands h exceptions ns [] result }
@@ -111,7 +123,13 @@ impl<'p, 'r> Run<'p, 'r> {
                     triggers: room.triggers,
                     leads: room.leads,
                 },
-                flags: room.flags,
+                flags: Flags {
+                    bytes: room.flags,
+                    classes: room.classes,
+                    listed: 0,
+                },
+                links: Links::new(&pairs.rows, room.last, room.earlier),
+                due: room.due,
             },
             watched: Watched {
                 at: asked.from,
@@ -141,27 +159,25 @@ impl Run<'_, '_> {
         0 < self.watched.differing && self.watched.at <= self.comparison.current.asked.to
     }
 
-    /// Writes the lines that are due at the time at which values were compared, and returns whether
-    /// there are some. Fails if a write does.
-    fn put_due<W: Sink>(&self, view: HeadView<'_>, out: &mut W) -> Result<bool, WriteFailed>
+    /// Writes the lines that are due at the time at which values were compared, settles the flags of
+    /// their classes, and returns whether there are some. Fails if a write does.
+    fn put_due<W: Sink>(&mut self, view: HeadView<'_>, out: &mut W) -> Result<bool, WriteFailed>
         requires failures { (W.device out.old).failures < 2 ^ 64 - 1 }
-        requires counted { IsCounted self.now.watched self.now.comparison }
-        ensures puts { PutsDue view.entry self.now (W.device out.old) (W.device out.new) result }
+        requires counted { IsCounted self.old.watched self.old.comparison }
+        ensures puts { PutsDue view.entry self.old (W.device out.old) (W.device out.new) result }
         ensures tells { IfOk result
-            (λ some. some ≡ is_due_now self.now.watched self.now.comparison) }
+            (λ some. some ≡ is_due_now self.old.watched self.old.comparison) }
+        ensures settles { IfOk result (λ some. LeavesDue some self.old self.new) }
+        ensures same { SameRun self.old self.new }
         ensures counts { Counts (W.device out.old) (W.device out.new) result }
     {
         if !self.is_due() {
             return Ok(false);
         }
-        let comparison = &self.comparison;
-        put_lines(
-            &comparison.current,
-            view,
-            comparison.flags,
-            self.watched.at,
-            out,
-        )?;
+        let at = self.watched.at;
+        let after = flag_after(self.comparison.current.asked.extent);
+        let count = self.comparison.settle(after);
+        put_lines(&self.comparison, view, count, at, out)?;
         Ok(true)
     }
 
@@ -191,11 +207,9 @@ impl Run<'_, '_> {
             return Ok(is_past);
         }
         self.differs = true;
-        let extent = self.comparison.current.asked.extent;
-        if let Extent::First = extent {
+        if let Extent::First = self.comparison.current.asked.extent {
             return Ok(true);
         }
-        settle(self.comparison.flags, flag_after(extent));
         self.watched = Watched {
             at: time,
             differing: 0,
@@ -353,6 +367,9 @@ pub fn compare<S: Source, W: Sink>(
     requires leads { length view.codes.now ≤ length room.leads.now }
     requires triggers { room.triggers.now ≡ replicate (length view.codes.now) None }
     requires flags { room.flags.now ≡ replicate pairs.now.classes 0 }
+    requires last { room.last.now ≡ replicate pairs.now.classes 0 }
+    requires earlier { length pairs.now.rows.items ≤ length room.earlier.now }
+    requires due { length pairs.now.rows.items ≤ length room.due.now }
     ensures gives { (h : Header) (exceptions : List (List ℕ)) (ns : List Names) (i : Input)
         (front : List Token) → IsViewOf view.entry h
         → ArePairs pairs.now h (model_asked asked exceptions) ns → HasGiven i front feed.old

@@ -60,7 +60,11 @@ fn compare_body<'a, S: Source, W: Sink>(
     let mut shares = vec![in alloc; Share::new(); need.slots]?;
     let mut triggers = vec![in alloc; None; need.slots]?;
     let mut leads = vec![in alloc; Lead::new(); need.slots]?;
-    let mut flags = vec![in alloc; 0u8; pairs.flag_count()]?;
+    let mut flags = vec![in alloc; 0u8; pairs.class_count()]?;
+    let mut classes = vec![in alloc; 0usize; pairs.class_count()]?;
+    let mut last = vec![in alloc; 0usize; pairs.class_count()]?;
+    let mut earlier = vec![in alloc; 0usize; pairs.count()]?;
+    let mut due = vec![in alloc; 0usize; pairs.count()]?;
     let room = Room {
         values: &mut values,
         slots: &mut slots,
@@ -68,6 +72,10 @@ fn compare_body<'a, S: Source, W: Sink>(
         triggers: &mut triggers,
         leads: &mut leads,
         flags: &mut flags,
+        classes: &mut classes,
+        last: &mut last,
+        earlier: &mut earlier,
+        due: &mut due,
     };
     match compare(view, feed, room, &pairs, request.asked, out) {
         Ok(answer) => {

@@ -1,4 +1,6 @@
-use Rattle.vcd_compare.proofs.Cited.{◌≡◌, ◌∙◌, Err, rules, sym}
+use Rattle.vcd_compare.proofs.Cited.{◌≡◌, ◌∙◌, Err, rules, sym, ap, subst}
+use Rattle.vcd_compare.specs.Run.{LeavesDue}
+use Rattle.vcd_compare.specs.declared.whole.Run.{Run}
 use Rattle.vcd_compare.proofs.Facts.{differs_none, differs_some, left_due}
 use Rattle.vcd_compare.proofs.whole.Run.close.Goals as goal
 
@@ -11,7 +13,8 @@ returns-in_err-put_due-clause-closes g c = λ h exceptions ns items views stands
 pub returns-then-not-branch-clause-closes : goal.returns-then-not-branch-clause-closes
 returns-then-not-branch-clause-closes g c = λ h exceptions ns items views stands.
     let none = sym c.in_ok-put_due.ensures.tells ∙ c.if-not-branch.true in
-    (rw (left_due h exceptions ns items c.args.self.now stands c.requires.counted) (c.in_ok-put_due.ensures.puts h exceptions ns items views stands.compares), differs_none h exceptions ns items c.args.self.now stands c.requires.counted none)
+    let same : c.put_due.new.self ≡ c.args.self.now = subst (λ some. LeavesDue some c.args.self.now c.put_due.new.self) c.if-not-branch.true c.in_ok-put_due.ensures.settles in
+    (rw (left_due h exceptions ns items c.args.self.now stands c.requires.counted) (c.in_ok-put_due.ensures.puts h exceptions ns items views stands.compares), ap (λ (r : Run). r.differs) same ∙ differs_none h exceptions ns items c.args.self.now stands c.requires.counted none)
 
 pub returns-clause-closes : goal.returns-clause-closes
 returns-clause-closes g c = λ h exceptions ns items views stands.
