@@ -1,5 +1,5 @@
 //! A flag for each class of pairs, and the classes whose flag may be 1.
-ghost use Rattle.std.specs.Prelude.{◌≡◌, ◌==◌, get_or, length, slice_set};
+ghost use Rattle.std.specs.Prelude.{◌≡◌, ◌==◌, ℕ, List, get_or, length, slice_set};
 ghost use Rattle.vcd_compare.specs.Flags.{AreListed, differing, marked, taken};
 
 /// The flags of the classes, and which of them became 1.
@@ -15,15 +15,14 @@ pub(crate) struct Flags<'r> {
     pub listed: usize,
 }
 
-/// Lists a class whose flag becomes 1. `count` is how many others are 1; if none is, the list
+/// Lists a class whose flag became 1. `count` is how many others are 1; if none is, the list
 /// begins anew.
 #[inline(always)]
 fn list(flags: &mut Flags<'_>, class: usize, count: usize)
-    requires count { count ≡ differing flags.old.bytes.now }
-    requires listed { AreListed flags.old.bytes.now flags.old.classes.now flags.old.listed }
     ensures bytes { flags.new.bytes ≡ flags.old.bytes }
-    ensures listed { AreListed (slice_set flags.old.bytes.now class 1)
-        flags.new.classes.now flags.new.listed }
+    ensures listed { (before : List ℕ) → count ≡ differing before
+        → AreListed before flags.old.classes.now flags.old.listed
+        → AreListed (slice_set before class 1) flags.new.classes.now flags.new.listed }
 {
     let at = if count == 0 { 0 } else { flags.listed };
     if at < flags.classes.len() {
@@ -51,13 +50,11 @@ pub(crate) fn mark(flags: &mut Flags<'_>, class: usize, differs: bool, count: us
     if was == 2 {
         return count;
     }
-    if differs && was != 1 {
-        list(flags, class, count);
-    }
     flags.bytes[class] = u8::from(differs);
     if was == 1 {
         if differs { count } else { count - 1 }
     } else if differs {
+        list(flags, class, count);
         count + 1
     } else {
         count
