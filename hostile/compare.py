@@ -346,9 +346,10 @@ def headers_of(count):
                                        order=list.reverse), count)
     yield ("deep", *deep(count))
     yield from nested(count // 20)
-    yield ("that differ one after another", declared(parts, count) + b"".join(
-        b"#%d\n0p%d\n1q%d\n" % (n, n, n) for n in range(count)), count, None, b"".join(
-            b"differs %d p.v%d 0 1\n" % (n, n) for n in range(count)))
+    each = count // 4
+    yield ("that differ one after another", declared(parts, each) + b"".join(
+        b"#%d\n0p%d\n1q%d\n" % (n, n, n) for n in range(each)), each, None, b"".join(
+            b"differs %d p.v%d 0 1\n" % (n, n) for n in range(each)))
 
 
 def cpu_of(command, given):
