@@ -159,8 +159,8 @@ impl Run<'_, '_> {
         0 < self.watched.differing && self.watched.at <= self.comparison.current.asked.to
     }
 
-    /// Writes the lines that are due at the time at which values were compared, settles the flags of
-    /// their classes, and returns whether there are some. Fails if a write does.
+    /// Writes the lines that are due at the time at which values were compared, settles the flags
+    /// of their classes, and returns whether there are some. Fails if a write does.
     fn put_due<W: Sink>(&mut self, view: HeadView<'_>, out: &mut W) -> Result<bool, WriteFailed>
         requires failures { (W.device out.old).failures < 2 ^ 64 - 1 }
         requires counted { IsCounted self.old.watched self.old.comparison }
