@@ -1048,6 +1048,11 @@ class Conditions(Case):
             ",50,1,", ",70,0,", ",90,1,", "status 0"])
         self.assertEqual(said("vcdkit-table", "--json", *words, "a b: ack: req ack", dump)[::4], [
             '{"a": 10, "a b": 40, "a b req": "0", "a b ack": "1", "a to a b": 3}', "status 0"])
+        # The name of a channel may be that of its signal, but no key is there twice.
+        self.assertEqual(said("vcdkit-table", "--json", "--rise", "clk", "--channel", "a: req: req",
+                              "--channel", "req: ack: req", "--channel", "a req: ack", dump)[0],
+                         '{"a": 10, "a req !": "1", "req": 40, "req req": "0", "a req": 40, '
+                         '"a to req": 3, "req to a req": 0}')
         # What is in flight at a fault is shown too.
         with open(dump, "ab") as file:
             file.write(b"fault\n")

@@ -153,7 +153,7 @@ def same_page_of_two(of: Asker, words: List[str], path: str,
             of.same("page of two", [*words, name, side], [
                 (time, plain(value)) for time, value in points],
                 [(time, plain(cell(dump.at(time // scale).get(one.code)))) for time, _ in points])
-            if dumps[0].tick == dumps[1].tick:
+            if dumps[0].tick == dumps[1].tick and data["span"] > 1:  # of one tick it shows two
                 marks, begin = points_of(data, differs, 1), int(data["begin"])
                 end = min(begin + data["span"], dumps[0].end, dumps[1].end)
                 times = {step.time for each in dumps for step in each.steps_in(begin, end)}

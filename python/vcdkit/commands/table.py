@@ -95,13 +95,17 @@ def main(words: List[str]) -> int:
     digits = functools.lru_cache(maxsize=1 << 14)(text)  # of numbers it would take 0 for -0
     cells: Cells = lambda time, values: [decimal(time), *[
         digits(value, form) if value.__class__ is Value else text(value, form) for value in values]]
-    heads = [[name, *((name + " ") * bool(asked.channels) + key for key in keys_of(its, [name]))]
+    names = [one[0] for one in channels]
+    others, is_bus = [*names, *map("%s to %s".__mod__, zip(names, names[1:]))], bool(asked.channels)
+    heads = [[name, *((name + " ") * is_bus + key for key in keys_of(its, [
+        one[(len(name) + 1) * is_bus:] for one in others
+        if one.startswith((name + " ") * is_bus)]))]
              if asked.json else ["%s (%s)" % (name, unit), *(one.path for one in its)]
-             for (name, _, _), its in zip(channels, columns)]
+             for name, its in zip(names, columns)]
     if asked.channels:
         asking = Questions(dump, [one[:2] for one in channels], asked.rise, asked.fall, True,
                            columns)
-        head, rows = joined(asking, [one[0] for one in channels], heads, cells, asked.histogram)
+        head, rows = joined(asking, names, heads, cells, asked.histogram)
     else:
         head, rows = heads[0], itertools.starmap(cells, dump.rows(
             asked.names, times, asked.rise, asked.fall, asked.condition))
