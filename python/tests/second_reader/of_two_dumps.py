@@ -335,8 +335,9 @@ def same_lines(of: Asker, words: List[str], said: Said, sides: Sides, found: Lis
 
 
 def last_of(dump: Dump, window: Window) -> Optional[int]:
-    """Returns the last timestamp of a window; None if there is none."""
-    return dump.last if not window.words else dump.end_of(window.begin, window.end)
+    """Returns the last timestamp of a window; None if there is none. All of a dump is no window."""
+    is_all = (window.begin, window.end) == (0, LAST)
+    return dump.last if is_all else dump.end_of(window.begin, window.end)
 
 
 def moment(dump: Dump, time: Optional[int]) -> Any:
