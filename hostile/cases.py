@@ -87,7 +87,8 @@ class Comparison(Case):
                                  for one, other in self.names]
 
     def outcome(self, files, inputs):
-        output, message, status = comparison.within(self.asked, self.names, files[0], inputs[0])
+        output, message, status = comparison.answered(
+            self.asked, self.names, files[0], inputs[0])
         # The definitions begin each line with the name of the other program.
         return output, message.replace(Case.program, self.program, 1), status
 
@@ -145,9 +146,11 @@ COMPARISONS = [
     Comparison("a_late_window", ON_PARTS, WHOLE, comparison.Asked(begin=13)),
     Comparison("x_of_both", ON_PARTS, WHOLE,
                comparison.Asked(exceptions=[b"a.e", b"b.n"], loose=(True, True))),
-    Comparison("same", ON_PARTS, [(b"a", b"a")]),
+    Comparison("aliases", ON_PARTS, [(b"a.c", b"a.n"), (b"a.n", b"a.c")]),
     Comparison("several", ON_PARTS, [(b"a.c", b"b.n"), (b"b.q", b"a.q"), (b"a", b"b")]),
-    Comparison("nothing", ON_PARTS, [(b"c", b"d")]),
+    Comparison("nothing", ON_PARTS, [(b"a", b"b"), (b"a.c", b"d")]),
+    Comparison("no_exception", ON_PARTS, WHOLE, comparison.Asked(exceptions=[b"b.n", b"a.o"])),
+    Comparison("all_left_out", ON_PARTS, WHOLE, comparison.Asked(exceptions=[b"a", b"b"])),
     Comparison("damaged", ON_PARTS + b"1!\n#10\n", WHOLE),
     Comparison("damaged_header", PARTS[:-25], WHOLE),
     Comparison("of_merge", OF_MERGE, [(b"in1", b"in2")]),

@@ -37,14 +37,16 @@ def prefix(r, path):
 
 
 def names_of(r, paths, whole):
-    """Both parts, or names of some paths, with what is as far in the other part or elsewhere."""
+    """Both parts, or names of some paths, with what is as far in the other part or elsewhere; few
+    of them are the same, or select nothing."""
     if r.random() < 0.6 or not paths:
         return [whole]
     found = []
     for _ in range(r.choice([1, 1, 2, 3])):
         one = prefix(r, r.choice(paths))
-        other = r.choice([one, whole[1] + one[len(whole[0]):], prefix(r, r.choice(paths)),
-                          b"nowhere"])
+        other = whole[1] + one[len(whole[0]):]
+        if r.random() < 0.5:
+            other = b"nowhere" if r.random() < 0.1 else prefix(r, r.choice(paths))
         if b"=" not in one + other:
             found.append((one, other))
     return found or [whole]
@@ -98,10 +100,10 @@ class Trials:
 
 def of_two_dumps(asked, names, texts):
     """The window and the lines that the definition of two dumps gives for their merge, if neither
-    has a fault and both or none have a time scale; else None."""
+    has a fault, both have a variable, and both or none have a time scale; else None."""
     heads = [evaluator.read_head(evaluator.Tokens(text, 1 << 20), 1 << 24) for text in texts]
     scales = [head.scale for head in heads]
-    if (scales[0] is None) != (scales[1] is None):
+    if (scales[0] is None) != (scales[1] is None) or not all(map(comparison.all_named, heads)):
         return None
     factors = comparison.factors_of(heads)
     ends = []
@@ -139,7 +141,8 @@ def in_ticks_of_first(line, factor):
 
 
 def law(trials, texts, extent, r):
-    """What is wrong with the lines of a merge, compared up to the end of the shorter dump."""
+    """What is wrong with the lines of a merge, compared up to the end of the shorter dump, if both
+    have a variable."""
     asked = Asked(extent=extent, begin=r.choice([0, 0, 2]), end=r.choice([LAST, LAST, 8]))
     its = of_two_dumps(asked, [b"a", b"b"], texts)
     if its is None or its[0] > its[1]:

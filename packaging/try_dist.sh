@@ -61,7 +61,7 @@ into_root=(chroot)
 tries 'the program alone in a root' bash -c '"$@" | grep -qx "last 1220"' - \
     "${into_root[@]}" "$folder/root" /vcdkit check -i nested.vcd
 tries 'vcdkit-compare in a root' bash -c '"$@" | grep -qx "compared [1-9][0-9]*"' - \
-    "${into_root[@]}" "$folder/root" /vcdkit-compare -i nested.vcd bench=bench
+    "${into_root[@]}" "$folder/root" /vcdkit-compare -i nested.vcd 'bench.lane[0]=bench.lane[1]'
 
 # The files that `make install` put into the current directory, by their names in the packages, but
 # for what the packages add or leave to the tarball.
@@ -132,7 +132,8 @@ if [[ -n $relink ]] && command -v cc > /dev/null; then
     mkdir "$folder/relink"
     tries 'relink.sh' bash -c 'tar -C "$2/relink" -xzf "$1" && sh "$2"/relink/*/relink.sh &&
         "$2"/relink/*/vcdkit check -i samples/nested.vcd &&
-        "$2"/relink/*/vcdkit-compare -i samples/nested.vcd bench=bench' - "$relink" "$folder"
+        "$2"/relink/*/vcdkit-compare -i samples/nested.vcd "bench.lane[0]=bench.lane[1]"' - \
+        "$relink" "$folder"
 fi
 
 if [[ -e $top/vcdkit-static ]]; then

@@ -4,7 +4,8 @@ lists, and shares nothing with the program.
 
 within(asked, names, name, text) is the outcome of two parts of one dump, and
 compared(asked, names, texts) that of two dumps: output, message and status. A text is the bytes of
-an input, and its name is for messages."""
+an input, and its name is for messages. answered(asked, names, name, text) is what the program
+leaves, which refuses some of what is asked for."""
 from .evaluator import (MOST_DECLARATIONS, Fault, Tokens, marks, placed, read_head, read_items,
                        read_items_of, scale_text, selects, told, value_of)
 
@@ -204,6 +205,39 @@ def within(asked, names, name, text, limit=1_048_576):
     if fault:
         return failed(front + joined(settled), name, fault)
     return answer(pairs, front + joined(lines))
+
+
+def is_somewhere(head, name):
+    """Whether a name selects a variable."""
+    return any(selects(one.path, name) for one in all_named(head))
+
+
+def refused(name, what):
+    """What is wrong with a name."""
+    return b"", b"vcdkit: %s: %s\n" % (name, what), 2
+
+
+def answered(asked, names, name, text, limit=1_048_576):
+    """The outcome of two parts of one dump, unless both are the same, a name selects nothing, or
+    the dump ends before the window."""
+    for one, other in names:
+        if one == other:
+            return refused(one, b"is compared with itself")
+    tokens = Tokens(text, limit)
+    try:
+        head = read_head(tokens, MOST_DECLARATIONS)
+    except Fault as fault:
+        return failed(b"", name, fault)
+    for one in [*(one for both in names for one in both), *asked.exceptions]:
+        if not is_somewhere(head, one):
+            return refused(one, b"selects nothing")
+    items, fault = read_items(tokens, head.codes)
+    last = max(marks(items), default=0)
+    output, message, status = within(asked, names, name, text, limit)
+    if not fault and last < asked.begin:
+        return (output[:output.rindex(b"compared ")], b"vcdkit: --from: %d is after the end of the "
+                b"dump, %d\n" % (asked.begin, last), 2)
+    return output, message, status
 
 
 class Dump:

@@ -131,12 +131,12 @@ module _ (q : Asked) (ns : List Names) (name : List ℕ) (i : Input) (front : Li
   Given r = BodyGives q h ns i front limit read out out' r
 
   -- a run that did not fail
-  well : (differs : Bool) (done : Done) → Given (Ok (record { differs = differs; done = done })) → Belongs q h ns (within q limit ns name i) name out out' (Ok (record { differs = differs; done = done }))
-  well differs Whole (items, (has, on, written, is)) =
+  well : (differs : Bool) (done : Done) (last : ℕ) → Given (Ok (record { differs = differs; done = done; last = last })) → Belongs q h ns (within q limit ns name i) name out out' (Ok (record { differs = differs; done = done; last = last }))
+  well differs Whole last (items, (has, on, written, is), ends) =
       let header = over_header q limit ns name i front has.rest placed whole has.tokens in
       let outcome = clean_outcome q ns name h (stream_of limit i) has.rest (ap (ends_run q h ns) has.items_are ∙ on) has.fault_is in
       (within_open q h ns items ++ within_close q h ns items, header ∙ outcome ∙ ap (λ l. answer_in q h ns (within_open q h ns l ++ within_close q h ns l)) has.items_are, written, is)
-  well differs Early (items, (b, ends, written, is)) =
+  well differs Early last (items, (b, ends, written, is), at) =
       let header = over_header q limit ns name i front b.rest placed whole b.tokens in
       let outcome = early_outcome q ns name h (stream_of limit i) b.rest items b.begins.0 b.begins.1 (body_up h.codes limit i front b.rest b.tokens) ends in
       (within_open q h ns items, header ∙ outcome, written, is)
@@ -149,7 +149,7 @@ module _ (q : Asked) (ns : List Names) (name : List ℕ) (i : Input) (front : Li
       subst (WritesSome out out') (sym (ap (λ (o : Outcome). o.output) header ∙ b.1)) (some-first out out' (within_open q h ns items) b.0 some)
 
   gives : (r : Result Answer Stop) → Given r → Belongs q h ns (within q limit ns name (left_of i read r)) name out out' r
-  gives (Ok answer) given = well answer.differs answer.done given
+  gives (Ok answer) given = well answer.differs answer.done answer.last given
   gives (Err (Dump input line fault)) (items, is, has, on, written) =
       let header = over_header q limit ns name i front has.rest placed whole has.tokens in
       let outcome = faulty_outcome q ns name h (stream_of limit i) has.rest _ (ap (ends_run q h ns) has.items_are ∙ on) has.fault_is in

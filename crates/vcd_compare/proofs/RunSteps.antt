@@ -126,7 +126,7 @@ module _ {X : Type 0} {g : Ghosts X} (q : ModelAsked) (exceptions : List (List �
         (settled_by own h ns items t, open_is),
       )
 
-      pub time_ends : (ended : Bool) → ended ≡ true → Writes out out' (settled_by own h ns items t) → TellsEnd own h exceptions ns after run' ended → BodyGives q h ns i front (limit_of f') (seen f') begin out' (Ok (record { differs = run'.differs; done = Early }))
+      pub time_ends : (ended : Bool) → ended ≡ true → Writes out out' (settled_by own h ns items t) → TellsEnd own h exceptions ns after run' ended → BodyGives q h ns i front (limit_of f') (seen f') begin out' (Ok (record { differs = run'.differs; done = Early; last = run'.regs.time }))
       time_ends ended stops writes tells = (
         after,
         (
@@ -135,6 +135,7 @@ module _ {X : Type 0} {g : Ghosts X} (q : ModelAsked) (exceptions : List (List �
           all_written writes,
           subst (λ (r : ModelAsked). run'.differs ≡ not (is_empty (within_open r h ns after))) come.asked tells.differs,
         ),
+        gave.known.time_is,
       )
 
       pub time_fails : WritesSome out out' (settled_by own h ns items t) → BodyGives q h ns i front (limit_of f') (seen f') begin out' (Err Write)
@@ -146,8 +147,8 @@ module _ {X : Type 0} {g : Ghosts X} (q : ModelAsked) (exceptions : List (List �
       abbrev its : ModelAsked
       its = model_asked run.comparison.current.asked exceptions
 
-      pub ends_whole : Writes out out' (within_close its h ns items) → run'.differs ≡ not (is_empty (within_open its h ns items ++ within_close its h ns items)) → BodyGives q h ns i front (limit_of f') (seen f') begin out' (Ok (record { differs = run'.differs; done = Whole }))
-      ends_whole writes differs = (
+      pub ends_whole : run'.regs ≡ r → Writes out out' (within_close its h ns items) → run'.differs ≡ not (is_empty (within_open its h ns items ++ within_close its h ns items)) → BodyGives q h ns i front (limit_of f') (seen f') begin out' (Ok (record { differs = run'.differs; done = Whole; last = run'.regs.time }))
+      ends_whole same writes differs = (
         items,
         (
           all.has,
@@ -155,6 +156,7 @@ module _ {X : Type 0} {g : Ghosts X} (q : ModelAsked) (exceptions : List (List �
           both-written begin out out' (within_open q h ns items) (within_close q h ns items) come.written (subst (λ (r : ModelAsked). Writes out out' (within_close r h ns items)) come.asked writes),
           subst (λ (r : ModelAsked). run'.differs ≡ not (is_empty (within_open r h ns items ++ within_close r h ns items))) come.asked differs,
         ),
+        ap (λ (s : Regs). s.time) same ∙ all.gave.known.time_is,
       )
 
       pub close_fails : WritesSome out out' (within_close its h ns items) → BodyGives q h ns i front (limit_of f') (seen f') begin out' (Err Write)

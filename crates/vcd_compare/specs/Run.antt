@@ -1,5 +1,5 @@
 -- What a comparison over a body leaves.
-use Rattle.std.specs.Prelude.{◌≡◌, ◌⊎◌, ℕ, ◌^◌, ◌<◌, ◌≤◌, Bool, true, false, not, cond, ◌&&◌, nat_le, nat_lt, List, [], ◌∷◌, ◌++◌, Some, None, IfOk, Result, Ok, Err}
+use Rattle.std.specs.Prelude.{◌≡◌, ◌⊎◌, ℕ, ◌+◌, ◌^◌, ◌<◌, ◌≤◌, Bool, true, false, not, cond, ◌&&◌, nat_le, nat_lt, List, [], ◌∷◌, ◌++◌, Some, None, IfOk, Result, Ok, Err}
 use Rattle.vcd_model.specs.Bytes.{is_empty}
 use Rattle.vcd_model.specs.BodyReading.{body_items, read_body}
 use Rattle.vcd_model.specs.Compare.{Asked as ModelAsked, Extent as ModelExtent}
@@ -11,13 +11,14 @@ use Rattle.vcd_model.specs.Tokens.{Token, stream_of}
 use Rattle.vcd_model.specs.Within.{Names, ends_run, within_close, within_open}
 use Rattle.vcd_text.specs.Advances.{Advances, CallEnd}
 use Rattle.vcd_text.specs.Answer.{failed_after}
-use Rattle.vcd_text.specs.Device.{Device, Takes, Writes, WritesSome}
-use Rattle.vcd_text.specs.Feed.{limit_of, seen}
+use Rattle.vcd_text.specs.Device.{Device, Takes, Writes, WritesSome, failures_then}
+use Rattle.vcd_text.specs.Feed.{limit_of, seen, source_of}
 use Rattle.vcd_text.specs.declared.device.Source.{Ghosts}
 use Rattle.vcd_text.specs.declared.feed.Feed.{Feed}
 use Rattle.vcd_text.specs.declared.device.WriteFailed.{WriteFailed}
 use Rattle.vcd_view.specs.Views.{IsViewOf}
 use Rattle.vcd_view.specs.declared.view.HeadView.{HeadView}
+use Rattle.vcd_body.specs.Answer.{reads_failed, writes_failed}
 use Rattle.vcd_body.specs.Reads.{BodyHas, GaveItems}
 use Rattle.vcd_body.specs.declared.answer.Done.{Done}
 use Rattle.vcd_body.specs.declared.answer.Done.TheVariants.{Early, Whole}
@@ -98,7 +99,7 @@ pub record BodyBegins (h : Header) (i : Input) (front : List Token) (limit : ℕ
 -- items, up to the one that ends it, to its fault, or to the end. A failed write leaves a prefix of
 -- the output.
 abbrev pub BodyGives : ModelAsked → Header → List Names → Input → List Token → ℕ → ℕ → Device → Device → Result Answer Stop → Type 0
-BodyGives q h ns i front limit read out out' (Ok answer) = (items : List BodyItem) × EndsWell q h ns i front limit items out out' answer.differs answer.done
+BodyGives q h ns i front limit read out out' (Ok answer) = (items : List BodyItem) × EndsWell q h ns i front limit items out out' answer.differs answer.done × (answer.last ≡ time_after items)
   where
     EndsWell : ModelAsked → Header → List Names → Input → List Token → ℕ → List BodyItem → Device → Device → Bool → Done → Type 0
     EndsWell q h ns i front limit items out out' differs Whole = BodyHas h.codes i front limit items None × (ends_run q h ns items ≡ false) × Writes out out' (within_open q h ns items ++ within_close q h ns items) × (differs ≡ not (is_empty (within_open q h ns items ++ within_close q h ns items)))
@@ -123,7 +124,7 @@ module _ {X : Type 0} {g : Ghosts X} (q : ModelAsked) (exceptions : List (List �
   -- after one more step it has come further, with this text and maybe more written; or it has ended
   abbrev pub StepGives : List ℕ → Run → Feed X g → Device → Result More Stop → Type 0
   StepGives text run f out (Ok Again) = (items : List BodyItem) × HasCome items run f out × IsPrefixOf text (within_open q h ns items)
-  StepGives text run f out (Ok (Ended done)) = BodyGives q h ns i front (limit_of f) (seen f) begin out (Ok (record { differs = run.differs; done = done }))
+  StepGives text run f out (Ok (Ended done)) = BodyGives q h ns i front (limit_of f) (seen f) begin out (Ok (record { differs = run.differs; done = done; last = run.regs.time }))
   StepGives text run f out (Err stop) = BodyGives q h ns i front (limit_of f) (seen f) begin out (Err stop)
 
 -- the same after any items of any body
@@ -141,17 +142,27 @@ abbrev pub RunsOn : {X : Type 0} {g : Ghosts X} → HeadView → Run → (f f' :
 RunsOn v run f f' out out' result = (q : ModelAsked) (exceptions : List (List ℕ)) (h : Header) (ns : List Names) (i : Input) (front : List Token) (begin : Device) (items : List BodyItem) → IsViewOf v h → HasCome q exceptions h ns i front begin items run f out
     → BodyGives q h ns i front (limit_of f) (seen f') begin out' result
 
+-- ---- calls that fail
+
+-- if the answer is a failed write, one write failed, the last one; otherwise none did
+abbrev pub CountsStop : {A : Type 0} → (out out' : Device) → Result A Stop → Type 0
+CountsStop out out' result = failures_then (writes_failed result) out' ≡ out.failures + writes_failed result
+
+-- if the answer is a failed read or write, one is counted; otherwise none is
+abbrev pub CountsBoth : {X A : Type 0} {g : Ghosts X} → (X → ℕ) → (f f' : Feed X g) → (out out' : Device) → Result A Stop → Type 0
+CountsBoth failures f f' out out' result = (failures (source_of f') ≡ failures (source_of f) + reads_failed result) × CountsStop out out' result
+
 -- how a step ends for the feed that it reads
 abbrev pub step_end : Result More Stop → CallEnd
 step_end (Ok Again) = CallEnd.GoesOn
 step_end (Err (Read input)) = CallEnd.Fails
 step_end result = CallEnd.Ends
 
--- what a step leaves besides items and output: the feed has advanced, no write failed if the step
--- did not, and if the run goes on, the flags are counted
+-- what a step leaves besides items and output: the feed has advanced, a write that failed is
+-- counted, and if the run goes on, the flags are counted
 pub record StepsOver {X : Type 0} {g : Ghosts X} (failures : X → ℕ) (run : Run) (f f' : Feed X g) (out out' : Device) (result : Result More Stop) : Type 0 where
   pub advances : Advances failures f f' (step_end result)
   pub progress : result ≡ Ok Again → seen f < seen f'
   pub bounded : seen f' < 2 ^ 63
-  pub writes : IfOk result (λ _. out'.failures ≡ out.failures)
+  pub writes : CountsStop out out' result
   pub counted : result ≡ Ok Again → IsCounted run.watched run.comparison

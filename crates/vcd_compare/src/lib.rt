@@ -8,7 +8,7 @@
 //!
 //! - `asked`: `Asked`, `Extent`
 //! - `paths`, `variables`: the paths of a header by number, and its variables by their paths
-//! - `selected`: what each of some names selects
+//! - `selected`: what each of some names selects; `unselected`: which of them select nothing
 //! - `counterparts`, `kinds`: what a variable is compared with, and whether it is of the same kind
 //! - `pairs`: `Pairs`, `pairs_of`
 //! - `current`, `values`: the current states of all codes, and whether two of them match; `leads`:
@@ -33,6 +33,7 @@ mod pairs;
 mod paths;
 mod rows;
 mod selected;
+mod unselected;
 mod values;
 mod variables;
 mod whole;
@@ -40,4 +41,5 @@ mod whole;
 pub use asked::{Asked, Extent};
 pub use leads::Lead;
 pub use pairs::{NamePair, Pairs, pairs_of};
+pub use unselected::PairsFault;
 pub use whole::{Answer, Room, compare};

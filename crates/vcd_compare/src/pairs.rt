@@ -16,6 +16,7 @@ use crate::counterparts::{Places, counterpart_of, place_paths};
 use crate::kinds::{code_of, is_same_kind, kind_of};
 use crate::paths::{Paths, enter_path};
 use crate::selected::{list_at, selected_by};
+use crate::unselected::{PairsFault, refuse_unselected};
 use crate::variables::{Variables, number_at, number_rows, variables_of};
 use indexmap::IndexSet;
 use std::alloc::{AllocError, Global};
@@ -73,14 +74,18 @@ pub struct Pairs {
 
 /// Returns the pairs that these names make of the variables of a header. The variables that one of
 /// `exceptions` selects are left out. The time grows with the header, the names, and for each name
-/// the variables that it selects and the paths above them inside the name. Fails if there is no
-/// memory.
+/// the variables that it selects and the paths above them inside the name.
+///
+/// # Errors
+///
+/// The first name that selects nothing, otherwise the first exception that selects nothing; or that
+/// there is no memory.
 pub fn pairs_of(
     alloc: Global,
     view: HeadView<'_>,
     names: &[NamePair],
     exceptions: &[Vec<u8>],
-) -> Result<Pairs, AllocError>
+) -> Result<Pairs, PairsFault>
     ensures { IfOk result (λ ps. (h : Header) (q : Asked) → IsViewOf view.entry h
         → q.exceptions ≡ map (λ e. e.items) exceptions.now
         → ArePairs ps h q (names_in names.now) × AreFew ps h q (names_in names.now)) }
@@ -92,8 +97,9 @@ pub fn pairs_of(
     let rows = number_rows(alloc, view, &mut paths)?;
     let variables = variables_of(alloc, view, &rows, paths.nodes.len())?;
     drop(rows);
+    refuse_unselected(alloc, &paths, &variables, &numbers, &exceptions)?;
     let lists = selected_by(alloc, &paths, &variables, &numbers, named, &exceptions)?;
-    pairs_between(alloc, view, &paths, &variables, &lists, &numbers)
+    Ok(pairs_between(alloc, view, &paths, &variables, &lists, &numbers)?)
 }
 
 /// Returns the pairs that names make of the variables of a header: `numbers` are those of the

@@ -1,5 +1,6 @@
 //! The whole comparison of two parts of a dump.
 ghost use Rattle.std.specs.Prelude.{◌≡◌, ◌-◌, ◌^◌, ◌<◌, ◌≤◌, ℕ, List, length, [], None, replicate, IfOk, false};
+ghost use Rattle.vcd_body.specs.Answer.{EndsAtRead};
 ghost use Rattle.vcd_body.specs.Current.{table_bytes};
 ghost use Rattle.vcd_body.specs.Items.{AreRegsAfter};
 ghost use Rattle.vcd_body.specs.Prompt.{HasPassedOn, LeavesSink};
@@ -17,7 +18,7 @@ ghost use Rattle.vcd_compare.specs.Asked.{model_asked, model_extent};
 ghost use Rattle.vcd_compare.specs.Comparing.{IsCounted};
 ghost use Rattle.vcd_compare.specs.Needed.{ReadsNeeded, ReadsOn, ReadsStep};
 ghost use Rattle.vcd_compare.specs.Pairs.{ArePairs};
-ghost use Rattle.vcd_compare.specs.Run.{BodyGives, Closes, LeavesDue, PutsDue, RunStands, RunsOn, SameRun, Steps, StepsAhead, StepsOver, TakesTime, flag_after, is_due_now};
+ghost use Rattle.vcd_compare.specs.Run.{BodyGives, Closes, CountsBoth, LeavesDue, PutsDue, RunStands, RunsOn, SameRun, Steps, StepsAhead, StepsOver, TakesTime, flag_after, is_due_now};
 
 use crate::asked::{Asked, Extent};
 use crate::comparing::{Comparison, Watched};
@@ -67,6 +68,8 @@ pub struct Answer {
     pub differs: bool,
     /// Whether the dump was read to its end.
     pub done: Done,
+    /// The time of the last item that was read: the last timestamp, or 0 if there was none.
+    pub last: u64,
 }
 
 impl Pairs {
@@ -223,6 +226,7 @@ impl Run<'_, '_> {
         requires counted { IsCounted self.old.watched self.old.comparison }
         ensures closes { Closes view.entry self.old self.new
             (W.device out.old) (W.device out.new) result }
+        ensures same { SameRun self.old self.new }
         ensures counts { Counts (W.device out.old) (W.device out.new) result }
     {
         if !self.put_due(view, out)? {
@@ -323,9 +327,10 @@ impl Run<'_, '_> {
             (W.device out.old) (W.device out.new) result }
         ensures needed { ReadsOn view.entry self.old feed.old feed.new
             (W.device out.old) (W.device out.new) }
+        ensures devices { CountsBoth S.failures feed.old feed.new
+            (W.device out.old) (W.device out.new) result }
+        ensures last { EndsAtRead (S.last_failed (source_of feed.new)) result }
         ensures passed_on { HasPassedOn (W.kept_back out.new) result }
-        ensures writes { IfOk result
-            (λ _. (W.device out.new).failures ≡ (W.device out.old).failures) }
     {
         'items: loop {
             self.advance_ahead(view, feed);
@@ -336,6 +341,7 @@ impl Run<'_, '_> {
                     return Ok(Answer {
                         differs: self.differs,
                         done,
+                        last: self.regs.time,
                     });
                 }
             }
@@ -344,8 +350,8 @@ impl Run<'_, '_> {
 }
 
 /// Compares the pairs over the body that follows the header of `view`, and writes the lines about
-/// the header and those of values to `out`. Returns whether there was a line, and whether the dump
-/// was read to its end. `room` has the lengths that its comments say.
+/// the header and those of values to `out`. Returns whether there was a line, whether the dump was
+/// read to its end, and the last time that was read. `room` has the lengths that its comments say.
 ///
 /// # Errors
 ///
@@ -381,9 +387,14 @@ pub fn compare<S: Source, W: Sink>(
         → ReadsNeeded (model_asked asked exceptions) h ns (limit_of feed.old)
         (chunk_len_of feed.old) i front (supply_of feed.old) (supply_of feed.new)
         (W.device out.old) (W.device out.new) }
+
+    // A failed read or write is counted, and is the last call of its device. No other is.
+    ensures devices { CountsBoth S.failures feed.old feed.new
+        (W.device out.old) (W.device out.new) result }
+    ensures last { EndsAtRead (S.last_failed (source_of feed.new)) result }
+
+    // If a read fails, the sink keeps nothing back of the output that was due before that read.
     ensures passed_on { HasPassedOn (W.kept_back out.new) result }
-    ensures writes { IfOk result
-        (λ _. (W.device out.new).failures ≡ (W.device out.old).failures) }
 {
     put_header_lines(view, pairs, out)?;
     let mut run = Run::new(view, room, pairs, asked);

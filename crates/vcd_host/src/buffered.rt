@@ -1,5 +1,5 @@
 //! A sink whose bytes wait in a buffer until it is full or flushed.
-ghost use Rattle.std.specs.Prelude.{◌≡◌, ◌+◌, ◌-◌, ◌^◌, ◌<◌, ◌≤◌, [], false, length, take, IfOk, OnOk};
+ghost use Rattle.std.specs.Prelude.{◌≡◌, ◌+◌, ◌-◌, ◌^◌, ◌<◌, ◌≤◌, [], false, true, length, take, IfOk, IsErr, OnOk};
 ghost use Rattle.std.specs.Io.{WritesAtMost};
 ghost use Rattle.std.specs.Io.KnownBytes.{Appends, Keeps, WriteAppends};
 
@@ -14,12 +14,16 @@ use vcd_text::{Few, Sink, WriteFailed};
 /// failure.
 ///
 /// A write of the device fails if it returns any error, also that it was interrupted, or if it
-/// takes nothing. The bytes that such a write does not take stay in the buffer.
+/// takes nothing. The bytes that such a write does not take stay in the buffer, and the device is
+/// not called again: whatever would have to write to it fails, and a drop does nothing.
 // A write that fits is inlined: with a `BufWriter` `merge` of 27,505 codes takes 17 % more.
 pub struct Buffered<D: Write + Drop> {
     device: D,
     buffer: Buffer,
     failures: u64,
+    /// Whether a write of the device has failed.
+    is_broken: bool,
+    ghost noted: { 0 < failures → is_broken ≡ true },
 }
 
 /// Writes some of these bytes to the device, from the first one on, and returns how many it took:
@@ -71,22 +75,29 @@ impl<D: Write + Drop> Buffered<D> {
             device,
             buffer,
             failures: 0,
+            is_broken: false,
         })
     }
 
     /// Writes all bytes in the buffer to the device, and removes them from the buffer. Fails if a
-    /// write fails; then the bytes that the device did not take stay in the buffer. It does not
-    /// count the failure.
+    /// write fails; then the bytes that the device did not take stay in the buffer. If a write has
+    /// failed before, it writes nothing, and fails. It does not count the failure.
     fn write_kept(&mut self) -> Result<(), WriteFailed>
         ensures empty { OnOk result (kept self.new.buffer ≡ []) }
         ensures room { OnOk result (self.new.buffer.len ≡ 0) }
         ensures bytes { Keeps (taken D.contents self.old) (taken D.contents self.new) }
         ensures failures { self.new.failures ≡ self.old.failures }
-        ensures goes_on { self.new.buffer.failed_at ≡ 0 }
+        ensures goes_on { OnOk result (self.new.buffer.failed_at ≡ 0) }
+        ensures broken { IsErr result → self.new.is_broken ≡ true }
+        ensures silent { self.old.is_broken ≡ true → IsErr result × (self.new ≡ self.old) }
     {
+        if self.is_broken {
+            return Err(WriteFailed);
+        }
         let written = write_out(self.buffer.as_slice(), &mut self.device);
         self.buffer.remove_front(written);
         if self.buffer.len > 0 {
+            self.is_broken = true;
             return Err(WriteFailed);
         }
         Ok(())
@@ -99,6 +110,7 @@ impl<D: Write + Drop> Buffered<D> {
         ensures room { OnOk result (self.new.buffer.len + n ≤ 8192) }
         ensures bytes { Keeps (taken D.contents self.old) (taken D.contents self.new) }
         ensures failures { self.new.failures ≡ self.old.failures }
+        ensures broken { IsErr result → self.new.is_broken ≡ true }
     {
         if n > ROOM - self.buffer.len {
             return self.write_kept();
@@ -117,10 +129,15 @@ impl<D: Write + Drop> Buffered<D> {
         ensures failures { self.new.failures ≡ self.old.failures }
         ensures goes_on { 0 < length from.now
             → OnOk result (self.new.buffer.failed_at < self.new.buffer.len + 1) }
+        ensures broken { IsErr result → self.new.is_broken ≡ true }
     {
         if from.len() >= ROOM {
             self.write_kept()?;
-            return write_some(from, &mut self.device);
+            let taken = write_some(from, &mut self.device);
+            if taken.is_err() {
+                self.is_broken = true;
+            }
+            return taken;
         }
         self.make_room(from.len())?;
         self.buffer.push(from);
@@ -236,11 +253,13 @@ impl<D: Write + Drop> Sink for Buffered<D> {
 }
 
 impl<D: Write + Drop> Output for Buffered<D> {
-    ghost use Rattle.std.specs.Prelude.{◌≡◌, true, []};
+    ghost use Rattle.std.specs.Prelude.{◌≡◌, false, true, []};
     ghost use Rattle.vcd_host.specs.Buffer.{kept};
 
-    // If the call succeeds, no byte is left in the buffer.
-    ghost flushes = { λ _ done new. done ≡ true → kept new.buffer ≡ [] };
+    // If the call succeeds, no byte is left in the buffer. If a write has failed before, it fails,
+    // and nothing changes.
+    ghost flushes = { λ old done new. (done ≡ true → kept new.buffer ≡ [])
+        × (old.is_broken ≡ true → (done ≡ false) × (new ≡ old)) };
 
     /// Writes what is in the buffer to the device, and flushes the device. Fails if a call of the
     /// device fails; that is not counted.
@@ -251,13 +270,15 @@ impl<D: Write + Drop> Output for Buffered<D> {
 }
 
 impl<D: Write + Drop> Drop for Buffered<D> {
-    /// Writes what is in the buffer to the device. A failure is ignored.
+    /// Writes what is in the buffer to the device, unless a write has failed before. A failure is
+    /// ignored.
     fn drop(mut self) {
         let _ = self.write_kept();
         let Buffered {
             device: _device,
             buffer: _,
             failures: _,
+            is_broken: _,
         } = self;
     }
 }

@@ -5,7 +5,7 @@ use Rattle.vcd_text.specs.declared.device.Sink.{Ghosts as Sinks}
 use Rattle.vcd_program.proofs.UnderLemmas.{program-under}
 
 -- what a host opens is opened in its process, and it stays the host of this process
-host-step : {P F I : Type 0} (opens : P → List ℕ → Result F Error → P → Type 0) (gives : P → I → Type 0) (ghost_name : ℕ) (seeded : Bool) (old new : ProcessHost P) (name : Option Text) (result : Result (Watch (Stream F I)) OpenFault) → IsHostOf ghost_name seeded old
+host-step : {P F I : Type 0} (opens : P → List ℕ → Result F Error → P → Type 0) (gives : P → I → P → Type 0) (ghost_name : ℕ) (seeded : Bool) (old new : ProcessHost P) (name : Option Text) (result : Result (Watch (Stream F I)) OpenFault) → IsHostOf ghost_name seeded old
     → OpensOn opens gives old name result new → OpensInput opens gives seeded old.process.now name result new.process.now × IsHostOf ghost_name seeded new
 host-step opens gives ghost_name seeded old new name result is o = (subst (λ s. OpensInput opens gives s old.process.now name result new.process.now) is.1 o.0, (o.1.0 ∙ is.0, o.1.1 ∙ is.1))
 

@@ -33,13 +33,13 @@ abbrev pub read_as : {F I : Type 0} → Bool → Stream F I → Stream F I
 read_as true stream = stream
 read_as false stream = Refused
 
--- In what follows `opens` says what a process may return for the name of a file, and what that
--- leaves of it, and `gives` what it may return as its standard input.
+-- In what follows `opens` says what a process may return for the name of a file, and `gives` what it
+-- may return as its standard input, and what that leaves of it.
 
 -- What is opened in a process that was `old` and is `new`: the file of this name if there is a
--- name, otherwise standard input, for which the process stays as it is.
-abbrev pub OpensInput : {P F I : Type 0} → (P → List ℕ → Result F Error → P → Type 0) → (P → I → Type 0) → (seeded : Bool) → (old : P) → Option (List ℕ) → Result (Watch (Stream F I)) OpenFault → (new : P) → Type 0
-OpensInput opens gives seeded old None (Ok watch) new = (input : _) × gives old input × (new ≡ old) × (watch.device ≡ read_as seeded (Input (record { device = input })))
+-- name, otherwise standard input. That is one call, since nothing else can change a process.
+abbrev pub OpensInput : {P F I : Type 0} → (P → List ℕ → Result F Error → P → Type 0) → (P → I → P → Type 0) → (seeded : Bool) → (old : P) → Option (List ℕ) → Result (Watch (Stream F I)) OpenFault → (new : P) → Type 0
+OpensInput opens gives seeded old None (Ok watch) new = (input : _) × gives old input new × (watch.device ≡ read_as seeded (Input (record { device = input })))
 OpensInput opens gives seeded old None (Err fault) new = ⊥
 OpensInput opens gives seeded old (Some name) (Ok watch) new = (file : _) × opens old name (Ok file) new × (watch.device ≡ read_as seeded (File (record { device = file })))
 OpensInput opens gives seeded old (Some name) (Err Unopened) new = (error : Error) × opens old name (Err error) new × (error_kind error ≢ kind.OutOfMemory)
@@ -50,5 +50,5 @@ abbrev pub IsHostOf : {P : Type 0} → (ghost_name : ℕ) → (seeded : Bool) �
 IsHostOf ghost_name seeded host = (host.process.ghost_name ≡ ghost_name) × (host.is_seeded ≡ seeded)
 
 -- an input is opened in the process of a host
-abbrev pub OpensOn : {P F I : Type 0} → (P → List ℕ → Result F Error → P → Type 0) → (P → I → Type 0) → ProcessHost P → Option (List ℕ) → Result (Watch (Stream F I)) OpenFault → ProcessHost P → Type 0
+abbrev pub OpensOn : {P F I : Type 0} → (P → List ℕ → Result F Error → P → Type 0) → (P → I → P → Type 0) → ProcessHost P → Option (List ℕ) → Result (Watch (Stream F I)) OpenFault → ProcessHost P → Type 0
 OpensOn opens gives old name result new = OpensInput opens gives old.is_seeded old.process.now name result new.process.now × IsHostOf old.process.ghost_name old.is_seeded new

@@ -53,7 +53,7 @@ impl Process for OwnProcess<'_> {
 
     ghost opens = { λ _ _ _ _. ⊤ };
 
-    ghost gives = { λ _ _. ⊤ };
+    ghost gives = { λ _ _ _. ⊤ };
 
     ghost seeds = { λ _ _. ⊤ };
 
@@ -77,7 +77,7 @@ impl Process for OwnProcess<'_> {
     }
 
     /// Returns standard input.
-    fn input(&self) -> Stdin {
+    fn input(&mut self) -> Stdin {
         self.rt.stdin()
     }
 

@@ -34,8 +34,9 @@ pub trait Process {
     // opened, since nothing else can change a process.
     ghost opens: { Self → List ℕ → Result Self.File Error → Self → Type 0 };
 
-    // What `input` may return.
-    ghost gives: { Self → Self.Input → Type 0 };
+    // What `input` may return, and what it leaves of the process. Like `opens`, it says that it was
+    // called, and how often.
+    ghost gives: { Self → Self.Input → Self → Type 0 };
 
     // What `seed` may return.
     ghost seeds: { Self → Option Self.Seed → Type 0 };
@@ -57,8 +58,8 @@ pub trait Process {
         ensures { opens self.old name.now result self.new };
 
     /// Returns standard input.
-    fn input(&self) -> Self::Input
-        ensures { gives self.now result };
+    fn input(&mut self) -> Self::Input
+        ensures { gives self.old result self.new };
 
     /// Returns a hasher that is made from random numbers. `None` if there are none.
     fn seed(&self) -> Option<Self::Seed>

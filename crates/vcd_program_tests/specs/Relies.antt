@@ -150,7 +150,7 @@ is_right p Failing = ⊤
 -- The process opened the file of this name, or gave its standard input, and changed by nothing
 -- else. Without random numbers each read of the input fails.
 abbrev pub OpensOne : {P F I B K : Type 0} → Ghosts P F I B K → (seeded : Bool) → (process : P) → Option Text → Result (Watch (Stream F I)) OpenFault → (process' : P) → Type 0
-OpensOne p seeded process None (Ok watch) process' = (input : _) × p.gives process input × (process' ≡ process) × (watch.device ≡ cond seeded (Standard (record { device = input })) Failing)
+OpensOne p seeded process None (Ok watch) process' = (input : _) × p.gives process input process' × (watch.device ≡ cond seeded (Standard (record { device = input })) Failing)
 OpensOne p seeded process None (Err fault) process' = ⊥
 OpensOne p seeded process (Some name) (Ok watch) process' = (file : _) × p.opens process name (Ok file) process' × (watch.device ≡ cond seeded (File (record { device = file })) Failing)
 OpensOne p seeded process (Some name) (Err Unopened) process' = (error : Error) × p.opens process name (Err error) process' × (error_kind error ≢ io_kind.OutOfMemory)

@@ -49,7 +49,7 @@ struct Row {
 
 const NOTHING: Said = Said::Just(b"");
 
-static ROWS: [Row; 29] = [
+static ROWS: [Row; 31] = [
     Row {
         words: &["list"],
         opened: &[None],
@@ -194,6 +194,30 @@ static ROWS: [Row; 29] = [
         err: Said::Just(
             b"error: unrecognized subcommand 'help'\n\n  \
                 tip: use 'vcdkit --help' or 'vcdkit COMMAND --help'\n\n\
+                Usage: vcdkit COMMAND [ARGUMENT...]\n\n\
+                For more information, try '--help'.\n",
+        ),
+        status: 2,
+    },
+    Row {
+        words: &["version"],
+        opened: &[],
+        out: NOTHING,
+        err: Said::Just(
+            b"error: unrecognized subcommand 'version'\n\n  \
+                tip: use 'vcdkit --version'\n\n\
+                Usage: vcdkit COMMAND [ARGUMENT...]\n\n\
+                For more information, try '--help'.\n",
+        ),
+        status: 2,
+    },
+    Row {
+        words: &["compare", "a.vcd", "b.vcd"],
+        opened: &[],
+        out: NOTHING,
+        err: Said::Just(
+            b"error: unrecognized subcommand 'compare'\n\n  \
+                tip: see 'vcdkit-compare --help'\n\n\
                 Usage: vcdkit COMMAND [ARGUMENT...]\n\n\
                 For more information, try '--help'.\n",
         ),

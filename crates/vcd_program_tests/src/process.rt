@@ -53,7 +53,7 @@ impl Process for InMemory {
 
     ghost opens = { λ _ _ _ _. ⊤ };
 
-    ghost gives = { λ _ _. ⊤ };
+    ghost gives = { λ _ _ _. ⊤ };
 
     ghost seeds = { λ _ _. ⊤ };
 
@@ -82,7 +82,7 @@ impl Process for InMemory {
         }
     }
 
-    fn input(&self) -> &'static [u8] {
+    fn input(&mut self) -> &'static [u8] {
         INPUT
     }
 

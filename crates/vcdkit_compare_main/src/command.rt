@@ -23,7 +23,8 @@ The exit status of a pipe is that of its last command. In a script, use bash's
 Exit status:
   0  no difference, and at least one pair was compared
   1  a difference, or no pair was compared
-  2  not a valid dump: the message says where and why; or a usage error
+  2  not a valid dump: the message says where and why; or a usage error, also a
+     name that selects nothing, or a --from after the end of the dump
   3  I/O error or out of memory";
 
 /// Returns the definition of an option `--NAME` without a value, with this help text.

@@ -1,7 +1,7 @@
 //! Why the program ends without an answer, and the line that says so.
 ghost use Rattle.std.specs.Prelude.{◌-◌, ◌^◌, ◌<◌};
 
-use std::alloc::{AllocError, AllocFailed};
+use std::alloc::{AllocError, AllocFailed, Global};
 use std::io;
 use std::io::ErrorKind;
 use vcd_body::Stop;
@@ -14,6 +14,11 @@ pub(crate) enum Failure<'a> {
     Refused(String),
     /// What is wrong with the command line, and the argument or the file that is wrong.
     Usage(&'static str, &'a str),
+    /// A name, and what is wrong with it.
+    Name(Vec<u8>, &'static str),
+    /// The first time at which values are to be compared, and the last time of the dump, which is
+    /// before it.
+    Late(u64, u64),
     /// The file with this name cannot be opened.
     Unopened(&'a str),
     /// A read of the file with this name failed.
@@ -27,6 +32,14 @@ pub(crate) enum Failure<'a> {
 }
 
 impl<'a> Failure<'a> {
+    /// Returns what is wrong with a name. If there is no memory, returns that.
+    pub(crate) fn of_name(alloc: Global, name: &[u8], what: &'static str) -> Failure<'a> {
+        match Vec::from_slice(alloc, name) {
+            Ok(name) => Failure::Name(name, what),
+            Err(_) => Failure::OutOfMemory,
+        }
+    }
+
     /// Returns why the comparison of the dump with this name stopped.
     pub(crate) fn of_stop(stop: Stop, name: &'a str) -> Failure<'a> {
         match stop {
@@ -67,12 +80,23 @@ impl From<WriteFailed> for Failure<'_> {
 }
 
 /// Writes one line of `vcdkit-compare: ` and these two texts. Fails if a write does.
-fn put_both<E: Sink>(err: &mut E, first: &str, second: &str) -> Result<(), WriteFailed>
+fn put_both<E: Sink>(err: &mut E, first: &[u8], second: &[u8]) -> Result<(), WriteFailed>
     requires { (E.device err.old).failures < 2 ^ 64 - 1 }
 {
     put(err, b"vcdkit-compare: ")?;
-    put(err, first.as_bytes())?;
-    put(err, second.as_bytes())?;
+    put(err, first)?;
+    put(err, second)?;
+    put(err, b"\n")
+}
+
+/// Writes the line that `--from` is after the end of the dump. Fails if a write does.
+fn put_late<E: Sink>(err: &mut E, from: u64, last: u64) -> Result<(), WriteFailed>
+    requires { (E.device err.old).failures < 2 ^ 64 - 1 }
+{
+    put(err, b"vcdkit-compare: --from: ")?;
+    put_number(err, from)?;
+    put(err, b" is after the end of the dump, ")?;
+    put_number(err, last)?;
     put(err, b"\n")
 }
 
@@ -97,15 +121,17 @@ pub(crate) fn report<E: Sink>(failure: Failure<'_>, err: &mut E) -> u8
 {
     let _ = match &failure {
         Failure::Refused(text) => put(err, text.as_bytes()),
-        Failure::Usage(what, word) => put_both(err, what, word),
-        Failure::Unopened(name) => put_both(err, name, ": cannot be opened"),
-        Failure::Unread(name) => put_both(err, name, ": read failed"),
+        Failure::Usage(what, word) => put_both(err, what.as_bytes(), word.as_bytes()),
+        Failure::Name(name, what) => put_both(err, name, what.as_bytes()),
+        Failure::Late(from, last) => put_late(err, *from, *last),
+        Failure::Unopened(name) => put_both(err, name.as_bytes(), b": cannot be opened"),
+        Failure::Unread(name) => put_both(err, name.as_bytes(), b": read failed"),
         Failure::Dump(name, line, fault) => put_fault(err, name, *line, text_of(*fault)),
-        Failure::Unwritten => put_both(err, "write failed", ""),
-        Failure::OutOfMemory => put_both(err, "out of memory", ""),
+        Failure::Unwritten => put_both(err, b"write failed", b""),
+        Failure::OutOfMemory => put_both(err, b"out of memory", b""),
     };
     match failure {
-        Failure::Refused(_) | Failure::Usage(..) | Failure::Dump(..) => 2,
-        _ => 3,
+        Failure::Unopened(_) | Failure::Unread(_) | Failure::Unwritten | Failure::OutOfMemory => 3,
+        _ => 2,
     }
 }

@@ -26,13 +26,16 @@ pub(crate) fn texts_of<'a>(
     Ok(texts)
 }
 
-/// Adds a pair of names. Fails if memory runs out.
+/// Adds a pair of names. Fails if they are the same, or if memory runs out.
 fn add<'a>(
     alloc: Global,
     one: &str,
     other: &str,
     names: &mut Vec<NamePair>,
 ) -> Result<(), Failure<'a>> {
+    if one == other {
+        return Err(Failure::of_name(alloc, one.as_bytes(), ": is compared with itself"));
+    }
     names.push(NamePair {
         one: copy_of(alloc, one.as_bytes())?,
         other: copy_of(alloc, other.as_bytes())?,
@@ -46,8 +49,8 @@ fn two_names(word: &str) -> Option<(&str, &str)> {
     (!one.is_empty() && !other.is_empty()).then_some((one, other))
 }
 
-/// Adds the names of the arguments `X=Y`, if there are any. Fails if one has another form, or if
-/// memory runs out.
+/// Adds the names of the arguments `X=Y`, if there are any. Fails if one has another form, if both
+/// names of one are the same, or if memory runs out.
 pub(crate) fn add_words<'a>(
     alloc: Global,
     words: Option<&[&'a str]>,
@@ -72,7 +75,7 @@ fn text_of_file<'a>(alloc: Global, file: File, path: &'a str) -> Result<String, 
 }
 
 /// Adds the names of a file, which is a list of words: an X, its Y, the next X and so on. Fails if
-/// the file cannot be read, if the last Y is missing, or if memory runs out.
+/// the file cannot be read, if the last Y is missing, if an X is its own Y, or if memory runs out.
 pub(crate) fn add_file<'a>(
     alloc: Global,
     file: File,

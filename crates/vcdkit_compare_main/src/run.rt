@@ -6,8 +6,8 @@ ghost use Rattle.vcd_text.specs.Feed.{source_of};
 use crate::failure::Failure;
 use std::alloc::Global;
 use std::hash::BuildHasher;
-use vcd_body::{Share, Slot};
-use vcd_compare::{Asked, Lead, NamePair, Room, compare, pairs_of};
+use vcd_body::{Done, Share, Slot};
+use vcd_compare::{Answer, Asked, Lead, NamePair, PairsFault, Room, compare, pairs_of};
 use vcd_head::{Head, HeadFault, read_head_with_hasher};
 use vcd_text::{Feed, Sink, Source, WriteFailed, put, put_number};
 use vcd_view::need;
@@ -29,6 +29,32 @@ fn of_head(fault: HeadFault, name: &str, line: u64) -> Failure<'_> {
     }
 }
 
+/// Returns the name that selects nothing. `None` if memory ran out.
+fn unselected(fault: PairsFault, request: &Request) -> Option<&[u8]> {
+    match fault {
+        PairsFault::One(at) => Some(&request.names.get(at)?.one),
+        PairsFault::Other(at) => Some(&request.names.get(at)?.other),
+        PairsFault::Exception(at) => Some(request.exceptions.get(at)?),
+        PairsFault::OutOfMemory => None,
+    }
+}
+
+/// Returns why there are no pairs of these names.
+fn of_pairs<'a>(alloc: Global, fault: PairsFault, request: &Request) -> Failure<'a> {
+    let Some(name) = unselected(fault, request) else {
+        return Failure::OutOfMemory;
+    };
+    Failure::of_name(alloc, name, ": selects nothing")
+}
+
+/// Fails if the dump has ended before the first time at which values were to be compared.
+fn check_end<'a>(answer: Answer, asked: Asked) -> Result<(), Failure<'a>> {
+    if answer.done == Done::Whole && answer.last < asked.from {
+        return Err(Failure::Late(asked.from, answer.last));
+    }
+    Ok(())
+}
+
 /// Writes how many pairs were compared. Fails if a write does.
 fn put_count<W: Sink>(count: usize, out: &mut W) -> Result<(), WriteFailed>
     requires { (W.device out.old).failures < 2 ^ 64 - 1 }
@@ -39,7 +65,8 @@ fn put_count<W: Sink>(count: usize, out: &mut W) -> Result<(), WriteFailed>
 }
 
 /// Compares the pairs of a dump whose header was read, and returns whether there was a difference.
-/// Nothing that was compared counts as one. Fails at the first fault.
+/// Nothing that was compared counts as one. Fails at a name that selects nothing, at the first
+/// fault, and if the dump ends too early.
 fn compare_body<'a, S: Source, W: Sink>(
     alloc: Global,
     request: &Request,
@@ -53,7 +80,10 @@ fn compare_body<'a, S: Source, W: Sink>(
     requires open { HasNotFailed feed.old }
 {
     let view = head.view();
-    let pairs = pairs_of(alloc, view, &request.names, &request.exceptions)?;
+    let pairs = match pairs_of(alloc, view, &request.names, &request.exceptions) {
+        Ok(pairs) => pairs,
+        Err(fault) => return Err(of_pairs(alloc, fault, request)),
+    };
     let need = need(view);
     let mut values = vec![in alloc; 0u8; need.values]?;
     let mut slots = vec![in alloc; Slot::new(); need.slots]?;
@@ -79,6 +109,7 @@ fn compare_body<'a, S: Source, W: Sink>(
     };
     match compare(view, feed, room, &pairs, request.asked, out) {
         Ok(answer) => {
+            check_end(answer, request.asked)?;
             put_count(pairs.count(), out)?;
             Ok(answer.differs || pairs.count() == 0)
         }
@@ -87,8 +118,8 @@ fn compare_body<'a, S: Source, W: Sink>(
 }
 
 /// Compares the parts of the dump with this name, and returns whether there was a difference.
-/// Nothing that was compared counts as one. Fails at the first fault of the dump, if a read or a
-/// write fails, and if memory runs out.
+/// If nothing was compared, that counts as one. Fails at a name that selects nothing, at the first
+/// fault of the dump, if the dump ends too early, if a read or a write fails, and if memory runs out.
 pub(crate) fn compared<'a, S: Source, W: Sink, B: BuildHasher>(
     alloc: Global,
     request: &Request,

@@ -1,10 +1,11 @@
 use Rattle.vcd_compare.proofs.Cited.{◌+◌, ◌++◌, [], ℕ, length, map, sym, subst, ◌∙◌, Vec, AllZip, AreApart, AreInside, AreNamedBelow, AreNumbersOf, AreNumbered, IsNumberOf, both_names, names_in}
 use Rattle.std.proofs.lemmas.List.{append_assoc}
-use Rattle.vcd_compare.proofs.Facts.{few_kept, keys_within, named_below, ok_then, texts_stay, zip_stays}
+use Rattle.vcd_compare.proofs.Facts.{few_kept, keys_within, named_below, texts_stay, zip_stays}
 use Rattle.vcd_compare.proofs.pairs.pairs_of.Goals as goal
 
 pub returns : goal.returns
-returns c = ok_then c.pairs_between.result _ _ (λ ps pairs h q view except.
+returns c = λ h q view except.
+    let ps = c.in_ok-pairs_between.field-0 in
     let ns = names_in c.args.names.now in
     let es = map (λ (e : Vec ℕ). e.items) c.args.exceptions.now in
     let vs = c.in_ok-variables.variables in
@@ -21,10 +22,10 @@ returns c = ok_then c.pairs_between.result _ _ (λ ps pairs h q view except.
     let below : AreNamedBelow texts (both_names ns) (c.len-named.result + 1) =
     subst (λ ts. AreNamedBelow ts (both_names ns) (c.len-named.result + 1)) (sym (append_assoc known left.0 rows.0))
     (subst (λ n. AreNamedBelow (known ++ (left.0 ++ rows.0)) (both_names ns) (n + 1)) (named.1.len ∙ sym c.len-named.ensures.len) numbers_below) in
-    let inside = c.in_ok-lists.ensures texts es ns has below (keys_within h texts vs header) (subst (λ l. AllZip (AreNumbersOf texts) l ns) (sym c.deref-2.ensures.value) numbers) (subst (λ l. AllZip (IsNumberOf texts) l es) (sym c.deref-3.ensures.value) (texts_stay entered rows.0 c.in_ok-exceptions.exceptions.items es left.2)) in
-    let are = pairs q h ns texts view (record {
+    let inside = c.in_ok-lists.ensures texts es ns has below (keys_within h texts vs header) (subst (λ l. AllZip (AreNumbersOf texts) l ns) (sym c.deref-4.ensures.value) numbers) (subst (λ l. AllZip (IsNumberOf texts) l es) (sym c.deref-5.ensures.value) (texts_stay entered rows.0 c.in_ok-exceptions.exceptions.items es left.2)) in
+    let are = c.in_ok-pairs_between.ensures q h ns texts view (record {
       has = has;
       are = header;
-      inside = subst (λ ls. AreInside texts (both_names ns) q.exceptions vs.keys.keys (length vs.keys.keys) ls) (sym c.deref-4.ensures.value) (subst (λ l. AreInside texts (both_names ns) l vs.keys.keys (length vs.keys.keys) c.in_ok-lists.lists.items) (sym except) inside);
-    }) (subst (λ l. AllZip (AreNumbersOf texts) l ns) (sym c.deref-5.ensures.value) numbers) in
-    (are, few_kept ps h q ns are)) c.pairs_between.ensures
+      inside = subst (λ ls. AreInside texts (both_names ns) q.exceptions vs.keys.keys (length vs.keys.keys) ls) (sym c.deref-6.ensures.value) (subst (λ l. AreInside texts (both_names ns) l vs.keys.keys (length vs.keys.keys) c.in_ok-lists.lists.items) (sym except) inside);
+    }) (subst (λ l. AllZip (AreNumbersOf texts) l ns) (sym c.deref-7.ensures.value) numbers) in
+    (are, few_kept ps h q ns are)

@@ -1,4 +1,4 @@
-use Rattle.vcd_compare.proofs.Cited.{◌≡◌, [], ℕ, Err, IfOk, inl, refl, sym, ap, subst, rules, take, Device, WritesSome, within_head, within_open, Write, model_asked}
+use Rattle.vcd_compare.proofs.Cited.{◌≡◌, [], Err, inl, refl, sym, ap, subst, rules, take, Device, WritesSome, within_head, within_open, Write, model_asked}
 use Rattle.vcd_compare.proofs.Facts.{begins_none, come_first, open_first}
 use Rattle.vcd_text.specs.ReadAhead.ReadsAsNeeded.{Nothing}
 use Rattle.vcd_compare.proofs.whole.compare.Goals as goal
@@ -37,7 +37,3 @@ returns-clause-needed g c = λ h exceptions ns i front views pairs given.
     let run = c.new-run.ensures in
     c.run_to_end.ensures.needed q exceptions h ns i front out [] views
     (come_first q exceptions h ns i front out mid c.new-run.result c.args.feed.now (ap (λ a. model_asked a exceptions) run.asked) given run.regs (run.stands h exceptions ns views pairs) (puts.0 h q ns views pairs, puts.1))
-
-pub returns-clause-writes : goal.returns-clause-writes
-returns-clause-writes g c =
-    subst (λ (n : ℕ). IfOk c.run_to_end.result (λ _. (g.W.Sink.device c.run_to_end.new.out).failures ≡ n)) c.in_ok-put_header_lines.ensures.1 c.run_to_end.ensures.writes

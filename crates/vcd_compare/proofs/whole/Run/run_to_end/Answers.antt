@@ -1,4 +1,4 @@
-use Rattle.vcd_compare.proofs.Cited.{◌≡◌, ◌∙◌, ◌+◌, ℕ, Result, Ok, Err, inl, inr, refl, sym, ap, subst, rules, arith, Advances, CallEnd, Device, chunk_len_of, limit_of, seen, supply_of, StepReads, due_with, is_settled_with, within_open, advances_nowhere, advances_on, More, Stop, Read, Write, BodyGives, StepGives, step_end}
+use Rattle.vcd_compare.proofs.Cited.{◌≡◌, ◌∙◌, ◌+◌, ℕ, Result, Ok, Err, inl, inr, add-zero, refl, sym, ap, subst, rules, arith, Advances, CallEnd, Device, chunk_len_of, limit_of, seen, supply_of, StepReads, due_with, is_settled_with, within_open, advances_nowhere, advances_on, More, Stop, Read, Write, BodyGives, StepGives, step_end}
 use Rattle.vcd_compare.proofs.Facts.{come_passed, needed_before, needed_last, not_over, pass_fails, read_more, read_same, read_step}
 use Rattle.vcd_text.specs.Device.{supply}
 use Rattle.vcd_body.proofs.PaceLemmas.{read_nothing}
@@ -53,6 +53,15 @@ returns-in_err-step-clause-passed_on g c = λ input is.
       | inr holds ↦ absurd (not_one_more _ (sym (ap g.S.Source.failures (s.ahead holds)) ∙ s.over.advances.failed (ap step_end read) unfailed))
     ]
 
+pub returns-in_err-step-clause-last : goal.returns-in_err-step-clause-last
+returns-in_err-step-clause-last g c = λ input is.
+    let stop = c.in_err-step.field-0.0 in
+    let e : c.from_residual-in_err-step.result ≡ Err stop = search rules in
+    let named : stop ≡ Read input = cc in
+    let read : ◌≡◌ {A = Result More Stop} (Err stop) (Err (Read input)) = ap (λ (s : Stop). Err s) named in
+    let unfailed = c.advance_ahead.ensures.advances.goes refl (c.items.invariant.0.goes refl c.requires.open) in
+    c.in_err-step.ensures.over.advances.last (ap step_end read) unfailed
+
 pub returns-in-Ended-clause-runs : goal.returns-in-Ended-clause-runs
 returns-in-Ended-clause-runs g c = λ q exceptions h ns i front begin items views come.
     let s = c.items.invariant.3 q exceptions h ns i front begin items views come in
@@ -64,10 +73,7 @@ returns-in-Ended-clause-runs g c = λ q exceptions h ns i front begin items view
     let passed = come_passed q exceptions h ns i front begin a.0 c.advance_ahead.new.self f out a.1 mid c.in_ok-pass_on_before_read.ensures.puts in
     let limit : limit_of c.step.new.feed ≡ limit_of c.args.feed.now = c.in_ok-step.ensures.over.advances.limit ∙ c.advance_ahead.ensures.advances.limit ∙ c.items.invariant.0.limit in
     let ended = subst (λ (m : More). StepGives q exceptions h ns i front begin (within_open q h ns a.0) c.step.new.self c.step.new.feed new (Ok m)) c.in-Ended.is (c.in_ok-step.ensures.steps q exceptions h ns i front begin a.0 views passed) in
-    subst (λ (n : ℕ). BodyGives q h ns i front n (seen c.step.new.feed) begin new (Ok (record { differs = c.step.new.self.differs; done = c.in-Ended.done }))) limit ended
-
-pub returns-in-Ended-clause-writes : goal.returns-in-Ended-clause-writes
-returns-in-Ended-clause-writes g c = c.in_ok-step.ensures.over.writes ∙ c.in_ok-pass_on_before_read.ensures.puts.1 ∙ c.items.invariant.2
+    subst (λ (n : ℕ). BodyGives q h ns i front n (seen c.step.new.feed) begin new (Ok (record { differs = c.step.new.self.differs; done = c.in-Ended.done; last = c.step.new.self.regs.time }))) limit ended
 
 pub items-preserved : goal.items-preserved
 items-preserved g c =
@@ -76,7 +82,7 @@ items-preserved g c =
     let ahead = advances_on g.S.Source.failures c.args.feed.now c.items.feed c.advance_ahead.new.feed CallEnd.GoesOn c.items.invariant.0 c.advance_ahead.ensures.advances in (
       advances_on g.S.Source.failures c.args.feed.now c.advance_ahead.new.feed c.step.new.feed CallEnd.GoesOn ahead (subst (λ (m : More). Advances g.S.Source.failures c.advance_ahead.new.feed c.step.new.feed (step_end (Ok m))) c.in-Again.is over.advances),
       over.counted again,
-      over.writes ∙ c.in_ok-pass_on_before_read.ensures.puts.1 ∙ c.items.invariant.2,
+      over.writes ∙ add-zero _ ∙ c.in_ok-pass_on_before_read.ensures.puts.1 ∙ c.items.invariant.2,
       λ q exceptions h ns i front begin items views come.
           let s = c.items.invariant.3 q exceptions h ns i front begin items views come in
           let out : Device = (g.W.Sink.device c.items.out) in

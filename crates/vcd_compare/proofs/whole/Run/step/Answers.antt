@@ -79,7 +79,7 @@ returns-in_ok-close-in-Finish-clause-steps g c = λ q exceptions h ns i front be
     let new : Device = (g.W.Sink.device c.close.new.out) in
     let all = subst (GivesItem h.codes i front items f r) c.in-Finish.is (c.in-Ok.ensures.reads h i front items views come.gave) in
     let closes = c.in_ok-close-in-Finish.ensures.closes h exceptions ns items views (record { compares = come.stands.compares; differs = come.stands.differs }) in
-    ends_whole q exceptions h ns i front begin items c.args.self.now c.args.feed.now out come c.close.new.self f r all new (closes.0, c.in_ok-close-in-Finish.ensures.counts) closes.1
+    ends_whole q exceptions h ns i front begin items c.args.self.now c.args.feed.now out come c.close.new.self f r all new c.close.ensures.same.regs (closes.0, c.in_ok-close-in-Finish.ensures.counts) closes.1
 
 pub returns-in-Begin-clause-steps : goal.returns-in-Begin-clause-steps
 returns-in-Begin-clause-steps g c = λ q exceptions h ns i front begin items views come.
