@@ -4,7 +4,7 @@
 # make CPU=x86-64-v3    the same for newer processors, whose instructions the programs may use. On a
 #     processor without them, they say so and end
 # make trial   builds the programs as ./vcdkit-unproved and ./vcdkit-compare-unproved, for trying
-#     code. Nothing of them is proved: three CPU minutes
+#     code. Nothing of them is proved: four CPU minutes
 # make test    the gate: all proofs, the must-fail edits, the tests, and the programs as two
 #     compilers build them: 40 to 70 minutes
 # make hostile runs the programs while memory, reads and writes fail, with closed streams, and on

@@ -4,7 +4,7 @@ use clap::Error;
 use std::alloc::{AllocError, Global};
 
 /// Texts of `clap` that mislead here, and the texts that replace them.
-const INSTEAD: [(&str, &str); 6] = [
+const INSTEAD: [(&str, &str); 7] = [
     // These words ask for a file for the output, and are no value to pass.
     (
         "tip: to pass '-o' as a value, use '-- -o'",
@@ -26,6 +26,10 @@ const INSTEAD: [(&str, &str); 6] = [
         "subcommand 'help'\n",
         "subcommand 'help'\n\n  tip: use 'vcdkit --help' or 'vcdkit COMMAND --help'\n",
     ),
+    (
+        "subcommand 'version'\n",
+        "subcommand 'version'\n\n  tip: use 'vcdkit --version'\n",
+    ),
     // This is the name of a script.
     (
         "'table'\n\n  tip: a similar subcommand exists: 'sample'",
@@ -33,9 +37,11 @@ const INSTEAD: [(&str, &str); 6] = [
     ),
 ];
 
-/// The scripts that are installed besides the program, without the `vcdkit-` of their names.
-const SCRIPTS: [&str; 13] = [
+/// The scripts and the other program that are installed besides this one, without the `vcdkit-` of
+/// their names.
+const SCRIPTS: [&str; 14] = [
     "close-sections",
+    "compare",
     "diff",
     "explain",
     "find",

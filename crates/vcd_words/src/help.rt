@@ -57,7 +57,7 @@ not a file.
 
 Exit status:
   0  everything was written
-  1  not a valid dump: the output ends before the fault; or a name selects
+  1  not a valid dump (the output stops before the fault), or a name selects
      nothing
   2  usage error
   3  I/O error or out of memory",
@@ -76,8 +76,8 @@ if that is later, with status 0.
 
 Exit status:
   0  everything was written
-  1  not a valid dump: the output ends before the fault; or a time with a unit,
-     and no time scale
+  1  not a valid dump (the output stops before the fault), or a time with a unit
+     but no time scale in the dump
   2  usage error
   3  I/O error or out of memory",
 };
@@ -90,13 +90,14 @@ pub const SAMPLE: Help<'static> = Help {
   vcdkit sample -i sim.vcd --at 5000
 
 A time is a number of ticks, or has a unit: s, ms, us, ns, ps or fs. After the
-end of the dump, the values are the last ones, with status 0.
+end of the dump, the last values are written, with status 0.
 Names are the paths that vcdkit list writes; without one, all variables are
 sampled. An argument without -i is a name, not a file.
 
 Exit status:
   0  everything was written
-  1  a name selects nothing, a unit without a time scale, or not a valid dump
+  1  not a valid dump, a name selects nothing, or a time with a unit but no time
+     scale in the dump
   2  usage error
   3  I/O error or out of memory",
 };
@@ -114,7 +115,7 @@ counted. An argument without -i is a name, not a file.
 
 Exit status:
   0  everything was written
-  1  a name selects nothing, or not a valid dump
+  1  not a valid dump, or a name selects nothing
   2  usage error
   3  I/O error or out of memory",
 };
@@ -131,7 +132,7 @@ in2, and so on. All changes are in time order.
 
 Exit status:
   0  everything was written
-  1  not a valid dump: the output ends before the fault
+  1  not a valid dump (the output stops before the fault)
   2  usage error
   3  I/O error or out of memory",
 };
@@ -157,7 +158,7 @@ Scripts, each with its own --help:
   vcdkit-explain         What is wrong with this dump, and what helps?
   vcdkit-four-state      Converts nine-state values of VHDL to four states
   vcdkit-close-sections  Adds the missing $end of sections
-  vcdkit-join-bits       Joins variables of one bit into vectors
+  vcdkit-join-bits       Joins one-bit variables into vectors
 
 They also read compressed dumps (gzip, xz, bzip2, zstd), and FST if fst2vcd is
 installed. In the sources and the tarball, the scripts are in extras/.
