@@ -351,7 +351,9 @@ def operand(variables: Sequence[Variable], name: str) -> Optional[Part]:
     if len({one.code for one in its}) != 1 or not whole and kind(its[0]) in ("real", "event"):
         return None
     if whole or not bits:
-        return Part(its[0].code, 0, its[0].size, its[0].size, its[0].type == "integer")
+        is_part = re.search(r"\[-?\d+:-?\d+\]$", name)  # of all bits, and unsigned
+        return Part(its[0].code, 0, its[0].size, its[0].size,
+                    its[0].type == "integer" and not is_part)
     part = field(its[0], int(bits[2]), int(bits[3] or bits[2]))
     return part if 0 <= part.begin < part.end <= its[0].size else None
 

@@ -293,5 +293,6 @@ class Scripts:
             words.append({"01": "--rise=", "10": "--fall="}[asked.edge] + self.of.clock)
         lines, is_refused = by_definition.compare(both, asked)
         self.same("diff", [*words, self.path, self.other_path, *names], lines,
-                  2 if is_refused else int(bool(lines)), is_refused,
+                  2 if is_refused else int(bool(lines)),
+                  is_refused or asked.is_common and not lines,
                   lambda got: got)

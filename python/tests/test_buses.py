@@ -4,7 +4,8 @@
 test_buses.py [--verilator] [--seeds N]: an AXI-lite slave answers up to four reads at a time, and
 takes the data of a write before or after its address. The bench finds the request of an answer by
 its address, which the slave keeps, and prints a line for each transaction; so it does not count
-transfers, as vcdkit-table does. Icarus Verilog runs it, or Verilator."""
+transfers, as vcdkit-table does. Icarus Verilog runs it, or Verilator; and of a FIFO between two
+clocks, which has a clock for each channel."""
 import argparse
 import collections
 import os
@@ -108,15 +109,65 @@ module tb;
   end
 endmodule
 """
+# A FIFO between two clocks, with gray pointers. Each word has the time at which it was written.
+FIFO = r"""
+`timescale 1ns / 1ps
+module tb;
+  reg wclk = 0, rclk = 0, winc = 0, rinc = 0;
+  always #3.7 wclk = ~wclk;
+  always #5.3 rclk = ~rclk;
+  reg [31:0] mem [0:7], next = 100;
+  reg [3:0] wptr = 0, rptr = 0, w1 = 0, w2 = 0, r1 = 0, r2 = 0;
+  wire [3:0] wgray = wptr ^ (wptr >> 1), rgray = rptr ^ (rptr >> 1);
+  wire full = wgray == {~r2[3:2], r2[1:0]}, empty = rgray == w2;
+  wire [31:0] wdata = next, rdata = mem[rptr[2:0]];
+  integer seed, edges = 0, count = 0, first = 0, at_time [0:4095], at_edge [0:4095];
+  always @(posedge rclk) begin
+    edges = edges + 1;
+    {w2, w1} <= {w1, wgray};
+    if (rinc && !empty) begin
+      $display("fifo,%0d,%h,%0d,%h,%0d", at_time[first], rdata, $rtoi($realtime * 1000 + 0.5),
+               rdata, edges - at_edge[first]);
+      first = first + 1;
+      rptr <= rptr + 1;
+    end
+    seed = seed * 1103515245 + 12345;
+    rinc <= seed[30:16] % 100 < 70;
+  end
+  always @(posedge wclk) begin
+    {r2, r1} <= {r1, rgray};
+    if (winc && !full) begin
+      at_time[count] = $rtoi($realtime * 1000 + 0.5);
+      at_edge[count] = edges;
+      count = count + 1;
+      mem[wptr[2:0]] <= wdata;
+      wptr <= wptr + 1;
+      next <= next * 5 + 3;
+    end
+    seed = seed * 1103515245 + 12345;
+    winc <= seed[30:16] % 100 < 60;
+  end
+  initial begin
+    if (!$value$plusargs("seed=%d", seed)) seed = 1;
+    $dumpfile("dump.vcd");
+    $dumpvars(0, tb);
+    #6000.1 winc = 0;
+    $display("left,%0d", count - first);
+    $finish;
+  end
+endmodule
+"""
+CROSSING = ["w@tb.wclk: tb.winc && !tb.full: tb.wdata",
+            "r@tb.rclk: tb.rinc && !tb.empty: tb.rdata"]
 READ = ["ar: @arvalid && @arready: @araddr", "r: @rvalid && @rready: @rdata"]
 WRITE = ["aw: @awvalid && @awready: @awaddr", "w: @wvalid && @wready: @wdata",
          "b: @bvalid && @bready"]
 
 
-def built(folder: str, is_verilator: bool) -> List[str]:
-    """Builds the bench, and returns the command that runs it."""
+def built(folder: str, is_verilator: bool, bench: str = BENCH) -> List[str]:
+    """Builds a bench, and returns the command that runs it."""
     with open(os.path.join(folder, "tb.v"), "w", encoding="ascii") as file:
-        file.write(BENCH)
+        file.write(bench)
     words, command = ["iverilog", "-g2005", "-o", "tb", "tb.v"], ["vvp", "-n", "tb"]
     if is_verilator:
         words, command = ["verilator", "--binary", "--trace", "-Wno-lint", "-Wno-style",
@@ -171,6 +222,18 @@ def main() -> int:
                 "%s,%d" % pair for pair in sorted(each.items(), key=lambda pair: int(pair[0])))]
             most = max(most, *map(int, lines["most"]))
             early += sum(line.split(",")[5][:1] == "-" for line in lines["write"])
+        fifo = 0
+        for seed in range(0 if asked.verilator else asked.seeds):  # Verilator 5.006 has no #3.7
+            lines = printed([*built(folder, False, FIFO), "+seed=%d" % (seed * 7919 + 1)], folder)
+            got = subprocess.run(
+                [TABLE, "--hex", *("--channel=" + one for one in CROSSING),
+                 os.path.join(folder, "dump.vcd")], check=True, stdout=subprocess.PIPE,
+                universal_newlines=True).stdout.splitlines()
+            done = len(lines["fifo"])
+            wrong += got[:done + 1] != ["w (ps),tb.wdata,r (ps),tb.rdata,w to r", *lines["fifo"]]
+            wrong += len(got) - done - 1 != int(lines["left"][0])
+            fifo += done
+    print("%d words through a FIFO between two clocks" % fifo)
     print("%d transactions, with up to %d reads in flight and %d times data before its address; "
           "%d tables differ" % (count, most, early, wrong))
     return int(wrong or most != 4 or not early)

@@ -408,11 +408,11 @@ ANSWERED = [("a a", "", 0), ("a b", LINES, 1), ("--every a b", LINES + "differs 
 # The errors, failures, and the messages of a JUnit file.
 REPORTS = [("a a", "0", "0", []), ("a b", "0", "1", [LINES.strip()]),
            ("a fault", "1", "0", ["fault:2: bad time"]),
-           ("--common a other", "1", "0", ["the dumps have no name in common: --map OLD=NEW gives "
-                                           "a scope another"]),
+           ("--common a other", "1", "0", ["the dumps have no path in common: --map OLD=NEW "
+                                           "renames a scope"]),
            ("--map=t.qq=x a b", "1", "0", ["neither dump has t.qq; there is t.q"]),
            ("a other t.q", "1", "0", ["other: t.q: selects nothing; names are the paths that "
-                                      "`list` writes, and the scopes in them"]),
+                                      "`list` writes, and the scopes in these paths"]),
            ("--map=u<&=t a other", "0", "2", ["differs 0 t.c 0 -", "ends 1 -"])]
 
 

@@ -260,6 +260,13 @@ class Template(unittest.TestCase):
         self.assertNotRegex(self.text, r"https?:|@import|url\(|innerHTML|eval|\son[a-z]+=\"")
         self.assertTrue(self.text.isascii())
 
+    def test_the_forms_of_values(self):
+        """The page knows each form that the scripts have."""
+        found = re.search(r"const RADICES = (\[.*?\]);", self.text).group(1)
+        self.assertEqual(sorted(json.loads(found)), sorted(FORMS))
+        for name in set(FORMS) - {"decimal"}:  # which is what is left
+            self.assertIn('radix === "%s"' % name, self.text)
+
     def test_contrast(self):
         for theme in re.findall(r":root[.a-z]*\{(.*?)\}", self.text, re.DOTALL):
             colours = dict(re.findall(r"--(\w+):#(\w+)", theme))
@@ -416,7 +423,7 @@ class Shown(Case):
         self.press("s", "r")
         self.value("draw()")
         self.assertIn("bench.high|%d" % values["bench.high"], self.value(rows))
-        self.is_now("$('spoken').textContent", " bench.lane0 %d at 115ns" % values["bench.lane0"])
+        self.is_now("$('spoken').textContent", "bench.lane0 %d at 115ns" % values["bench.lane0"])
         self.is_now("document.querySelectorAll('[role=treeitem][aria-selected=true]').length", 1)
         self.is_now("""document.getElementById($("rows").getAttribute("aria-activedescendant"))
             .title.slice(0, 11)""", "bench.lane0")
@@ -606,8 +613,44 @@ class Shown(Case):
                                                               "B" + "bench.slow.count"])
         self.is_now("[now.cursor, valueAt(items[0], 350), valueAt(items[1], 350)]", [350, "3", "b"])
         self.is_now("'differs' in paths", True)
+        self.is_now("$('spoken').textContent", "bench.slow.count A 3 B b at 35ns")
         self.press("Home", "d")
         self.is_now("now.cursor", 350)
+
+    def test_two_dumps_at_edges(self):
+        """The values are those before the edge, and the row that was chosen is in the middle."""
+        head = b"$timescale 1ns $end $var wire 1 ! c $end " + b"".join(
+            b"$var wire 1 %c s%02d $end " % (65 + at, at) for at in range(50))
+        head += b"$enddefinitions $end #0 0! " + b" ".join(b"0%c" % (65 + at) for at in range(50))
+        body = b" #5 1! #10 0! #15 1! 1k #20 0! #25 1! #30 0! #35 1! 0k #40 0! #45 1! #50\n"
+        one, other = self.file("a.vcd", head + body), self.file(
+            "b.vcd", head + body.replace(b"0! #25 1!", b"0! #25 1! 0k").replace(
+                b"#40 0!", b"#38 1A #40 0!"))
+        page = os.path.join(self.folder.name, "page.html")
+        self.assertEqual(run(diff, "--every", "--rise", "c", "--html", page, one, other)[1],
+                         "differs 35ns s42 1 0\ndiffers 45ns s00 0 1\npage %s\n" % page)
+        self.browser.open(page)
+        self.is_now("(draw(), [now.cursor, data.mark, $('spoken').textContent])",
+                    [34, 35, "s42 A 1 B 0 at 34ns"])
+        self.press("d")
+        self.is_now("(draw(), [now.cursor, $('spoken').textContent])", [38, "s00 A 0 B 1 at 38ns"])
+        self.press("D")
+        self.is_now("(draw(), [now.cursor, $('spoken').textContent])", [25, "s42 A 1 B 0 at 25ns"])
+        # A page of many rows.
+        body = b"".join(b" #%d 1%c" % (at + 100, 65 + at) for at in range(50)) + b" #200\n"
+        one, other = self.file("a.vcd", head + b" #60 1k #61 0k" + body), self.file(
+            "b.vcd", head + b" #200\n")
+        self.assertEqual(run(diff, "--every", "--html", page, one, other)[0], 1)
+        self.browser.open(page)
+        self.is_now("""(() => { draw(); const y = tops[now.row] + TOP - $('view').scrollTop;
+            return [items[now.row].path, y > 0.3 * height && y < 0.7 * height]; })()""",
+                    ["s42", True])
+
+    def test_the_first_match_is_chosen(self):
+        self.open(self.page(NESTED, "bench"), "#find=slow%5C.c")
+        self.is_now("[items[0].isScope, !items[now.row].isScope, now.row]", [True, True, 1])
+        self.press("Escape", "/", "c", "o", "u", "n", "t", "Enter")
+        self.is_now("[items[now.row].path, items[0].isScope]", ["bench.lane[0].count", True])
 
     def test_two_dumps_of_two_lengths(self):
         """The shorter one ends where it ends, and so does the comparison; the page begins with the

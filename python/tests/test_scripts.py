@@ -525,7 +525,7 @@ class Answers(Case):
                 ("when", [whole, "(a == 1"], "vcdkit-when: bad condition: a ) is missing"),
                 ("when", [whole, "a -> b within 5 us"], "vcdkit-when: bad condition: write 5us"),
                 ("when", [whole, "a", "==", "1"],
-                 "vcdkit-when: error: put the condition into quotes"),
+                 "vcdkit-when: error: put the condition in single quotes"),
                 ("close-sections", ["none"],
                  "vcdkit-close-sections: none: No such file or directory (the first argument is "
                  "the dump; - is standard input)"),
@@ -684,6 +684,27 @@ class Rules(Case):
         words = ["--map", "TOP=", "--map", "TOP.tb=tb", one, other]
         self.assertEqual(said("vcdkit-diff", *words), ["status 0"])
         self.assertEqual(said("vcdkit-diff", "--map", "TOQ=", *words), ["status 2"])
+
+    def test_how_many_signals_are_compared(self):
+        text = (b"$scope module t $end $var wire 1 ! c $end $var wire 1 d %s $end $var wire 1 e %s "
+                b"$end $upscope $end $enddefinitions $end #0 0! 0d 1e\n")
+        one, other = (self.file(name, text % names) for name, names in (
+            ("a.vcd", (b"req", b"ack")), ("b.vcd", (b"rq", b"ak"))))
+        junit = os.path.join(self.folder.name, "out.xml")
+        count, least = b"compared 1 signal (A has 3, B has 3)", b": --at-least asks for 2\n"
+        for words, status, message in (
+                (["--common"], 0, count + b"\n"), (["--common", "--at-least=1"], 0, count + b"\n"),
+                (["--common", "--at-least", "2"], 2, count + least), (["--at-least=1"], 1, b""),
+                (["--at-least=2"], 2, count + least), (
+                    ["--except=t.%s" % name for name in ("rq", "ak", "req", "ack")], 0, b""),
+                (["--common", "--except", "t.c"], 2, b"the dumps have no path in common: --map "
+                 b"OLD=NEW renames a scope\n"), (["--common", "--json"], 0, count + b"\n")):
+            got, out, messages = run("vcdkit-diff", [*words, "--junit", junit, one, other])
+            self.assertEqual((got, messages), (status, b"vcdkit-diff: " * bool(message) + message))
+            self.assertEqual(b"alone A t.req" in out, words[0] in ("--at-least=1", "--at-least=2"))
+            notes = [its.text for its in xml.parse(junit).iter("system-out")]
+            self.assertEqual(notes, [count.decode()] * (status < 2))
+        self.assertEqual(run("vcdkit-diff", ["--at-least=x", one, other])[0], 2)
 
     def test_a_window_of_two_dumps(self):
         head = (b"$timescale 1ns $end $var wire 1 ! c $end $var wire 4 d v $end "
@@ -1058,16 +1079,30 @@ class Conditions(Case):
             file.write(b"fault\n")
         self.assertEqual(said("vcdkit-table", *words, "b: ack", dump)[1:], [*rows, "status 1"])
         for wrong, message in (
-                (["--channel=a: req"], b"--histogram goes with --channel, and --channel with"),
+                (["--channel=a: req"], b"to list every edge, name a clock with rise or fall"),
                 ([*words, "a: ack"], b"error: two channels have one name"),
                 ([*words, "b: ack", "clk"], b"error: give NAMEs, --names or --channel"),
                 ([*words, "b: ack", "--if", "req"], b"not allowed with argument --channel"),
-                ([*words, "b"], b"vcdkit-table: b: bad condition: it ends too early"),
+                ([*words, "b"], b"error: a channel is 'NAME: CONDITION: SIGNAL ..', with a space"),
                 ([*words, "b: req -> ack within 3"], b"vcdkit-table: b: bad condition: -> is of"),
                 (["--rise", "clk", "--histogram", "clk"], b"--histogram goes with --channel")):
             status, out, messages = run("vcdkit-table", [dump, *wrong])
             self.assertEqual((status, out), (2, b""), wrong)
             self.assertIn(message, messages)
+        # A channel with a clock of its own: edges are those of the second one.
+        for channels, rows in (
+                (["a@clk: req", "b@!clk: ack"], ["10,45,4", "20,55,4", "30,95,7", "70,,"]),
+                (["b@!clk: ack", "a@clk: req"], ["45,10,-3", "55,20,-3", "95,30,-6", ",70,"])):
+            given = ["--channel=" + one for one in channels]
+            for more in [], ["--rise", "clk"]:
+                self.assertEqual(said("vcdkit-table", *more, *given, dump)[1:],
+                                 [*rows, "status 1"])
+        self.assertIn(b"to list every edge, name a clock with rise or fall",
+                      run("vcdkit-table", ["--channel=a@clk: req", "--channel=b: ack", dump])[2])
+        for wrong, message in (("a@none: req", b"a: none: selects nothing"),
+                               ("a@: req", b"a@: write a clock behind @"),
+                               ("a@!: req", b"a@!: write a clock behind @")):
+            self.assertIn(message, run("vcdkit-table", ["--channel=" + wrong, dump])[2])
         status, out, messages = run("vcdkit-table", [dump, *words, "b: none"])
         self.assertEqual((status, out, messages[:34]),
                          (1, b"", b"vcdkit-table: b: none: selects noth"[:34]))
@@ -1082,6 +1117,135 @@ class Conditions(Case):
             _, _, messages = run("vcdkit-when", [*words, *every, dump, "req -> ack within 9"])
             self.assertIn(warning, messages)
             self.assertEqual(bool(messages), bool(warning))
+
+    def test_what_stays_nan_does_not_change(self):
+        dump = self.file("n.vcd", b"$timescale 1ns $end $var wire 1 ! a $end $var real 64 # r $end "
+                         b"$enddefinitions $end #0 0! rnan # #5 1! #6 0! #7 1! #8 0! #9 1! #10\n")
+        words = ["--rise", "a", "--every", dump]
+        self.assertEqual(said("vcdkit-when", *words, "changed(r)"), ["5ns", "status 0"])
+        self.assertEqual(said("vcdkit-when", *words, "stable(r)"), ["7ns", "9ns", "status 0"])
+
+    def test_times_before_a_fault(self):
+        dump = self.file("b.vcd", self.HEAD + b"#0\n1!\n#5\n0!\n#6\n?\n")
+        for name, words, rows in (("values", ["req", "clk"], ["0ns req 1", "0ns clk -"]),
+                                  ("table", ["req"], ["time (ns),req", "0,1"])):
+            status, out, messages = run("vcdkit-" + name, ["--at", "9,0", dump, *words])
+            self.assertEqual((status, out.decode().splitlines()), (1, rows))
+            self.assertIn(b"b.vcd:", messages)
+
+    def test_scopes_deeper_than_calls(self):
+        dump = self.file("deep.vcd", b"$timescale 1ns $end " + b"".join(
+            b"$scope module s%d $end " % at for at in range(900)) + b"$var wire 1 ! q $end "
+                         b"$enddefinitions $end #0 0! #5\n")
+        lines = said("vcdkit-stats", "--saif", "-", dump, "s0")
+        self.assertEqual((sum("INSTANCE" in line for line in lines), lines[-1]), (900, "status 0"))
+
+    def test_rules_that_overlap(self):
+        dump, out = self.pipelined(), os.path.join(self.folder.name, "out.xml")
+        rules = self.file("rules", b"a: never !(req -> ack within 9)\nb: never req is x\n")
+        words = ["--every", "--rise", "clk", dump]
+        status, _, messages = run("vcdkit-when", ["--rules", rules, "--junit", out, *words])
+        self.assertEqual((status, messages.count(b"\n")), (0, 1))
+        self.assertIn(b"warning: a: requests that begin before the previous one is answered: 2. "
+                      b"They get the same answer; with `each", messages)
+        self.assertEqual([[its.tag for its in one] for one in xml.parse(out).getroot()],
+                         [["system-out"], []])
+        status, _, messages = run("vcdkit-when", ["--never", *words, "!(req -> ack within 9)"])
+        self.assertEqual((status, messages.count(b"answered: 2.")), (0, 1))
+
+    def test_rules_that_count(self):
+        """Requests at 10, 20, 30 and 70 ns, answers at 40, 50 and 90 ns."""
+        dump = self.pipelined()
+        for rule, line, open_ones in (
+                ("each req -> ack within 6", "", 0), ("each req -> ack within 60ns", "", 0),
+                ("each req -> ack within 5", "30ns, 1 time: 1 without an answer (30ns), 0 wi", 0),
+                ("each req -> ack within 1", "10ns, 5 times: 3 without an answer (10ns, ..), "
+                 "2 without a request (50ns, ..)", 0),
+                ("each ack -> req within 3", "10ns, 4 times: 1 without an answer (50ns), "
+                 "3 without a request (10ns, ..)", 1),
+                ("each req -> ack & req within 90", "", 4),
+                ("each req -> ack & req within 4", "10ns, 4 times: 4 without an answer (10n", 0)):
+            rules = self.file("rules", b"a@clk: %s\n" % rule.encode())
+            status, got, messages = run("vcdkit-when", ["--rules", rules, dump])
+            self.assertEqual((status, got.decode().strip()[:len(line) + 3]),
+                             (int(bool(line)), ("a: " + line) * bool(line)), rule)
+            self.assertEqual(b"leaves without an answer: %d\n" % open_ones in messages,
+                             open_ones > 0, rule)
+        self.assertEqual(said("vcdkit-when", "--json", "--rules", self.file(
+            "rules", b"a: each req -> ack within 1\n"), "--rise", "clk", dump)[0],
+            '{"rule": "a", "first": 10, "count": 5, "lost": 3, "surplus": 2}')
+
+    def test_rules_that_are_none(self):
+        dump = self.pipelined()
+        for text, message in (
+                ("a: req\nb: ack\n# c\na: clk\n", "rules:4: there is a rule a before"),
+                ("a@clk: req\na@!clk: ack\n", "rules:2: there is a rule a before"),
+                ("a: each req\n", "a: it has no clock: name one with rise or fall, or write a@"),
+                ("a@clk: each req\n", "a: bad condition: each is as in each req -> ack within 5"),
+                ("a@clk: each !(req -> ack within 5)\n", "a: bad condition: each is as in"),
+                ("a@clk: req\nb: ack\n", "b: it has no clock"),
+                ("a@none: req\n", "a: none: selects nothing"), ("a@: req\n", "a@: write a clock")):
+            status, got, messages = run("vcdkit-when", ["--rules", self.file(
+                "rules", text.encode()), dump])
+            self.assertEqual((status, got), (2, b""), text)
+            self.assertIn(message, messages.decode())
+
+    def test_rules_without_an_edge(self):
+        dump, out = self.pipelined(), os.path.join(self.folder.name, "out.xml")
+        idle = b"its clock has no edge in this window, so it was never evaluated"
+        for rule, status in ((b"a: never req", 2), (b"a: always req", 2), (b"a: req", 1),
+                             (b"a: each req -> ack within 5", 2), (b"a@!req: never ack", 0)):
+            rules = self.file("rules", rule + b"\n")
+            got, _, messages = run("vcdkit-when", ["--rules", rules, "--rise", "clk", "--junit",
+                                                   out, "--from", "71", "--to", "78", dump])
+            self.assertEqual((got, idle in messages), (status, status == 2), rule)
+            self.assertEqual(len(list(xml.parse(out).iter("error"))), int(status == 2))
+        got, _, messages = run("vcdkit-when", ["--never", "--fall", "clk", "--to", "4", dump, "1<2"
+                                               " & req"])
+        self.assertEqual((got, messages), (2, b"vcdkit-when: " + idle + b"\n"))
+        # A report of an earlier run does not stay where a rule is none.
+        rules = self.file("rules", b"a: req\nb: req = 1\n")
+        self.assertEqual(run("vcdkit-when", ["--rules", rules, "--junit", out, dump])[0], 2)
+        self.assertEqual([one.get("message") for one in xml.parse(out).iter("error")],
+                         ["b: bad condition: use == instead of ="])
+
+    def test_comparisons_that_never_hold(self):
+        dump = self.file("a.vcd", b"$var wire 4 ! q [3:0] $end $var integer 32 i i [31:0] $end "
+                         b"$enddefinitions $end #0 b1111 ! b11111111111111111111111111111011 i\n")
+        never = b"vcdkit-when: bad condition: q is never %s: it has 4 bits%s\n"
+        for text, wanted in (
+                ("q > 15", never % (b"> 15", b"")), ("15 < q", never % (b"> 15", b"")),
+                ("q >= 16", never % (b">= 16", b"")), ("q === 16", never % (b"16", b"")),
+                ("q < -8", never % (b"< -8", b", signed")), ("q > 15.5", never % (b"> 15.5", b"")),
+                ("q < 0", b"vcdkit-when: bad condition: q is never < 0: a dump has no signs; write "
+                 b"signed(q)\n"),
+                ("q[2:0] > 7", b"vcdkit-when: bad condition: q[2:0] is never > 7: it has 3 bits\n"),
+                ("q < 0bx0", b"vcdkit-when: bad condition: q is never < x0, as that has x or z\n"),
+                ("q == 4'b1x0z", b"vcdkit-when: bad condition: q is never == digits with x or z: "
+                 b"write ===\n"), ("q >= 15", b""), ("q > 14.5", b""),
+                ("signed(q) < 0", b""), ("i < -4", b""),
+                ("i[31:0] > 5", b""), ("i[31:0] == 4294967291", b"")):
+            status, out, messages = run("vcdkit-when", ["--count", dump, text])
+            self.assertEqual((status, out, messages), (2, b"", wanted) if wanted else
+                             (0, b"1\n", b""), text)
+        for text in "q >= 0", "0 <= q", "0 > q", "i[31:0] < 0":
+            self.assertIn(b"write signed(", run("vcdkit-when", [dump, text])[2])
+
+    def test_rules_of_several_clocks(self):
+        """Each says what it says alone at its clock."""
+        dump, conditions = self.pipelined(), ["req", "rose(req)", "past(req, 2) & !req", "ack",
+                                              "!(req -> ack within 2)", "changed(ack)"]
+        clocks = [("clk", "--rise"), ("clk", "--fall"), ("ack", "--rise"), ("req", "--fall")]
+        its = [(clock, one) for clock in clocks for one in conditions]
+        rules = self.file("rules", "".join("r%d@%s%s: %s\n" % (
+            at, "!" * (option == "--fall"), clock, one) for at, ((clock, option), one)
+            in enumerate(its)).encode())
+        for every in [], ["--every"]:
+            alone = [said("vcdkit-when", "--count", *every, option, clock, dump, one)[0]
+                     for (clock, option), one in its]
+            got = dict(re.findall(r"(\w+): .*, (\d+) time", "\n".join(
+                said("vcdkit-when", *every, "--rules", rules, dump))))
+            self.assertEqual(alone, [got.get("r%d" % at, "0") for at in range(len(its))])
 
     def test_rules(self):
         dump = self.file("a.vcd", self.HEAD + b'#0 0! 0" #5 1! #7 1" #9 0! #12 1! #20\n')
@@ -1184,7 +1348,7 @@ class Output(Case):
                 ("when", "--junit", a, "--rules", torn, a)):
             status, out, messages = run("vcdkit-" + name, words)
             self.assertEqual((status, out), (2, b""), words)
-            self.assertIn(b"it is read, so nothing is written there", messages)
+            self.assertIn(b"is an input, so it is not overwritten", messages)
         for path in dumps.values():
             with open(path, "rb") as file:
                 self.assertEqual(file.read(), TORN)
@@ -1262,7 +1426,7 @@ class Output(Case):
                 with open(self.file("packed", data), "rb") as packed:
                     status, out, message = run(name, [], stdin=packed)
                 self.assertEqual((status, out), (2, b""))
-                self.assertIn(b"the input is packed", message)
+                self.assertIn(b"the input is compressed", message)
 
     def test_progress(self):
         for name, words, has_terminal in (("table", ["t.z"], False), ("x", [], True)):

@@ -579,7 +579,7 @@ class Questions:
                 (lambda: dump.edges(b"bench.level"), UsageError, "names are texts"),
                 (lambda: dump.value(5, 0), UsageError, "5 is no name"),
                 (lambda: dump.rows(["bench", None]), UsageError, "None is no name"),
-                (lambda: dump.when(5), UsageError, "5 is no text"),
+                (lambda: dump.when(5), UsageError, "5 is not a text"),
                 (lambda: dump.find("["), UsageError, "bad expression: ["),
                 (lambda: dump.find(5), UsageError, "bad expression: 5"),
                 (lambda: merge(dump, NESTED), UsageError, "write Dump(..)"),
@@ -663,7 +663,7 @@ class ByProgram(Questions, unittest.TestCase):
                          lambda: merge(Dump(NESTED)).read()):
                 with self.assertRaises(RunFailed) as raised:
                     call()
-                self.assertIn("true, which VCDKIT names, is no vcdkit", str(raised.exception))
+                self.assertIn("true, which VCDKIT names, is not vcdkit", str(raised.exception))
         finally:
             del os.environ["VCDKIT"]
             if named:

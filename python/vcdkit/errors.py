@@ -57,6 +57,7 @@ class RunFailed(VcdkitError, OSError):
     """A file cannot be read or written, memory ran out, or there is no vcdkit."""
 
     status = 3
+    is_of_unpacker = False  # whether a program failed to unpack a file, which is then damaged
 
 
 def error_of(text: str, status: int, names: Dict[str, str]) -> VcdkitError:

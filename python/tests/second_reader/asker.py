@@ -204,6 +204,15 @@ class Asker:
         found: Tuple[List[str], Edges] = self.random.choice([rise, rise, fall, both])
         return found
 
+    def own_clock(self) -> Tuple[str, Edges]:
+        """Returns a clock as a rule or a channel has one of its own behind its name, and its
+        edges."""
+        one = self.clock()
+        is_fall, path = self.happens(.4), self.conditions.name(one)
+        if path[:1] in "!":
+            raise Skip
+        return "@" + "!" * is_fall + path, {(one.code, *("10" if is_fall else "01"))}
+
     def placed(self, options: Sequence[str], arguments: Sequence[str]) -> List[str]:
         """Returns options before, between and after the other arguments."""
         groups, rest = [], list(options)

@@ -76,6 +76,15 @@ def _names(text: str, name: str) -> bool:
     return bool(re.search(r"(?<![\w'.])%s(?![\w.$\[])" % re.escape(name), text))
 
 
+def is_refused(sign: str, width: int, is_signed: bool, value: Union[int, float]) -> bool:
+    """Whether a comparison of so many bits with a number never holds, or seems to ask for the sign
+    of an unsigned vector: the script refuses it."""
+    low, high = (-2**(width - 1), 2**(width - 1) - 1) if is_signed else (0, 2**width - 1)
+    return (low == value == 0 and sign in ("<", ">=") or sign == "<" and low >= value
+            or sign == "<=" and low > value or sign == ">" and high <= value
+            or sign == ">=" and high < value)
+
+
 class Conditions:
     """Makes conditions on the variables of a dump, most of them on busy ones."""
 
@@ -175,7 +184,9 @@ class Conditions:
             dump = self.dump
             if full not in dump.of_path and full not in dump.fronts and full not in dump.of_bare:
                 return Operand(of, quoted(full, is_quoted), first, last + 1, False)
-        return Operand(of, quoted(name, is_quoted), 0, of.size, of.type == "integer")
+        # With its range it is a part, which is unsigned.
+        is_signed = of.type == "integer" and not re.search(r"\[-?\d+:-?\d+\]$", name)
+        return Operand(of, quoted(name, is_quoted), 0, of.size, is_signed)
 
     def _comparison(self, one: Operand) -> Expression:
         """Returns a comparison with a name, with digits or with a number."""
@@ -196,7 +207,11 @@ class Conditions:
             side = one.expression(True)._replace(text=side.text)
         other = (expressions.real(written) if isinstance(value, float) else
                  expressions.fixed(written, value))
-        sides = [side, other] if self.random.random() < .8 else [other, side]
+        is_first = self.random.random() < .8
+        sides = [side, other] if is_first else [other, side]
+        if not one.of.is_real and is_refused(sign if is_first else sign.translate(
+                str.maketrans("<>", "><")), one.end - one.begin, is_signed or value < 0, value):
+            return self._comparison(one)
         return expressions.joined(sign, *sides, space)
 
     def _side(self, one: Operand) -> Tuple[Expression, bool]:

@@ -114,12 +114,32 @@ def waits(looks: Sequence[Look], begins: Sequence[bool], answer: Test, span: Tup
     return found
 
 
-def transfers(looks: Sequence[Look], tests: Sequence[Test]
+def in_order(looks: Sequence[Look], before: Test, after: Test, span: Tuple[bool, int], end: int
+             ) -> Tuple[List[int], List[int], int]:
+    """Returns the times of requests without an answer and of answers without a request, if each
+    answer belongs to the first request that still waits; then how many wait at the end."""
+    lost, surplus, waiting = [], [], []  # type: List[int], List[int], List[Tuple[int, int]]
+    is_edges, most = span
+    for at, look in enumerate([*looks, Look(end + 1, {}, set())]):
+        now = at if is_edges else look.time
+        while waiting and waiting[0][0] + most < now:
+            lost.append(waiting.pop(0)[1])
+        if at < len(looks) and holds(before, look):
+            waiting.append((now, look.time))
+        if at < len(looks) and holds(after, look):
+            if waiting:
+                waiting.pop(0)
+            else:
+                surplus.append(look.time)
+    return lost, surplus, len(waiting)
+
+
+def transfers(each: Sequence[Sequence[Look]], tests: Sequence[Test]
               ) -> List[List[Optional[Tuple[int, Look]]]]:
     """Returns the lines of transactions: in the n-th are the n-th looks at which the tests hold,
-    each with the number of the look."""
+    each with the number of the look; each test has its own looks."""
     lines: List[List[Optional[Tuple[int, Look]]]] = []
-    for column, test in enumerate(tests):
+    for column, (looks, test) in enumerate(zip(each, tests)):
         line = 0
         for number, look in enumerate(looks):
             if holds(test, look):

@@ -8,7 +8,8 @@ import xml.etree.ElementTree as xml
 from asker import Asker, Said, Skip, Window, run
 from conditions import Condition, quoted
 from dumps import FEMTOSECONDS, UNITS, Dump
-from looks import (Edges, Look, is_overlapping, looks_at_changes, looks_at_edges, starts, waits)
+from looks import (Edges, Look, in_order, is_overlapping, looks_at_changes, looks_at_edges,
+                   starts, waits)
 from shown import all_from_json
 
 MARKS = "!\"#$%&'()*+,-./:;<=>?@[\\]^_`{|}~0\u00e9\u2211"
@@ -82,7 +83,9 @@ def ask_when(of: Asker) -> None:
     looks = asked.looks(dump, of.conditions.codes)
     begins = starts(looks, first.test, bool(asked.edges), asked.every)
     times = [look.time for look, is_one in zip(looks, begins) if is_one]
+    warned = False
     if after:
+        warned = is_overlapping(looks, begins, after.test, span)
         times = [one.time for one in waits(looks, begins, after.test, span, asked.end(dump))
                  if (one.answer is None) == refused]
     mode = of.random.choice(["", "", "", "", "--count", "--first", "--json", "--never"])
@@ -94,8 +97,11 @@ def ask_when(of: Asker) -> None:
     lines = [dump.time_text(time, unit) for time in times]
     wanted = {"--count": ["%d" % len(times)], "--first": lines[:1],
               "--json": [json.dumps({"time": time}) for time in times]}.get(mode, lines)
-    of.same("when", words, (said.status, said.lines, said.message),
-            (int((not times) != (mode == "--never")), wanted, ""))
+    if asked.edges and not looks and mode == "--never":
+        of.same("when, without an edge", words, (said.status, bool(said.message)), (2, True))
+        return
+    of.same("when", words, (said.status, said.lines, mode != "--first" and bool(said.message)),
+            (int((not times) != (mode == "--never")), wanted, mode != "--first" and warned))
 
 
 # ---- Latencies.
@@ -155,19 +161,37 @@ def summary(of: Asker, words: List[str], got: List[str], lengths: List[int], lat
 def ask_rules(of: Asker) -> None:
     """Asks for many conditions in one pass."""
     dump, asked, unit, rules = of.dump, question(of), of.unit(.2), []
+    warned, has_clock, is_idle, is_never = False, bool(asked.edges), False, of.happens(.4)
     for number in range(of.random.randint(1, 6)):
         of.conditions.reset()
-        one = condition(of, 2, bool(asked.edges))
-        looks = asked.looks(dump, of.conditions.codes)
-        word = of.random.choice(["", "never", "always"])
-        begins = starts(looks, lambda look: one.test(look) != (word == "always"),
-                        bool(asked.edges), asked.every)
+        one, mine, clock = condition(of, 2, has_clock), asked, ""
+        if has_clock and of.happens(.3):
+            clock, edges = of.own_clock()
+            mine = asked._replace(edges=edges)
+        word, after = of.random.choice(["", "never", "always"]), None
+        if has_clock and of.happens(.3):
+            word, after = "each", condition(of, 1, True)
+            within, span = span_of(of, True)
+        looks = mine.looks(dump, of.conditions.codes)
+        begins = starts(looks, lambda look: one.test(look) != (word == "always"), has_clock,
+                        asked.every)
         times = [look.time for look, is_one in zip(looks, begins) if is_one]
-        rules.append(("rule %d" % number, (word + " " + one.text).strip(), times))
-    text = "".join(of.random.choice(["", "# a note\n", "\n"]) + "%s: %s\n" % rule[:2]
-                   for rule in rules)
+        note = ""
+        if after:
+            lost, surplus, left = in_order(looks, one.test, after.test, span, asked.end(dump))
+            times = [*lost, *surplus]
+            note = ":" + ",".join(" %d without %s" % (len(its), what) + (
+                " (%s%s)" % (dump.time_text(its[0], unit), ", .." * (len(its) > 1)) if its else "")
+                for its, what in ((lost, "an answer"), (surplus, "a request")))
+            warned = warned or left > 0
+        is_idle = is_idle or has_clock and not looks and bool(word or is_never)
+        text = ("%s -> %s within %s" % (one.inside(0), after.inside(0), within) if after
+                else one.text)
+        rules.append(("rule %d" % number, (word + " " + text).strip(), times, clock, note))
+    text = "".join(of.random.choice(["", "# a note\n", "\n"]) + "%s%s: %s\n" % (
+        name, clock, condition) for name, condition, _, clock, _ in rules)
     file = of.write(of.path + ".rules", text.encode("utf-8", "surrogateescape"))
-    is_never, is_json, junit = of.happens(.4), of.happens(.3), of.path + ".xml"
+    is_json, junit = of.happens(.3), of.path + ".xml"
     words = of.placed([*asked.words, "--rules", file, *["--never"] * is_never,
                        *["--json"] * is_json, *of.maybe(.3, "--junit", junit),
                        *(["--unit", unit] if unit else [])], [of.path])
@@ -175,16 +199,23 @@ def ask_rules(of: Asker) -> None:
     if of.is_late(asked.window, "rules", words, said):
         return
     held = [rule for rule in rules if rule[2]]
-    wanted: List[Any] = ["%s: %s, %d time%s" % (
-        name, dump.time_text(times[0], unit), len(times), "s" * (len(times) != 1))
-        for name, _, times in held]
-    if is_json:
-        wanted = [{"rule": name, "first": times[0], "count": len(times)} for name, _, times in held]
-    bad = [name for name, text_of, times in rules
-           if bool(times) == (is_never or text_of.split(" ")[0] in ("never", "always"))]
-    status = int(bool(bad))
     got = all_from_json(said.text) if is_json else said.lines
-    of.same("rules", [*words, text], (said.status, got, said.message), (status, wanted, ""))
+    # Of lost and surplus ones it is not said which is known first.
+    first = {rule[0]: line.split(": ", 1)[1].partition(",")[0] if not is_json else line["first"]
+             for rule, line in zip(held, got)}
+    wanted: List[Any] = []
+    for name, _, times, _, note in held:
+        begin = next((time for time in times if note and first.get(name) == (
+            time if is_json else dump.time_text(time, unit))), times[0])
+        counts = dict(zip(("lost", "surplus"), map(int, re.findall(r" (\d+) without", note))))
+        wanted.append({"rule": name, "first": begin, "count": len(times), **counts} if is_json else
+                      "%s: %s, %d time%s%s" % (name, dump.time_text(begin, unit), len(times),
+                                               "s" * (len(times) != 1), note))
+    bad = [name for name, text_of, times, *_ in rules if bool(times) == (
+        is_never or text_of.split(" ")[0] in ("never", "always", "each"))]
+    status, warned = 2 if is_idle else int(bool(bad)), warned or is_idle
+    of.same("rules", [*words, text], (said.status, got, bool(said.message)), (
+        status, wanted, warned))
     if "--junit" in words:
         root = xml.parse(junit).getroot()
         of.same("rules, the report", words, [one.get("name") for one in root.iter("testcase")

@@ -331,7 +331,8 @@ def same_lines(of: Asker, words: List[str], said: Said, sides: Sides, found: Lis
         wanted = [row for row in wanted if row in got]
     is_refused = not sides.pairs and not wanted
     of.same("diff", words, (said.status, sorted(got, key=key), bool(said.message)),
-            (2 if is_refused else int(bool(wanted)), sorted(wanted, key=key), is_refused))
+            (2 if is_refused else int(bool(wanted)), sorted(wanted, key=key),
+             is_refused or asked.is_common and not wanted))
 
 
 def last_of(dump: Dump, window: Window) -> Optional[int]:

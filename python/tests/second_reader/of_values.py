@@ -9,7 +9,7 @@ from typing import Any, Dict, List, NamedTuple, Optional, Set, Tuple
 from asker import Asker, Said, Skip, run
 from conditions import Test
 from dumps import Dump, State, Value, Variable
-from looks import Look, looks_at_edges, rows_at_changes, transfers
+from looks import Edges, Look, looks_at_edges, rows_at_changes, transfers
 from shown import all_from_json, from_json, in_json, shown
 
 Row = Tuple[Look, List[Optional[Value]]]
@@ -107,12 +107,14 @@ def ask_table(of: Asker) -> None:
 
 
 class Channel(NamedTuple):
-    """A channel: its option, the condition of a transfer, and its columns."""
+    """A channel: its option, the condition of a transfer, its columns, and the edges of its own
+    clock."""
 
     name: str
     word: str
     test: Test
     columns: List[Variable]
+    edges: Edges
 
     def head(self, is_json: bool, unit: str) -> List[str]:
         """Returns what its cells are called."""
@@ -126,9 +128,12 @@ def channel_of(of: Asker, name: str) -> Channel:
     condition, names = of.conditions.make(1, True), of.names(2) if of.happens(.7) else []
     if not condition or re.search("[^ ]: ", condition.text):
         raise Skip
-    columns = of.dump.selected(names) if names else []
-    return Channel(name, ": ".join([name, condition.text] + [" ".join(names)] * bool(names)),
-                   condition.test, [one for one in columns if not one.is_event])
+    columns, (clock, edges) = of.dump.selected(names) if names else [], ("", set())
+    if of.happens(.3):
+        clock, edges = of.own_clock()
+    words = [name + clock, condition.text] + [" ".join(names)] * bool(names)
+    return Channel(name, ": ".join(words), condition.test,
+                   [one for one in columns if not one.is_event], edges)
 
 
 def ask_channels(of: Asker) -> None:
@@ -139,6 +144,8 @@ def ask_channels(of: Asker) -> None:
     names = of.random.sample(["ar", "r", "a channel", "b,c", "\u00e9"], of.random.randint(1, 3))
     its, pairs = [channel_of(of, name) for name in names], list(zip(names, names[1:]))
     mode = of.random.choice(["", "", "--json", "--histogram"])
+    if all(one.edges for one in its) and of.happens(.5):
+        options = []
     words += [*options, *window.words, *[mode] * bool(mode), *(["--unit", unit] if unit else [])]
     words = [*("--channel=" + one.word for one in its), *of.placed(words, [of.path])]
     said, is_json = run("table", words), mode == "--json"
@@ -147,8 +154,8 @@ def ask_channels(of: Asker) -> None:
     unit, counts = unit or (dump.scale[1] if dump.scale else "tick"), Counter()  # type: str, Any
     head = [cell for one in its for cell in one.head(is_json, unit)]
     wanted: List[List[Any]] = []
-    looks = looks_at_edges(dump, edges, window.begin, window.end)
-    for line in transfers(looks, [one.test for one in its]):
+    each = [looks_at_edges(dump, one.edges or edges, window.begin, window.end) for one in its]
+    for line in transfers(each, [one.test for one in its]):
         wanted.append([])
         for found, channel in zip(line, its):
             look = found[1] if found else None
@@ -156,8 +163,9 @@ def ask_channels(of: Asker) -> None:
             wanted[-1] += ([None] * (1 + len(values)) if look is None else
                            [look.time, *(in_json(one, form) for one in values)] if is_json else
                            [dump.time_in(look.time, unit), *(shown(one, form) for one in values)])
-        for pair, one, other in zip(pairs, line, line[1:]):
-            wanted[-1].append(other[0] - one[0] if one and other else None)
+        for pair, one, other, looks in zip(pairs, line, line[1:], each[1:]):
+            wanted[-1].append(other[0] + 1 - sum(look.time <= one[1].time for look in looks)
+                              if one and other else None)
             counts[pair, wanted[-1][-1]] += 1
     head += ["%s to %s" % pair for pair in pairs]
     if mode == "--histogram":

@@ -5,6 +5,7 @@ import io
 import os
 import re
 import shlex
+import stat
 import sys
 from typing import Any, Callable, Iterator, List, Optional, TextIO, Tuple
 
@@ -39,6 +40,8 @@ exit status:
 FAULT = "a name selects nothing, or not a valid dump"
 TIMES = "A TIME is a number of ticks, or has a unit, such as 115ns or 1.5us.\n"
 MARK = "\0"  # which no argument has
+OF_FILES = ("--names", "--rules")  # options that name a file to read
+REPEATED = ("--map", "--except", "--channel")  # other options may be given once
 FIRST, LAST = "0", str(LAST_TICK)  # of --from and --to
 NEGATIVE = re.compile(r"-(?:[.\d].*[<>=]|[({\"])")
 BROKEN_PIPE = 128 + 13  # the status that a shell shows of a program that SIGPIPE ended
@@ -63,7 +66,7 @@ class Parser(argparse.ArgumentParser):
         self.needs_names = count == "+"
         self.names_of().add_argument(
             "names", metavar="NAME", nargs="*", default=[],
-            help="a path (see vcdkit list), or a scope with all in it"
+            help="a path (see vcdkit list), or a scope with everything in it"
             + " (required without --names)" * self.needs_names)
         return self
 
@@ -103,9 +106,9 @@ class Parser(argparse.ArgumentParser):
     def form(self) -> "Parser":
         """Adds --hex and the other forms of a value, of which one may be taken."""
         group = self.add_mutually_exclusive_group()
-        for form, what in FORMS.items():
-            group.add_argument("--" + form, dest="form", action="store_const", const=form,
-                               help="values " + what)
+        for name, form in FORMS.items():
+            group.add_argument("--" + name, dest="form", action="store_const", const=name,
+                               help="values " + form.what)
         return self
 
     def unit(self, default: str = UNIT) -> "Parser":
@@ -131,15 +134,30 @@ class Parser(argparse.ArgumentParser):
         at = words.index("--") if "--" in words else len(words)
         marked = [MARK + word if NEGATIVE.match(word) else word for word in words[:at]]
         marked += [MARK + word for word in words[at + 1:]]
+        given = [option for option in (word.partition("=")[0] for word in words[:at])
+                 if option in self._option_string_actions and option not in REPEATED]
+        for option in given:
+            if given.count(option) > 1:
+                self.error("argument %s: it may be given only once" % option)
         asked, rest = self.parse_known_intermixed_args(marked)
         for key, value in vars(asked).items():
             setattr(asked, key, _unmarked(value))
         return asked, _unmarked(rest)
 
+    def refuse(self, rest: List[str]) -> None:
+        """Ends with a message about arguments that fit none, and similar options."""
+        import difflib  # only a message needs it
+        known = [one for action in self._actions for one in action.option_strings if one[1] == "-"]
+        near = {one: difflib.get_close_matches(one.partition("=")[0], known, 1)
+                for one in rest if one[:2] == "--"}
+        found = ", ".join(its[0] for its in near.values() if its)
+        self.error("unrecognized arguments: %s%s" % (
+            " ".join(rest), ("; there is " + found) * bool(found)))
+
     def parse_args(self, words: List[str]) -> argparse.Namespace:  # type: ignore[override]
         asked, rest = self.parsed(words)
         if rest:
-            self.error("unrecognized arguments: " + " ".join(rest))
+            self.refuse(rest)
         if self.needs_names and not asked.names and asked.names_of is None:
             self.error("the following arguments are required: NAME, or --names")
         return asked
@@ -250,10 +268,23 @@ def times_of(dump: Source, asked: argparse.Namespace) -> Callable[[int], str]:
     return functools.partial(dump.time, unit=asked.unit or "")
 
 
+def warn_of_quotes(name: str, condition: str, dump: Source) -> None:
+    """Warns if the output of a command goes to a file of the working directory whose name is a
+    number or a path of the dump: a shell takes `tb.q > 3` without quotes for such a file."""
+    try:
+        folder, file = os.path.split(os.readlink("/proc/self/fd/1"))
+        is_file = stat.S_ISREG(os.fstat(1).st_mode) and folder == os.getcwd()
+    except OSError:
+        return
+    if is_file and (re.match(r"\d\w*\Z", file) or file in dump.signals.columns()[0]):
+        print("%s: warning: the output goes to the file %s. For a comparison, put the condition in "
+              "single quotes: '%s > %s'" % (name, file, condition, file), file=sys.stderr)
+
+
 def natural(text: str) -> int:
     """Reads a number from 0."""
     if not text.isascii() or not text.isdigit():
-        raise argparse.ArgumentTypeError("it is a number")
+        raise argparse.ArgumentTypeError("expected a number from 0")
     return int(text)
 
 
@@ -304,6 +335,15 @@ def _remedy(error: VcdkitError, words: List[str], command_name: str) -> str:
     which arguments are dumps."""
     if isinstance(error, RunFailed):
         name, _, said = str(error).partition(": ")
+        if error.is_of_unpacker and command_name != "vcdkit-explain":
+            return "\nsee: " + (".. | vcdkit-explain -" if name == "(stdin)" else
+                                "vcdkit-explain " + shlex.quote(name))
+        before = words[words.index(name) - 1] if name in words[1:] else ""
+        if name in UNITS and before.replace(".", "", 1).isdigit():
+            return " (for a time, write %s%s, without a space)" % (before, name)
+        option = next((one for one in OF_FILES if before == one or one + "=" + name in words), "")
+        if option:
+            return " (%s names a file)" % option
         is_name = said.startswith("No such file") and not re.search("[/ ]", name)
         is_file = name.endswith(tuple("." + one for one in ENDINGS))
         dumps = ("two arguments are the dumps" if command_name == "vcdkit-diff" else

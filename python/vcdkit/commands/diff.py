@@ -1,12 +1,14 @@
 """Finds the first difference between two dumps and what only one of them has
 
-Each line says what differs, and then has both sides, A first. `timescale`, `size` and `alone` (how
-many variables only one of them has there) are about headers, `differs` is the first time at which a
-variable differs, in ticks of A (-: no value yet), and `ends` and `edges` are about the length.
+Each line says what differs, and then has both sides, A first. `timescale`, `size` and `alone` (a
+variable or scope that only one of them has, and how many variables that is) are about headers,
+`differs` is the first time at which a variable differs, as a time of A (-: no value yet), and
+`ends` and `edges` are about the length.
 
 Values are compared at the end of each time step or, with --rise or --fall, just before the first
 edge of A's clock and the first edge of B's clock, and so on. Dates, identifier codes, sections and
-repeated values do not matter, and tb.q matches tb.q[3:0]. More is in extras/README.md.
+repeated values do not matter, and tb.q matches tb.q[3:0]. OLD of --map is a path of a dump, or a
+path that another --map has made. More is in extras/README.md.
 
 examples:
   vcdkit-diff --context 20ns --into /tmp golden.vcd.gz sim.vcd tb.dut
@@ -22,18 +24,18 @@ from typing import Any, Callable, Dict, Iterable, List, Optional, Sequence, Tupl
 from ..errors import RunFailed, UsageError, VcdkitError
 from ..forms import page_of_two
 from ..forms.junit import Test, write_tests
-from ..forms.text import in_json, write_json
+from ..forms.text import FORMS, in_json, write_json
 from ..forms.text import shown as value_text
 from ..model.names import hint
 from ..model.signals import Signal
 from ..model.times import LAST_TICK, Timescale, amount_of
 from ..model.values import Cell, value_in
 from ..questions.compare import (ALWAYS, EACH_PAIR, FIRST, Comparison, Difference, Pair, Side,
-                                 Sides, choose, in_common, kind, same_within)
+                                 Sides, choose, in_common, kind, originals, same_within)
 from ..questions.dump import Dump
 from ..reading.files import check_outputs, write
-from . import (FAULT, LAST, check_begin, command, dump_of, is_part, parser, part_of, question,
-               times_of)
+from . import (FAULT, LAST, check_begin, command, dump_of, is_part, natural, parser, part_of,
+               question, times_of)
 
 MAX_LINES = 20
 
@@ -53,13 +55,14 @@ class Lines:
         self._asked = asked
         self.times: Sequence[Callable[[int], str]] = (str, str)  # what shows ticks of each
         self.lines: Dict[str, List[str]] = {}
-        self.fault = ""
+        self.fault = self.compared = ""
 
     def _form(self, line: Line) -> Optional[str]:
-        """Returns the form of both values. In hexadecimal, two mixtures of x or z may be the same
-        digit, X: then it is binary."""
+        """Returns the form of both values, binary if they have one text in that which is asked for:
+        in hexadecimal, two mixtures of x or z may be the same digit, X."""
         form: Optional[str] = self._asked.form
-        is_alike = form == "hex" and len({value_text(one, form) for one in line[3:]}) < 2
+        is_alike = form and FORMS[form].is_alike and len({
+            value_text(one, form) for one in line[3:]}) < 2
         return "binary" if is_alike else form
 
     def _text(self, line: Line) -> str:
@@ -113,8 +116,8 @@ class Lines:
     def write(self, path: str) -> None:
         """Writes a JUnit file: a test for each kind of line that was looked for."""
         files = "%s %s" % (self._asked.one, self._asked.other)
-        tests = [Test(files, what, "failure" if lines else "", "".join(lines[:1]), "\n".join(lines))
-                 for what, lines in self.lines.items()]
+        tests = [Test(files, what, "failure" if lines else "", "".join(lines[:1]), "\n".join(lines),
+                      self.compared * (what == "differs")) for what, lines in self.lines.items()]
         if self.fault:
             tests.append(Test(files, "fault", "error", self.fault, ""))
         write_tests(path, "vcdkit-diff", tests)
@@ -139,6 +142,8 @@ def sides_of(asked: argparse.Namespace) -> Sides:
     """Reads both dumps, and looks for all names that were given."""
     dumps = [dump_of(asked, file) for file in (asked.one, asked.other)]  # --names of the first
     dumps = parts_of(dumps, asked) if is_part(asked) else dumps
+    if len(asked.maps) > 1:
+        asked.maps = originals(asked.maps, [dump.signals.columns()[0] for dump in dumps])
     with ThreadPoolExecutor(2) as pool:
         one, other = pool.map(lambda dump: Side(dump, asked.maps), dumps)
     choose((one, other), asked.names, asked.exceptions)
@@ -148,7 +153,8 @@ def sides_of(asked: argparse.Namespace) -> Sides:
                 raise side.unknown(name)
     for front, _ in asked.maps:
         if front not in one.mapped | other.mapped:
-            raise neither(front, [its.path for its in [*one.signals, *other.signals]])
+            raise neither(front, [*(its.path for side in (one, other) for its in side.signals),
+                                  *one.names, *other.names])
     for name in asked.exceptions:
         if name not in one.found | other.found:
             raise neither(name, [*one.names, *other.names])
@@ -255,8 +261,12 @@ def compare(asked: argparse.Namespace, report: Lines) -> None:
     clocks = [side.clock(name) for side in sides] if name else []
     pairs, apart = in_common(sides)
     if asked.common and not pairs and not apart:
-        raise UsageError("the dumps have no name in common: --map OLD=NEW gives a scope another")
+        raise UsageError("the dumps have no path in common: --map OLD=NEW renames a scope")
     say_headers(report, sides, apart, asked.common)
+    report.compared = "compared %d signal%s (A has %d, B has %d)" % (
+        len(pairs), "s" * (len(pairs) != 1), *(len(side.signals) for side in sides))
+    if len(pairs) < asked.least:
+        raise UsageError("%s: --at-least asks for %d" % (report.compared, asked.least))
     same = same_within(asked.tolerance, asked.x_matches)
     comparison = Comparison(sides, pairs, same, asked.extent, clocks,
                             (b"0", b"1") if asked.rise else (b"1", b"0"))
@@ -287,7 +297,7 @@ def map_of(text: str) -> Tuple[str, str]:
     """Reads the words of --map."""
     front, sign, new = text.partition("=")
     if not front or not sign:
-        raise argparse.ArgumentTypeError("it is OLD=NEW, as TOP.tb=tb")
+        raise argparse.ArgumentTypeError("expected OLD=NEW, for example TOP.tb=tb")
     return front, new
 
 
@@ -299,6 +309,9 @@ def words_of(words: List[str]) -> argparse.Namespace:
                          default=[], help="call the scope or signal OLD of either dump NEW (OLD= "
                          "removes it from paths); may be repeated")
     options.add_argument("--common", action="store_true", help="compare only what both have")
+    options.add_argument("--at-least", dest="least", metavar="N", type=natural, default=0,
+                         help="exit with 2 if fewer signals are compared; with --common and no "
+                         "difference, standard error says how many are")
     options.add_argument("--except", dest="exceptions", metavar="NAME", action="append", default=[],
                          help="leave out this signal or scope; may be repeated")
     options.add_argument("--real-tolerance", dest="tolerance", metavar="T", type=float,
@@ -314,7 +327,8 @@ def words_of(words: List[str]) -> argparse.Namespace:
                         help="show all differences of each signal")
     options.add_argument("--junit", metavar="FILE", help="also write a JUnit report")
     options.add_argument("--context", metavar="TIME",
-                         help="if values differ, write TIME around that of both")
+                         help="if values differ, write both dumps from TIME before the first "
+                         "difference to TIME after it")
     options.add_argument("--into", metavar="DIRECTORY",
                          help="the directory of these files [default: .]")
     options.add_argument("--html", metavar="FILE",
@@ -326,7 +340,7 @@ def words_of(words: List[str]) -> argparse.Namespace:
     asked = options.parse_args(words)
     asked.maps.sort(key=lambda pair: -len(pair[0]))
     if not 0 <= asked.tolerance < float("inf"):
-        options.error("--real-tolerance is a number from 0, as 1e-9")
+        options.error("--real-tolerance takes a number from 0, such as 1e-9")
     if asked.one == asked.other == "-":
         options.error("standard input twice")
     if asked.into is not None and not asked.context:
@@ -351,4 +365,6 @@ def main(words: List[str]) -> int:
     finally:
         if asked.junit is not None:
             report.write(asked.junit)
+    if asked.common and not report.differs():
+        print("vcdkit-diff: " + report.compared, file=sys.stderr)
     return 1 if report.differs() else 0

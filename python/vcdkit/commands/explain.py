@@ -28,7 +28,7 @@ from ..errors import DumpFault, RunFailed
 from ..forms.junit import test_of, write_tests
 from ..forms.text import write_json
 from ..model.times import amount_of
-from ..questions.causes import CUT_OFF, NO_HEADER, look_at
+from ..questions.causes import BROKEN, CUT_OFF, NO_HEADER, look_at
 from ..questions.dump import Dump
 from ..questions.salvage import Good, has_header
 from ..questions.verdicts import Verdict, files_of, summary, verdict_on, verdicts
@@ -47,13 +47,17 @@ def with_file(remedy: str, name: str, unpacker: Unpacker) -> str:
     if unpacker:
         source.append(" ".join(unpacker) if source else
                       " ".join([word for word in unpacker if word[0] != "/"] + [file]))
+    if source and re.match(r"\w+2vcd FILE", remedy):  # they need a plain file
+        ending = None if is_pipe else re.search(r"\.(gz|xz|bz2|zst)\Z", name)
+        plain = shlex.quote(name[:ending.start()]) if ending else "OUT"
+        return "%s > %s && %s" % (" | ".join(source), plain, remedy.replace("FILE", plain))
     if source:
-        remedy = re.sub(r"\A(run again, or )?(.*?) < FILE",
+        remedy = re.sub(r"\A(run again, or |look at it: )?(.*?) < FILE",
                         lambda found: "%s%s | %s" % (found.group(1) or "", " | ".join(source),
                                                      found.group(2)), remedy)
     if is_pipe:
         remedy = re.sub(r"(vcdkit-explain .*) FILE", r".. | \1 -", remedy)
-    return remedy.replace("FILE", file)
+    return remedy if is_pipe else remedy.replace("FILE", file)
 
 
 def explain(dump: Dump, fault: DumpFault, unpacker: Unpacker) -> bytes:
@@ -74,7 +78,7 @@ def salvage(dump: Dump, fault: DumpFault, before: bytes, asked: argparse.Namespa
     """Writes what is before the fault of a dump, to `out` if that is given, and says until which
     time it has all values."""
     if not has_header(dump):
-        print("vcdkit-explain: nothing is good: the header has the fault", file=sys.stderr)
+        print("vcdkit-explain: nothing can be saved: the fault is in the header", file=sys.stderr)
         return
     good = Good(dump, before)
     if out:
@@ -154,13 +158,17 @@ def answer(asked: argparse.Namespace, out: Optional[TextIO]) -> int:
     dump = dump_of(asked, asked.files[0], asked.token_limit)
     unpacker = dump.unpacker()
     if unpacker:
-        print("packed: " + with_file("vcdkit check < FILE", dump.name, unpacker), flush=True)
+        print("%s: %s" % ("FST" if unpacker[0] == "fst2vcd" else "compressed", with_file(
+            "vcdkit check < FILE", dump.name, unpacker)), flush=True)
     try:
         report = dump.check()
-    except RunFailed:
-        if unpacker and asked.salvage is not None:  # the packed file is cut off
-            print("help:  " + with_file("vcdkit-explain --salvage %s - < FILE" % shlex.quote(
-                asked.salvage), dump.name, unpacker), flush=True)
+    except RunFailed as error:
+        if unpacker and error.is_of_unpacker:
+            cause, remedy = BROKEN
+            if asked.salvage is not None:
+                remedy = "vcdkit-explain --salvage %s - < FILE" % shlex.quote(asked.salvage)
+            print("cause: " + cause)
+            print("help:  " + with_file(remedy, dump.name, unpacker), flush=True)
         raise
     except DumpFault as fault:
         print("vcdkit: %s" % fault, file=sys.stderr, flush=True)

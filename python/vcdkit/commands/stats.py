@@ -5,7 +5,7 @@ The first line of a signal has its path, type and size. These lines follow, if t
   period 10ns to 12ns, mean 10.2ns, 9 times
                                 from one rise of a bit, or trigger of an event, to the next
   duty 50%                      the part of these periods in which the bit is 1
-  range -1.5 to 3, mean 0.25    the smallest and largest real number, and the mean over time
+  range -1.5 to 3, mean 0.25    of the finite ones, with the mean over time
   value 1 60ns 49.2%, 10 times, 5ns to 7ns
                                 how long and how often it has this value, and its shortest and
                                 longest pulse that begins and ends in the window

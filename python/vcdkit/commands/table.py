@@ -2,11 +2,13 @@
 
 There is a row for each change and for --from, with the values at the end of the time; for each edge
 of a clock (--rise, --fall), with those just before it; or for each time of --at. Events have no
-column. `-` is no value yet, X of --hex a mixture with x or z. For pandas: --decimal, or dtype=str.
+column. `-` means no value yet; with --hex, X is a mixture with x or z. For pandas, use --decimal or
+dtype=str.
 
 With a --channel 'NAME: CONDITION: SIGNAL ..' for each channel of a bus, row n has the n-th edge at
 which the condition of each holds, the signals, and how many edges there are from one to the next
-(below 0 if that comes first). Cells are empty if there is no n-th edge.
+(below 0 if that comes first). Cells are empty if there is no n-th edge. NAME@CLOCK has the rising
+edges of a clock of its own, NAME@!CLOCK the falling ones; edges are those of the second one.
 
 examples:
   vcdkit-table --rise tb.clk --if 'tb.valid & tb.ready' sim.vcd tb.address tb.data
@@ -25,8 +27,9 @@ from typing import Any, Callable, Iterable, List, Tuple
 from ..forms.text import in_json, shown, write_json
 from ..model.signals import keys_of
 from ..model.values import Cell, Value
-from ..questions.when import Questions
-from . import check_begin, command, dump_of, is_part, parser, part_of, times_at
+from ..questions.when import Questions, named
+from . import (check_begin, command, dump_of, is_part, parser, part_of, times_at,
+               warn_of_quotes)
 
 Cells = Callable[[int, List[Cell]], List[Any]]  # makes the cells of a time and values
 
@@ -42,7 +45,8 @@ def words_of(words: List[str]) -> argparse.Namespace:
     which.add_argument("--channel", dest="channels", action="append", default=[],
                        metavar="CHANNEL", help="join transfers in order (see below)")
     options.add_argument("--histogram", action="store_true",
-                         help="with --channel: count how often there are how many edges")
+                         help="with --channel: count how many transfers took each number of "
+                         "edges")
     options.window().unit("that of the time scale").json().file("*")
     asked = options.parse_args(words)
     has_clock = asked.rise is not None or asked.fall is not None
@@ -50,12 +54,15 @@ def words_of(words: List[str]) -> argparse.Namespace:
         options.error("--at goes with none of --rise, --fall, --from and --to")
     if bool(asked.channels) == bool(asked.names or asked.names_of is not None):
         options.error("give NAMEs, --names or --channel")
-    if asked.channels and not has_clock or asked.histogram and not asked.channels:
-        options.error("--histogram goes with --channel, and --channel with --rise or --fall")
+    if asked.histogram and not asked.channels:
+        options.error("--histogram goes with --channel")
     each = [(re.split("(?<! ): ", one, maxsplit=2) + ["", ""])[:3] for one in asked.channels]
-    asked.channels = [(name, condition, re.findall("[^ ]+", names))
+    if any(not name.strip() or not condition.strip() for name, condition, _ in each):
+        options.error("a channel is 'NAME: CONDITION: SIGNAL ..', with a space after each colon "
+                      "(the signals may be left out)")
+    asked.channels = [(*named(name), condition, re.findall("[^ ]+", names))
                       for name, condition, names in each]
-    if len({name for name, _, _ in each}) < len(each):
+    if len({name for name, *_ in asked.channels}) < len(each):
         options.error("two channels have one name")
     return asked
 
@@ -64,7 +71,7 @@ def joined(asking: Questions, names: List[str], heads: List[List[str]], cells: C
            is_histogram: bool) -> Tuple[List[str], Iterable[List[Any]]]:
     """Returns the head and the rows of channels with some names and heads."""
     pairs = ["%s to %s" % pair for pair in zip(names, names[1:])]
-    each = ((of, [other[0] - one[0] if one and other else None for one, other in zip(of, of[1:])])
+    each = ((of, [other[0] - one[1] if one and other else None for one, other in zip(of, of[1:])])
             for of in asking.transactions())
     if is_histogram:
         counts = collections.Counter(pair for _, edges in each for pair in enumerate(edges))
@@ -72,7 +79,7 @@ def joined(asking: Questions, names: List[str], heads: List[List[str]], cells: C
                                    for one in sorted({one for _, one in counts if one is not None})]
     return [*itertools.chain(*heads), *pairs], (
         [*(cell for one, head in zip(of, heads)
-           for cell in (cells(*one[1]) if one else [None] * len(head))), *edges]
+           for cell in (cells(*one[2]) if one else [None] * len(head))), *edges]
         for of, edges in each)
 
 
@@ -80,9 +87,11 @@ def joined(asking: Questions, names: List[str], heads: List[List[str]], cells: C
 def main(words: List[str]) -> int:
     asked = words_of(words)
     times, whole = times_at(asked), dump_of(asked)
-    channels = asked.channels or [("time", "", asked.names)]
+    if asked.condition is not None:
+        warn_of_quotes("vcdkit-table", asked.condition, whole)
+    channels = asked.channels or [("time", "", "", asked.names)]
     columns = [[one for one in whole.select(names) if one.type != "event"]
-               for _, _, names in channels]
+               for *_, names in channels]
     scale = whole.timescale
     unit = asked.unit or (scale.unit if scale else "tick")
     whole.ticks("0" if unit == "tick" else "0" + unit)  # a unit needs a time scale
@@ -103,8 +112,8 @@ def main(words: List[str]) -> int:
              if asked.json else ["%s (%s)" % (name, unit), *(one.path for one in its)]
              for name, its in zip(names, columns)]
     if asked.channels:
-        asking = Questions(dump, [one[:2] for one in channels], asked.rise, asked.fall, True,
-                           columns)
+        asking = Questions(dump, [(name, text, clock) for name, clock, text, _ in channels],
+                           asked.rise, asked.fall, True, columns)
         head, rows = joined(asking, names, heads, cells, asked.histogram)
     else:
         head, rows = heads[0], itertools.starmap(cells, dump.rows(

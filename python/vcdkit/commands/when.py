@@ -1,12 +1,13 @@
 """Lists the times at which a condition on signals begins to hold
 
-The condition is evaluated at the end of each time step in which one of its signals changes, or at
-the edges of a clock, with the values just before. It is an expression of Verilog over paths:
+Put the condition in single quotes, because `&`, `|`, `<`, `>` and `!` are special to the shell. It
+is evaluated at the end of each time step in which one of its signals changes, or at the edges of a
+clock, with the values just before. It is an expression of Verilog over paths:
   tb.bus[7:4] + 1 == 0xff    "tb.a&b" === 4'b1x0z    tb.q is not x    signed(tb.a) < -1
   past(tb.q, 2) == 3 & rose(tb.a)  at edges of the clock; also fell, stable and changed
   req -> ack within 5  req begins to hold, and ack holds at most 5 edges later; or within 20ns
   !(req -> ack within 5)  it does not
-What depends on x is x, which does not hold. More is on the page of the scripts (extras/README.md).
+A result that depends on x is x, and x does not hold. More is in extras/README.md.
 
 examples:
   vcdkit-when --rise tb.clk --every --count sim.vcd.gz 'tb.valid & tb.ready'
@@ -21,28 +22,31 @@ from ..errors import UsageError, VcdkitError
 from ..forms.junit import Test, write_tests
 from ..forms.text import mean_text, write_json
 from ..questions.dump import Dump
-from ..questions.when import Questions
+from ..questions.when import Asked, Questions, named
 from ..reading.files import check_outputs, text_of_file
-from . import FAULT, check_begin, command, dump_of, parser, part_of, question, times_of
+from . import (FAULT, check_begin, command, dump_of, parser, part_of, question, times_of,
+               warn_of_quotes)
 
-WORDED = re.compile(r"(never +|always +|)(.*)", re.S)
+WORDED = re.compile(r"(never +|always +|each +|)(.*)", re.S)
 
 
 class Rule(NamedTuple):
     """A condition with a name, and the word before it: it may hold at no time (never), has to hold
-    at each (always), or has to hold at some time."""
+    at each (always), or has to hold at some time; or each request has its own answer (each)."""
 
     name: str
     word: str
     condition: str
+    clock: str = ""
 
     @property
-    def asked(self) -> str:
+    def asked(self) -> Asked:
         """The condition whose times are listed: with always, that it does not hold."""
-        if self.word != "always":
-            return self.condition
-        has_answer = "->" in re.sub('"[^"]*"', "", self.condition)
-        return ("!(%s)" if has_answer else "!(%s) !== 1'b0") % self.condition
+        text = self.condition
+        if self.word == "always":
+            has_answer = "->" in re.sub('"[^"]*"', "", text)
+            text = ("!(%s)" if has_answer else "!(%s) !== 1'b0") % text
+        return Asked(self.name, text, self.clock, self.word == "each")
 
     def is_met(self, found: bool, is_never: bool) -> bool:
         """Whether the rule is met, if its list has times."""
@@ -60,8 +64,11 @@ def words_of(words: List[str]) -> argparse.Namespace:
                       "when ack follows and after how long")
     form.add_argument("--rules", metavar="FILE", help="evaluate the conditions in this file, each "
                       "on a line `name: condition`, `name: never condition` or "
-                      "`name: always condition`, and write a line for each that holds; of those "
-                      "with always, for each that at some time does not")
+                      "`name: always condition`, and write a line for each that holds at some time "
+                      "(with always: that does not). With `name: each req -> ack within N`, the "
+                      "n-th answer is that of the n-th request, and lost and surplus ones are "
+                      "listed. A name@CLOCK has the rising edges of a clock of its own, "
+                      "name@!CLOCK the falling ones")
     options.add_argument("--junit", metavar="FILE", help="with --rules: also write a JUnit report, "
                          "with a test for each rule")
     options.clock("evaluate at the %s edges of this signal")
@@ -73,9 +80,10 @@ def words_of(words: List[str]) -> argparse.Namespace:
     options.add_argument("condition", metavar="CONDITION", nargs="?",
                          help="a condition (see below); not with --rules")
     asked, rest = options.parsed(words)
+    if rest and rest[0][:1] == "-":
+        options.refuse(rest)
     if rest:
-        options.error("put the condition into quotes" if rest[0][:1] != "-" else
-                 "unrecognized arguments: " + " ".join(rest))
+        options.error("put the condition in single quotes")
     if (asked.condition is None) == (asked.rules is None):
         options.error("give a CONDITION, or --rules FILE")
     if asked.junit is not None and asked.rules is None:
@@ -85,17 +93,19 @@ def words_of(words: List[str]) -> argparse.Namespace:
 
 def rules_of(path: str) -> List[Rule]:
     """Returns the rules in a file; a line that is empty or begins with # is none."""
-    found = []
+    found: Dict[str, Rule] = {}
     for number, line in enumerate(text_of_file(path).splitlines(), 1):
         name, sign, condition = line.strip().partition(": ")
         if line.strip() and line.strip()[:1] != "#":
             if not sign:
                 raise UsageError("%s:%d: a rule is `name: condition`" % (path, number))
-            word, text = re.findall(WORDED, condition)[0]
-            found.append(Rule(name, word.strip(), text))
+            (name, clock), (word, text) = named(name), re.findall(WORDED, condition)[0]
+            if name in found:
+                raise UsageError("%s:%d: there is a rule %s before" % (path, number, name))
+            found[name] = Rule(name, word.strip(), text, clock)
     if not found:
         raise UsageError("%s: it has no rule" % path)
-    return found
+    return [*found.values()]
 
 
 def list_times(times: Iterable[int], text: Callable[[int], str], asked: argparse.Namespace) -> int:
@@ -133,62 +143,80 @@ def list_latencies(asking: Questions, dump: Dump, text: Callable[[int], str],
             else "%.6g" % mean, shown(max(lengths)), len(lengths), late))
     elif late and not asked.json:
         print("0 in time, %d late" % late)
-    if one.overlaps:
-        print("vcdkit-when: warning: requests that begin before the previous one is answered: %d. "
-              "They get the same answer; with vcdkit-table --channel, each gets its own"
-              % one.overlaps, file=sys.stderr)
     return len(lengths)
 
 
 def list_rules(asking: Questions, rules: List[Rule], text: Callable[[int], str],
-               asked: argparse.Namespace) -> bool:
+               asked: argparse.Namespace, tests: List[Test]) -> bool:
     """Writes a line for each rule whose list has times: its name, the first time, and how many
-    there are; returns whether all rules are met."""
+    there are; returns whether all rules are met. Adds a test for each."""
     found: Dict[int, List[int]] = {}  # of each rule that held the first time, and the count
-    fault = ""
+    is_whole = False
     try:
         for time, numbers in asking.times():
             for number in numbers:
                 its = found.setdefault(number, [time, 0])
                 its[1] += 1
-    except VcdkitError as error:
-        fault = str(error)
-        raise
+        is_whole = True
     finally:
-        tests = []
         for number, rule in enumerate(rules):
             name, its = rule.name, found.get(number, [])
             line = "%s, %d time%s" % (text(its[0]), its[1], "s" * (its[1] != 1)) if its else ""
+            one, alone = asking.each[number], {}
+            if its and rule.word == "each":
+                alone = dict(zip(("lost", "surplus"), map(len, one.alone)))
+                line += "".join("%s %d without %s%s" % (
+                    sign, len(times), what, " (%s%s)" % (text(times[0]), ", .." * (
+                        len(times) > 1)) if times else "") for sign, what, times in zip(
+                            ":,", ("an answer", "a request"), one.alone))
             if its and asked.json:
-                write_json({"rule": name, "first": its[0], "count": its[1]})
+                write_json({"rule": name, "first": its[0], "count": its[1], **alone})
             elif its:
                 print("%s: %s" % (name, line))
-            is_wrong = not rule.is_met(bool(its), asked.never) and (its or not fault)
+            is_wrong = not rule.is_met(bool(its), asked.never) and (its or is_whole)
             tests.append(Test(asking.dump.name, name, "failure" if is_wrong else "",
-                              line or "it never held", rule.condition))
-        if fault:
-            tests.append(Test(asking.dump.name, "fault", "error", fault, ""))
-        if asked.junit is not None:
-            write_tests(asked.junit, "vcdkit-when", tests)
+                              line or "it never held", rule.condition, one.warning()))
     return all(one.is_met(number in found, asked.never) for number, one in enumerate(rules))
+
+
+def answer(asked: argparse.Namespace, tests: List[Test]) -> int:
+    """Writes the answer, and returns the status. Adds a test for each rule."""
+    rules = (rules_of(asked.rules) if asked.rules is not None
+             else [Rule("", "", asked.condition)])
+    dump = dump_of(asked)
+    if asked.condition is not None:
+        warn_of_quotes("vcdkit-when", asked.condition, dump)
+    text = times_of(dump, asked)
+    asking = Questions(part_of(dump, asked), [one.asked for one in rules], asked.rise, asked.fall,
+                       asked.every)
+    if asked.latency and (asking.each[0].is_refusal or not asking.each[0].condition.answer):
+        raise UsageError("latencies are those of a condition such as req -> ack within 50")
+    check_begin(dump, asked.begin)
+    if asked.rules is not None:
+        status = int(not list_rules(asking, rules, text, asked, tests))
+    else:
+        count = (list_latencies(asking, dump, text, asked) if asked.latency
+                 else list_times((time for time, _ in asking.times()), text, asked))
+        status = int((count > 0) == asked.never)
+    for line in filter(None, (one.warning() for one in asking.each)):
+        print("vcdkit-when: warning: " + line, file=sys.stderr)
+    for rule, one in zip(rules, asking.each):
+        if one.clock and not asking.counts[one.clock] and (asked.never or rule.word):
+            raise UsageError("%sits clock has no edge in this window, so it was never evaluated"
+                             % (rule.name and rule.name + ": "))
+    return status
 
 
 @command
 @question
 def main(words: List[str]) -> int:
-    asked = words_of(words)
+    asked, tests = words_of(words), []  # type: argparse.Namespace, List[Test]
     check_outputs([asked.junit], [asked.file, asked.rules])
-    rules = (rules_of(asked.rules) if asked.rules is not None
-             else [Rule("", "", asked.condition)])
-    dump = dump_of(asked)
-    text = times_of(dump, asked)
-    asking = Questions(part_of(dump, asked), [(one.name, one.asked) for one in rules], asked.rise,
-                       asked.fall, asked.every)
-    if asked.latency and not asking.each[0].has_latency:
-        raise UsageError("latencies are those of a condition such as req -> ack within 50")
-    check_begin(dump, asked.begin)
-    if asked.rules is not None:
-        return int(not list_rules(asking, rules, text, asked))
-    count = (list_latencies(asking, dump, text, asked) if asked.latency
-             else list_times((time for time, _ in asking.times()), text, asked))
-    return int((count > 0) == asked.never)
+    try:
+        return answer(asked, tests)
+    except VcdkitError as error:
+        tests.append(Test(asked.file, "fault", "error", str(error), ""))
+        raise
+    finally:
+        if asked.junit is not None:
+            write_tests(asked.junit, "vcdkit-when", tests)

@@ -2,7 +2,9 @@
 
 Each line has a time, a path and a value. A value is listed if it has an x at the end of the first
 time of the window, or if it has one at the end of a later time and differs from the value before.
-Without NAMEs, all signals are searched.
+Without NAMEs, all signals are searched, but only what the simulator dumped: Icarus, for example,
+does not dump the words of an array by itself. Verilator simulates two states, so its dumps hide
+what is uninitialised: check for x with a four-state simulator.
 
 --trace lists only the first such value of each path, so the signals come in the order in which they
 become unknown: the cause is often at the top. The order is only that of time, because a dump does

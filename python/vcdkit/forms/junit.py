@@ -11,13 +11,14 @@ NOT_OF_XML = re.compile("[^\t\n\r -\ud7ff\ue000-\ufffd\U00010000-\U0010ffff]")
 
 class Test(NamedTuple):
     """A test: the class and the name that a server shows, `failure`, `error` or an empty text, a
-    message in one line, and all that there is to say."""
+    message in one line, and all that there is to say; and what is to be said of any test."""
 
     of: str
     name: str
     kind: str
     message: str
     text: str
+    note: str = ""
 
 
 def clean(text: str) -> str:
@@ -35,6 +36,8 @@ def write_tests(path: str, name: str, tests: Sequence[Test]) -> None:
         if test.kind:
             found = xml.SubElement(case, test.kind, message=clean(test.message))
             found.text = clean(test.text)
+        if test.note:
+            xml.SubElement(case, "system-out").text = clean(test.note)
     write(path, [b"<?xml version='1.0' encoding='utf-8'?>\n", xml.tostring(suite, "utf-8")])
 
 

@@ -40,6 +40,7 @@ class Page(NamedTuple):
     is_light: bool = False
     row: int = 0  # that is chosen first
     ends: Sequence[Tuple[str, int]] = ()  # of each of two dumps the letter, and when it ends
+    cursor: Optional[int] = None  # where it is first, if not at the mark
 
 
 def texts_of(page: Page, rows: Sequence[PageRow]) -> List[str]:
@@ -57,6 +58,7 @@ def texts_of(page: Page, rows: Sequence[PageRow]) -> List[str]:
         "title": page.title, "about": page.about, "begin": str(page.begin), "span": max(span, 1),
         "tick": str(page.scale.femtoseconds if page.scale else 0), "radix": page.radix,
         "light": page.is_light, "mark": None if page.mark is None else page.mark - page.begin,
+        "cursor": None if page.cursor is None else page.cursor - page.begin,
         "view": [time - page.begin for time in page.view], "row": page.row,
         "ends": {letter: time - page.begin for letter, time in page.ends},
         "signals": [[key, row.signal.type, row.signal.size, places[id(row.stream)], row.side,

@@ -62,8 +62,10 @@ def rows_of(window: Surroundings, sides: Sides, pairs: Sequence[Named], same: Sa
     return rows
 
 
-def page_of(window: Surroundings, sides: Sides, rows: Sequence[PageRow], row: int) -> Page:
-    """Returns what a page says of two dumps. It begins with a row, that of A of a pair."""
+def page_of(window: Surroundings, sides: Sides, rows: Sequence[PageRow], row: int, has_clock: bool
+            ) -> Page:
+    """Returns what a page says of two dumps. It begins with a row, that of A of a pair; with a
+    clock, with the values before its edge, which are those that differ."""
     scales = [side.scale for side in sides if side.scale]
     scale = min(scales, key=lambda one: one.femtoseconds) if len(scales) == 2 else None
     about = [line for letter, side in zip("AB", sides)
@@ -73,9 +75,10 @@ def page_of(window: Surroundings, sides: Sides, rows: Sequence[PageRow], row: in
         text = scale.text(abs(by)) if scale else "%d ticks" % abs(by)
         about.append("B is shown %s %s" % (text, "later" if by > 0 else "earlier"))
     return Page(" and ".join(os.path.basename(side.dump.name) for side in sides), about,
-                      scale, window.begin, window.begin + max(window.ends), window.mark,
-                      window.near(rows[row:row + 2]), row=row,
-                      ends=[(letter, window.begin + end) for letter, end in zip("AB", window.ends)])
+                scale, window.begin, window.begin + max(window.ends), window.mark,
+                window.near(rows[row:row + 2]), row=row,
+                ends=[(letter, window.begin + end) for letter, end in zip("AB", window.ends)],
+                cursor=max(window.mark - has_clock, window.begin))
 
 
 def texts_of(sides: Sides, factors: Tuple[int, int], found: Sequence[Difference],
@@ -92,7 +95,7 @@ def texts_of(sides: Sides, factors: Tuple[int, int], found: Sequence[Difference]
         window = Surroundings(sides, factors, found[0], tried if span is None else span)
         try:
             rows = rows_of(window, sides, pairs, same)
-            return page.texts_of(page_of(window, sides, rows, row), rows)
+            return page.texts_of(page_of(window, sides, rows, row, bool(clocks)), rows)
         except TooMuch:
             if span is not None or tried < 2:
                 raise

@@ -1,6 +1,6 @@
 """SAIF, which power tools read: how long each bit has each value, and how often it toggles."""
 import re
-from typing import Dict, Iterable, Iterator, List
+from typing import Dict, Iterable, Iterator, List, Tuple, Union
 
 from ..model.signals import Scope
 from ..questions.toggles import BitCounts
@@ -22,7 +22,7 @@ def texts_of(dump: Source, bits: Iterable[BitCounts], ticks: int, version: str) 
     nets: Nets = {}
     for one in dump.declarations:
         nets.setdefault(id((dump.tree, *one.scopes)[-1]), []).extend(of.get(id(one), ()))
-    yield from _instance(dump.tree, nets, ticks, "")
+    yield from _instances(dump.tree, nets, ticks)
     yield ")\n"
 
 
@@ -32,22 +32,31 @@ def _escaped(name: str) -> str:
     return re.sub(r"(\W)", r"\\\1", name[name.startswith("\\"):], flags=re.ASCII)
 
 
-def _instance(scope: Scope, nets: Nets, ticks: int, indent: str) -> Iterator[str]:
-    """Returns the lines of a scope; nothing if no bit is in it."""
-    inner, its = indent + "  " * bool(scope.name), nets.get(id(scope), [])
-    below = [line for one in scope.scopes for line in _instance(one, nets, ticks, inner)]
-    if scope.name and (its or below):
-        yield "%s(INSTANCE %s\n" % (indent, _escaped(scope.name))
-    if its:
-        yield inner + "(NET\n"
-    front = len(scope.path) + 1 if scope.path else 0
-    for bit in its:
-        low = ticks - bit.high - bit.unknown - bit.floating
-        yield "%s  (%s\n%s    (T0 %d) (T1 %d) (TX %d) (TZ %d) (TC %d) (IG 0)\n%s  )\n" % (
-            inner, _escaped(bit.path[front:]), inner, low, bit.high,
-            bit.unknown, bit.floating, bit.rises + bit.falls, inner)
-    if its:
-        yield inner + ")\n"
-    yield from below
-    if scope.name and (its or below):
-        yield indent + ")\n"
+def _instances(top: Scope, nets: Nets, ticks: int) -> Iterator[str]:
+    """Returns the lines of the scopes that have a bit in them, or below. Scopes may be nested
+    deeper than calls."""
+    some = set()
+    for scope in reversed([*top.walk()]):  # those in it come before it
+        if nets.get(id(scope)) or any(id(one) in some for one in scope.scopes):
+            some.add(id(scope))
+    waiting: List[Tuple[Union[Scope, str], str]] = [(top, "")]  # scopes, and last lines
+    while waiting:
+        scope, indent = waiting.pop()
+        if isinstance(scope, str):
+            yield scope
+            continue
+        inner, its = indent + "  " * bool(scope.name), nets.get(id(scope), [])
+        if scope.name:
+            yield "%s(INSTANCE %s\n" % (indent, _escaped(scope.name))
+            waiting.append((indent + ")\n", ""))
+        if its:
+            yield inner + "(NET\n"
+        front = len(scope.path) + 1 if scope.path else 0
+        for bit in its:
+            low = ticks - bit.high - bit.unknown - bit.floating
+            yield "%s  (%s\n%s    (T0 %d) (T1 %d) (TX %d) (TZ %d) (TC %d) (IG 0)\n%s  )\n" % (
+                inner, _escaped(bit.path[front:]), inner, low, bit.high,
+                bit.unknown, bit.floating, bit.rises + bit.falls, inner)
+        if its:
+            yield inner + ")\n"
+        waiting += [(one, inner) for one in reversed(scope.scopes) if id(one) in some]

@@ -2,15 +2,22 @@
 import json
 import math
 import re
-from typing import Any, Dict, Optional, Union
+from typing import Any, Callable, Dict, NamedTuple, Optional, Union
 
 from ..model.times import UNITS
 from ..model.values import Cell, Value
 from ..reading.source import Source
 
-FORMS = {"hex": "in hexadecimal", "decimal": "in decimal",
-         "signed": "in decimal, as two's complement",
-         "ascii": "as text, one character for 8 bits", "binary": "in binary, with all digits"}
+
+class Form(NamedTuple):
+    """A form of values: what the help says of it, and the text of a value. Else digits that have an
+    x or a z, and a single one, are written as they are. Digits that differ may have one text."""
+
+    what: str
+    text: Callable[[Value], str]
+    has_x: bool = False
+    is_number: bool = False
+    is_alike: bool = False
 
 
 def shown(value: Cell, form: Optional[str] = None) -> str:
@@ -19,22 +26,28 @@ def shown(value: Cell, form: Optional[str] = None) -> str:
         return "-"
     if isinstance(value, float):
         return repr(value)[:-2] if repr(value).endswith(".0") else repr(value)
-    if form == "hex" and isinstance(value, Value):
-        return value.hex()
-    if form in (None, "binary") or len(value) == 1 or not isinstance(value, Value) or (
-            not value.is_known):
+    if form is None or not isinstance(value, Value):
         return value
-    if form == "ascii":
-        return _letters_of(int(value))
-    return str(value.signed() if form == "signed" else int(value))
+    is_text = FORMS[form].has_x or len(value) > 1 and value.is_known
+    return FORMS[form].text(value) if is_text else value
 
 
-def _letters_of(number: int) -> str:
+def _letters_of(value: Value) -> str:
     """Returns the letters that the bytes of a number are, the highest first: \\xNN for a byte that
     is none."""
+    number = int(value)
     text = number.to_bytes(max((number.bit_length() + 7) // 8, 1), "big").decode("latin-1")
     return "".join(one if " " <= one <= "~" and one != "\\" else "\\x%02x" % ord(one)
                    for one in text)
+
+
+FORMS = {  # page.html has them too
+    "hex": Form("in hexadecimal", Value.hex, has_x=True, is_alike=True),
+    "decimal": Form("in decimal", lambda value: str(int(value)), is_number=True),
+    "signed": Form("in decimal, as two's complement", lambda value: str(value.signed()),
+                   is_number=True),
+    "ascii": Form("as text, one character for 8 bits", _letters_of),
+    "binary": Form("in binary, with all digits", str, has_x=True)}
 
 
 def mean_text(dump: Source, ticks: float, unit: Optional[str]) -> str:
@@ -63,5 +76,5 @@ def in_json(value: Cell, form: Optional[str]) -> Union[int, float, str, None]:
     if value is None or isinstance(value, float) and math.isfinite(value):
         return value
     text = shown(value, form)
-    is_number = form in ("decimal", "signed") and isinstance(value, Value) and value.is_known
+    is_number = form and FORMS[form].is_number and isinstance(value, Value) and value.is_known
     return int(text) if is_number else text

@@ -47,8 +47,8 @@ def full_names(names: Collection[str], paths: Sequence[str], known: Container[st
     for path in paths if left else ():
         if path[-1:] == "]" and bare(path) in left:
             found.setdefault(bare(path), set()).add(path)
-    scopes = set() if is_signal else {
-        name for name in found if any(path.startswith(name + ".") for path in paths)}
+    scopes = set() if is_signal or not found else {
+        name for path in paths for name in fronts(path.rpartition(".")[0]) if name in found}
     full = {name: next(iter(its)) for name, its in found.items()
             if len(its) == 1 and name not in scopes}
     return {name: full.get(name, name) for name in names}
@@ -92,14 +92,15 @@ def hint(name: str, paths: Sequence[str]) -> str:
     is_pattern = re.search(r"[*?]", name)
     near = ([path for path in paths if path == base]
             or [path for path in paths if path.startswith(base + "[")]
-            or [path for path in paths if path.endswith("." + name) or path.endswith("." + base)]
+            or [path for path in paths if path.endswith("." + name) or path.endswith("." + base)
+                or bare(path).endswith("." + base)]
             or [path for path in paths if path.lower() in (name.lower(), base.lower())]
             or ([] if is_pattern else _like(base, paths)))
     if near:
         return "; there is " + ", ".join(near[:3]) + ", .." * (len(near) > 3)
     if is_pattern:
-        return "; names are no patterns: vcdkit-find and find() take regular expressions"
-    return "; names are the paths that `list` writes, and the scopes in them"
+        return "; a name is not a pattern: vcdkit-find and find() take regular expressions"
+    return "; names are the paths that `list` writes, and the scopes in these paths"
 
 
 def _like(name: str, paths: Sequence[str]) -> List[str]:
@@ -111,5 +112,9 @@ def _like(name: str, paths: Sequence[str]) -> List[str]:
     while word in its:
         front, (word, rest) = front + word + ".", rest.partition(".")[::2]
         its = {path[len(front):].partition(".")[0] for path in paths if path.startswith(front)}
-    near = [front + one for one in difflib.get_close_matches(word, sorted(its))]
+    full: Dict[str, List[str]] = {}  # of each word without its range those that have one
+    for one in sorted(its):
+        full.setdefault(bare(one), []).append(one)
+    near = [front + one for short in difflib.get_close_matches(word, sorted(full))
+            for one in full[short]][:3]
     return [one + "." + rest if one + "." + rest in paths else one for one in near]

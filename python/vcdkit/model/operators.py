@@ -135,9 +135,9 @@ def _compared(operate: Operate, kind: Kind, one: Value, other: Value) -> Value:
 
 
 def _same(_: Kind, one: Value, other: Value) -> Value:
-    """Returns whether all digits are the same."""
+    """Returns whether all digits are the same; NaN is NaN."""
     is_none = any(isinstance(value, str) and "-" in value for value in (one, other))
-    return "x" if is_none else 1 if one == other else 0
+    return "x" if is_none else 1 if one == other or one != one and other != other else 0
 
 
 def _has(letter: str, _: Kind, one: Value) -> Value:
@@ -171,40 +171,71 @@ def _became(digit: str, kind: Kind, one: Value, was: Value) -> Value:
     return 1 if last == digit != before else 0
 
 
-def _each(operate: Operate, its: Dict[str, Any]) -> Dict[str, Operate]:
-    """Returns operators that differ in the first value of a function."""
-    return {sign: functools.partial(operate, value) for sign, value in its.items()}
-
-
 _and, _or, _xor, _xnor = (
     functools.partial(_bitwise, operate, _table(operate, decides)) for operate, decides in (
         (operator.and_, "0"), (operator.or_, "1"), (operator.xor, ""), (lambda a, b: ~(a ^ b), "")))
-ARITHMETIC = {**_each(_arithmetic, {
-    "+": operator.add, "-": operator.sub, "*": operator.mul, "/": _quotient,
-    "%": lambda a, b: a - b * _quotient(a, b), "unary -": operator.neg}),
-    "unary +": lambda _, one: one}
-BITWISE: Dict[str, Operate] = {
-    "&": _and, "|": _or, "^": _xor, "~^": _xnor, "^~": _xnor, "unary ~": _inverted}
-SHIFTS = {sign: functools.partial(_shift, sign[0] == "<", len(sign) == 3)
-          for sign in ("<<", "<<<", ">>", ">>>")}
-COMPARISONS = _each(_compared, {"<": operator.lt, "<=": operator.le, ">": operator.gt,
-                                ">=": operator.ge, "==": operator.eq})
-COMPARISONS["!="] = _not(COMPARISONS["=="])
-REDUCTIONS = _each(_reduced, {"unary &": "0", "unary |": "1", "unary ^": ""})
-REDUCTIONS.update({"unary " + sign: _not(REDUCTIONS["unary " + sign.strip("~")])
-                   for sign in ("~&", "~|", "~^", "^~")})
-OPERATORS: Dict[str, Operate] = {
-    **ARITHMETIC, **BITWISE, **SHIFTS, **COMPARISONS, **REDUCTIONS, "**": _power,
-    "===": _same, "!==": _not(_same), "stable": _same, "changed": _not(_same),
-    "real /": functools.partial(_arithmetic, operator.truediv),
-    **_each(_has, {"is x": "x", "is z": "z"}), **{"is not " + letter: _not(functools.partial(
-        _has, letter)) for letter in "xz"}, "unary !": lambda _, one: _inverted(BIT, truth(one)),
-    "&&": lambda _, one, other: _and(BIT, truth(one), truth(other)),
-    "||": lambda _, one, other: _or(BIT, truth(one), truth(other)), "?:": _chosen, "{": _joined,
-    **dict.fromkeys(("signed", "unsigned"), lambda kind, one: one if isinstance(one, str)
-                    else kind.of(one)), **_each(_became, {"rose": "1", "fell": "0"})}
-# In Python, what some operators make of values that are all numbers.
-OF_NUMBERS = {
-    **{sign: "1 if {0} %s {1} else 0" % sign for sign in COMPARISONS},
-    **{sign: "{0} %s {1}" % sign for sign in "&|^"}, "&&": "1 if {0} and {1} else 0",
-    "||": "1 if {0} or {1} else 0", "unary !": "0 if {0} else 1"}
+
+
+class Operator(NamedTuple):
+    """What is known of an operator: its function; how tightly it binds its two operands, 0 if it is
+    not between them; whether these take on a kind: that which they have in `common`, that in which
+    the whole is asked for (`context`), or none; whether it takes only bits; and what it is in
+    Python if all values are numbers."""
+
+    function: Operate
+    level: int = 0
+    kind: str = ""
+    has_bits: bool = False
+    of_numbers: str = ""
+
+
+def _arithmetical(function: Operate, level: int = 0, has_bits: bool = False) -> Operator:
+    """Returns the row of an operator of numbers."""
+    return Operator(functools.partial(_arithmetic, function), level, "context", has_bits)
+
+
+def _ordering(sign: str, function: Operate) -> Operator:
+    """Returns the row of an operator that compares."""
+    operate = functools.partial(_compared, function)
+    return Operator(_not(operate) if sign == "!=" else operate, 6 if sign in ("==", "!=") else 7,
+                    "common", False, "1 if {0} %s {1} else 0" % sign)
+
+
+SHIFTS = ("<<", "<<<", ">>", ">>>")
+# All that is known of them: what reads conditions, and what makes functions of them, asks here.
+OPERATORS: Dict[str, Operator] = {
+    "||": Operator(lambda _, one, other: _or(BIT, truth(one), truth(other)), 1,
+                   of_numbers="1 if {0} or {1} else 0"),
+    "&&": Operator(lambda _, one, other: _and(BIT, truth(one), truth(other)), 2,
+                   of_numbers="1 if {0} and {1} else 0"),
+    "|": Operator(_or, 3, "context", True, "{0} | {1}"),
+    "^": Operator(_xor, 4, "context", True, "{0} ^ {1}"),
+    **dict.fromkeys(("~^", "^~"), Operator(_xnor, 4, "context", True)),
+    "&": Operator(_and, 5, "context", True, "{0} & {1}"),
+    "===": Operator(_same, 6, "common", True), "!==": Operator(_not(_same), 6, "common", True),
+    **{sign: _ordering(sign, function) for sign, function in (
+        ("==", operator.eq), ("!=", operator.eq), ("<", operator.lt), ("<=", operator.le),
+        (">", operator.gt), (">=", operator.ge))},
+    **{sign: Operator(functools.partial(_shift, sign[0] == "<", len(sign) == 3), 8, "context", True)
+       for sign in SHIFTS},
+    "+": _arithmetical(operator.add, 9), "-": _arithmetical(operator.sub, 9),
+    "*": _arithmetical(operator.mul, 10), "/": _arithmetical(_quotient, 10),
+    "real /": _arithmetical(operator.truediv),
+    "%": _arithmetical(lambda a, b: a - b * _quotient(a, b), 10, True),
+    "**": Operator(_power, 11, "context"), "?:": Operator(_chosen, kind="context"),
+    "unary +": Operator(lambda _, one: one, kind="context"),
+    "unary -": _arithmetical(operator.neg),
+    "unary ~": Operator(_inverted, 0, "context", True),
+    "unary !": Operator(lambda _, one: _inverted(BIT, truth(one)), of_numbers="0 if {0} else 1"),
+    **{"unary " + sign: Operator(functools.partial(_reduced, decides), has_bits=True)
+       for sign, decides in (("&", "0"), ("|", "1"), ("^", ""))},
+    **{"unary " + sign: Operator(_not(functools.partial(_reduced, decides)), has_bits=True)
+       for sign, decides in (("~&", "0"), ("~|", "1"), ("~^", ""), ("^~", ""))},
+    **{"is " + letter: Operator(functools.partial(_has, letter)) for letter in "xz"},
+    **{"is not " + letter: Operator(_not(functools.partial(_has, letter))) for letter in "xz"},
+    "stable": Operator(_same, kind="common"), "changed": Operator(_not(_same), kind="common"),
+    "rose": Operator(functools.partial(_became, "1"), has_bits=True),
+    "fell": Operator(functools.partial(_became, "0"), has_bits=True),
+    **dict.fromkeys(("signed", "unsigned"), Operator(
+        lambda kind, one: one if isinstance(one, str) else kind.of(one), has_bits=True)),
+    "{": Operator(_joined, has_bits=True)}

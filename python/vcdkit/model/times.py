@@ -50,8 +50,11 @@ def amount_of(time: Time) -> Amount:
     if isinstance(time, str):
         amount = None if time.rstrip().endswith("tick") else amount_in(time)
         if amount is None:
-            raise UsageError('bad time: %s: write ticks, as 1150, or units, as "115ns" or "1.5us"'
-                             % time)
+            lower = re.sub("[\xb5\u03bc]", "u", time.lower())  # of a micro sign
+            if amount_in(lower) and not lower.rstrip().endswith("tick"):
+                raise UsageError("bad time: %s: write %s" % (time, lower))
+            raise UsageError('bad time: %s: write ticks, such as 1150, or a time with a unit, such '
+                             'as "115ns" or "1.5us"' % time)
         return amount
     try:
         ticks = time.__index__()

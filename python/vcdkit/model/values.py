@@ -91,21 +91,6 @@ class Value(str):
                 return self._known() == other
         return self._compares(operator.eq, other)
 
-    def __ne__(self, other: object) -> bool:
-        return self._compares(operator.ne, other)
-
-    def __lt__(self, other: Any) -> bool:
-        return self._compares(operator.lt, other)
-
-    def __le__(self, other: Any) -> bool:
-        return self._compares(operator.le, other)
-
-    def __gt__(self, other: Any) -> bool:
-        return self._compares(operator.gt, other)
-
-    def __ge__(self, other: Any) -> bool:
-        return self._compares(operator.ge, other)
-
     __hash__ = str.__hash__
 
     def __add__(self, other: Any) -> str:
@@ -141,6 +126,11 @@ class Value(str):
         return "".join("%x" % int(some, 2) if not some.strip("01")
                        else some[0] if len(set(some)) == 1 else "X"
                        for some in (bits[at:at + size] for at in range(0, len(bits), size)))
+
+
+for _are in operator.ne, operator.lt, operator.le, operator.gt, operator.ge:
+    setattr(Value, "__%s__" % _are.__name__,
+            lambda self, other, are=_are: self._compares(are, other))
 
 
 def _is_text(other: object) -> bool:

@@ -26,6 +26,7 @@ BLOCK = 1 << 18
 FIRST, EACH_PAIR, ALWAYS = "--first", "", "--always"
 Values = Tuple[Optional[bytes], Optional[bytes]]
 Same = Callable[[Optional[bytes], Optional[bytes]], bool]
+Map = Tuple[str, str]  # the path of a scope or a signal, and what it becomes
 
 
 class Pair(NamedTuple):
@@ -54,6 +55,28 @@ Found = Tuple[Tuple[int, int], List[Tuple[int, Values]]]  # times, and the pairs
 def kind(signal: Signal) -> Union[str, int]:
     """Returns what values of two signals have to have in common."""
     return "event" if signal.type == "event" else "real" if signal.is_real else signal.size
+
+
+def originals(maps: Sequence[Map], paths: Sequence[Sequence[str]]) -> List[Map]:
+    """Returns maps, the longest first, in which each path that a map replaces is one of a dump. Of
+    one that no dump has, it takes the one path that becomes it by the other maps. `paths` has the
+    paths of each dump."""
+    def is_there(name: str) -> bool:
+        return any(path.startswith(name) and (path[len(name):][:1] in ("", ".") or
+                                              bare(path) == name) for its in paths for path in its)
+
+    def original(name: str) -> str:
+        made = {_put_before(front, name[len(new):].lstrip(".")) for front, new in maps
+                if not new or name == new or name.startswith(new + ".")}
+        made = set() if is_there(name) else {one for one in made if is_there(one)}
+        return made.pop() if len(made) == 1 else name
+
+    return sorted(((original(front), new) for front, new in maps), key=lambda one: -len(one[0]))
+
+
+def _put_before(front: str, rest: str) -> str:
+    """Returns the path of what is in a scope, or the scope."""
+    return front + "." + rest if rest else front
 
 
 class Side:
@@ -110,7 +133,7 @@ class Side:
         if not its:
             raise self.unknown(name)
         if len({one.code for one in its}) > 1 or kind(its[0]) != 1:
-            raise UsageError("%s: %s is no clock of one bit" % (self.dump.name, name))
+            raise UsageError("%s: %s is not a one-bit clock" % (self.dump.name, name))
         return its[0]
 
     def alone(self, other: "Side") -> List[Tuple[str, int]]:
@@ -232,9 +255,8 @@ def same_within(tolerance: float, x_matches: bool = False) -> Same:
 
 def _unscaled(dump: Source) -> Source:
     """Returns a dump without its time scale."""
-    part = dump.cut()
-    front = re.sub(rb"(?m)^\$timescale\n.*\n\$end\n", b"", part.header_text(), 1)
-    return dump.like(Headed(front, part.text))
+    return dump.like(Headed(functools.partial(
+        re.sub, rb"(?m)^\$timescale\n.*\n\$end\n", b"", count=1), dump.cut().text))
 
 
 class Comparison:

@@ -9,23 +9,21 @@ import re
 from typing import (Any, Callable, Deque, Dict, Iterable, List, NamedTuple, Optional, Sequence,
                     Tuple)
 
-from ..model.names import FIELD, field_of, full_names
-from ..model.operators import (ARITHMETIC, BIT, BITWISE, COMPARISONS, OF_NUMBERS, OPERATORS, REAL,
-                               REDUCTIONS, SHIFTS, Kind, Value, converted, kind_of,
-                               value_of_digits)
+from ..errors import UnknownName
+from ..model.names import FIELD, bare, field_of, full_names
+from ..model.operators import (BIT, OPERATORS, REAL, SHIFTS, Kind, Operator, Value, converted,
+                               kind_of, value_of_digits)
 from ..model.signals import Signal
 from ..model.values import extension, real_of
 from ..reading.body import Changes
 from ..reading.source import Source
 from .expression import Node, ConditionText, Span, bad
 
+MIRRORED = {"<": ">", "<=": ">=", ">": "<", ">=": "<="}
 GROUP = 30  # bits of which Python is fast
 Read = Callable[[bytes], Value]
 NONE: Tuple[int, List[Tuple[int, Read]]] = 0, []  # no condition, and nothing that reads
-SAME = ("===", "!==", "stable", "changed")
-OF_BITS = ("%", "===", "!==", "{", "signed", "unsigned", "rose", "fell", *BITWISE, *SHIFTS,
-           *REDUCTIONS)
-IN_CONTEXT = ("**", "?:", *ARITHMETIC, *BITWISE, *SHIFTS)  # their operands take on their kind
+LEAF = Operator(tuple)  # a name, a number, or what is past: no operator
 
 
 class _Name(NamedTuple):
@@ -41,9 +39,10 @@ class _Name(NamedTuple):
         """The kind of its values."""
         if self.signal.type == "event":
             return BIT
-        is_whole = self.end - self.begin == self.signal.size
-        return REAL if self.signal.is_real else kind_of(
-            self.end - self.begin, self.signal.type == "integer" and is_whole)
+        # A part of an integer is unsigned, also if the part is all of it.
+        is_signed = self.signal.type == "integer" and self.text == bare(self.text) and (
+            self.end - self.begin == self.signal.size)
+        return REAL if self.signal.is_real else kind_of(self.end - self.begin, is_signed)
 
     def value(self, own: Kind, to: Kind, raw: bytes) -> Value:
         """Returns the value that a body has for the signal, in a kind; none if that is empty, or if
@@ -60,23 +59,33 @@ class _Name(NamedTuple):
                          to)
 
 
-def _names(dump: Source, words: Iterable[str]) -> Dict[str, _Name]:
-    """Returns the signals of a dump that a condition names."""
+def _names(dump: Source, words: Iterable[str], quoted: Sequence[str]) -> Dict[str, _Name]:
+    """Returns the signals of a dump that a condition names, some of them in quotes."""
     bases, paths = {name: FIELD.sub("", name) for name in words}, dump.signals.columns()[0]
     full = full_names([*bases, *bases.values()], paths, dump.signals, True)
-    found: Dict[str, Dict[int, Signal]] = {path: {} for path in full.values()}
-    for at, path in enumerate(paths):
-        if path in found:
-            found[path][at] = dump.signals[at]
-    its = {name: found[path] for name, path in full.items()}
-    return {name: _name(dump, name, base, its) for name, base in bases.items()}
+    its: Dict[str, Dict[int, Signal]] = {name: {} for name in full}
+    for name, path in full.items():
+        for _ in range(paths.count(path)):
+            at = paths.index(path, next(reversed(its[name]), -1) + 1)
+            its[name][at] = dump.signals[at]
+    return {name: _name(dump, name, base, its, name in quoted) for name, base in bases.items()}
 
 
-def _name(dump: Source, name: str, base: str, found: Dict[str, Dict[int, Signal]]) -> _Name:
+def _name(dump: Source, name: str, base: str, found: Dict[str, Dict[int, Signal]], is_quoted: bool
+          ) -> _Name:
     field = () if found[name] else field_of(name)
     its = found[base if field else name]
     if not its:
-        dump.select(base)  # it raises UnknownName, unless this is a scope
+        try:
+            dump.select(base)
+        except UnknownName as error:
+            if is_quoted and "; there is " not in str(error):
+                raise UnknownName(error.name, "; what is in double quotes is a name, not a string"
+                                  ) from None
+            if name in ("x", "X", "z", "Z"):
+                raise UnknownName(error.name, "; for digits that are %s, write `tb.q is %s`" % (
+                    (name.lower(),) * 2)) from None
+            raise
         raise bad("%s is a scope: name a signal in it" % base)
     place, signal = next(iter(its.items()))
     if len({one.code for one in its.values()}) > 1:
@@ -106,7 +115,8 @@ def _type(node: Node) -> None:
     sign, parts, first = node.sign, node.parts, node.parts[0].kind if node.parts else REAL
     if sign == "->":
         raise bad("-> is for the whole condition, or the whole with ! before it")
-    if sign in OF_BITS and REAL in [one.kind for one in parts]:
+    its = OPERATORS.get(sign, LEAF)
+    if its.has_bits and REAL in [one.kind for one in parts]:
         raise bad("%s takes bits, and not real numbers" % sign.replace("unary ", ""))
     if sign in ("signed", "unsigned"):
         node.kind = kind_of(first.width, sign == "signed")
@@ -116,7 +126,7 @@ def _type(node: Node) -> None:
         if any(one.sign == "number" for one in parts):
             raise bad("a number between { and } needs a size, as 4'd3")
         node.kind = kind_of(node.value * sum(one.kind.width for one in parts))
-    elif sign in IN_CONTEXT or sign == "past":
+    elif its.kind == "context" or sign == "past":
         if sign in SHIFTS:  # the number of bits is unsigned
             node.parts[1] = Node("unsigned", parts[1:], None, kind_of(parts[1].kind.width))
         is_common = len(parts) > 1 and sign not in ("?:", *SHIFTS) and (
@@ -124,10 +134,13 @@ def _type(node: Node) -> None:
         node.kind = _common(parts if is_common else parts[1:] if sign == "?:" else parts[:1])
     elif parts:
         node.kind = BIT
-        if sign in COMPARISONS or sign in SAME:
-            for one, other in (parts, parts[::-1]):
+        if its.kind == "common":
+            for one, other, mine in (*parts, sign), (*parts[::-1], MIRRORED.get(sign, sign)):
                 if one.sign == "name" and other.sign == "number":
-                    _compare(one, other, sign)
+                    _compare(one, other, mine)
+                is_unknown = other.sign == "literal" and isinstance(other.value, str)
+                if one.sign == "name" and is_unknown and sign == "==":
+                    raise bad("%s is never == digits with x or z: write ===" % one.value.text)
 
 
 def _compare(name: Node, number: Node, sign: str) -> None:
@@ -140,24 +153,34 @@ def _compare(name: Node, number: Node, sign: str) -> None:
             raise bad("%s has more digits than the %d of %s" % (value, kind.width, its))
     elif value < 0:
         kind = name.kind = kind_of(kind.width, True)
-    if sign in ("==", "!="):
-        if value % 1:
-            raise bad("%s is never %s: it is a whole number" % (its, value))
-        if kind.of(int(value)) != value:
-            raise bad("%s is never %s: it has %d bits%s" % (
-                its, value, kind.width, ", signed" if kind.sign else ""))
+    if isinstance(value, str):
+        if sign in MIRRORED:
+            raise bad("%s is never %s %s, as that has x or z" % (its, sign, value))
+        return
+    least, greatest = -kind.sign, kind.mask ^ kind.sign
+    if sign in ("==", "!=") and value % 1:
+        raise bad("%s is never %s: it is a whole number" % (its, value))
+    if value == 0 == least and sign in ("<", ">="):
+        raise bad("%s is never < 0: a dump has no signs; write signed(%s)" % (its, its))
+    is_out = not least <= value <= greatest
+    if {"==": is_out, "!=": is_out, "===": is_out, "<": least >= value, "<=": least > value,
+            ">": greatest <= value, ">=": greatest < value}.get(sign):
+        raise bad("%s is never %s%s: it has %d bit%s%s" % (
+            its, sign + " " if sign in MIRRORED else "", value, kind.width,
+            "s" * (kind.width > 1), ", signed" if kind.sign else ""))
 
 
 def _place(node: Node) -> Any:
     """Finds in which kinds a node asks for its operands, and returns that in which it works."""
     sign, parts, works = node.sign, node.parts, node.kind
+    kind = OPERATORS.get(sign, LEAF).kind
     for one in parts:
         one.to = one.kind
-    if sign in IN_CONTEXT:
+    if kind == "context":
         works = node.to if node.to.width or not works.width else works
         for one in parts[sign == "?:":1 if sign == "**" or sign in SHIFTS else None]:
             one.to = works
-    elif sign in COMPARISONS or sign in SAME:
+    elif kind == "common":
         works = _common(parts)
         for one in parts:
             one.to = works
@@ -180,30 +203,31 @@ class Condition(NamedTuple):
 
 class Conditions:
     """Conditions over the signals of a dump, and the last value of each of these. Each condition
-    is a bit, and so is each answer."""
+    is a bit, and so is each answer, and each clock."""
 
-    def __init__(self, dump: Source, has_clock: bool):
-        self._dump, self._has_clock = dump, has_clock
+    def __init__(self, dump: Source):
+        self._dump, self._clock = dump, 0  # the clock of the last condition
         self.paths: Dict[str, None] = {}  # of the signals
         # Of the code of each signal the conditions that name it, and who reads its values where.
         self.over: Dict[bytes, Tuple[int, List[Tuple[int, Read]]]] = {}
         self.with_more = 0  # those over more than values: events, earlier edges, an answer
         self._values: List[Value] = []
-        self._places: Dict[Tuple[_Name, Kind, Kind], int] = {}
-        self._events: Dict[bytes, None] = {}
+        self._places: Dict[Tuple[_Name, Kind, Kind, int], int] = {}
+        self._events: Dict[int, Tuple[bytes, int]] = {}  # of their places the codes and the clocks
         self._pasts: List[Tuple[int, Node]] = []  # places of the last condition, and what is past
-        self._samples: List[Tuple[int, Deque[Value], str]] = []  # a call has the value now
+        # A call has the value at this edge of a clock.
+        self._samples: List[Tuple[int, Deque[Value], str, int]] = []
         self._sampled: Callable[[], Sequence[Value]] = tuple  # the values of all calls
         self._known: Dict[str, Any] = {"v": self._values, "converted": converted}
         self._tests: List[str] = []  # a call for each bit
 
-    def add(self, text: str) -> Condition:
-        """Adds a condition."""
-        parser = ConditionText(text)
+    def add(self, text: str, clock: int) -> Condition:
+        """Adds a condition at the edges of a clock; at each time if that is 0."""
+        self._clock, parser = clock, ConditionText(text)
         tree = parser.tree()
         if not parser.names:
             raise bad("it names no signal")
-        its = _names(self._dump, dict.fromkeys(node.value for node in parser.names))
+        its = _names(self._dump, dict.fromkeys(node.value for node in parser.names), parser.quoted)
         for node in parser.names:
             node.value = its[node.value]
             node.kind = node.value.kind
@@ -217,19 +241,17 @@ class Conditions:
         calls = [(place, node.value, self._call(node.parts[0])) for place, node in self._pasts]
         for place, count, call in reversed(calls):  # the inner ones first
             self._values[place] = value = eval(call, self._known)
-            self._samples.append((place, collections.deque([value] * count, count), call))
-        if self._pasts and not self._has_clock:
-            raise bad("past, rose, fell, stable and changed look at edges: name a clock by rise or "
-                      "fall")
+            self._samples.append((place, collections.deque([value] * count, count), call, clock))
+        if self._pasts and not clock:
+            raise bad("past, rose, fell, stable and changed look at edges: name a clock with rise "
+                      "or fall")
         bits = found.bit | answer
         self.with_more |= bits if answer or self._pasts else 0
         for signal in (name.signal for name in its.values()):
             self.paths[signal.path] = None
             code = signal.code.encode()
             self.over[code] = self.over[code][0] | bits, self.over[code][1]
-            if signal.type == "event":
-                self._events[code] = None
-                self.with_more |= bits
+            self.with_more |= bits if signal.type == "event" else 0
         return found
 
     def take(self, changes: Changes) -> int:
@@ -243,17 +265,17 @@ class Conditions:
                 values[place] = read(raw)
         return found
 
-    def end(self) -> int:
-        """Takes it that a time is over: what it has then is the past, and no event is triggered;
-        returns the conditions that name those that were."""
+    def end(self, clocks: int = -1) -> int:
+        """Takes it that a time is over that has edges of some clocks: for these, what it has then
+        is the past, and no event is triggered; returns the conditions that name those that were."""
         found = 0
-        for (place, kept, _), value in zip(self._samples, self._sampled()):
-            kept.append(value)
-            self._values[place] = kept[0]
-        for code in self._events:
-            bits, readers = self.over[code]
-            for place, _ in readers:
-                found |= bits if self._values[place] else 0
+        for (place, kept, _, clock), value in zip(self._samples, self._sampled()):
+            if clock & clocks:
+                kept.append(value)
+                self._values[place] = kept[0]
+        for place, (code, clock) in self._events.items():
+            if self._values[place] and (clock & clocks or not clock):
+                found |= self.over[code][0]
                 self._values[place] = 0
         return found
 
@@ -261,13 +283,24 @@ class Conditions:
         """Returns what returns those of some conditions that hold at the values that there are."""
         self.take([(code, b"") for code in self.over])
         self._sampled = self._function("", [
-            "return (%s)" % "".join(call + ", " for _, _, call in self._samples)])
-        lines = ["now = 0"]
-        for begin in range(0, len(self._tests), GROUP):
-            lines += ["some = due >> %d & %d" % (begin, (1 << GROUP) - 1), "if some:"]
-            lines += [" if some & %d and %s: now |= %#x" % (1 << at, call, 1 << begin + at)
-                      for at, call in enumerate(self._tests[begin:begin + GROUP])]
-        return self._function("due=-1", [*lines, "return now"])
+            "return (%s)" % "".join(call + ", " for _, _, call, _ in self._samples)])
+        groups = [self._function("due=-1", ["now = 0", *(
+            "if due & %d and %s: now |= %d" % (1 << at, call, 1 << at)
+            for at, call in enumerate(self._tests[begin:begin + GROUP])), "return now"])
+                  for begin in range(0, len(self._tests), GROUP)]
+        if len(groups) == 1:
+            return groups[0]
+        every = (1 << len(self._tests)) - 1
+
+        def holding(due: int = -1) -> int:
+            """Looks only at the groups that have one of the conditions."""
+            now, due = 0, due & every
+            while due:
+                number = ((due & -due).bit_length() - 1) // GROUP
+                now |= groups[number](due >> number * GROUP & (1 << GROUP) - 1) << number * GROUP
+                due = due >> (number + 1) * GROUP << (number + 1) * GROUP
+            return now
+        return holding
 
     def _function(self, words: str, lines: List[str]) -> Callable[..., Any]:
         """Returns a function of these lines."""
@@ -325,27 +358,30 @@ class Conditions:
             found = "v%d" % len(self._values)
             self._values.append(None)
         else:
-            its = "real /" if sign == "/" and not works.width else sign
+            its = OPERATORS["real /" if sign == "/" and not works.width else sign]
             operands = [one.text for one in node.parts]
-            found = "%s(%s)" % (named(OPERATORS[its]), ", ".join([named(works), *operands]))
-            if sign in OF_NUMBERS:
+            found = "%s(%s)" % (named(its.function), ", ".join([named(works), *operands]))
+            if its.of_numbers:
                 are_numbers = " and ".join("%s.__class__ is not str" % one for one in operands
                                            if not isinstance(self._known.get(one), (int, float)))
-                found = "(%s) if %s else %s" % (OF_NUMBERS[sign].format(*operands),
+                found = "(%s) if %s else %s" % (its.of_numbers.format(*operands),
                                                 are_numbers or "True", found)
-        own = works if sign in IN_CONTEXT else node.kind
+        own = works if OPERATORS.get(sign, LEAF).kind == "context" else node.kind
         return found if own == node.to else "converted(%s, %s, %s)" % (
             found, named(own), named(node.to))
 
     def _value(self, node: Node) -> int:
         """Returns the place of the value of a name in a kind."""
         name, signal, place = node.value, node.value.signal, len(self._values)
-        found = self._places.setdefault((name, node.kind, node.to), place)
+        clock = self._clock if signal.type == "event" else 0
+        found = self._places.setdefault((name, node.kind, node.to, clock), place)
         if found == place:
             read = functools.lru_cache(maxsize=1 << 10)(
                 functools.partial(name.value, node.kind, node.to))
             self.over.setdefault(signal.code.encode(), (0, []))[1].append((place, read))
             # Before the first edge, as IEEE Std 1800 has it; compiled() goes on with no value.
+            if signal.type == "event":
+                self._events[place] = signal.code.encode(), clock
             self._values.append(read(b"" if signal.type == "event" else
                                      b"r0" if signal.is_real else b"x"))
         return found

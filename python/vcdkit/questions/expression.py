@@ -4,24 +4,30 @@ import re
 from typing import Any, List, NamedTuple, Sequence, Tuple
 
 from ..errors import UsageError
-from ..model.operators import BITWISE, REDUCTIONS, REAL, Kind, kind_of, value_of_digits
+from ..model.operators import OPERATORS, REAL, Kind, kind_of, value_of_digits
 from ..model.times import AMOUNT, UNITS
 
 MAX_DEPTH = 50  # parentheses inside each other
 MAX_WIDTH = 1 << 20  # bits of a literal, and of what is repeated
 MAX_PAST = 1 << 20  # edges
+LEVELS = {sign: one.level for sign, one in OPERATORS.items() if one.level}
+LEVELS["is"] = LEVELS["=="]
+UNARY = [sign[6:] for sign in OPERATORS if sign.startswith("unary ")]
+SIGNS = sorted({*LEVELS, *UNARY, *"?:,(){}", "->"} - {"is"}, key=len, reverse=True)
 TOKEN = re.compile(
     r'"([^"]*)"|((?:\d[\d_]*\s*)?\'\s*[sS]?[bodhBODH]\s*[\da-fA-FxXzZ?_]+'
     r"|\d[\d_]*(?:\.\d+)?[eE][-+]?\d+(?![\w.])|\d[\w.]*)"
-    r"|(->|<<<|>>>|[!=]==|\*\*|<<|>>|[<>!=]=|&&|\|\||~[&|^]|\^~|[-+*/%&|^~!<>?:,(){}])"
+    r"|(%s)" % "|".join(map(re.escape, SIGNS)) +
     r'|((?:[^\s"&|!=<>()+\-*/%^~?:,{}\'\[\]]|\[[^\s\]]*\])+)')
 SPAN = re.compile(r"%s\Z" % AMOUNT)
 BASED = re.compile(r"([\d_]*)\s*'\s*([sS]?)([bodhBODH])\s*(.+)")
-LEVELS = {sign: level for level, signs in enumerate((
-    "||", "&&", "|", "^ ~^ ^~", "&", "== != === !== is", "< <= > >=", "<< >> <<< >>>", "+ -",
-    "* / %", "**")) for sign in signs.split()}
-UNARY = ("+", "-", "!", *(sign[6:] for sign in (*BITWISE, *REDUCTIONS) if sign[:6] == "unary "))
 FUNCTIONS = ("signed", "unsigned", "past", "rose", "fell", "stable", "changed")
+# What to write instead of words and signs of other languages.
+EDGE = "for an edge of a signal, use rose(..) or fell(..); for a clock, --rise or --fall"
+LATER = "for a later edge, use req -> ack within N"
+INSTEAD = {**{word: "use %s instead of %s" % (sign, word) for word, sign in (
+    ("and", "&&"), ("or", "||"), ("not", "!"), ("xor", "^"))},
+    "posedge": EDGE, "negedge": EDGE, "##": LATER}
 
 
 class Span(NamedTuple):
@@ -72,10 +78,22 @@ def number_of(text: str) -> Node:
             return Node("number", (), bits, kind_of(len(bits)), bits[0] if bits[0] in "xz" else "0")
         value = int(text, 0 if plain.group(2) else 10) if plain else float(text)
     except ValueError:
-        raise bad("%s is no number: numbers are as 0xff, 0b1x0, 10, 1.5 and 4'b1x0" % text
+        raise bad("%s is not a number, such as 0xff, 0b1x0, 10, 1.5 and 4'b1x0" % text
                   ) from None
     return Node("number", (), value, kind_of(max(32, value.bit_length() + 1), True)
                 if isinstance(value, int) else REAL)
+
+
+def _instead(before: Sequence[str], token: str) -> str:
+    """Returns what to write instead of a token that does not fit after others."""
+    if "is" in (before[-1], before[-2] if before[-1] == "not" else ""):
+        sign = "==" if before[-1] == "is" else "!="
+        return ": `is` and `is not` take only x or z; use " + sign
+    if token == "(":
+        return ": the functions are " + ", ".join(FUNCTIONS)
+    its = [INSTEAD[word] for word in (token.lower(), before[-1].lower(), token[:2])
+           if word in INSTEAD]
+    return ": " + its[0] if its else ""
 
 
 def _bits(digits: str, base: str) -> str:
@@ -96,15 +114,17 @@ class ConditionText:
 
     def __init__(self, text: str):
         if not isinstance(text, str):
-            raise bad("%r is no text" % (text,))
+            raise bad("%r is not a text" % (text,))
         self.names: List[Node] = []
+        self.quoted: List[str] = []  # those in double quotes
         self._tokens: List[Tuple[Any, ...]] = []  # quoted, number, sign and name: one is there
         self._at, self._depth, end = 0, 0, 0
         for token in [*TOKEN.finditer(text), None]:
             rest = text[end:token.start() if token else None].strip()  # nothing but blanks
             if rest:
-                raise bad({"=": "write == for =", '"': 'a " has no second one'}.get(
-                    rest[0], "it cannot be read at " + rest))
+                raise bad({"=": "use == instead of =", '"': 'a " has no second one'}.get(
+                    rest[0], "it cannot be read at " + rest)
+                          if text[:end + len(rest)][-2:] != "|=" else LATER)
             if token:
                 self._tokens.append((token.group(), *token.groups()))
                 end = token.end()
@@ -121,9 +141,10 @@ class ConditionText:
             if not token and self._depth and ")" in wanted:
                 raise bad("a ) is missing")
             if token in ("->", "within") or wanted == ("within",):
-                raise bad("-> and within need each other, as in req -> ack within 5")
-            before = self._tokens[self._at - 1][0] if self._at else ""
-            raise bad("it cannot be read at %s" % ", after ".join(filter(None, [token, before]))
+                raise bad("-> and within go together, as in req -> ack within 5")
+            before = [one[0] for one in self._tokens[:self._at]]
+            raise bad("it cannot be read at %s%s" % (
+                ", after ".join([token, *before[-1:]]), _instead(["", "", *before], token))
                       if token else "it ends too early")
         self._at += 1
         return token
@@ -149,7 +170,7 @@ class ConditionText:
         text, _, number, *_ = self._tokens[self._at - 1]
         span = SPAN.match(text)
         if not number or not span or span.group(3) or span.group(2) and not span.group(4):
-            raise bad("within takes a number of edges or a time, as 5 or 20ns")
+            raise bad("within takes a number of edges or a time, such as 5 or 20ns")
         if self._next in (*UNITS, "tick"):
             raise bad("write %s%s" % (text, self._next))
         unit = span.group(4) or ""
@@ -211,6 +232,7 @@ class ConditionText:
         if quoted is None and self._next == "(" and token.lstrip("$") in FUNCTIONS:
             return self._call(token.lstrip("$"))
         self.names.append(Node("name", (), token if quoted is None else quoted))
+        self.quoted += [quoted] * (quoted is not None)
         return self.names[-1]
 
     def _call(self, name: str) -> Node:

@@ -2,9 +2,9 @@
 import itertools
 from typing import Collection, Dict, Iterable, Iterator, List, Optional, Sequence, Set, Tuple
 
-from ..errors import UsageError
+from ..errors import DumpFault, UsageError
 from ..model.names import utf8_names
-from ..model.signals import Signal
+from ..model.signals import Signal, words_of
 from ..model.values import Cell, Row, same, value_in, value_of
 from ..reading import body
 from ..reading.source import Source
@@ -20,18 +20,31 @@ def states(places: Dict[int, Signal]) -> Dict[int, Signal]:
     return {place: one for place, one in places.items() if one.type != "event"}
 
 
-def sampled(source: Source, times: Iterable[int], names: List[str]) -> Dict[int, Dict[int, Cell]]:
+def sampled(source: Source, times: Iterable[int], names: List[str],
+            faults: Optional[List[DumpFault]] = None) -> Dict[int, Dict[int, Cell]]:
     """Returns of each time, in ticks, the values of the signals that full names select, and maybe
-    of others, by their places."""
+    of others, by their places. With a list for it, a fault is put there, and the times before it
+    are returned."""
     words = utf8_names(names)
     places = sorted(states(source.places(words)))
     every = sorted(set(times))
     found: Dict[int, Dict[int, Cell]] = {}
     for begin in range(0, len(every), TIMES_OF_A_CALL):
         some = every[begin:begin + TIMES_OF_A_CALL]
-        values = map(value_of, source.answer_words(
-            "sample", ["--at", ",".join(map(str, some)), "--", *words])[2::3])
-        found.update((time, {place: next(values) for place in places}) for time in some)
+        text, asked = [], source.made("sample", ["--at", ",".join(map(str, some)), "--", *words])
+        try:
+            text += asked.blocks()
+        except DumpFault as fault:
+            if faults is None:
+                raise
+            faults.append(fault)
+        values = list(map(value_of, words_of(b"".join(text).decode("utf-8", "surrogateescape")
+                                             )[2::3]))
+        size = len(places)
+        found.update((time, dict(zip(places, values[at * size:(at + 1) * size])))
+                     for at, time in enumerate(some) if (at + 1) * size <= len(values))
+        if faults:
+            break
     return found
 
 
@@ -42,9 +55,13 @@ def at_times(source: Source, columns: Collection[int], times: List[int], names: 
     if only:
         holding = _holding(source, only, times)
         times = [time for time in times if time in holding]
-    found = sampled(source, times, names) if columns else {}
+    faults: List[DumpFault] = []
+    found = sampled(source, times, names, faults) if columns else {}
     for time in times:
-        yield Row(time, [found[time][place] for place in columns])
+        if time in found or not faults:
+            yield Row(time, [found[time][place] for place in columns])
+    if faults:
+        raise faults[0]
 
 
 def _holding(source: Source, condition: Conditions, times: Iterable[int]) -> Set[int]:
@@ -79,7 +96,7 @@ def _clock(source: Source, name: str) -> Signal:
                else "it is a real number" if clock.is_real
                else "it has %d bits" % clock.size if clock.size != 1 else "")
     if is_what:
-        raise UsageError("%s: is no clock of one bit: %s" % (name, is_what))
+        raise UsageError("%s: is not a one-bit clock: %s" % (name, is_what))
     return clock
 
 

@@ -1,8 +1,8 @@
 """The times at which a condition holds, and how long answers take."""
 import collections
 import functools
-from typing import (Callable, Collection, Deque, Iterator, List, NamedTuple, Optional, Sequence,
-                    Tuple)
+from typing import (Any, Callable, Collection, Deque, Dict, Iterator, List, NamedTuple, Optional,
+                    Sequence, Tuple)
 
 from ..errors import DumpFault, UnknownName, UsageError
 from ..model.signals import Signal
@@ -18,26 +18,44 @@ Numbers = Tuple[int, ...]  # of conditions
 # When a request begins, when its answer comes, `None` if none comes in time, and how long that is:
 # in edges if the condition counts them, else in ticks.
 Outcome = Tuple[int, Optional[int], int]
-# Of each condition the number of an edge at which it holds, and the values there; `None` for none.
-Transaction = List[Optional[Tuple[int, Row]]]
+# A time at which a condition holds: how many edges its clock and that of the next condition had up
+# to there, and the values.
+Transfer = Tuple[int, int, Row]
+Transaction = List[Optional[Transfer]]  # of each condition one; `None` for none
 SEVERAL = "bad condition: -> is of several times, and a row has one"
 
 
-class _Request(NamedTuple):
-    """A request that waits: when it began, and until when it waits: a time, or a count of edges."""
+class Asked(NamedTuple):
+    """A condition that is asked, with the name that messages have. Its clock is a path, behind a !
+    if it is looked at where that falls; that of all if it is empty. In order, the n-th answer
+    belongs to the n-th request, and the times without an answer, or without a request, are
+    listed."""
 
-    begin: int
-    until: int
+    name: str
+    condition: str
+    clock: str = ""
+    in_order: bool = False
+
+
+def named(text: str) -> Tuple[str, str]:
+    """Reads NAME, or NAME@CLOCK, of a rule or a channel."""
+    name, sign, clock = text.partition("@")
+    if sign and not clock.strip("!"):
+        raise UsageError("%s: write a clock behind @, as %s@tb.clk" % (text, name))
+    return name, clock
 
 
 class _Question:
     """A condition that is asked, and its requests that wait for an answer."""
 
-    def __init__(self, condition: Condition, ticks: int):
-        self.condition, self.ticks = condition, ticks
+    def __init__(self, asked: Asked, condition: Condition, ticks: int, clock: int):
+        self.asked, self.condition, self.ticks, self.clock = asked, condition, ticks, clock
         self.has_time = bool(condition.span and condition.span.unit)  # and counts no edges
         self.overlaps = 0  # requests that began before the answer of the one before
-        self.waiting: Deque[_Request] = collections.deque()
+        self.alone: Tuple[List[int], List[int]] = [], []  # requests, and answers, without the other
+        self.is_refusal = condition.is_refusal or asked.in_order
+        # When requests began that wait, and until when they wait: a time, or a count of edges.
+        self.waiting: Deque[Tuple[int, int]] = collections.deque()
         self._looks = 0
 
     def look(self, time: int, starts: int, holding: int) -> List[Outcome]:
@@ -49,8 +67,15 @@ class _Question:
         found = self.late(now)
         if starts & bits.bit:
             self.overlaps += bool(waiting)
-            waiting.append(_Request(time, now + self.ticks))
-        if waiting and holding & bits.answer:
+            waiting.append((time, now + self.ticks))
+        if holding & bits.answer and self.asked.in_order:
+            if waiting:
+                begin, until = waiting.popleft()
+                found.append((begin, time, now - until + self.ticks))
+            else:
+                self.alone[1].append(time)
+                found.append((time, None, 0))
+        elif waiting and holding & bits.answer:
             found += [(begin, time, now - until + self.ticks) for begin, until in waiting]
             waiting.clear()
         if not self.has_time:  # each edge is looked at once
@@ -63,14 +88,22 @@ class _Question:
     def late(self, now: int) -> List[Outcome]:
         """Returns the requests that waited until a time before this one."""
         found: List[Outcome] = []
-        while self.waiting and self.waiting[0].until < now:
-            found.append((self.waiting.popleft().begin, None, 0))
+        while self.waiting and self.waiting[0][1] < now:
+            found.append((self.waiting.popleft()[0], None, 0))
+            self.alone[0].extend([found[-1][0]] * self.asked.in_order)
         return found
 
-    @property
-    def has_latency(self) -> bool:
-        """Whether it is as `req -> ack within N`."""
-        return bool(self.condition.answer) and not self.condition.is_refusal
+    def warning(self) -> str:
+        """Returns what may be wrong although each request got its answer; nothing if that is
+        nothing."""
+        front = self.asked.name and self.asked.name + ": "
+        if self.asked.in_order:
+            return "%srequests that the end of the dump leaves without an answer: %d" % (
+                front, len(self.waiting)) if self.waiting else ""
+        return "%srequests that begin before the previous one is answered: %d. They get the same " \
+            "answer; with %s, each gets its own" % (
+                front, self.overlaps, "`each req -> ack within N`" if front else
+                "vcdkit-table --channel") if self.overlaps else ""
 
     def late_at_end(self, is_over: Callable[[int], bool]) -> List[Outcome]:
         """Returns the requests that waited until a time that is over where the dump ends. What else
@@ -78,37 +111,62 @@ class _Question:
         low, high = 0, len(self.waiting)
         while low < high:
             middle = (low + high) // 2
-            is_late = is_over(self.waiting[middle].until)
+            is_late = is_over(self.waiting[middle][1])
             low, high = (middle + 1, high) if is_late else (low, middle)
-        return self.late(self.waiting[low - 1].until + 1) if low else []
+        return self.late(self.waiting[low - 1][1] + 1) if low else []
 
 
 class Questions:
     """Conditions that are asked in one pass over a dump."""
 
-    def __init__(self, dump: Source, rules: Sequence[Tuple[str, str]], rise: Optional[str],
+    def __init__(self, dump: Source, rules: Sequence[Sequence[Any]], rise: Optional[str],
                  fall: Optional[str], every: bool, columns: Sequence[List[Signal]] = ()):
-        """Rules are names, which messages have, and conditions. These may have columns, whose
-        values are asked for."""
-        self.dump, self.clocks = dump, [name for name in (rise, fall) if name is not None]
-        if every and not self.clocks:
-            raise UsageError("every edge: name a clock by rise or fall")
-        self.every, self.edge = every, 0  # the number of a look
+        """Rules are as Asked. They may have columns, whose values are asked for."""
+        self.dump, self.clocks = dump, []  # type: Source, List[str]
+        its = [Asked(*rule) for rule in rules]
+        # The bits of the clocks: the first is that of the rules without an own one.
+        bits = {name: 1 << at for at, name in enumerate(dict.fromkeys(
+            ["", *(one.clock for one in its)]))}
+        if every and (rise, fall) == (None, None) and not all(one.clock for one in its):
+            raise UsageError("to list every edge, name a clock with rise or fall")
         self.columns, self.cells = columns, [Cells(its) for its in columns]
-        self.conditions = Conditions(dump, bool(self.clocks))
+        self.conditions, self.again = Conditions(dump), -1 if every else 0
         self.each: List[_Question] = []
-        for name, text in rules:
+        self.edges: Dict[body.Edge, int] = {}
+        has_clock = (rise, fall) != (None, None)
+        self._of_clock = dict.fromkeys(bits.values(), 0)  # the conditions at its edges
+        self.counts = dict.fromkeys(bits.values(), 0)  # how many edges each clock had
+        for asked in its:
             try:
-                one = self.conditions.add(text)
+                clock = bits[asked.clock] if asked.clock or has_clock else 0
+                if asked.clock:
+                    name, is_fall = asked.clock.lstrip("!"), asked.clock[:1] == "!"
+                    self._add_edges(clock, *((None, name) if is_fall else (name, None)))
+                elif not has_clock and (len(bits) > 1 or asked.in_order):
+                    raise UsageError("it has no clock: name one with rise or fall, or write "
+                                     "%s@CLOCK" % asked.name)
+                one = self.conditions.add(asked.condition, clock)
                 if columns and one.answer:
                     raise UsageError(SEVERAL)
-                ticks = _ticks_of(one.span, dump, bool(self.clocks))
+                if asked.in_order and (not one.answer or one.is_refusal):
+                    raise UsageError("bad condition: each is as in each req -> ack within 5")
+                ticks = _ticks_of(one.span, dump, bool(clock))
             except (UsageError, UnknownName) as error:
-                if name:
-                    error.args = ("%s: %s" % (name, error),)
+                if asked.name:
+                    error.args = ("%s: %s" % (asked.name, error),)
                 raise
-            self.each.append(_Question(one, ticks))
-        self.edges = edges_of(dump, rise, fall)
+            self.each.append(_Question(asked, one, ticks, clock))
+            self._of_clock[clock or 1] |= one.bit | one.answer
+            self.again |= one.bit if asked.in_order else 0
+        self._add_edges(1, rise, fall)
+        self._numbers_of = {one.condition.bit.bit_length(): at for at, one in enumerate(self.each)}
+        self._answering = sum(one.condition.bit for one in self.each if one.condition.answer)
+
+    def _add_edges(self, clock: int, rise: Optional[str], fall: Optional[str]) -> None:
+        """Adds the edges of a clock."""
+        self.clocks += [name for name in (rise, fall) if name is not None]
+        for edge in edges_of(self.dump, rise, fall):
+            self.edges[edge] = self.edges.get(edge, 0) | clock
 
     def outcomes(self) -> Iterator[Tuple[Numbers, Outcome]]:
         """Returns what becomes of each condition, with its number, as soon as that is known. Those
@@ -130,7 +188,7 @@ class Questions:
     def times(self) -> Iterator[Tuple[int, Numbers]]:
         """Returns the times at which conditions hold, with their numbers: a request has its answer
         in time, or has none, as is asked for."""
-        refusals = [one.condition.is_refusal for one in self.each]
+        refusals = [one.is_refusal for one in self.each]
         for numbers, (begin, answer, _) in self.outcomes():
             if (answer is None) == refusals[numbers[0]]:
                 yield begin, numbers
@@ -138,12 +196,15 @@ class Questions:
     def transactions(self) -> Iterator[Transaction]:
         """Returns the n-th edges of all conditions, for each n, as soon as they are there; at the
         end or at a fault, those that are left."""
-        waiting: List[Deque[Tuple[int, Row]]] = [collections.deque() for _ in self.each]
+        waiting: List[Deque[Transfer]] = [collections.deque() for _ in self.each]
+        clocks = [one.clock for one in self.each]
+        pairs = list(zip(clocks, [*clocks[1:], clocks[-1]]))
         fault: Optional[DumpFault] = None
         try:
             for time, numbers in self.times():
                 for at in numbers:
-                    waiting[at].append((self.edge, Row(time, self.cells[at].row[:])))
+                    waiting[at].append((*map(self.counts.__getitem__, pairs[at]),
+                                        Row(time, self.cells[at].row[:])))
                     if len(waiting[at]) > MAX_WAITING:
                         raise UsageError("more than %d transactions are open" % MAX_WAITING)
                 if all(waiting):
@@ -158,71 +219,78 @@ class Questions:
     def _known(self) -> Iterator[Tuple[Numbers, Outcome]]:
         """Returns the outcomes that are known before the end of the dump."""
         conditions, holding, held = self.conditions, self.conditions.compiled(), 0
-        again = -1 if self.every else 0
-        with_answer = [(number, one) for number, one in enumerate(self.each)
-                       if one.condition.answer]
-        plain = ~sum(one.condition.bit | one.condition.answer for _, one in with_answer)
+        plain = sum(one.condition.bit for one in self.each if not one.condition.answer)
         numbers_of = functools.lru_cache(maxsize=1 << 12)(self._numbers)
-        for time, due in self._looks():
+        for time, due, clocks in self._looks():
             now = holding(due)
-            starts = now & (~held | again)
+            starts = now & (~held | self.again)
             held = held & ~due | now
             if starts & plain:
                 yield numbers_of(starts & plain), (time, time, 0)
-            for number, one in with_answer:
-                for outcome in one.look(time, starts, now) if due & one.condition.bit else ():
+            for number in numbers_of(due & self._answering):
+                for outcome in self.each[number].look(time, starts, now):
                     yield (number,), outcome
-            over = conditions.with_more and conditions.end()
+            over = conditions.with_more and conditions.end(clocks)
             if over and not self.edges:  # the events are over
                 held = held & ~over | holding(over)
 
     def _numbers(self, bits: int) -> Numbers:
         """Returns the numbers of some conditions."""
-        return tuple(number for number, one in enumerate(self.each) if bits & one.condition.bit)
+        found = []
+        while bits:
+            found.append(self._numbers_of[(bits & -bits).bit_length()])
+            bits &= bits - 1
+        return tuple(found)
 
-    def _looks(self) -> Iterator[Tuple[int, int]]:
-        """Returns each time at which conditions are looked at, and those of which a value is
-        another one there, or that may say something at each edge; they have the values there."""
+    def _looks(self) -> Iterator[Tuple[int, int, int]]:
+        """Returns each time at which conditions are looked at, those of which a value is another
+        one there, or that may say something at each edge, and the clocks of which they are; they
+        have the values there."""
         conditions, begin = self.conditions, self.dump.begin()
         columns = [one for its in self.columns for one in its]
         names = [*dict.fromkeys([*conditions.paths, *self.clocks, *(one.path for one in columns)])]
         codes = {*conditions.over, *(one.code.encode() for one in columns)}
-        always = (-1 if self.every else conditions.with_more) if self.edges else 0
-        times = (body.at_edges(self.dump, names, codes, self.edges) if self.edges
-                 else _with_begin(self.dump.part(names), codes, begin))
-        for self.edge, (time, changes) in enumerate(times):
+        always = self.again | conditions.with_more if self.edges else 0
+        due = -1 if self.edges or begin else 0
+        for time, changes, clocks in (
+                body.at_clocks(self.dump, names, codes, self.edges) if self.edges
+                else _with_begin(self.dump.part(names), codes, begin)):
             for cells in self.cells:
                 cells.take(changes)
-            due = conditions.take(changes) | always
-            if not self.edge and (self.edges or 0 < begin == time):
-                due = -1
-            yield time, due
+            due |= conditions.take(changes) | always
+            some = 0 if clocks else -1
+            for bit, its in self._of_clock.items():
+                if bit & clocks:
+                    some |= its
+                    self.counts[bit] += 1
+            yield time, due & some, clocks
+            due &= ~some
 
 
 def _with_begin(part: Source, codes: Collection[bytes], begin: int
-                ) -> Iterator[Tuple[int, body.Changes]]:
+                ) -> Iterator[Tuple[int, body.Changes, int]]:
     """Returns each time at which one of some codes changes, and these changes; also the begin of a
-    cut, if that is not 0."""
+    cut, if that is not 0. It has no clock."""
     is_due = begin > 0
     fault: Optional[DumpFault] = None
     try:
         for time, before, changes in body.steps(part, codes):
             if is_due and time > begin:
-                yield begin, []
+                yield begin, [], 0
             is_due = False
-            yield time, before + changes if before else changes
+            yield time, before + changes if before else changes, 0
     except DumpFault as error:
         fault = error
     if is_due and (fault is None or part.is_finished(begin, fault)):
-        yield begin, []
+        yield begin, [], 0
     if fault:
         raise fault
 
 
 def state(dump: Source, text: str, has_clock: bool) -> Conditions:
     """Returns a condition that holds at a time or does not."""
-    found = Conditions(dump, has_clock)
-    if found.add(text).answer:
+    found = Conditions(dump)
+    if found.add(text, int(has_clock)).answer:
         raise UsageError(SEVERAL)
     return found
 
@@ -232,6 +300,6 @@ def _ticks_of(span: Optional[Span], dump: Source, has_clock: bool) -> int:
     if span is None:
         return 0
     if not span.unit and not has_clock:
-        raise UsageError("within %s counts edges: name a clock by rise or fall, or give a time, as "
-                         "%sns" % (span.text, span.text))
+        raise UsageError("within %s counts edges: name a clock with rise or fall, or give a time, "
+                         "such as %sns" % (span.text, span.text))
     return dump.span(span.number + span.unit.replace("tick", ""))

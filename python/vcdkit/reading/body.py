@@ -155,21 +155,29 @@ def at_once(part: Source, code: bytes) -> Iterator[Tuple[int, bytes]]:
 
 def at_edges(source: Source, names: List[str], codes: Collection[bytes], edges: Collection[Edge]
              ) -> Iterator[Tuple[int, Changes]]:
+    """Returns the times and the changes of at_clocks, of edges that are all the same."""
+    its = at_clocks(source, names, codes, dict.fromkeys(edges, 1))
+    return ((time, changes) for time, changes, _ in its)
+
+
+def at_clocks(source: Source, names: List[str], codes: Collection[bytes], edges: Dict[Edge, int]
+              ) -> Iterator[Tuple[int, Changes, int]]:
     """Returns each time that has one of some edges, with the changes of some codes, and of the
     clocks, since the last such time, up to just before this one: those at the last one are among
-    them, and so are values from before this one. The names select all these signals."""
+    them, and so are values from before this one; then the bits of the edges there. The names select
+    all these signals."""
     last = {code: b"" for code, _, _ in edges}
     found: Changes = []
     its = {*codes, *last}
     for time, before, changes in steps(source.part(names), its, _led(source, its)):
-        is_edge = False
+        bits = 0
         for code, digit in before + changes if before else changes:
             if code in last:
-                is_edge = is_edge or (code, last[code], digit) in edges
+                bits |= edges.get((code, last[code], digit), 0)
                 last[code] = digit
         found += before
-        if is_edge:
-            yield time, found
+        if bits:
+            yield time, found, bits
             found = []
         elif len(found) > MAX_SEEN:
             found = list(dict(found).items())

@@ -2,6 +2,7 @@
 
 On the way, the merge gets another header: both variables of a pair have its number as their name
 there, and all others are in a scope of their own."""
+import functools
 from typing import Dict, Iterable, Iterator, List, Optional, Sequence, Tuple
 
 from ..errors import RunFailed
@@ -33,8 +34,8 @@ def differing(dumps: Sequence[Source], pairs: Sequence[Sequence[Key]], words: Se
               ) -> Iterator[Line]:
     """Returns the lines of vcdkit-compare with these options, by time. Fails unless all pairs were
     compared."""
-    merged, count = merge(*dumps), 0
-    for line in lines(words, Headed(_header(merged, pairs), merged.text)):
+    count = 0
+    for line in lines(words, Headed(functools.partial(_header, pairs), merge(*dumps).text)):
         what, *rest = line.split()
         if what == b"differs":
             one, other = (None if value == b"-" else value for value in rest[2:])
@@ -45,15 +46,17 @@ def differing(dumps: Sequence[Source], pairs: Sequence[Sequence[Key]], words: Se
         raise RunFailed("vcdkit-compare has compared %d of %d pairs" % (count, len(pairs)))
 
 
-def _header(merged: Source, pairs: Sequence[Sequence[Key]]) -> bytes:
-    """Returns the header of a merge in which both variables of a pair have its name."""
+def _header(pairs: Sequence[Sequence[Key]], text: bytes) -> bytes:
+    """Returns the header of a merge, as it writes it, in which both variables of a pair have its
+    name."""
     names = {("%s.%s" % (scope, path), nth): (scope, number) for number, pair in enumerate(pairs)
              for scope, (path, nth) in zip(("in1", "in2"), pair)}
     rows: Dict[str, List[str]] = {"in1": [], "in2": [], "other": []}
-    for key, one in zip(keys_in(merged.signals.columns()[0]), merged.signals):
+    signals = list(header.variables(text))
+    for key, one in zip(keys_in(one.path for one in signals), signals):
         scope, number = names.get(key, ("other", 0))
         rows[scope].append("$var %s %d %s p%d $end\n" % (
             "real" if one.is_real else one.type, one.size, one.code, number))
-    text = "".join("$scope module %s $end\n%s$upscope $end\n" % (scope, "".join(its))
+    made = "".join("$scope module %s $end\n%s$upscope $end\n" % (scope, "".join(its))
                    for scope, its in rows.items())
-    return text.encode("utf-8", "surrogateescape") + header.BODY
+    return made.encode("utf-8", "surrogateescape") + header.BODY

@@ -27,7 +27,7 @@ def check_outputs(outputs: Iterable[Optional[str]], inputs: Iterable[Optional[st
         its = _status(path)
         if its and stat.S_ISREG(its.st_mode) and any(
                 os.path.samestat(its, one) for one in of_inputs):
-            raise UsageError("%s: it is read, so nothing is written there" % path)
+            raise UsageError("%s: is an input, so it is not overwritten" % path)
 
 
 def _status(path: Optional[str]) -> Optional[os.stat_result]:

@@ -25,7 +25,7 @@ def blocks_of(path: str) -> Iterator[bytes]:
                     progress.running.remove(part)
                 return
         if path == "-":
-            raise UsageError("the input is packed: unpack it first, as by gzip -dc")
+            raise UsageError("the input is compressed: unpack it first, for example with gzip -dc")
         with Source(File(path)).open() as text:
             yield from body.blocks(text)
     except OSError as error:

@@ -31,6 +31,8 @@ FORMATS = (*PACKED, FST,
                   remedy="lxt2vcd FILE | vcdkit check    (lxt2vcd: GTKWave)"),
            Format((b"VZ",), cause="a binary file: VZT",
                   remedy="vzt2vcd FILE | vcdkit check    (vzt2vcd: GTKWave)"),
+           Format((b"GHDLwave",), cause="a binary file: GHW, which vcdkit cannot read",
+                  remedy="run ghdl again, with --vcd=OUT.vcd --vcd-4states"),
            Format((b"PK\x03\x04",), cause="a zip archive", remedy="unzip -p FILE | vcdkit check"))
 FRONT = 16  # bytes that tell the form of a file
 ENDINGS = ("vcd", *(one.ending for one in FORMATS if one.ending))

@@ -2,7 +2,7 @@
 headers here too, so that a command may be on several lines, and several commands on one."""
 import itertools
 import re
-from typing import Collection, Dict, Iterator, List, NamedTuple, Optional, Tuple
+from typing import Collection, Dict, Iterable, Iterator, List, NamedTuple, Optional, Tuple
 
 from ..model.names import RANGE, field_of
 from ..model.signals import Declaration, Header, Scope, Signal
@@ -47,6 +47,16 @@ def parted(blocks: Iterator[bytes]) -> Tuple[bytes, Iterator[bytes]]:
     return bytes(text), blocks
 
 
+def front(file: Iterable[bytes]) -> bytes:
+    """Reads the header that vcdkit writes; nothing if the file ends before that."""
+    lines = []
+    for line in file:
+        lines.append(line)
+        if line == BODY:
+            return b"".join(lines)
+    return b""
+
+
 def facts(text: bytes) -> Header:
     """Returns what a header says before its first scope or variable."""
     texts: Dict[bytes, str] = {}
@@ -85,6 +95,19 @@ def declarations(text: bytes) -> Tuple[Scope, List[Declaration]]:
                 declared = field_of(words[3])
             found.append(Declaration(signal, opened[-1], declared))
     return top, found
+
+
+def variables(text: bytes) -> Iterator[Signal]:
+    """Returns the variables of a header that vcdkit writes, with a command on each line."""
+    fronts = [""]
+    for line in text.decode("utf-8", "surrogateescape").split("\n"):
+        if line.startswith("$var "):
+            _, kind, size, code, name, *_ = line.split(" ")
+            yield Signal(fronts[-1] + name, kind, int(size), code)
+        elif line.startswith("$scope "):
+            fronts.append(fronts[-1] + line.split(" ")[2] + ".")
+        elif line.startswith("$upscope "):
+            fronts.pop()
 
 
 def with_variables(text: bytes, places: Collection[int]) -> Iterator[bytes]:

@@ -126,7 +126,8 @@ def _read(text: Text) -> Tuple[Data, Optional[VcdkitError]]:
         return text.data, None
     if isinstance(text, Headed):
         data, error = _read(text.of)
-        return text.front + bytes(data).partition(header.BODY)[2], error
+        front, end, rest = bytes(data).partition(header.BODY)
+        return (text.front(front + end) if end else program.FAULT) + rest, error
     return _made(text) if isinstance(text, Made) else (_bytes_of(text), None)
 
 

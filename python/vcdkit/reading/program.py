@@ -37,7 +37,7 @@ def refusal() -> str:
     """Returns what to do where there is no program."""
     named = os.environ.get("VCDKIT")
     return ("there is no program %s, which VCDKIT names" % named if named else
-            "there is no program vcdkit on the PATH: install it, or name it by VCDKIT=FILE")
+            "there is no program vcdkit on the PATH: install it, or name it with VCDKIT=FILE")
 
 
 def not_started(program: str, error: OSError) -> RunFailed:
@@ -112,8 +112,11 @@ class _Part:
     def error(self) -> VcdkitError:
         """Returns the exception of its status and message."""
         if self.of is None:
-            return RunFailed("%s: %s" % (self.names["(stdin)"], self.said or "%s: status %d" % (
+            said = "; ".join(filter(None, map(str.strip, self.said.split("\n"))))
+            failure = RunFailed("%s: %s" % (self.names["(stdin)"], said or "%s: status %d" % (
                 self.words[0], self.status)))
+            failure.is_of_unpacker = True
+            return failure
         error = error_of(self.said or "%s: status %d" % (" ".join(self.words[:2]), self.status),
                          self.status, self.names)
         if isinstance(error, UnknownName):
@@ -161,7 +164,7 @@ class _Pipe:
         if not program:
             raise RunFailed(refusal())
         if os.environ.get("VCDKIT") and not is_vcdkit(program):
-            raise RunFailed("%s, which VCDKIT names, is no vcdkit" % program)
+            raise RunFailed("%s, which VCDKIT names, is not vcdkit" % program)
         if text.command == "compare":
             words, file = [comparer(), *text.words], self.feed(text.of[0], True)
             out = self.start(words, file, {"(stdin)": text.name}, None)
@@ -196,16 +199,17 @@ class _Pipe:
         file = self.feed(text.of, is_merged)
         reader, writer = os.pipe()
         self.threads.append(threading.Thread(
-            target=self._pass_on, args=[text.front, file, os.fdopen(writer, "wb")], daemon=True))
+            target=self._pass_on, args=[text, file, os.fdopen(writer, "wb")], daemon=True))
         self.threads[-1].start()
         return cast(BinaryIO, os.fdopen(reader, "rb"))
 
-    def _pass_on(self, front: bytes, file: BinaryIO, to: BinaryIO) -> None:
-        """Writes a header, and what comes behind the header of a file; behind that a fault, unless
-        all of it is there."""
+    def _pass_on(self, text: Headed, file: BinaryIO, to: BinaryIO) -> None:
+        """Writes the other header, and what comes behind that of a file; behind that a fault,
+        unless all of it is there."""
         with contextlib.suppress(BrokenPipeError), file, to:
             try:
-                to.write(front if header.BODY in file else FAULT)
+                front = header.front(file)
+                to.write(text.front(front) if front else FAULT)
                 shutil.copyfileobj(file, to, 1 << 16)
             except BrokenPipeError:
                 raise

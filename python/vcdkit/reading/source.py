@@ -104,14 +104,10 @@ class Source:
         """Returns what a command writes of it."""
         return self.made(command, words).read().decode("utf-8", "surrogateescape")
 
-    def answer_words(self, command: str, words: Sequence[str] = ()) -> List[str]:
-        """Returns the words of all rows that a command writes."""
-        return words_of(self.answer(command, words))
-
     def check(self) -> Report:
         """Reads the whole dump, and returns its counts. Raises DumpFault if it has a fault."""
         return Report._make(None if number == "-" else int(number)
-                            for number in self.answer_words("check")[1::2])
+                            for number in words_of(self.answer("check"))[1::2])
 
     # The header.
 
@@ -134,14 +130,10 @@ class Source:
     def header_text(self) -> bytes:
         """Returns the text of the header, as vcdkit writes it, to the end of its last line."""
         if not self._header_text:
-            lines = []
             with self.made("cut", ["--from", "0", "--to", "0"]).open() as out:
-                for line in out:
-                    lines.append(line)
-                    if line == header.BODY:
-                        out.close()  # a fault of the body comes after it
-                        break
-            self._header_text = b"".join(lines)
+                self._header_text = header.front(out)
+                if self._header_text:
+                    out.close()  # a fault of the body comes after it
         return self._header_text
 
     @property

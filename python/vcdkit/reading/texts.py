@@ -5,7 +5,7 @@ import stat
 import sys
 import tempfile
 import threading
-from typing import BinaryIO, List, NamedTuple, Optional, Tuple, Union
+from typing import BinaryIO, Callable, List, NamedTuple, Optional, Tuple, Union
 
 from ..errors import RunFailed
 from .formats import FRONT, FST, format_of
@@ -160,9 +160,10 @@ class Made(NamedTuple):
 
 
 class Headed(NamedTuple):
-    """A text that vcdkit writes, with another header, to the end of its last line."""
+    """A text that vcdkit writes, with another header, which is made of its own one. Both go to the
+    end of their last lines."""
 
-    front: bytes
+    front: Callable[[bytes], bytes]
     of: "Text"
 
     @property
