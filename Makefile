@@ -6,10 +6,12 @@
 # make trial   builds the programs as ./vcdkit-unproved and ./vcdkit-compare-unproved, for trying
 #     code. Nothing of them is proved: four CPU minutes
 # make test    the gate: all proofs, the must-fail edits, the tests, and the programs as two
-#     compilers build them: 40 to 70 minutes
+#     compilers build them; then, with these programs, docs-check, completions-check, extras-check
+#     and hostile-check: 40 to 70 minutes
 # make hostile runs the programs while memory, reads and writes fail, with closed streams, and on
 #     dumps that are truncated, crafted or random, and asks the package and the scripts about every
 #     small dump, and what a second reader knows: some minutes
+# make hostile-check    is the part of it that takes ten CPU minutes, always with the same seeds
 # make docs-check runs the commands on the pages with ./vcdkit, and compares what they print with
 #     the pages. It also looks for links that lead nowhere: seconds
 # make static  links ./vcdkit-static and ./vcdkit-compare-static, which need no shared library:
@@ -32,8 +34,8 @@
 
 sample := samples/counter.vcd
 
-.PHONY: all trial test hostile docs-check clean vcdkit vcdkit-compare toolchain sources static \
-    library dist dist-check install uninstall completions-check extras-check
+.PHONY: all trial test hostile hostile-check docs-check clean vcdkit vcdkit-compare toolchain \
+    sources static library dist dist-check install uninstall completions-check extras-check
 
 # The processor to build for. If it is empty, any x86-64 with SSE4.2 runs the program.
 CPU ?=
@@ -81,20 +83,12 @@ test: toolchain
 	.ci/run
 
 hostile: vcdkit vcdkit-compare
-	devices=$$(mktemp --suffix=.so) && cc -O1 -shared -fPIC -o $$devices hostile/devices.c -ldl && \
-	hostile/hostile.py ./vcdkit $$devices memory large devices cut_off pipes && \
-	hostile/machine.py ./vcdkit $$devices && hostile/streams.py ./vcdkit $$devices && \
-	hostile/random_runs.py ./vcdkit --devices $$devices --runs 50000 && \
-	hostile/crafted.py ./vcdkit && \
-	hostile/compare.py ./vcdkit ./vcdkit-compare $$devices && \
-	VCDKIT=./vcdkit python/tests/test_every_small_dump.py && \
-	python/tests/second_reader/ask.py --seconds 120 && \
-	VCDKIT=./vcdkit python/tests/test_expressions.py --count 100000 && \
-	VCDKIT=./vcdkit python/tests/test_expressions.py --verilator --count 2000 && \
-	{ [ ! -e libvcdkit.so ] || hostile/library.py ./vcdkit ./libvcdkit.so; }; \
-	status=$$?; rm -f $$devices; exit $$status
+	hostile/run.sh all
 
-# It uses the ./vcdkit that is there, and builds nothing.
+# These use the programs that are there, and build nothing.
+hostile-check:
+	hostile/run.sh check
+
 docs-check:
 	tools/check.py
 	test ! -d crates || tools/check.py docs/PROOFS.md

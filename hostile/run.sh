@@ -1,0 +1,38 @@
+#!/usr/bin/env bash
+# run.sh all|check: runs the scripts of this directory, and those of python/tests that ask about
+# many dumps, with ./vcdkit and ./vcdkit-compare. `check` takes some ten CPU minutes: it runs fewer
+# random dumps, and leaves out what takes minutes by itself. All seeds are fixed, but for those of
+# the second reader in `all`. Each script runs, even if one before it fails; then the status is 1.
+set -u
+cd "$(dirname "$0")/.."
+export VCDKIT=./vcdkit
+devices=$(mktemp --suffix=.so)
+trap 'rm -f "$devices"' EXIT
+cc -O1 -shared -fPIC -o "$devices" hostile/devices.c -ldl || exit 1
+status=0
+# run COMMAND..: runs a script, and notes if it fails
+run() { echo "-- $*"; "$@" || { status=1; echo "FAILED: $*"; }; }
+
+run hostile/machine.py ./vcdkit "$devices"
+run hostile/streams.py ./vcdkit "$devices"
+case $1 in
+    check)
+        run hostile/hostile.py ./vcdkit "$devices" memory devices cut_off pipes
+        run hostile/random_runs.py ./vcdkit --devices "$devices" --runs 10000
+        run hostile/crafted.py ./vcdkit limits garbage
+        RUNS=2000 run hostile/compare.py ./vcdkit ./vcdkit-compare "$devices" \
+            rows pipe streams machine random
+        ;;
+    all)
+        run hostile/hostile.py ./vcdkit "$devices" memory large devices cut_off pipes
+        run hostile/random_runs.py ./vcdkit --devices "$devices" --runs 50000
+        run hostile/crafted.py ./vcdkit
+        run hostile/compare.py ./vcdkit ./vcdkit-compare "$devices"
+        run python/tests/test_every_small_dump.py
+        run python/tests/second_reader/ask.py --seconds 120
+        run python/tests/test_expressions.py --count 100000
+        run python/tests/test_expressions.py --verilator --count 2000
+        [ ! -e libvcdkit.so ] || run hostile/library.py ./vcdkit ./libvcdkit.so
+        ;;
+esac
+exit $status
