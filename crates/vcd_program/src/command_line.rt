@@ -7,7 +7,7 @@ use std::alloc::Global;
 use std::hash::BuildHasher;
 use vcd_host::{Host, OpenStop, Output, called, inputs_of, max_bytes_of_all, open_inputs};
 use vcd_text::{Sink, put};
-use vcd_words::{Job, UseFault, answer_text, command_of, job_of, parse_status};
+use vcd_words::{Job, UseFault, command_of, job_of, parse_status};
 use vcdkit::{open_fault, run_within, use_fault, write_fault};
 
 /// Runs a job, which the parsed command line `matches` asks for: has `host` open its inputs, runs
@@ -75,7 +75,7 @@ fn run_matches<H: Host, W: Sink, E: Sink, B: BuildHasher>(
     }
 }
 
-/// Writes the text for a command line for which `clap` returned `error`: it was not accepted, or
+/// Writes the text of `error`, which `clap` returned for a command line: it was not accepted, or
 /// asks for help or the version. Returns the exit status. Help and the version go to `out`, all
 /// else to `err`. The status is 0 if help or the version was written, 3 if memory runs out or `out`
 /// cannot be written, otherwise 2.
@@ -89,7 +89,7 @@ fn answer<W: Sink, E: Sink>(alloc: Global, error: &Error, out: &mut W, err: &mut
     if status == 3 {
         return use_fault(UseFault::OutOfMemory, err);
     }
-    let Ok(text) = answer_text(alloc, error) else {
+    let Ok(text) = error.to_string(alloc) else {
         return use_fault(UseFault::OutOfMemory, err);
     };
     if status == 2 {

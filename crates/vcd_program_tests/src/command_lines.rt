@@ -49,7 +49,7 @@ struct Row {
 
 const NOTHING: Said = Said::Just(b"");
 
-static ROWS: [Row; 31] = [
+static ROWS: [Row; 25] = [
     Row {
         words: &["list"],
         opened: &[None],
@@ -143,21 +143,8 @@ static ROWS: [Row; 31] = [
         opened: &[],
         out: NOTHING,
         err: Said::Just(
-            b"error: the argument '-i <FILE>' cannot be used multiple times\n\n  \
-                tip: FILE and '-i FILE' are the same argument of check, list and cut\n\n\
+            b"error: the argument '-i <FILE>' cannot be used multiple times\n\n\
                 Usage: vcdkit check [OPTIONS] [FILE]\n\n\
-                For more information, try '--help'.\n",
-        ),
-        status: 2,
-    },
-    Row {
-        words: &["merge", "a.vcd", "-o", "b.vcd"],
-        opened: &[],
-        out: NOTHING,
-        err: Said::Just(
-            b"error: unexpected argument '-o' found\n\n  \
-                tip: output goes to standard output; use '> FILE'\n\n\
-                Usage: vcdkit merge [OPTIONS] FILE...\n\n\
                 For more information, try '--help'.\n",
         ),
         status: 2,
@@ -168,21 +155,8 @@ static ROWS: [Row; 31] = [
         out: NOTHING,
         err: Said::Just(
             b"error: unexpected argument '-a' found\n\n  \
-                tip: to pass '-a' as a file or a name, use '-- -a'\n\n\
+                tip: to pass '-a' as a value, use '-- -a'\n\n\
                 Usage: vcdkit pick [OPTIONS] [-i FILE] NAME...\n\n\
-                For more information, try '--help'.\n",
-        ),
-        status: 2,
-    },
-    Row {
-        words: &["sample", "--at", "-15ns", "a"],
-        opened: &[],
-        out: NOTHING,
-        err: Said::Just(
-            b"error: unexpected argument '-1' found\n\n  \
-                tip: times and limits are not negative\n  \
-                tip: to pass '-1' as a file or a name, use '-- -1'\n\n\
-                Usage: vcdkit sample [OPTIONS] [-i FILE] --at TIME,... [NAME...]\n\n\
                 For more information, try '--help'.\n",
         ),
         status: 2,
@@ -192,57 +166,7 @@ static ROWS: [Row; 31] = [
         opened: &[],
         out: NOTHING,
         err: Said::Just(
-            b"error: unrecognized subcommand 'help'\n\n  \
-                tip: use 'vcdkit --help' or 'vcdkit COMMAND --help'\n\n\
-                Usage: vcdkit COMMAND [ARGUMENT...]\n\n\
-                For more information, try '--help'.\n",
-        ),
-        status: 2,
-    },
-    Row {
-        words: &["version"],
-        opened: &[],
-        out: NOTHING,
-        err: Said::Just(
-            b"error: unrecognized subcommand 'version'\n\n  \
-                tip: use 'vcdkit --version'\n\n\
-                Usage: vcdkit COMMAND [ARGUMENT...]\n\n\
-                For more information, try '--help'.\n",
-        ),
-        status: 2,
-    },
-    Row {
-        words: &["compare", "a.vcd", "b.vcd"],
-        opened: &[],
-        out: NOTHING,
-        err: Said::Just(
-            b"error: unrecognized subcommand 'compare'\n\n  \
-                tip: see 'vcdkit-compare --help'\n\n\
-                Usage: vcdkit COMMAND [ARGUMENT...]\n\n\
-                For more information, try '--help'.\n",
-        ),
-        status: 2,
-    },
-    // Names of scripts; a command has a similar name to the second.
-    Row {
-        words: &["diff", "a.vcd", "b.vcd"],
-        opened: &[],
-        out: NOTHING,
-        err: Said::Just(
-            b"error: unrecognized subcommand 'diff'\n\n  \
-                tip: see 'vcdkit-diff --help'\n\n\
-                Usage: vcdkit COMMAND [ARGUMENT...]\n\n\
-                For more information, try '--help'.\n",
-        ),
-        status: 2,
-    },
-    Row {
-        words: &["table"],
-        opened: &[],
-        out: NOTHING,
-        err: Said::Just(
-            b"error: unrecognized subcommand 'table'\n\n  \
-                tip: see 'vcdkit-table --help'\n\n\
+            b"error: unrecognized subcommand 'help'\n\n\
                 Usage: vcdkit COMMAND [ARGUMENT...]\n\n\
                 For more information, try '--help'.\n",
         ),

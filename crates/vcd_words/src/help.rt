@@ -145,24 +145,6 @@ after -i, because their arguments are names; merge takes several dumps. Without
 a file, a command reads standard input. Output goes to standard output.
 Each command has its own help, with examples: vcdkit check --help
 
-Scripts, each with its own --help:
-  vcdkit-info            What is in this dump?
-  vcdkit-find            Which variables match a pattern?
-  vcdkit-values          Which values do signals have at a given time?
-  vcdkit-table           What are the values at each change or clock edge? (CSV)
-  vcdkit-when            When does a condition hold?
-  vcdkit-x               Which signals are unknown, and when?
-  vcdkit-stats           Which periods, duty cycles and pulses do signals have?
-  vcdkit-wave            What do their waveforms look like? (SVG, HTML)
-  vcdkit-diff            Where do two dumps differ?
-  vcdkit-explain         What is wrong with this dump, and what helps?
-  vcdkit-four-state      Converts nine-state values of VHDL to four states
-  vcdkit-close-sections  Adds the missing $end of sections
-  vcdkit-join-bits       Joins one-bit variables into vectors
-
-They also read compressed dumps (gzip, xz, bzip2, zstd), and FST if fst2vcd is
-installed. In the sources and the tarball, the scripts are in extras/.
-
-The man page is vcdkit(1). The manual and recipes are in share/doc/vcdkit below
-the prefix of the installation, or in docs/ of the sources.",
+More: man vcdkit, and the manual in share/doc/vcdkit below the prefix of the
+installation, or in docs/ of the sources.",
 };

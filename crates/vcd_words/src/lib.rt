@@ -9,7 +9,6 @@
 //!
 //! - `command`: the words that the command line accepts, and the status if it does not
 //! - `help`: what `--help` prints for each command
-//! - `answers`: what is said of words that are not accepted
 //! - `words`: what the words ask for, borrowed from their matches
 //! - `job`: `Job`, `Want` with its names, `UseFault`; `job_of`
 //! - `moment_word`: the times that words are, and the fault of those that are none; a cut and a
@@ -21,7 +20,6 @@
 //! times; `Job`; `Refusal`.
 #![tactic(auto)]
 
-mod answers;
 mod command;
 mod help;
 mod job;
@@ -30,7 +28,6 @@ mod refusal;
 mod sample_ticks;
 mod words;
 
-pub use answers::answer_text;
 pub use command::{command_of, parse_status};
 pub use job::{Job, UseFault, Want, job_of};
 pub use refusal::Refusal;
