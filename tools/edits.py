@@ -2,8 +2,8 @@
 """edits.py [CRATE..]: prints the must-fail edits of these crates, or of all.
 
 An edit is a file crates/CRATE/must-fail/NAME.edit. Its first line says what the wrong code does,
-and in which function the proof then fails. The exit status is 1 if there is no edit, or if an edit
-has no such line; otherwise it is 0."""
+and which clause of which function rejects it. The exit status is 1 if there is no edit, or if an
+edit has no such line; otherwise it is 0."""
 import sys
 from pathlib import Path
 
