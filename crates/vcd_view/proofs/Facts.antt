@@ -3,7 +3,7 @@ pub use Rattle.vcd_view.proofs.EntryLemmas.{all_written, at_finds, at_within, en
 pub use Rattle.vcd_view.proofs.HashLemmas.{word_alone, word_first}
 pub use Rattle.vcd_view.proofs.KeyLemmas.{are_bytes, bytes_at_place, grown, key_below, same_key}
 pub use Rattle.vcd_view.proofs.KeywordLemmas.{keyword_found}
-pub use Rattle.vcd_view.proofs.LookUpLemmas.{IsBetween, between_above, between_all, between_below, bits_of_half, blank, codes_len, distinct, equal_bytes, found_at, found_equal, index_len, none_between, place_below, text_at}
+pub use Rattle.vcd_view.proofs.LookUpLemmas.{IsBetween, between_above, between_all, between_below, bits_of_half, blank, codes_len, distinct, found_at, found_equal, index_len, none_between, place_below, text_at}
 pub use Rattle.vcd_view.proofs.NewCodeLemmas.{SoFar, at_first, digit_last, digit_more}
 pub use Rattle.vcd_view.proofs.ParentLemmas.{parent_before, says_none, says_some}
 pub use Rattle.vcd_view.proofs.RoomLemmas.{fits, is_room, sum_fits}

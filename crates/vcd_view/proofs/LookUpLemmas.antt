@@ -140,7 +140,7 @@ none_between ks index t low h b = none_with ks t (λ p l.
     differs i (inr a) l = apart_from (code_text ks (get_or index i 0)) t Greater (b.above i a l) refl
 
 -- what is equal in order has the same bytes
-pub equal_bytes : (x t : List ℕ) → slice_cmp nat_cmp x t ≡ Equal → x ≡ t
+equal_bytes : (x t : List ℕ) → slice_cmp nat_cmp x t ≡ Equal → x ≡ t
 equal_bytes x t e = (bytes_eq-Decides x t).0 (sym (is_eq-slice_cmp x t) ∙ ap is_eq e)
 
 -- if the order is equal, it is the code that is looked up

@@ -1,5 +1,5 @@
 -- Which code a look-up finds.
-use Rattle.std.specs.Prelude.{◌≡◌, ℕ, ◌+◌, ◌≤◌, List, find, length, Option, Some, None, slice_get}
+use Rattle.std.specs.Prelude.{◌≡◌, ℕ, List, find, Option, Some, None, slice_get}
 use Rattle.std.specs.Int.Digits.{digits_of}
 use Rattle.vcd_model.specs.Declarations.{IdCode, has_text}
 use Rattle.vcd_view.specs.declared.view.Code.{Code}
@@ -18,7 +18,3 @@ IsSized codes f = (c : Code) × (slice_get codes f.position ≡ Some c) × (f.si
 -- the binary digits of a number
 abbrev pub bits_of : ℕ → List ℕ
 bits_of n = digits_of 2 n
-
--- a look-up among n codes added at most one probe more than the binary digits of n
-abbrev pub AreFew : ℕ → ℕ → ℕ → Type 0
-AreFew n old new = new ≤ old + 1 + length (bits_of n)

@@ -10,7 +10,7 @@ pub use Rattle.vcd_model.specs.Header.{Header}
 pub use Rattle.vcd_model.specs.Keywords.{is_end, keyword_of}
 pub use Rattle.vcd_text.specs.Device.{Puts}
 pub use Rattle.vcd_view.specs.Entries.{HasEntry, IsAt, KeepsRight, MayHaveKey, above, are_right, code_bytes, entry_after, entry_in, is_right, number_in, size_or_zero_of, text_in}
-pub use Rattle.vcd_view.specs.Finds.{AreFew, Finds, IsSized, bits_of}
+pub use Rattle.vcd_view.specs.Finds.{Finds, IsSized, bits_of}
 pub use Rattle.vcd_view.specs.Keys.{AreBytes, key_in}
 pub use Rattle.vcd_view.specs.Keywords.{model_keyword}
 pub use Rattle.vcd_view.specs.Needs.{room, value_bytes}

@@ -2,13 +2,11 @@
 // code may have any entry, and two codes may have the same one. Where an entry is decides only how
 // fast a look-up is.
 ghost use Rattle.std.specs.Prelude.{◌≡◌, ◌+◌, ◌-◌, ◌%◌, ◌^◌, ◌<◌, ◌≤◌, true, bit_and, length, IfSome};
-ghost use Rattle.vcd_view.specs.Names.{HasEntry, IsAt, above, are_right, entry_after, entry_in, key_in, size_or_zero_of, number_in};
+ghost use Rattle.vcd_view.specs.Names.{HasEntry, IsAt, above, are_right, entry_after, entry_in, size_or_zero_of, number_in};
 
 use crate::code_hash::CodeSeed;
 use crate::key::key_of;
-use crate::probes::Probes;
 use crate::view::{Code, Entry, code_in, text_in};
-use std::cmp::Ordering;
 
 /// Returns the index of the entry in which a look-up of this code begins, in a table of `entries`
 /// entries. `entries` is a power of two.
@@ -112,7 +110,7 @@ pub(crate) fn long_key(hash: u64) -> u64
 /// Returns the index of a code in `codes`, if its entry is the third or fourth of the four beside
 /// each other that its number leads to, or one that its hash leads to. `None` if it has none of
 /// these; then it may still be in `codes`. `text` has the bytes of the codes, `entries` are their
-/// entries, and `seed` hashes them, as in a `HeadView`. `probes` counts the comparisons of codes.
+/// entries, and `seed` hashes them, as in a `HeadView`.
 // For codes of 8 bytes or more, and codes crafted to share entries: `check` of 100,000 takes 1.5 to
 // 2.6 times as long as for ordinary codes, and with only the binary search 8 to 13 times.
 pub(crate) fn index_by_hash(
@@ -121,18 +119,14 @@ pub(crate) fn index_by_hash(
     entries: &[Entry],
     seed: CodeSeed,
     code: &[u8],
-    probes: &mut Probes,
 ) -> Option<usize>
     requires right { are_right text.now codes.now entries.now ≡ true }
-    ensures found { IfSome result (λ position. IsAt text.now codes.now code.now position) }
-    ensures never_falls { probes.old.count ≤ probes.new.count }
-    ensures once { probes.new.count ≤ probes.old.count + 1 }
-    ensures long { key_in code.now ≡ 0 → IfSome result (λ _. probes.old.count < probes.new.count) }
+    ensures { IfSome result (λ position. IsAt text.now codes.now code.now position) }
 {
     let key = key_of(code);
     if key == 0 {
         let hash = seed.hashed(0, code);
-        return index_of_long(text, codes, entries, hash, code, probes);
+        return index_of_long(text, codes, entries, hash, code);
     }
     match index_beside(entries, entry_of(code, entries.len()), key) {
         Some(position) => Some(position),
@@ -176,26 +170,22 @@ fn index_of_key(entries: &[Entry], hash: u64, key: u64) -> Option<usize>
 /// of the code, finds its entry in the table `entries`. `None` if it does not; then the code may
 /// still be in `codes`, whose bytes lie in `text`.
 ///
-/// As another code may have the same key, the bytes are compared, at most once, and `probes` counts
-/// that.
+/// As another code may have the same key, the bytes are compared too.
 fn index_of_long(
     text: &[u8],
     codes: &[Code],
     entries: &[Entry],
     hash: u64,
     code: &[u8],
-    probes: &mut Probes,
 ) -> Option<usize>
-    ensures found { IfSome result (λ position. IsAt text.now codes.now code.now position) }
-    ensures never_falls { probes.old.count ≤ probes.new.count }
-    ensures once { probes.new.count ≤ probes.old.count + 1 }
-    ensures counted { IfSome result (λ _. probes.old.count < probes.new.count) }
+    ensures { IfSome result (λ position. IsAt text.now codes.now code.now position) }
 {
     let position = index_of_key(entries, hash, long_key(hash))?;
     let other = code_in(codes, position)?;
-    match probes.probe(text_in(text, other.start, other.len as usize), code) {
-        Ordering::Equal => Some(position),
-        _ => None,
+    if text_in(text, other.start, other.len as usize) == code {
+        Some(position)
+    } else {
+        None
     }
 }
 

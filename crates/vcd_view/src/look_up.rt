@@ -1,6 +1,6 @@
 // Codes that are looked up.
-ghost use Rattle.std.specs.Prelude.{List, true, ◌≡◌, ◌+◌, ◌≤◌, ◌<◌, length, option_map, IfNone, IfSome, Some};
-ghost use Rattle.vcd_view.specs.Names.{AllByRecursion, AnyCodes, AnyHeader, AreBytes, AreFew, Finds, Header, IdCode, IsIndex, IsSized, IsViewOf, are_right, bits_of, key_in};
+ghost use Rattle.std.specs.Prelude.{List, true, ◌≡◌, ◌+◌, ◌≤◌, ◌<◌, length, option_map, IfSome, Some};
+ghost use Rattle.vcd_view.specs.Names.{AllByRecursion, AnyCodes, AnyHeader, AreBytes, Finds, Header, IdCode, IsIndex, IsSized, IsViewOf, are_right, bits_of, key_in};
 
 use crate::code_hash::CodeSeed;
 use crate::entries::{entry_of, index_by_hash, size_or_zero_of};
@@ -20,22 +20,34 @@ pub struct Found {
 }
 
 /// Returns the index of an identifier code in `view.codes`; `None` if the header does not declare
-/// it.
-///
-/// A look at one entry finds nearly all codes that simulators use, and a look at the first one
-/// beside it most of the others. The rest are looked for in the other two beside it and by their
-/// hash, and those that are not found so by a binary search.
-#[inline(always)]
+/// it. It searches as `find_counted` does; `find_sized` takes less time.
 pub fn find(view: HeadView<'_>, code: &[u8]) -> Option<usize>
     ensures found { (h : Header) → IsViewOf view.entry h → Finds h.codes code.now result }
     ensures within { IfSome result (λ position. position < length view.entry.codes.now) }
 {
-    let found = find_sized(view, code)?;
-    Some(found.position)
+    find_counted(view, code, &mut Probes::new())
+}
+
+/// Returns the index of an identifier code in `view.codes`; `None` if the header does not declare
+/// it. `probes` counts the codes that it is compared with: at most as many as the number of codes
+/// has binary digits.
+pub fn find_counted(view: HeadView<'_>, code: &[u8], probes: &mut Probes) -> Option<usize>
+    ensures found { (h : Header) → IsViewOf view.entry h → Finds h.codes code.now result }
+    ensures within { IfSome result (λ position. position < length view.entry.codes.now) }
+    ensures never_falls { probes.old.count ≤ probes.new.count }
+    ensures counted { 0 < length view.entry.index.now → probes.old.count < probes.new.count }
+    ensures few { AnyHeader view.entry (λ h.
+        probes.new.count ≤ probes.old.count + length (bits_of (length h.codes))) }
+{
+    search(view.text, view.codes, view.index, code, probes)
 }
 
 /// Returns the index of an identifier code in `view.codes`, and its size; `None` if the header does
 /// not declare it.
+///
+/// A look at one entry finds nearly all codes that simulators use, and a look at the first one
+/// beside it most of the others. The rest are looked for in the other two beside it and by their
+/// hash, and those that are not found so by a binary search.
 #[inline(always)]
 pub fn find_sized(view: HeadView<'_>, code: &[u8]) -> Option<Found>
     ensures found { (h : Header) → IsViewOf view.entry h
@@ -48,51 +60,6 @@ pub fn find_sized(view: HeadView<'_>, code: &[u8]) -> Option<Found>
     if let Some(found) = find_in_entry(view, code, 1) {
         return Some(found);
     }
-    find_beyond(view, code, &mut Probes::new())
-}
-
-/// Returns the index of an identifier code in `view.codes`; `None` if the header does not declare
-/// it. `probes` counts how often the bytes of two codes are compared.
-///
-/// A code of at most 7 bytes has a key, which entries keep. The code is compared with others only
-/// if no entry that is looked at has its key. The count grows by at most one more than the binary
-/// digits of the number of codes.
-#[inline(always)]
-pub fn find_counted(view: HeadView<'_>, code: &[u8], probes: &mut Probes) -> Option<usize>
-    ensures found { (h : Header) → IsViewOf view.entry h → Finds h.codes code.now result }
-    ensures within { IfSome result (λ position. position < length view.entry.codes.now) }
-    ensures never_falls { probes.old.count ≤ probes.new.count }
-    ensures missed { IfNone result (0 < length view.entry.index.now
-        → probes.old.count < probes.new.count) }
-    ensures long { key_in code.now ≡ 0 → 0 < length view.entry.index.now
-        → probes.old.count < probes.new.count }
-    ensures few { AnyHeader view.entry (λ h. AreFew (length h.codes) probes.old.count probes.new.count) }
-{
-    if let Some(found) = find_in_entry(view, code, 0) {
-        return Some(found.position);
-    }
-    if let Some(found) = find_in_entry(view, code, 1) {
-        return Some(found.position);
-    }
-    let found = find_beyond(view, code, probes)?;
-    Some(found.position)
-}
-
-/// Returns the index of an identifier code in `view.codes`, and its size, without a look at the
-/// first two entries; `None` if the header does not declare it. `probes` counts how often the bytes
-/// of two codes are compared.
-#[inline(always)]
-fn find_beyond(view: HeadView<'_>, code: &[u8], probes: &mut Probes) -> Option<Found>
-    ensures found { (h : Header) → IsViewOf view.entry h
-        → Finds h.codes code.now (option_map (λ found. found.position) result) }
-    ensures sized { IfSome result (λ found. IsSized view.entry.codes.now found) }
-    ensures never_falls { probes.old.count ≤ probes.new.count }
-    ensures missed { IfNone result (0 < length view.entry.index.now
-        → probes.old.count < probes.new.count) }
-    ensures long { key_in code.now ≡ 0 → 0 < length view.entry.index.now
-        → probes.old.count < probes.new.count }
-    ensures few { AnyHeader view.entry (λ h. AreFew (length h.codes) probes.old.count probes.new.count) }
-{
     let position = find_slowly(
         view.text,
         view.codes,
@@ -100,7 +67,6 @@ fn find_beyond(view: HeadView<'_>, code: &[u8], probes: &mut Probes) -> Option<F
         view.entries,
         view.seed,
         code,
-        probes,
     )?;
     let code = code_in(view.codes, position)?;
     Some(Found {
@@ -140,7 +106,6 @@ pub fn find_in_entry(view: HeadView<'_>, code: &[u8], other: usize) -> Option<Fo
 /// Returns the index in `codes` of a code that the first two entries to look at do not have: by a
 /// look at the other two beside them, by its hash, or else by a binary search. `None` if the code
 /// is not in `codes`. `text`, `codes`, `index`, `entries` and `seed` are those of a `HeadView`.
-/// `probes` counts the comparisons of codes.
 ///
 /// It takes no view, so that a look-up by one entry need not make one ready, and it returns only a
 /// number, which needs no memory.
@@ -152,21 +117,15 @@ fn find_slowly(
     entries: &[Entry],
     seed: CodeSeed,
     code: &[u8],
-    probes: &mut Probes,
 ) -> Option<usize>
     requires right { are_right text.now codes.now entries.now ≡ true }
     ensures found { AnyCodes text.now codes.now (λ ks. AllByRecursion (λ (k : IdCode). AreBytes k.text) ks
         → IsIndex ks index.now → Finds ks code.now result) }
     ensures within { IfSome result (λ position. position < length codes.now) }
-    ensures never_falls { probes.old.count ≤ probes.new.count }
-    ensures missed { IfNone result (0 < length index.now → probes.old.count < probes.new.count) }
-    ensures long { key_in code.now ≡ 0 → 0 < length index.now → probes.old.count < probes.new.count }
-    ensures few { (ks : List IdCode) → IsIndex ks index.now
-        → AreFew (length ks) probes.old.count probes.new.count }
 {
-    match index_by_hash(text, codes, entries, seed, code, probes) {
+    match index_by_hash(text, codes, entries, seed, code) {
         Some(position) => Some(position),
-        None => search(text, codes, index, code, probes),
+        None => search(text, codes, index, code, &mut Probes::new()),
     }
 }
 

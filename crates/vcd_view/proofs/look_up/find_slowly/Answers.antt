@@ -1,9 +1,9 @@
-use Rattle.vcd_view.proofs.Cited.{subst, arith, IfSome, IsAt}
+use Rattle.vcd_view.proofs.Cited.{subst, IfSome, IsAt}
 use Rattle.vcd_view.proofs.Facts.{at_finds, at_within, distinct}
 use Rattle.vcd_view.proofs.look_up.find_slowly.Goals as goal
 
 found : (c : goal.In-Some) → IsAt c.args.text.now c.args.codes.now c.args.code.now c.in-Some.position
-found c = subst (λ o. IfSome o (λ position. IsAt c.args.text.now c.args.codes.now c.args.code.now position)) c.in-Some.is c.index_by_hash.ensures.found
+found c = subst (λ o. IfSome o (λ position. IsAt c.args.text.now c.args.codes.now c.args.code.now position)) c.in-Some.is c.index_by_hash.ensures
 
 pub returns-in-Some-clause-found : goal.returns-in-Some-clause-found
 returns-in-Some-clause-found c = λ ks stand texts index.
@@ -11,9 +11,3 @@ returns-in-Some-clause-found c = λ ks stand texts index.
 
 pub returns-in-Some-clause-within : goal.returns-in-Some-clause-within
 returns-in-Some-clause-within c = at_within c.args.text.now c.args.codes.now c.args.code.now c.in-Some.position (found c)
-
-pub returns-in-Some-clause-few : goal.returns-in-Some-clause-few
-returns-in-Some-clause-few c = λ ks x. omega (arith, c.index_by_hash.ensures.once)
-
-pub returns-in-None-clause-few : goal.returns-in-None-clause-few
-returns-in-None-clause-few c = λ ks x. omega (arith, c.index_by_hash.ensures.once, c.search.ensures.few ks x)
