@@ -613,6 +613,12 @@ class Shown(Case):
                                                               "B" + "bench.slow.count"])
         self.is_now("[now.cursor, valueAt(items[0], 350), valueAt(items[1], 350)]", [350, "3", "b"])
         self.is_now("'differs' in paths", True)
+        # Not only the colour says so: the values have a sign, and the waves a line below them.
+        self.is_now("[...$('rows').children].map(one => one.children[1].textContent)",
+                    ["\u2260 3", "\u2260 b"])
+        self.is_now("""(() => { draw(); const x = xOf(355), y = TOP + ROW - 0.5;
+            return [x, xOf(345)].map(at => pen.isPointInStroke(paths.mark, at, y)); })()""",
+                    [True, False])
         self.is_now("$('spoken').textContent", "bench.slow.count A 3 B b at 35ns")
         self.press("Home", "d")
         self.is_now("now.cursor", 350)
