@@ -4,6 +4,7 @@ A name selects the variable that has this path, and all whose path goes on behin
 the path of what is in a scope does. If there is neither, it selects the variable that has this path
 with a range after it, as `tb.q` selects `tb.q[3:0]`, but only if no other path is the name with a
 range. A name with a range selects only what has this very path."""
+import itertools
 import re
 from typing import Collection, Container, Dict, Iterable, Iterator, List, Sequence, Set, Tuple
 
@@ -88,19 +89,31 @@ def utf8_names(names: Sequence[str]) -> List[str]:
 
 def hint(name: str, paths: Sequence[str]) -> str:
     """Returns what to write instead of a name that selects nothing."""
-    base = FIELD.sub("", name)
-    is_pattern = re.search(r"[*?]", name)
-    near = ([path for path in paths if path == base]
-            or [path for path in paths if path.startswith(base + "[")]
-            or [path for path in paths if path.endswith("." + name) or path.endswith("." + base)
-                or bare(path).endswith("." + base)]
-            or [path for path in paths if path.lower() in (name.lower(), base.lower())]
+    its = [*dict.fromkeys(itertools.chain(paths, *map(fronts, paths)))]  # then scopes
+    is_pattern, base = re.search(r"[*?]", name), FIELD.sub("", name)
+    asked, core, plains = (plain(name), plain(base)), _core(plain(name)), list(map(plain, its))
+    pairs = list(zip(its, map(_core, plains)))
+    near = ([one for one, text in zip(its, plains) if text in asked]
+            or [one for one, text in pairs if text == core]
+            or sorted((one for one, text in pairs if _has(text, core)),
+                      key=lambda one: one.count("."))
             or ([] if is_pattern else _like(base, paths)))
     if near:
         return "; there is " + ", ".join(near[:3]) + ", .." * (len(near) > 3)
     if is_pattern:
         return "; a name is not a pattern: vcdkit-find and find() take regular expressions"
     return "; names are the paths that `list` writes, and the scopes in these paths"
+
+
+def _core(path: str) -> str:
+    """Returns a path without numbers in brackets, in lower case."""
+    return re.sub(r"\s*\[[-\d:]*\]", "", path).lower()
+
+
+def _has(path: str, name: str) -> bool:
+    """Whether a path is a name with more scopes between or before those of the name."""
+    left, words = reversed(path.split(".")), name.split(".")
+    return next(left) == words[-1] and all(word in left for word in words[-2::-1])
 
 
 def _like(name: str, paths: Sequence[str]) -> List[str]:
