@@ -170,7 +170,7 @@ class Jobs(Pictures):
         self.same("when", ["--rules=" + self.saved, *["--never"] * is_never, *["--every"] * every,
                            *words, *window.words, self.path], [] if late else of_jobs.rule_lines(
                                part, found), 2 if late or part.fault else int(not is_well),
-                  late[1] if late else part.fault or False)
+                  late[1] if late else part.fault or True)
 
     def ask_toggles(self) -> None:
         """Asks what bits do."""

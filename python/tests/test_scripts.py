@@ -1079,7 +1079,7 @@ class Conditions(Case):
             file.write(b"fault\n")
         self.assertEqual(said("vcdkit-table", *words, "b: ack", dump)[1:], [*rows, "status 1"])
         for wrong, message in (
-                (["--channel=a: req"], b"to list every edge, name a clock with rise or fall"),
+                (["--channel=a: req"], b"to list every edge, name a clock with --rise or --fall"),
                 ([*words, "a: ack"], b"error: two channels have one name"),
                 ([*words, "b: ack", "clk"], b"error: give NAMEs, --names or --channel"),
                 ([*words, "b: ack", "--if", "req"], b"not allowed with argument --channel"),
@@ -1097,7 +1097,7 @@ class Conditions(Case):
             for more in [], ["--rise", "clk"]:
                 self.assertEqual(said("vcdkit-table", *more, *given, dump)[1:],
                                  [*rows, "status 1"])
-        self.assertIn(b"to list every edge, name a clock with rise or fall",
+        self.assertIn(b"to list every edge, name a clock with --rise or --fall",
                       run("vcdkit-table", ["--channel=a@clk: req", "--channel=b: ack", dump])[2])
         for wrong, message in (("a@none: req", b"a: none: selects nothing"),
                                ("a@: req", b"a@: write a clock behind @"),
@@ -1145,7 +1145,7 @@ class Conditions(Case):
         rules = self.file("rules", b"a: never !(req -> ack within 9)\nb: never req is x\n")
         words = ["--every", "--rise", "clk", dump]
         status, _, messages = run("vcdkit-when", ["--rules", rules, "--junit", out, *words])
-        self.assertEqual((status, messages.count(b"\n")), (0, 1))
+        self.assertEqual((status, messages.count(b"\n")), (0, 2))
         self.assertIn(b"warning: a: requests that begin before the previous one is answered: 2. "
                       b"They get the same answer; with `each", messages)
         self.assertEqual([[its.tag for its in one] for one in xml.parse(out).getroot()],
@@ -1180,7 +1180,8 @@ class Conditions(Case):
         for text, message in (
                 ("a: req\nb: ack\n# c\na: clk\n", "rules:4: there is a rule a before"),
                 ("a@clk: req\na@!clk: ack\n", "rules:2: there is a rule a before"),
-                ("a: each req\n", "a: it has no clock: name one with rise or fall, or write a@"),
+                ("a: each req\n", "a: it has no clock: name a clock with --rise or --fall (in "
+                 "Python: rise or fall), or write a@CLOCK"),
                 ("a@clk: each req\n", "a: bad condition: each is as in each req -> ack within 5"),
                 ("a@clk: each !(req -> ack within 5)\n", "a: bad condition: each is as in"),
                 ("a@clk: req\nb: ack\n", "b: it has no clock"),

@@ -214,8 +214,11 @@ def ask_rules(of: Asker) -> None:
     bad = [name for name, text_of, times, *_ in rules if bool(times) == (
         is_never or text_of.split(" ")[0] in ("never", "always", "each"))]
     status, warned = 2 if is_idle else int(bool(bad)), warned or is_idle
-    of.same("rules", [*words, text], (said.status, got, bool(said.message)), (
-        status, wanted, warned))
+    count = "vcdkit-when: %d rule%s, " % (len(rules), "s" * (len(rules) > 1))
+    warnings, _, end = said.message.partition(count)
+    of.same("rules", [*words, text], (said.status, got, bool(warnings), end), (
+        status, wanted, warned, "" if is_idle else "not met: %s%s\n" % (
+            ", ".join(bad[:3]), ", .." * (len(bad) > 3)) if bad else "all met\n"))
     if "--junit" in words:
         root = xml.parse(junit).getroot()
         of.same("rules, the report", words, [one.get("name") for one in root.iter("testcase")

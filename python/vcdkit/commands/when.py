@@ -12,7 +12,7 @@ A result that depends on x is x, and x does not hold. More is in extras/README.m
 examples:
   vcdkit-when --rise tb.clk --every --count sim.vcd.gz 'tb.valid & tb.ready'
   vcdkit-when --latency --rise tb.clk sim.vcd 'tb.req -> tb.ack within 50'
-  vcdkit-when --never --rules rules.txt --junit rules.xml --rise tb.clk sim.vcd"""
+  vcdkit-when --rules rules.txt --junit rules.xml --rise tb.clk sim.vcd"""
 import argparse
 import re
 import sys
@@ -147,9 +147,9 @@ def list_latencies(asking: Questions, dump: Dump, text: Callable[[int], str],
 
 
 def list_rules(asking: Questions, rules: List[Rule], text: Callable[[int], str],
-               asked: argparse.Namespace, tests: List[Test]) -> bool:
+               asked: argparse.Namespace, tests: List[Test]) -> List[str]:
     """Writes a line for each rule whose list has times: its name, the first time, and how many
-    there are; returns whether all rules are met. Adds a test for each."""
+    there are; returns the names of the rules that are not met. Adds a test for each."""
     found: Dict[int, List[int]] = {}  # of each rule that held the first time, and the count
     is_whole = False
     try:
@@ -176,7 +176,8 @@ def list_rules(asking: Questions, rules: List[Rule], text: Callable[[int], str],
             is_wrong = not rule.is_met(bool(its), asked.never) and (its or is_whole)
             tests.append(Test(asking.dump.name, name, "failure" if is_wrong else "",
                               line or "it never held", rule.condition, one.warning()))
-    return all(one.is_met(number in found, asked.never) for number, one in enumerate(rules))
+    return [one.name for number, one in enumerate(rules)
+            if not one.is_met(number in found, asked.never)]
 
 
 def answer(asked: argparse.Namespace, tests: List[Test]) -> int:
@@ -193,7 +194,8 @@ def answer(asked: argparse.Namespace, tests: List[Test]) -> int:
         raise UsageError("latencies are those of a condition such as req -> ack within 50")
     check_begin(dump, asked.begin)
     if asked.rules is not None:
-        status = int(not list_rules(asking, rules, text, asked, tests))
+        missed = list_rules(asking, rules, text, asked, tests)
+        status = int(bool(missed))
     else:
         count = (list_latencies(asking, dump, text, asked) if asked.latency
                  else list_times((time for time, _ in asking.times()), text, asked))
@@ -204,6 +206,11 @@ def answer(asked: argparse.Namespace, tests: List[Test]) -> int:
         if one.clock and not asking.counts[one.clock] and (asked.never or rule.word):
             raise UsageError("%sits clock has no edge in this window, so it was never evaluated"
                              % (rule.name and rule.name + ": "))
+    if asked.rules is not None:
+        sys.stdout.flush()
+        print("vcdkit-when: %d rule%s, %s" % (len(rules), "s" * (len(rules) > 1), "not met: " + (
+            ", ".join(missed[:3]) + ", .." * (len(missed) > 3)) if missed else "all met"),
+              file=sys.stderr)
     return status
 
 

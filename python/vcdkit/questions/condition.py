@@ -20,6 +20,7 @@ from ..reading.source import Source
 from .expression import Node, ConditionText, Span, bad
 
 MIRRORED = {"<": ">", "<=": ">=", ">": "<", ">=": "<="}
+NAME_A_CLOCK = "name a clock with --rise or --fall (in Python: rise or fall)"
 GROUP = 30  # bits of which Python is fast
 Read = Callable[[bytes], Value]
 NONE: Tuple[int, List[Tuple[int, Read]]] = 0, []  # no condition, and nothing that reads
@@ -77,7 +78,7 @@ def _name(dump: Source, name: str, base: str, found: Dict[str, Dict[int, Signal]
     its = found[base if field else name]
     if not its:
         try:
-            dump.select(base)
+            dump.select(name)
         except UnknownName as error:
             if is_quoted and "; there is " not in str(error):
                 raise UnknownName(error.name, "; what is in double quotes is a name, not a string"
@@ -86,7 +87,7 @@ def _name(dump: Source, name: str, base: str, found: Dict[str, Dict[int, Signal]
                 raise UnknownName(error.name, "; for digits that are %s, write `tb.q is %s`" % (
                     (name.lower(),) * 2)) from None
             raise
-        raise bad("%s is a scope: name a signal in it" % base)
+        raise bad("%s is a scope: name a signal in it" % name)
     place, signal = next(iter(its.items()))
     if len({one.code for one in its.values()}) > 1:
         raise bad("%s names %d signals: %s, .." % (base, len(its), signal.path))
@@ -226,7 +227,7 @@ class Conditions:
         self._clock, parser = clock, ConditionText(text)
         tree = parser.tree()
         if not parser.names:
-            raise bad("it names no signal")
+            raise bad("it names no signal; for all edges of a clock, name the clock")
         its = _names(self._dump, dict.fromkeys(node.value for node in parser.names), parser.quoted)
         for node in parser.names:
             node.value = its[node.value]
@@ -243,8 +244,7 @@ class Conditions:
             self._values[place] = value = eval(call, self._known)
             self._samples.append((place, collections.deque([value] * count, count), call, clock))
         if self._pasts and not clock:
-            raise bad("past, rose, fell, stable and changed look at edges: name a clock with rise "
-                      "or fall")
+            raise bad("past, rose, fell, stable and changed look at edges: " + NAME_A_CLOCK)
         bits = found.bit | answer
         self.with_more |= bits if answer or self._pasts else 0
         for signal in (name.signal for name in its.values()):

@@ -9,7 +9,7 @@ from ..model.signals import Signal
 from ..model.values import Row
 from ..reading import body
 from ..reading.source import Source
-from .condition import Condition, Conditions
+from .condition import NAME_A_CLOCK, Condition, Conditions
 from .expression import Span
 from .rows import Cells, edges_of
 
@@ -128,7 +128,7 @@ class Questions:
         bits = {name: 1 << at for at, name in enumerate(dict.fromkeys(
             ["", *(one.clock for one in its)]))}
         if every and (rise, fall) == (None, None) and not all(one.clock for one in its):
-            raise UsageError("to list every edge, name a clock with rise or fall")
+            raise UsageError("to list every edge, " + NAME_A_CLOCK)
         self.columns, self.cells = columns, [Cells(its) for its in columns]
         self.conditions, self.again = Conditions(dump), -1 if every else 0
         self.each: List[_Question] = []
@@ -143,8 +143,8 @@ class Questions:
                     name, is_fall = asked.clock.lstrip("!"), asked.clock[:1] == "!"
                     self._add_edges(clock, *((None, name) if is_fall else (name, None)))
                 elif not has_clock and (len(bits) > 1 or asked.in_order):
-                    raise UsageError("it has no clock: name one with rise or fall, or write "
-                                     "%s@CLOCK" % asked.name)
+                    raise UsageError("it has no clock: %s, or write %s@CLOCK" % (
+                        NAME_A_CLOCK, asked.name))
                 one = self.conditions.add(asked.condition, clock)
                 if columns and one.answer:
                     raise UsageError(SEVERAL)
@@ -300,6 +300,6 @@ def _ticks_of(span: Optional[Span], dump: Source, has_clock: bool) -> int:
     if span is None:
         return 0
     if not span.unit and not has_clock:
-        raise UsageError("within %s counts edges: name a clock with rise or fall, or give a time, "
-                         "such as %sns" % (span.text, span.text))
+        raise UsageError("within %s counts edges: %s, or give a time, such as %sns" % (
+            span.text, NAME_A_CLOCK, span.text))
     return dump.span(span.number + span.unit.replace("tick", ""))
