@@ -11,14 +11,15 @@ const AFTER: &str = "Examples:
   vcdkit merge a.vcd b.vcd | vcdkit-compare in1=in2
   vcdkit-compare -i sim.vcd --except tb.a.debug tb.a=tb.b
 
-X and Y are variables, or scopes with everything in them: what X selects is
-compared with what has Y in the place of X in its path. Times are in ticks.
+X and Y are variables, or scopes with everything in them. Each variable that X
+selects is compared with the one whose path has Y in place of X. Times are in
+ticks. The first = ends X; in the file of --pairs, a name may have one.
 
---except leaves out the pairs of which NAME selects the variable of X. It leaves
-out a variable of Y only if nothing is compared with it.
+--except skips each pair whose X variable NAME selects. A Y variable is skipped
+only if it has no partner.
 
-The exit status of a pipe is that of its last command. In a script, use bash's
-'set -o pipefail', which keeps that of a merge that failed, or vcdkit-diff.
+In a script, use bash's 'set -o pipefail', so that a failed merge fails the
+pipe, or use vcdkit-diff.
 
 Exit status:
   0  no difference, and at least one pair was compared
@@ -51,12 +52,12 @@ fn with_lines<'a>(alloc: Global, program: Command<'a>) -> Result<Command<'a>, Al
     let first = flag(
         alloc,
         "first",
-        "Only the lines of the first time that has one",
+        "Stop after the first time at which a pair differs",
     );
     let always = flag(
         alloc,
         "always",
-        "A line at each change of a pair that differs",
+        "Also a line at each change while a pair differs",
     );
     program.arg(first.conflicts_with("always")?)?.arg(always)
 }
@@ -83,11 +84,11 @@ fn with_names<'a>(alloc: Global, program: Command<'a>) -> Result<Command<'a>, Al
         .long("except")
         .value_name("NAME")
         .action(ArgAction::Append)
-        .help("A variable or a scope of X to leave out; may be repeated");
+        .help("Skip a variable or a scope of X; may be repeated");
     let pairs = Arg::new(alloc, "pairs")
         .long("pairs")
         .value_name("FILE")
-        .help("A file with an X and a Y on each line");
+        .help("Read more names from FILE, with an X and a Y on each line");
     let input = Arg::new(alloc, "input")
         .short('i')
         .value_name("FILE")
@@ -95,7 +96,7 @@ fn with_names<'a>(alloc: Global, program: Command<'a>) -> Result<Command<'a>, Al
     let names = Arg::new(alloc, "names")
         .value_name("X=Y")
         .num_args(1..)
-        .help("What is compared with what");
+        .help("What to compare: two variables, or two scopes");
     program.arg(except)?.arg(pairs)?.arg(input)?.arg(names)
 }
 
