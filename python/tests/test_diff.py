@@ -432,7 +432,8 @@ def tried():
                     yield line, "", "a line", (out, text, status)
             for line in MISUSED:
                 out, text, status = said(line.split())
-                if (out, text[:6], status) != ("", "usage:", 2):
+                if (out, text[:13], text[-25:], status) != (
+                        "", "vcdkit-diff: ", "\nsee: vcdkit-diff --help\n", 2):
                     yield line, "", "usage", (out, text, status)
             for line, *wanted in ANSWERED:
                 if said(line.split()) != (wanted[0], "", wanted[1]):

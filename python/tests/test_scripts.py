@@ -524,8 +524,7 @@ class Answers(Case):
                 ("when", ["none.vcd", "a"], "vcdkit-when: none.vcd: No such file or directory"),
                 ("when", [whole, "(a == 1"], "vcdkit-when: bad condition: a ) is missing"),
                 ("when", [whole, "a -> b within 5 us"], "vcdkit-when: bad condition: write 5us"),
-                ("when", [whole, "a", "==", "1"],
-                 "vcdkit-when: error: put the condition in single quotes"),
+                ("when", [whole, "a", "==", "1"], "see: vcdkit-when --help"),
                 ("close-sections", ["none"],
                  "vcdkit-close-sections: none: No such file or directory (the first argument is "
                  "the dump; - is standard input)"),
@@ -1080,10 +1079,10 @@ class Conditions(Case):
         self.assertEqual(said("vcdkit-table", *words, "b: ack", dump)[1:], [*rows, "status 1"])
         for wrong, message in (
                 (["--channel=a: req"], b"to list every edge, name a clock with --rise or --fall"),
-                ([*words, "a: ack"], b"error: two channels have one name"),
-                ([*words, "b: ack", "clk"], b"error: give NAMEs, --names or --channel"),
+                ([*words, "a: ack"], b"table: two channels have one name"),
+                ([*words, "b: ack", "clk"], b"table: give NAMEs, --names or --channel"),
                 ([*words, "b: ack", "--if", "req"], b"not allowed with argument --channel"),
-                ([*words, "b"], b"error: a channel is 'NAME: CONDITION: SIGNAL ..', with a space"),
+                ([*words, "b"], b"table: a channel is 'NAME: CONDITION: SIGNAL ..', with a space"),
                 ([*words, "b: req -> ack within 3"], b"vcdkit-table: b: bad condition: -> is of"),
                 (["--rise", "clk", "--histogram", "clk"], b"--histogram goes with --channel")):
             status, out, messages = run("vcdkit-table", [dump, *wrong])

@@ -7,7 +7,7 @@ import re
 import shlex
 import stat
 import sys
-from typing import Any, Callable, Iterator, List, Optional, TextIO, Tuple
+from typing import Any, Callable, Iterator, List, NoReturn, Optional, TextIO, Tuple
 
 from .. import __version__
 from ..errors import DumpFault, RunFailed, UsageError, VcdkitError
@@ -144,7 +144,10 @@ class Parser(argparse.ArgumentParser):
             setattr(asked, key, _unmarked(value))
         return asked, _unmarked(rest)
 
-    def refuse(self, rest: List[str]) -> None:
+    def error(self, message: str) -> NoReturn:
+        raise UsageError("%s\nsee: %s --help" % (message, self.prog))
+
+    def refuse(self, rest: List[str]) -> NoReturn:
         """Ends with a message about arguments that fit none, and similar options."""
         import difflib  # only a message needs it
         known = [one for action in self._actions for one in action.option_strings if one[1] == "-"]
