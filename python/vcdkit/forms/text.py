@@ -43,7 +43,7 @@ def _letters_of(value: Value) -> str:
 
 FORMS = {  # page.html has them too
     "hex": Form("in hexadecimal", Value.hex, has_x=True, is_alike=True),
-    "decimal": Form("in decimal", lambda value: str(int(value)), is_number=True),
+    "decimal": Form("in decimal, without a sign", lambda value: str(int(value)), is_number=True),
     "signed": Form("in decimal, as two's complement", lambda value: str(value.signed()),
                    is_number=True),
     "ascii": Form("as text, one character for 8 bits", _letters_of),
