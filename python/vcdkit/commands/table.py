@@ -12,7 +12,7 @@ edges of a clock of its own, NAME@!CLOCK the falling ones; edges are those of th
 
 examples:
   vcdkit-table --rise tb.clk --if 'tb.valid & tb.ready' sim.vcd tb.address tb.data
-  vcdkit-table --rise clk --channel 'a: valid & aready: addr' --channel 'r: rvalid & rready' a.vcd"""
+  vcdkit-table --rise clk --channel 'a: valid & ready: addr' --channel 'r: rvalid & rready' a.vcd"""
 import argparse
 import collections
 import csv
