@@ -1,6 +1,7 @@
 """What can go wrong: a class for each cause, whose `status` is the exit status of the program."""
+import contextlib
 import re
-from typing import Any, Dict, Tuple
+from typing import Any, Dict, Iterator, Tuple
 
 
 class VcdkitError(Exception):
@@ -58,6 +59,17 @@ class RunFailed(VcdkitError, OSError):
 
     status = 3
     is_of_unpacker = False  # whether a program failed to unpack a file, which is then damaged
+
+
+@contextlib.contextmanager
+def failing(name: str) -> Iterator[None]:
+    """Lets an error of the system be a RunFailed about a file."""
+    try:
+        yield
+    except VcdkitError:
+        raise
+    except OSError as error:
+        raise RunFailed("%s: %s" % (name, error.strerror)) from error
 
 
 def error_of(text: str, status: int, names: Dict[str, str]) -> VcdkitError:

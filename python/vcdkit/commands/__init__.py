@@ -151,11 +151,10 @@ class Parser(argparse.ArgumentParser):
         """Ends with a message about arguments that fit none, and similar options."""
         import difflib  # only a message needs it
         known = [one for action in self._actions for one in action.option_strings if one[1] == "-"]
-        near = {one: difflib.get_close_matches(one.partition("=")[0], known, 1)
-                for one in rest if one[:2] == "--"}
-        found = ", ".join(its[0] for its in near.values() if its)
+        near = [its for one in dict.fromkeys(rest) if one[:2] == "--"
+                for its in difflib.get_close_matches(one.partition("=")[0], known, 1)]
         self.error("unrecognized arguments: %s%s" % (
-            " ".join(rest), ("; there is " + found) * bool(found)))
+            " ".join(rest), "; there is " + ", ".join(near) if near else ""))
 
     def parse_args(self, words: List[str]) -> argparse.Namespace:  # type: ignore[override]
         asked, rest = self.parsed(words)
@@ -347,12 +346,11 @@ def _remedy(error: VcdkitError, words: List[str], command_name: str) -> str:
         option = next((one for one in OF_FILES if before == one or one + "=" + name in words), "")
         if option:
             return " (%s names a file)" % option
-        is_name = said.startswith("No such file") and not re.search("[/ ]", name)
-        is_file = name.endswith(tuple("." + one for one in ENDINGS))
+        is_name = said.startswith("No such file") and not re.search(
+            r"[/ ]|\.(%s)\Z" % "|".join(ENDINGS), name)
         dumps = ("two arguments are the dumps" if command_name == "vcdkit-diff" else
                  "argument is the dump")
-        return (" (the first %s; - is standard input)" % dumps
-                if is_name and not is_file else "")
+        return " (the first %s; - is standard input)" % dumps if is_name else ""
     if not isinstance(error, DumpFault):
         return ""
     from ..questions.causes import NINE, STRING, look_at  # only a message needs it

@@ -21,10 +21,10 @@ import sys
 from concurrent.futures import ThreadPoolExecutor
 from typing import Any, Callable, Dict, Iterable, List, Optional, Sequence, Tuple
 
-from ..errors import RunFailed, UsageError, VcdkitError
+from ..errors import UsageError, VcdkitError, failing
 from ..forms import page_of_two
 from ..forms.junit import Test, write_tests
-from ..forms.text import FORMS, in_json, write_json
+from ..forms.text import FORMS, counted, in_json, write_json
 from ..forms.text import shown as value_text
 from ..model.names import hint
 from ..model.signals import Signal
@@ -113,14 +113,14 @@ class Lines:
     def differs(self) -> bool:
         return any(self.lines.values())
 
-    def write(self, path: str) -> None:
-        """Writes a JUnit file: a test for each kind of line that was looked for."""
+    def write(self) -> None:
+        """Writes the JUnit file: a test for each kind of line that was looked for."""
         files = "%s %s" % (self._asked.one, self._asked.other)
         tests = [Test(files, what, "failure" if lines else "", "".join(lines[:1]), "\n".join(lines),
                       self.compared * (what == "differs")) for what, lines in self.lines.items()]
         if self.fault:
             tests.append(Test(files, "fault", "error", self.fault, ""))
-        write_tests(path, "vcdkit-diff", tests)
+        write_tests(self._asked.junit, "vcdkit-diff", tests)
 
 
 def shown(value: Optional[bytes], signal: Signal) -> Cell:
@@ -227,10 +227,8 @@ def part_in(into: Optional[str], letter: str) -> str:
 def write_parts(report: Lines, sides: Sides, times: Sequence[int], spans: Sequence[int],
                 into: str) -> None:
     """Writes the cuts around a time of both, and says where they are."""
-    try:
+    with failing(into):
         os.makedirs(into, exist_ok=True)
-    except OSError as error:
-        raise RunFailed("%s: %s" % (into, error.strerror)) from error
     for letter, side, at, span in zip("ab", sides, times, spans):
         path = part_in(into, letter)
         write(path, side.dump.around(at, span).blocks())
@@ -263,8 +261,8 @@ def compare(asked: argparse.Namespace, report: Lines) -> None:
     if asked.common and not pairs and not apart:
         raise UsageError("the dumps have no path in common: --map OLD=NEW renames a scope")
     say_headers(report, sides, apart, asked.common)
-    report.compared = "compared %d signal%s (A has %d, B has %d)" % (
-        len(pairs), "s" * (len(pairs) != 1), *(len(side.signals) for side in sides))
+    report.compared = "compared %s (A has %d, B has %d)" % (
+        counted(len(pairs), "signal"), *(len(side.signals) for side in sides))
     if len(pairs) < asked.least:
         raise UsageError("%s: --at-least asks for %d" % (report.compared, asked.least))
     same = same_within(asked.tolerance, asked.x_matches)
@@ -363,8 +361,7 @@ def main(words: List[str]) -> int:
         report.fault = str(error)
         raise
     finally:
-        if asked.junit is not None:
-            report.write(asked.junit)
+        report.write()
     if asked.common and not report.differs():
         print("vcdkit-diff: " + report.compared, file=sys.stderr)
     return 1 if report.differs() else 0

@@ -135,8 +135,7 @@ def explain_all(asked: argparse.Namespace) -> int:
             print(one.text, flush=True)
     if not asked.json and len(found) > 1:
         print(summary([one.kind for one in found]))
-    if asked.junit is not None:
-        write_tests(asked.junit, "vcdkit-explain", list(map(test_of, found)))
+    write_tests(asked.junit, "vcdkit-explain", list(map(test_of, found)))
     return max(one.status for one in found)
 
 
@@ -161,7 +160,7 @@ def answer(asked: argparse.Namespace, out: Optional[TextIO]) -> int:
         print("%s: %s" % ("FST" if unpacker[0] == "fst2vcd" else "compressed", with_file(
             "vcdkit check < FILE", dump.name, unpacker)), flush=True)
     try:
-        report = dump.check()
+        report = dump.answer("check")
     except RunFailed as error:
         if unpacker and error.is_of_unpacker:
             cause, remedy = BROKEN
@@ -180,6 +179,5 @@ def answer(asked: argparse.Namespace, out: Optional[TextIO]) -> int:
         out.buffer.writelines(dump.blocks())
     elif asked.salvage is not None:
         print("no fault: nothing written to " + asked.salvage, file=sys.stderr)
-    for key, value in report._asdict().items():
-        print(key, "-" if value is None else value)
+    print(report, end="")
     return 0

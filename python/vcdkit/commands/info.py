@@ -62,8 +62,7 @@ def main(words: List[str]) -> int:
     counts: Dict[str, Any] = report._asdict()
     del counts["last"]
     for key, tick in ("first", first_time(dump)), ("last", report.last):
-        text = None if tick is None else time_text(tick)
-        counts[key] = text
+        text = counts[key] = None if tick is None else time_text(tick)
         counts[key + "_tick"] = tick
         if not asked.json:
             print(key, text or "-", *[] if text in (None, str(tick)) else ["(tick %s)" % tick])

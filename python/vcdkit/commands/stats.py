@@ -27,7 +27,7 @@ from typing import Any, Dict, Iterator, List, Optional, Sequence
 
 from .. import __version__
 from ..forms import saif
-from ..forms.text import mean_text, shown, write_json
+from ..forms.text import counted, mean_text, shown, write_json
 from ..model.signals import Signal
 from ..model.times import Window
 from ..questions.dump import Dump
@@ -49,11 +49,6 @@ def facts_of(signal: Signal, counted: Statistics, form: Optional[str], count: Op
                        for one in shares_of(counted, count)]}
 
 
-def times(count: int) -> str:
-    """Returns how often, in words."""
-    return "%d time%s" % (count, "s" * (count != 1))
-
-
 def lines_of(dump: Dump, facts: Dict[str, Any], rest: int, asked: argparse.Namespace
              ) -> Iterator[str]:
     """Returns the lines of a signal, which has more values than its facts, if `rest` is above 0."""
@@ -64,7 +59,7 @@ def lines_of(dump: Dump, facts: Dict[str, Any], rest: int, asked: argparse.Names
     if period:
         yield "  period %s to %s, mean %s, %s" % (
             time(period["shortest"]), time(period["longest"]),
-            mean_text(dump, period["mean"], asked.unit), times(period["times"]))
+            mean_text(dump, period["mean"], asked.unit), counted(period["times"], "time"))
     if facts["duty"] is not None:
         yield "  duty %.4g%%" % (100 * facts["duty"])
     if span:
@@ -75,9 +70,9 @@ def lines_of(dump: Dump, facts: Dict[str, Any], rest: int, asked: argparse.Names
             time(value["shortest"]), time(value["longest"]))
         yield "  value %s %s %.4g%%, %s%s" % (
             value["value"], time(value["ticks"]), 100 * value["share"],
-            times(value["times"]), pulses)
+            counted(value["times"], "time"), pulses)
     if rest > 0:
-        yield "  and %d other value%s" % (rest, "s" * (rest != 1))
+        yield "  and " + counted(rest, "other value")
 
 
 def write_toggles(bits: Sequence[BitCounts], asked: argparse.Namespace) -> None:
@@ -91,8 +86,8 @@ def write_toggles(bits: Sequence[BitCounts], asked: argparse.Namespace) -> None:
                               for bit in ordered)
         both = sum(bool(bit.rises and bit.falls) for bit in bits)
         never = sum(not bit.rises and not bit.falls for bit in bits)
-        print("%d bit%s: %d rise and fall, %d do one of these, %d do neither" % (
-            len(bits), "s" * (len(bits) != 1), both, len(bits) - both - never, never))
+        print("%s: %d rise and fall, %d do one of these, %d do neither" % (
+            counted(len(bits), "bit"), both, len(bits) - both - never, never))
 
 
 def write_bits(dump: Dump, window: Window, asked: argparse.Namespace) -> None:

@@ -49,8 +49,7 @@ def words_of(words: List[str]) -> argparse.Namespace:
                          "edges")
     options.window().unit("that of the time scale").json().file("*")
     asked = options.parse_args(words)
-    has_clock = asked.rise is not None or asked.fall is not None
-    if asked.at is not None and (is_part(asked) or has_clock):
+    if asked.at is not None and (is_part(asked) or (asked.rise, asked.fall) != (None, None)):
         options.error("--at goes with none of --rise, --fall, --from and --to")
     if bool(asked.channels) == bool(asked.names or asked.names_of is not None):
         options.error("give NAMEs, --names or --channel")

@@ -29,12 +29,11 @@ def main(words: List[str]) -> int:
     times = [str(dump.check().last or 0)] if given is None else given
     names = dump.full(asked.names)
     signals = states(dump.places(names))
-    is_late = ""
     with contextlib.suppress(DumpFault):  # it comes after the values before it
         is_late = after_end(dump, max(given, key=dump.ticks)) if given else ""
-    if is_late:
-        print("vcdkit-values: warning: --at: %s; its values are the last ones" % is_late,
-              file=sys.stderr)
+        if is_late:
+            print("vcdkit-values: warning: --at: %s; its values are the last ones" % is_late,
+                  file=sys.stderr)
     for time, values in at_times(dump, signals, list(map(dump.ticks, times)), names):
         for one, value in zip(signals.values(), values):
             if asked.json:

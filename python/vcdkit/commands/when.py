@@ -20,7 +20,7 @@ from typing import Callable, Dict, Iterable, List, NamedTuple
 
 from ..errors import UsageError, VcdkitError
 from ..forms.junit import Test, write_tests
-from ..forms.text import mean_text, write_json
+from ..forms.text import counted, mean_text, write_json
 from ..questions.dump import Dump
 from ..questions.when import Asked, Questions, named
 from ..reading.files import check_outputs, text_of_file
@@ -161,7 +161,7 @@ def list_rules(asking: Questions, rules: List[Rule], text: Callable[[int], str],
     finally:
         for number, rule in enumerate(rules):
             name, its = rule.name, found.get(number, [])
-            line = "%s, %d time%s" % (text(its[0]), its[1], "s" * (its[1] != 1)) if its else ""
+            line = "%s, %s" % (text(its[0]), counted(its[1], "time")) if its else ""
             one, alone = asking.each[number], {}
             if its and rule.word == "each":
                 alone = dict(zip(("lost", "surplus"), map(len, one.alone)))
@@ -208,9 +208,9 @@ def answer(asked: argparse.Namespace, tests: List[Test]) -> int:
                              % (rule.name and rule.name + ": "))
     if asked.rules is not None:
         sys.stdout.flush()
-        print("vcdkit-when: %d rule%s, %s" % (len(rules), "s" * (len(rules) > 1), "not met: " + (
-            ", ".join(missed[:3]) + ", .." * (len(missed) > 3)) if missed else "all met"),
-              file=sys.stderr)
+        names = ", ".join(missed[:3]) + ", .." * (len(missed) > 3)
+        print("vcdkit-when: %s, %s" % (counted(len(rules), "rule"), "not met: " + names
+                                       if missed else "all met"), file=sys.stderr)
     return status
 
 
@@ -225,5 +225,4 @@ def main(words: List[str]) -> int:
         tests.append(Test(asked.file, "fault", "error", str(error), ""))
         raise
     finally:
-        if asked.junit is not None:
-            write_tests(asked.junit, "vcdkit-when", tests)
+        write_tests(asked.junit, "vcdkit-when", tests)

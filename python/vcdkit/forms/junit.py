@@ -1,7 +1,7 @@
 """JUnit files, which CI servers show as tests."""
 import re
 import xml.etree.ElementTree as xml
-from typing import NamedTuple, Sequence
+from typing import NamedTuple, Optional, Sequence
 
 from ..questions.verdicts import Verdict
 from ..reading.files import write
@@ -26,8 +26,10 @@ def clean(text: str) -> str:
     return NOT_OF_XML.sub("\ufffd", text)
 
 
-def write_tests(path: str, name: str, tests: Sequence[Test]) -> None:
-    """Writes the file of a suite of tests."""
+def write_tests(path: Optional[str], name: str, tests: Sequence[Test]) -> None:
+    """Writes the file of a suite of tests, if one is asked for."""
+    if path is None:
+        return
     kinds = [test.kind for test in tests]
     suite = xml.Element("testsuite", name=name, tests=str(len(tests)),
                         failures=str(kinds.count("failure")), errors=str(kinds.count("error")))

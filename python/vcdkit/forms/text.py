@@ -50,6 +50,11 @@ FORMS = {  # page.html has them too
     "binary": Form("in binary, with all digits", str, has_x=True)}
 
 
+def counted(count: int, what: str) -> str:
+    """Returns how many there are, in words."""
+    return "%d %s%s" % (count, what, "s" * (count != 1))
+
+
 def mean_text(dump: Source, ticks: float, unit: Optional[str]) -> str:
     """Returns a mean length of time to six digits: in a unit that is given, else in the largest one
     of which it has one. 0 is in the unit of the time scale, as in other times."""

@@ -89,20 +89,20 @@ def utf8_names(names: Sequence[str]) -> List[str]:
 
 def hint(name: str, paths: Sequence[str]) -> str:
     """Returns what to write instead of a name that selects nothing."""
-    its = [*dict.fromkeys(itertools.chain(paths, *map(fronts, paths)))]  # then scopes
+    names = dict.fromkeys(itertools.chain(paths, *map(fronts, paths)))  # then scopes
+    its = [(one, plain(one)) for one in names]
     is_pattern, base = re.search(r"[*?]", name), FIELD.sub("", name)
-    asked, core, plains = (plain(name), plain(base)), _core(plain(name)), list(map(plain, its))
-    pairs = list(zip(its, map(_core, plains)))
-    near = ([one for one, text in zip(its, plains) if text in asked]
-            or [one for one, text in pairs if text == core]
-            or sorted((one for one, text in pairs if _has(text, core)),
+    asked, core = (plain(name), plain(base)), _core(plain(name))
+    near = ([one for one, text in its if text in asked]
+            or [one for one, text in its if _core(text) == core]
+            or sorted((one for one, text in its if _has(_core(text), core)),
                       key=lambda one: one.count("."))
             or ([] if is_pattern else _like(base, paths)))
     if near:
         return "; there is " + ", ".join(near[:3]) + ", .." * (len(near) > 3)
-    if is_pattern:
-        return "; a name is not a pattern: vcdkit-find and find() take regular expressions"
-    return "; names are the paths that `list` writes, and the scopes in these paths"
+    return ("; a name is not a pattern: vcdkit-find and find() take regular expressions"
+            if is_pattern else
+            "; names are the paths that `list` writes, and the scopes in these paths")
 
 
 def _core(path: str) -> str:

@@ -323,11 +323,11 @@ class Comparison:
                  "--to", str(end)]
         return (line for line in differing(dumps, keys, words) if not self._same(*line[2]))
 
-    def _edges_of(self, at: int) -> Iterator[Tuple[int, body.Changes]]:
+    def _edges_of(self, at: int) -> Iterator[Tuple[int, body.Changes, int]]:
         side, clock = self._sides[at], self._clocks[at]
         part = side.picked([*(pair.signals[at].path for pair in self._pairs), clock.path])
-        return body.at_edges(part or side.dump, [], {pair.codes[at] for pair in self._pairs},
-                             [(clock.code.encode(), *self._edge)])
+        return body.at_clocks(part or side.dump, [], {pair.codes[at] for pair in self._pairs},
+                              {(clock.code.encode(), *self._edge): 1})
 
     def _at_edges(self) -> Iterator[Found]:
         codes = [pair.codes for pair in self._pairs]
@@ -341,7 +341,7 @@ class Comparison:
             self.counts = [count + bool(edge) for count, edge in zip(self.counts, edges)]
             if None in edges:
                 continue
-            changes = [dict(its) for _, its in edges]
+            changes = [dict(its) for _, its, _ in edges]
             touched: Set[int] = set()
             for its, table, state in zip(changes, tables, states):
                 state.update(its)

@@ -66,11 +66,8 @@ class Dump(Source):
     def value(self, name: str, time: Time) -> Cell:
         """Returns the value of one signal at the end of a time. `None` if it has no value yet, or
         is an event."""
-        signal, ticks = self[name], self.ticks(time)
-        its = self.full(name)
-        found = sampled(self, [ticks], its)[ticks]
-        return next((found[place] for place, one in self.places(its).items()
-                     if place in found and one.code == signal.code), None)
+        _ = self[name]  # one signal
+        return next(iter(self.sample(time, name)[time].values()), None)
 
     def sample(self, times: Union[Time, Iterable[Time]], names: Names = ()
                ) -> Dict[Time, Dict[str, Cell]]:

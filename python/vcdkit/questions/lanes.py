@@ -6,7 +6,7 @@ so the work for a long dump is that of its text, and not that of its changes. Th
 (page.html, eachPiece and blocksOf) draws the same for whatever time it shows."""
 import io
 import math
-from typing import BinaryIO, Dict, FrozenSet, Iterator, List, NamedTuple, Optional, Tuple
+from typing import BinaryIO, Dict, FrozenSet, Iterator, List, NamedTuple, Tuple
 
 from ..model.signals import Signal
 from ..model.times import Window
@@ -63,7 +63,7 @@ class Lane:
     def __init__(self, signal: Signal):
         self.signal = signal
         self.points: List[Point] = []
-        self.text: Optional[bytes] = None  # the value now
+        self.text = b""  # the value now
         self.is_event, self.is_real = signal.type == "event", signal.is_real
         # Of the pixel: its first changes, and all numbers of a real signal.
         self.first: List[Tuple[int, bytes]] = []
@@ -71,14 +71,14 @@ class Lane:
         self.is_full = False
         self.numbers: List[Tuple[int, float]] = []
         self.has_x, self.time = False, 0
-        self.before: Optional[bytes] = None  # the value at the begin of the pixel
+        self.before = b""  # the value at the begin of the pixel
 
     def note(self, time: int, text: bytes) -> None:
         """Takes a value from a time on."""
         if text == self.text and not self.is_event:
             return
         if self.first and self.time < time:  # else the last value was there for no time
-            self.has_x = self.has_x or _is_x(self.text)
+            self.has_x = self.has_x or body.has_letter(self.text, b"x")
         self.text, self.time = text, time
         # Of the values of one time only the last one counts, and not if it is that from before.
         if self.first and self.first[-1][0] == time:
@@ -103,10 +103,11 @@ class Lane:
 
     def close(self, pixel: int, of: Pixels) -> None:
         """Ends a pixel."""
-        if self.text is not None and len(self.first) > 1:
+        if self.text and len(self.first) > 1:
             begin, end = of.first(pixel), min(of.first(pixel + 1), of.window.last)
             is_late = self.first[0][0] > begin or pixel * of.length % of.width > 0
-            has_x = self.has_x or _is_x(self.text) or is_late and _is_x(self.before)
+            has_x = self.has_x or body.has_letter(self.text, b"x") or (
+                is_late and body.has_letter(self.before, b"x"))
             numbers = [number for _, number in self.numbers]
             self.points.append((begin, Several(min(numbers, default=math.inf),
                                                max(numbers, default=-math.inf), has_x)))
@@ -115,11 +116,6 @@ class Lane:
             self.points += [(time, self.value(text)) for time, text in self.first]
         self.first, self.numbers, self.is_full, self.has_x = [], [], False, False
         self.before = self.text
-
-
-def _is_x(text: Optional[bytes]) -> bool:
-    """Whether a value has an x."""
-    return text is not None and b"x" in text and text[:1] != b"r"
 
 
 class Lanes:
@@ -188,7 +184,7 @@ class Lanes:
             last = {code: value for code, value, _ in body.changes_in(text, middle, end, codes)}
             for code, value in last.items():
                 lane = self.of_code[code]
-                lane.has_x, lane.text = lane.has_x or _is_x(lane.text), value
+                lane.has_x, lane.text = lane.has_x or body.has_letter(lane.text, b"x"), value
             codes, end, size = codes.difference(last), middle, 4 * size
 
     def codes(self, is_full: bool) -> FrozenSet[bytes]:

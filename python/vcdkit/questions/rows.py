@@ -135,13 +135,12 @@ def as_they_come(source: Source, names: List[str], columns: Sequence[Signal],
     with the values at its end. With a condition, it returns only the rows at which that holds. The
     names select all these signals."""
     codes = {one.code.encode() for one in columns}.union(only.over if only else ())
-    pairs = (body.at_edges(source, names, codes, edges) if edges
+    pairs = (((time, changes) for time, changes, _ in body.at_clocks(
+        source, names, codes, dict.fromkeys(edges, 1))) if edges
              else ((time, before + changes if before else changes)
                    for time, before, changes in body.steps(source.part(names), codes)))
     # Row() takes longer than all that makes a pair.
-    rows: Iterator[Row] = map(tuple.__new__, itertools.repeat(Row),
-                               _rows(pairs, columns, bool(edges), only))
-    yield from rows
+    return map(tuple.__new__, itertools.repeat(Row), _rows(pairs, columns, bool(edges), only))
 
 
 def _rows(pairs: Iterable[Tuple[int, body.Changes]], columns: Sequence[Signal], is_every: bool,

@@ -21,10 +21,6 @@ class _Lines:
         self._find, self._letters = body.letters_in(letters).finditer, letters
         self._shown: Set[bytes] = set()  # codes whose last value has one of the letters
 
-    def has_letter(self, value: bytes) -> bool:
-        """Whether a value is digits of which one is one of the letters."""
-        return value[:1] != b"r" and any(letter in value for letter in self._letters)
-
     def __call__(self, out: BinaryIO) -> Iterator[bytes]:
         for block in body.blocks(out):
             text = b"\n" + block
@@ -39,7 +35,7 @@ class _Lines:
         """Whether a line with a value matters; notes the value."""
         code, value = body.change(line)
         was_shown = code in self._shown
-        if self.has_letter(value):
+        if body.has_letter(value, self._letters):
             self._shown.add(code)
             return True
         self._shown.discard(code)
@@ -88,7 +84,7 @@ def values_of(part: Source, signals: Signals, letters: bytes) -> Iterator[Tuple[
             ends.pop(code, None)
             ends[code] = text
         for code, text in ends.items():
-            is_shown = lines.has_letter(text)
+            is_shown = body.has_letter(text, letters)
             if is_shown and last.get(code) != text:
                 yield time, code, text
             last[code] = text if is_shown else None

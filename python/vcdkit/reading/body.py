@@ -153,13 +153,6 @@ def at_once(part: Source, code: bytes) -> Iterator[Tuple[int, bytes]]:
                     yield now, value
 
 
-def at_edges(source: Source, names: List[str], codes: Collection[bytes], edges: Collection[Edge]
-             ) -> Iterator[Tuple[int, Changes]]:
-    """Returns the times and the changes of at_clocks, of edges that are all the same."""
-    its = at_clocks(source, names, codes, dict.fromkeys(edges, 1))
-    return ((time, changes) for time, changes, _ in its)
-
-
 def at_clocks(source: Source, names: List[str], codes: Collection[bytes], edges: Dict[Edge, int]
               ) -> Iterator[Tuple[int, Changes, int]]:
     """Returns each time that has one of some edges, with the changes of some codes, and of the
@@ -260,6 +253,11 @@ def letters_in(letters: bytes) -> "re.Pattern[bytes]":
     """Returns what finds the lines whose values have a digit that is one of some letters; the group
     is the code."""
     return re.compile(rb"\n(?:[%b]|b[01xz]*?[%b][01xz]* )(.*)" % (letters, letters))
+
+
+def has_letter(value: bytes, letters: bytes) -> bool:
+    """Whether a value is digits of which one is one of some letters."""
+    return value[:1] != b"r" and any(map(value.__contains__, letters))
 
 
 def line_at(text: bytes, at: int) -> bytes:

@@ -6,18 +6,15 @@ import threading
 from functools import partial
 from typing import Iterable, Optional, Union
 
-from ..errors import RunFailed, UsageError, VcdkitError
+from ..errors import UsageError, failing
 
 Path = Union[str, "os.PathLike[str]"]
 
 
 def text_of_file(path: str) -> str:
     """Returns the text of a file, or of standard input for `-`."""
-    try:
-        with open("/dev/stdin" if path == "-" else path, "rb") as file:
-            return file.read().decode("utf-8", "surrogateescape")
-    except OSError as error:
-        raise RunFailed("%s: %s" % (path, error.strerror)) from error
+    with failing(path), open("/dev/stdin" if path == "-" else path, "rb") as file:
+        return file.read().decode("utf-8", "surrogateescape")
 
 
 def check_outputs(outputs: Iterable[Optional[str]], inputs: Iterable[Optional[str]]) -> None:
@@ -42,17 +39,13 @@ def write(path: Path, blocks: Iterable[bytes]) -> None:
     """Writes a file, behind links if the path is one; if this fails, it is as it was. What is no
     regular file, such as a FIFO or a device, is written as it is."""
     name = os.fspath(path)
-    try:
+    with failing(name):
         mode = os.stat(name).st_mode if os.path.exists(name) else None
         if mode is None or stat.S_ISREG(mode) and not _is_open_file(name):
             _replace(os.path.realpath(name), mode, blocks)
         else:
             with open(_own(name), "ab") as file:  # what was written there stays
                 file.writelines(blocks)
-    except OSError as error:
-        if isinstance(error, VcdkitError):
-            raise
-        raise RunFailed("%s: %s" % (name, error.strerror)) from error
 
 
 def _own(name: str) -> Union[str, int]:

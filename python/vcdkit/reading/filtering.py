@@ -2,7 +2,7 @@
 from functools import partial
 from typing import Iterator
 
-from ..errors import RunFailed, UsageError, VcdkitError
+from ..errors import UsageError, failing
 from . import body, progress
 from .formats import FRONT, format_of
 from .source import Source
@@ -12,8 +12,7 @@ from .texts import File
 def blocks_of(path: str) -> Iterator[bytes]:
     """Returns the text of a file in blocks of whole lines, or that of standard input if the path is
     `-`. A file may be packed."""
-    name = "(stdin)" if path == "-" else path
-    try:
+    with failing("(stdin)" if path == "-" else path):
         with open(0 if path == "-" else path, "rb", closefd=path != "-") as file:
             its = format_of(file.peek(FRONT))
             if its is None or not its.unpacker:
@@ -28,7 +27,3 @@ def blocks_of(path: str) -> Iterator[bytes]:
             raise UsageError("the input is compressed: unpack it first, for example with gzip -dc")
         with Source(File(path)).open() as text:
             yield from body.blocks(text)
-    except OSError as error:
-        if isinstance(error, VcdkitError):
-            raise
-        raise RunFailed("%s: %s" % (name, error.strerror)) from error
