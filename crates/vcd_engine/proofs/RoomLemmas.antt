@@ -46,10 +46,6 @@ pick_room_fits limit h w v views are =
 pub pick_room_within : (limit chunk : ℕ) (v : HeadView) → chunk ≤ 65536 → AreWithinBound limit chunk v (pick_room v)
 pick_room_within limit chunk v le = λ h views. pick_room_fits limit h (record { chunk = chunk; token = limit; value = limit }) v views (windows limit chunk le)
 
--- the same room is no more
-pub same_within : (r r' most : RoomSize) → r' ≡ r → IsWithin r most → IsWithin r' most
-same_within r r' most same within = subst (λ x. IsWithin x most) (sym same) within
-
 -- what an engine holds, after its begin and after a step
 pub lent_within : (limit chunk : ℕ) (v v' : HeadView) (r most : RoomSize) → v' ≡ v → IsWithin r most → AreWithinBound limit chunk v most → AreWithinBound limit chunk v' r
 lent_within limit chunk v v' r most same within bound = subst (λ w. AreWithinBound limit chunk w r) (sym same) (still_within limit chunk v r most within bound)

@@ -29,7 +29,6 @@ use Rattle.vcd_engine.specs.Pick.{ArePicked, names_in}
 use Rattle.vcd_engine.specs.Sample.{AreSampled, asked_in}
 use Rattle.vcd_body.specs.declared.answer.Stop.{Stop}
 use Rattle.vcd_body.specs.declared.answer.Stop.TheVariants.{Write, Unmatched}
-use Rattle.vcd_engine.specs.declared.engine.Begun.{Begun}
 use Rattle.vcd_engine.specs.declared.engine.Engine.{Engine}
 use Rattle.vcd_engine.specs.declared.task_state.TaskState.{TaskState}
 use Rattle.vcd_engine.specs.declared.task_state.TaskState.TheVariants as task_state
@@ -63,10 +62,6 @@ Keeps (task_state.Sample s) h items = AreSampled s h items
 Keeps (task_state.Edges e) h items = AreEdges e h items
 
 -- ---- requests
-
--- the request of a task that has begun
-abbrev pub request_of_begun : Begun → Request
-request_of_begun b = request_in b.task_state
 
 -- the request that an engine runs
 abbrev pub request_of_engine : Engine → Request
@@ -153,17 +148,13 @@ ClosesOver v holds text out out' result = (h : Header) (items : List BodyItem) �
 abbrev pub AtClose : HeadView → Regs → (Header → List BodyItem → Type 0) → Type 0
 AtClose v r holds = (h : Header) (items : List BodyItem) → IsViewOf v h → AreRegsAfter items r → last_time_of r ≡ last_mark items → holds h items
 
--- a task has begun over this header
-abbrev pub HasBegun : Begun → Header → Type 0
-HasBegun b h = Keeps b.task_state h []
-
 -- the engine has begun, and no step of it has ended the run
 abbrev pub is_going : Engine → Bool
 is_going e = e.going
 
 -- an engine over this header holds what is due after these items
 pub record Holds (e : Engine) (h : Header) (items : List BodyItem) : Type 0 where
-  pub views : IsViewOf e.view h
+  pub views : IsViewOf e.view.now h
   pub can : CanRun (request_of_engine e) h
   pub known : AreRegsAfter items e.regs
   pub last : last_time_of e.regs ≡ last_mark items

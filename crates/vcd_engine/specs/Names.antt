@@ -46,13 +46,13 @@ pub use Rattle.vcd_engine.specs.Check.{AreCounted}
 pub use Rattle.vcd_engine.specs.Choice.{is_chosen}
 pub use Rattle.vcd_engine.specs.Cut.{AreCut, BeginsBy, IsNoTimestamp, lent_to, PutsStart, SameSpan, span_in}
 pub use Rattle.vcd_engine.specs.Edges.{AreEdges, AreTallied, change_to, names_counted, room_in_edges, SameEdges}
-pub use Rattle.vcd_engine.specs.Engine.{AtClose, AtItem, CanRun, ClosesOver, CountsStop, HasBegun, Holds, is_going, Keeps, last_time_of, may_end_early, request_in, request_of, request_of_begun, request_of_engine, Starts, StartsOver, StopsUnread, TakesEach, TakesTime}
+pub use Rattle.vcd_engine.specs.Engine.{AtClose, AtItem, CanRun, ClosesOver, CountsStop, Holds, is_going, Keeps, last_time_of, may_end_early, request_in, request_of, request_of_engine, Starts, StartsOver, StopsUnread, TakesEach, TakesTime}
 pub use Rattle.vcd_engine.specs.ItemText.{HasWritten, LastTells, may_be_kept, PutsEntry, times_with}
 pub use Rattle.vcd_engine.specs.Leads.{AnySampled, HaveNoLine, IsSelectedAt, LeadOn, rows_on}
 pub use Rattle.vcd_engine.specs.Pick.{ArePicked, flags_in, is_kept, names_in}
 pub use Rattle.vcd_engine.specs.PendingCopy.{pending_in, IsLine, IsNextItem, IsPart, PutsBehind, PutsOn, PutsCopy}
 pub use Rattle.vcd_engine.specs.Report.{declares_variable, named_line, opens_scope}
-pub use Rattle.vcd_engine.specs.Room.{AnyRoom, AreWithinBound, BeginsAs, HasRoomFor, IsWithin, IsWithinEachBound, KeepsBound, marks_for, room_in, room_of, room_of_begun, room_size, SameHold, SameTask, slots_for, values_for, view_in}
+pub use Rattle.vcd_engine.specs.Room.{AnyRoom, AreWithinBound, BeginsAs, HasRoomFor, IsWithin, IsWithinEachBound, KeepsBound, marks_for, room_in, room_of, room_size, SameHold, SameTask, slots_for, values_for, view_in}
 pub use Rattle.vcd_engine.specs.Rows.{AtRow}
 pub use Rattle.vcd_engine.specs.TaskRun.{CountsOn, EndsAsAsked, Finishes, MayRun, RunsTask, RunsWhole, SameWindows}
 pub use Rattle.vcd_engine.specs.Sample.{AreSampled, asked_in, is_due, lent_to as lent_to_sample, SameSample}

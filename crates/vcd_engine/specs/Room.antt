@@ -11,7 +11,6 @@ use Rattle.vcd_view.specs.Needs.{room, view_size}
 use Rattle.vcd_view.specs.Shown.{parts}
 use Rattle.vcd_view.specs.Views.{IsViewOf}
 use Rattle.vcd_engine.specs.Pick.{flags_in}
-use Rattle.vcd_engine.specs.declared.engine.Begun.{Begun}
 use Rattle.vcd_engine.specs.declared.engine.Engine.{Engine}
 use Rattle.vcd_engine.specs.declared.task_state.TaskState.{TaskState}
 use Rattle.vcd_engine.specs.declared.task_state.TaskState.TheVariants as task_state
@@ -82,10 +81,7 @@ SameTask m m' = (request_in m' ≡ request_in m) × (room_of m' ≡ room_of m)
 
 -- what an engine has besides its registers: a view, and room
 abbrev pub view_in : Engine → HeadView
-view_in e = e.view
-
-abbrev pub room_of_begun : Begun → RoomSize
-room_of_begun b = room_of b.task_state
+view_in e = e.view.now
 
 abbrev pub room_in : Engine → RoomSize
 room_in e = room_of e.task_state

@@ -1,6 +1,6 @@
 //! A run of a task over the items of a body. It knows no single command.
-ghost use Rattle.std.specs.Prelude.{◌≡◌, ◌≢◌, ◌-◌, ◌^◌, ◌<◌, [], List, true, false, Ok, MatchResult};
-ghost use Rattle.vcd_engine.specs.Names.{Advances, Again, BeginsAs, BodyItem, CallEnd, CanRun, close_text, Counts, CountsOn, Early, EndsAsAsked, EndsAtRead, Finishes, HasBegun, HasRoomFor, Header, Holds, is_going, IsValid, IsViewOf, IsWithinEachBound, item_text, MayRun, MayStep, parts, request_of, request_of_begun, request_of_engine, room_in, room_of_begun, room_size, RunsTask, SameHold, SameWindows, seen, StartsOver, Steps, StepsAhead, StepsOver, Takes, view_in};
+ghost use Rattle.std.specs.Prelude.{◌≡◌, ◌-◌, ◌^◌, ◌<◌, [], List, true, false, Ok, IfOk, MatchResult};
+ghost use Rattle.vcd_engine.specs.Names.{Advances, Again, BeginsAs, BodyItem, CallEnd, close_text, Counts, CountsOn, Early, EndsAsAsked, EndsAtRead, Finishes, HasRoomFor, Header, Holds, is_going, IsValid, IsWithinEachBound, item_text, MayRun, MayStep, parts, request_of, request_of_engine, room_in, room_size, RunsTask, SameHold, SameWindows, seen, StartsOver, Steps, StepsAhead, StepsOver, Takes, view_in};
 ghost use Rattle.vcd_engine.specs.Waits.{StepsOrStops};
 ghost use Rattle.vcd_body.specs.Prompt.{HasPassedOn, LeavesSink};
 ghost use Rattle.vcd_body.specs.Whole.{HoldsItem, IsPrompt};
@@ -19,9 +19,10 @@ use vcd_view::HeadView;
 
 /// A task between two items of a body: its header's view, the registers, and what it keeps.
 #[derive(Drop)]
-// Each loan has a lifetime of its own, as in a feed.
+// Each loan has a lifetime of its own, as in a feed. The view is behind a reference, because a
+// `Result` cannot hold its ghost field beside the `&mut` of the room.
 pub struct Engine<'v, 'n, 'r> {
-    view: HeadView<'v>,
+    view: &'v HeadView<'v>,
     regs: Regs,
     task_state: TaskState<'n, 'r>,
     going: bool,
@@ -46,16 +47,10 @@ fn text_of_item<'f, S: Source>(feed: &'f Feed<'_, '_, '_, '_, S>, item: Item) ->
     }
 }
 
-/// A task that has begun: `Engine::new` makes its engine, over a view of the same header.
-#[derive(Drop)]
-pub struct Begun<'n, 'r> {
-    task_state: TaskState<'n, 'r>,
-}
-
-impl<'n, 'r> Begun<'n, 'r> {
-    /// Begins a task over the body of this header, and writes what comes before all items: for
-    /// `pick` and `cut` a header. The times of the task are in order, and `room` has the lengths
-    /// that `Task::need` returns.
+impl<'v, 'n, 'r> Engine<'v, 'n, 'r> {
+    /// Returns an engine that runs a task over the body of this header, before its first item, and
+    /// writes what comes before all items: for `pick` and `cut` a header. The times of the task are
+    /// in order, and `room` has the lengths that `Task::need` returns.
     ///
     /// # Errors
     ///
@@ -63,41 +58,28 @@ impl<'n, 'r> Begun<'n, 'r> {
     /// write failed, after a prefix.
     pub fn start<W: Sink>(
         task: Task<'n>,
-        view: HeadView<'_>,
+        view: &'v HeadView<'v>,
         room: Room<'r>,
         out: &mut W,
-    ) -> Result<Begun<'n, 'r>, Stop>
+    ) -> Result<Engine<'v, 'n, 'r>, Stop>
         requires failures { (W.device out.old).failures < 2 ^ 64 - 1 }
         requires valid { IsValid (request_of task) }
-        requires room { HasRoomFor task view room }
-        requires bound { IsWithinEachBound view (room_size room) }
-        ensures starts { StartsOver view.entry HasBegun (request_of task.entry)
+        requires room { HasRoomFor task view.now room }
+        requires bound { IsWithinEachBound view.now (room_size room) }
+        ensures starts { StartsOver view.now (λ engine h. Holds engine h []) (request_of task.entry)
             (W.device out.old) (W.device out.new) result }
-        ensures begins { BeginsAs request_of_begun room_of_begun (request_of task.entry)
+        ensures begins { BeginsAs request_of_engine room_in (request_of task.entry)
             (room_size room.entry) (W.device out.old) (W.device out.new) result }
+        ensures going { IfOk result (λ engine. is_going engine ≡ true) }
+        ensures view { IfOk result (λ engine. view_in engine ≡ view.now) }
     {
-        let task_state = TaskState::start(task, view, room, out)?;
-        Ok(Begun { task_state })
-    }
-}
-
-impl<'v, 'n, 'r> Engine<'v, 'n, 'r> {
-    /// Returns an engine that runs a task that `start` has begun over the same header, before its
-    /// first item.
-    pub fn new(begun: Begun<'n, 'r>, view: HeadView<'v>) -> Engine<'v, 'n, 'r>
-        ensures holds { (h : Header) → IsViewOf view.entry h
-            → CanRun (request_of_begun begun.entry) h → HasBegun begun.entry h → Holds result h [] }
-        ensures going { is_going result ≡ true }
-        ensures request { request_of_engine result ≡ request_of_begun begun.entry }
-        ensures loans { (view_in result ≡ view.entry)
-            × (room_in result ≡ room_of_begun begun.entry) }
-    {
-        Engine {
+        let task_state = TaskState::start(task, *view, room, out)?;
+        Ok(Engine {
             view,
             regs: Regs::new(),
-            task_state: begun.task_state,
+            task_state,
             going: true,
-        }
+        })
     }
 
     /// Returns whether `step` may be called: false once a step has returned anything but `Again`.
@@ -120,7 +102,7 @@ impl<'v, 'n, 'r> Engine<'v, 'n, 'r> {
         out: &mut W,
     ) -> Result<More, Stop>
         requires step { MayStep S.failures self.old feed.old (W.device out.old) }
-        requires view { parts view ≡ parts self.old.view }
+        requires view { parts view ≡ parts (view_in self.old) }
         ensures gives { Steps W.device self.old self.new feed.old feed.new out.old out.new result }
         ensures over { StepsOver S.failures self.old self.new feed.old feed.new
             (W.device out.old) (W.device out.new) result }
@@ -167,7 +149,7 @@ impl<'v, 'n, 'r> Engine<'v, 'n, 'r> {
     ) -> Result<(), WriteFailed>
         requires out_failures { (W.device out.old).failures < 2 ^ 64 - 1 }
         requires going { is_going self.old ≡ true }
-        requires view { parts view ≡ parts self.old.view }
+        requires view { parts view ≡ parts (view_in self.old) }
         ensures gives { StepsAhead self.old self.new feed.old feed.new
             (W.device out.old) (W.device out.new) result }
         ensures advances { Advances S.failures feed.old feed.new CallEnd.GoesOn }
@@ -178,7 +160,7 @@ impl<'v, 'n, 'r> Engine<'v, 'n, 'r> {
             (λ _. is_going self.new ≡ true) (λ _. is_going self.new ≡ false) }
         ensures request { request_of_engine self.new ≡ request_of_engine self.old }
         ensures holds { SameHold self.old self.new }
-        ensures view { parts self.new.view ≡ parts self.old.view }
+        ensures view { parts (view_in self.new) ≡ parts (view_in self.old) }
     {
         let taken = self
             .task_state
@@ -206,7 +188,7 @@ impl<'v, 'n, 'r> Engine<'v, 'n, 'r> {
         out: &mut W,
     ) -> Result<More, Stop>
         requires step { MayStep S.failures self.old feed.old (W.device out.old) }
-        requires view { parts view ≡ parts self.old.view }
+        requires view { parts view ≡ parts (view_in self.old) }
         requires prompt { IsPrompt (W.kept_back out.old) feed.old }
         requires open { HasNotFailed feed.old }
         ensures gives { Steps W.device self.old self.new feed.old feed.new out.old out.new result }
@@ -230,7 +212,7 @@ impl<'v, 'n, 'r> Engine<'v, 'n, 'r> {
         out: &mut W,
     ) -> Result<More, Stop>
         requires step { MayStep S.failures self.old feed.old (W.device out.old) }
-        requires view { parts view ≡ parts self.old.view }
+        requires view { parts view ≡ parts (view_in self.old) }
         requires open { HasNotFailed feed.old }
         ensures gives { StepsOrStops self.old self.new feed.old feed.new
             (W.device out.old) (W.device out.new) result }
@@ -260,7 +242,7 @@ impl<'v, 'n, 'r> Engine<'v, 'n, 'r> {
             (close_text (request_of_engine self.now) h items) result }
         ensures counts { Counts (W.device out.old) (W.device out.new) result }
     {
-        self.task_state.close(self.view, self.regs, out)
+        self.task_state.close(*self.view, self.regs, out)
     }
 
     /// Handles all items that are left, writes the output of each and that at the end to `out`, and
@@ -284,7 +266,7 @@ impl<'v, 'n, 'r> Engine<'v, 'n, 'r> {
         ensures windows { SameWindows feed.old feed.new }
         ensures passed_on { HasPassedOn (W.kept_back out.new) result }
     {
-        let view = self.view;
+        let view = *self.view;
         'items: loop {
             match self.advance(view, feed, out)? {
                 More::Again => {}
@@ -318,7 +300,7 @@ pub fn step<S: Source, W: Sink>(
         → source_of feed.new ≡ source_of feed.old }
     ensures sink { LeavesSink out.old out.new result }
 {
-    engine.step_with_view(engine.view, feed, out)
+    engine.step_with_view(*engine.view, feed, out)
 }
 
 /// Runs a task over the body that follows the header of `view`, and returns what ended it:
@@ -347,7 +329,6 @@ pub fn run_task<S: Source, W: Sink>(
     // If a read fails, the sink keeps nothing back of the output that was due before that read.
     ensures passed_on { HasPassedOn (W.kept_back out.new) result }
 {
-    let begun = Begun::start(task, view, room, out)?;
-    let mut engine = Engine::new(begun, view);
+    let mut engine = Engine::start(task, &view, room, out)?;
     engine.run_to_end(feed, out)
 }

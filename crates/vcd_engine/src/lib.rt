@@ -3,7 +3,7 @@
 //! `list` writes a line for each variable of a view. Each other command over one dump is a `Task`.
 //! `run_task` runs it over the items of the body, in a `Room` of the lengths that `Task::need`
 //! returns; `check`, `pick`, `cut`, `sample` and `edges` are one call of it each. An `Engine` is
-//! the same run in parts, for callers that have more to do between items: `Begun::start` begins its
+//! the same run in parts, for callers that have more to do between items: `Engine::start` begins its
 //! task, and each `step` takes one item. None of them takes memory.
 //!
 //! # The relations
@@ -22,7 +22,7 @@
 //! # The modules
 //!
 //! - `task`: `Task`, `Room`, `Task::need`
-//! - `engine`: `Begun`, `Engine`, and `run_task`, the one loop over items. It names no command
+//! - `engine`: `Engine`, and `run_task`, the one loop over items. It names no command
 //! - `task_state`, and under it `check`, `pick`, `cut`, `sample`, `edges`: what each task keeps
 //!   between items, and what it does at the start, with an item and at the end; `walk`:
 //!   `AheadTask`, what a task does with items that lie completely in the chunk, and the loop over
@@ -66,6 +66,6 @@ mod task;
 mod task_state;
 
 pub use commands::{check, cut, edges, pick, sample};
-pub use engine::{Begun, Engine, run_task, step};
+pub use engine::{Engine, run_task, step};
 pub use rows::list;
 pub use task::{Room, Task};

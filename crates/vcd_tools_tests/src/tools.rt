@@ -14,7 +14,7 @@ use vcd_body::{Share, Slot};
 use vcd_head::{Head, HeadFault, HeadView, read_head};
 use vcd_text::doubles::Narrow;
 use vcd_text::{Feed, Sink, Source, Watch};
-use vcd_tools::{Begun, Done, Engine, More, Room, Stop, Task, check, laws, list, step};
+use vcd_tools::{Done, Engine, More, Room, Stop, Task, check, laws, list, step};
 
 const NESTED: &[u8] = b"$var event 1 % go $end\n$scope module tb $end\n$var wire 1 ! clk $end\n\
     $scope module u $end\n$var reg 4 \" q [3:0] $end\n$upscope $end\n$var real 1 # r $end\n\
@@ -176,8 +176,7 @@ fn takes_steps_in<S: Source>(
         (room_size room) }
 {
     let mut out = Watch::new(Narrow::new(256));
-    let begun = Begun::start(task, view, room, &mut out)?;
-    let mut engine = Engine::new(begun, view);
+    let mut engine = Engine::start(task, &view, room, &mut out)?;
     Ok(
         engine.going()
             && out.device.held() == steps.before
