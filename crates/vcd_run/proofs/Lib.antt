@@ -1,0 +1,4 @@
+pub mod StepLemmas
+pub mod ReadLemmas
+pub mod AheadSteps
+pub mod OutcomeLemmas

@@ -1,0 +1,4 @@
+pub mod Plan
+pub mod Task
+pub mod Run
+pub mod Outcomes

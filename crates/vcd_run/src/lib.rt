@@ -1,0 +1,16 @@
+//! The loop over the items of a body, for any task.
+//!
+//! A `Task` says what is done with an item, with the items that lie completely in the chunk, and at
+//! the end of a body. `run_to_end` reads the items and hands each of them to the task.
+//!
+//! # The modules
+//!
+//! - `task`: `Task`, `AheadEnd`
+//! - `run`: `run_to_end`
+#![tactic(auto)]
+
+mod run;
+mod task;
+
+pub use run::run_to_end;
+pub use task::{AheadEnd, Task};
