@@ -1,7 +1,7 @@
--- Items that a run takes ahead in a feed's chunk, one after the other.
-use Rattle.vcd_compare.proofs.Cited.{◌≡◌, ℕ, Bool, true, false, not, List, [], ◌∷◌, ◌++◌, Result, Ok, Err, refl, sym, ap, subst, ◌∙◌, append-nil, append_assoc, is_empty, Header, BodyItem, Token, Names, within_open, ahead_of, bytes_of, lines_of, longest_of, passed_of, Device, Writes, limit_of, Passed, Ahead, Ghosts, WriteFailed, Feed, IsViewOf, HeadView, GaveAhead, GivesAhead, LooksOver, PassesNoItem, AreRegsAfter, regs_after, Begins, Further, Past, Stage, Trail, Walks, stage_at, Regs, gave_none_ahead, walk_passes, model_asked, Compares, ComparesOne, IsCounted, SameRequest, StepsAhead, Comparison, Watched, Run}
-use Rattle.vcd_model.specs.Compare.{Asked as ModelAsked}
+-- Items that a run takes ahead in a chunk, one after the other.
+use Rattle.vcd_compare.proofs.Cited.{◌≡◌, ℕ, Bool, true, false, not, List, [], ◌∷◌, ◌++◌, Result, Ok, Err, refl, sym, ap, subst, ◌∙◌, append-nil, append_assoc, is_empty, Header, BodyItem, Names, within_open, appends-none, bytes_of, longest_of, passed_of, Device, Writes, Ahead, WriteFailed, IsViewOf, HeadView, GaveAhead, LooksOver, PassesNoItem, AreRegsAfter, regs_after, Begins, Further, Past, Stage, Trail, Walks, stage_at, Regs, gave_none_ahead, walk_passes, Plan, RunsOver, model_asked, Compares, ComparesOne, HasHandled, IsCounted, SameRequest, plan_within, Comparison, Watched, Run}
 use Rattle.vcd_compare.specs.declared.asked.Asked.{Asked}
+use Rattle.vcd_compare.proofs.RunEnds.{not_ended}
 
 abbrev pub Counted : Watched → Comparison → List ℕ → Regs → Type 0
 Counted w c bytes r = IsCounted w c
@@ -19,12 +19,14 @@ module _ (v : HeadView) (s : Stage Watched Comparison) where
   record HasTaken (z : Stage Watched Comparison) : Type 0 where
     pub over : LooksOver (longest_of s.ahead) (bytes_of s.ahead) z.ahead
     pub same : SameRequest s.command z.command
+    pub out : z.out ≡ s.out
     pub takes : (h : Header) (exceptions : List (List ℕ)) (ns : List Names) (lines : ℕ) (before : List BodyItem) → IsViewOf v h → AreRegsAfter before s.regs → Compares h exceptions ns before s.command s.visit → Taken h exceptions ns lines before z
 
   taken_on : (b c : Stage Watched Comparison) → HasTaken b → ComparesOne v b c (Ok tt) → HasTaken c
   taken_on b c so_far one = record {
     over = (one.item.same.1 ∙ so_far.over.0, one.item.same.0 ∙ so_far.over.1);
     same = record { pairs = one.same.pairs ∙ so_far.same.pairs; asked = one.same.asked ∙ so_far.same.asked };
+    out = one.out ∙ so_far.out;
     takes = λ h exceptions ns lines before views known compares.
         let t = so_far.takes h exceptions ns lines before views known compares in
         let n = one.item.gives h (longest_of s.ahead) lines (bytes_of s.ahead) before t.more views so_far.over t.known t.gave in
@@ -44,6 +46,7 @@ module _ (v : HeadView) (s : Stage Watched Comparison) where
   taken_past b there so_far none = record {
     over = (none.same.1 ∙ so_far.over.0, none.same.0 ∙ so_far.over.1);
     same = record { pairs = so_far.same.pairs; asked = so_far.same.asked };
+    out = so_far.out;
     takes = λ h exceptions ns lines before views known compares.
         let t = so_far.takes h exceptions ns lines before views known compares in
         record {
@@ -60,6 +63,7 @@ module _ (v : HeadView) (s : Stage Watched Comparison) where
     taken_none = record {
       over = (refl, refl);
       same = record { pairs = refl; asked = refl };
+      out = refl;
       takes = λ h exceptions ns lines before views known compares.
           let nil = sym (append-nil before) in
           record {
@@ -76,45 +80,54 @@ module _ (v : HeadView) (s : Stage Watched Comparison) where
     along _ (Further b c so_far one on) = taken_on b c (along b so_far) one.did
     along _ (Past b c so_far there none is) = rw is (taken_past b there (along b so_far) none)
 
-    -- no write fails, and no walk is over
-    all_taken : (z : Stage Watched Comparison) (ended : Result Bool WriteFailed) → Walks ComparesOne Counted (λ _. false) v s z ended → HasTaken z × IsCounted z.visit z.command
-    all_taken z (Ok false) on = (along z on.trail, on.on)
+    all_taken : (z : Stage Watched Comparison) (ended : Result Bool WriteFailed) → Walks ComparesOne Counted (λ _. false) v s z ended → HasTaken z
+    all_taken z (Ok false) on = along z on.trail
     all_taken z (Ok true) on = let e = on.3 in absurd (cc)
     all_taken z (Err f) on = let e = on.2.did.done in absurd (cc)
 
-module _ (v : HeadView) (a a' : Ahead) (run run' : Run) (out out' : Device) (ended : Result Bool WriteFailed) (first : passed_of a ≡ 0) (walks : Walks ComparesOne Counted (λ _. false) v (stage_at a run.regs run.watched run.comparison out) (stage_at a' run'.regs run'.watched run'.comparison out') ended) where
+  -- no write fails, and no walk is over
+  still : (z : Stage Watched Comparison) (ended : Result Bool WriteFailed) → Walks ComparesOne Counted (λ _. false) v s z ended → (z.out.failures ≡ s.out.failures) × IsCounted z.visit z.command
+  still z (Ok false) on = (on.failures, on.on)
+  still z (Ok true) on = let e = on.3 in absurd (cc)
+  still z (Err f) on = let e = on.2.did.done in absurd (cc)
+
+module _ (v : HeadView) (a a' : Ahead) (r r' : Regs) (run run' : Run) (out out' : Device) (ended : Result Bool WriteFailed) (walks : Walks ComparesOne Counted (λ _. false) v (stage_at a r run.watched run.comparison out) (stage_at a' r' run'.watched run'.comparison out') ended) where
   abbrev begin : Stage Watched Comparison
-  begin = stage_at a run.regs run.watched run.comparison out
+  begin = stage_at a r run.watched run.comparison out
 
   abbrev end : Stage Watched Comparison
-  end = stage_at a' run'.regs run'.watched run'.comparison out'
-
-  taken : HasTaken v begin end × IsCounted run'.watched run'.comparison
-  taken = all_taken v begin first end ended walks
+  end = stage_at a' r' run'.watched run'.comparison out'
 
   pub counted_ahead : IsCounted run'.watched run'.comparison
-  counted_ahead = taken.1
+  counted_ahead = (still v begin end ended walks).1
 
-  -- whole tokens were passed
-  pub passes_ahead : (lines : ℕ) → (ts : List Token) × Passed (longest_of a) lines (bytes_of a) (passed_of a') ts
-  passes_ahead lines = (walk_passes ComparesOne Counted (λ _. false) v begin (longest_of a) lines (bytes_of a) [] (refl, refl) first end ended walks).1
-
-  -- a feed that has passed them has come further
-  pub come_ahead : {X : Type 0} {g : Ghosts X} (f f' : Feed X g) → longest_of a ≡ limit_of f → bytes_of a ≡ ahead_of f → GivesAhead (passed_of a') f f' → run'.differs ≡ run.differs → StepsAhead v run run' f f'
-  come_ahead f f' limit bytes gives differs q exceptions h ns i front begin items out views come =
-      let all = taken.0 in
-      let t = all.takes h exceptions ns (lines_of f) items views come.gave.known come.stands.compares in
-      let gave = subst (λ (bs : List ℕ). GaveAhead h.codes (limit_of f) (lines_of f) bs (passed_of a') items t.more) bytes (subst (λ (n : ℕ). GaveAhead h.codes n (lines_of f) (bytes_of a) (passed_of a') items t.more) limit t.gave) in
-      let still = subst (λ (x : ModelAsked). within_open x h ns (items ++ t.more) ≡ within_open x h ns items) come.asked t.same_open in (
-        items ++ t.more,
-        record {
-          asked = ap (λ (x : Asked). model_asked x exceptions) all.same.asked ∙ come.asked;
-          gave = gives h.codes i front items t.more run.regs run'.regs come.gave gave t.known;
-          stands = record {
-            compares = t.compares;
-            differs = differs ∙ come.stands.differs ∙ ap (λ l. not (is_empty l)) (sym t.same_open) ∙ ap (λ (x : Asked). not (is_empty (within_open (model_asked x exceptions) h ns (items ++ t.more)))) (sym all.same.asked);
-          };
-          written = subst (Writes begin out) (sym still) come.written;
-        },
-        still,
-      )
+  pub runs_ahead : run'.differs ≡ run.differs → RunsOver HasHandled v a r run run' out out' (record { passed = passed_of a'; regs = r'; written = Ok tt })
+  runs_ahead differs = record {
+    gives = λ p h lines before views known few has on first.
+        let all = all_taken v begin first end ended walks in
+        let t = all.takes h has.exceptions has.ns lines before views known has.stands.compares in
+        let by_plan : p ≡ plan_within (model_asked run'.comparison.current.asked has.exceptions) h has.ns = has.by_plan ∙ ap (λ (x : Asked). plan_within (model_asked x has.exceptions) h has.ns) (sym all.same.asked) in (
+          t.more,
+          (
+            t.gave,
+            t.known,
+            record {
+              exceptions = has.exceptions;
+              ns = has.ns;
+              by_plan = by_plan;
+              stands = record {
+                compares = t.compares;
+                differs = differs ∙ has.stands.differs ∙ ap (λ l. not (is_empty l)) (sym t.same_open) ∙ ap (λ (x : Asked). not (is_empty (within_open (model_asked x has.exceptions) h has.ns (before ++ t.more)))) (sym all.same.asked);
+              };
+            },
+            ap (λ (q : Plan). q.ends (before ++ t.more)) by_plan ∙ not_ended h has.exceptions has.ns (before ++ t.more) run'.comparison run'.watched t.compares,
+            (
+              [],
+              ap (λ (q : Plan). q.opens (before ++ t.more)) has.by_plan ∙ t.same_open ∙ ap (λ (q : Plan). q.opens before) (sym has.by_plan) ∙ sym (append-nil (p.opens before)),
+              subst (λ (o : Device). Writes out o []) (sym all.out) (appends-none out.held, refl),
+            ),
+          ),
+        );
+    passes = λ lines first. (walk_passes ComparesOne Counted (λ _. false) v begin (longest_of a) lines (bytes_of a) [] (refl, refl) first end ended walks).1;
+    counts = (still v begin end ended walks).0;
+  }

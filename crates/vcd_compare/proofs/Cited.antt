@@ -1,6 +1,6 @@
 -- What the proofs of this crate cite of std, of specs/ and of the crates below, under one path.
 pub use Prim.Native.Nat.{zero}
-pub use Rattle.std.proofs.Common.{Bool, Err, List, None, Ok, Option, Result, Some, [], add-one, add-zero, ap, append-nil, append_assoc, ap₂, arith, bytes_eq, codes, cond, count_by, decimal, drop, false, filter, filter_map, find, flat_map, fold, get_or, if◌then◌else◌, inl, inr, length, map, max, min, nat_eq, nat_le, nat_lt, not, position, refl, replicate, rules, set, slice_get, subst, suc, sym, take, true, ℕ, ◌%◌, ◌&&◌, ◌*◌, ◌++◌, ◌+◌, ◌-◌, ◌/◌, ◌<◌, ◌==◌, ◌^◌, ◌||◌, ◌∙◌, ◌∷◌, ◌≡◌, ◌≢◌, ◌≤◌, ◌⊎◌}
+pub use Rattle.std.proofs.Common.{Bool, Err, List, None, Ok, Option, Result, Some, [], add-one, add-zero, ap, append-nil, append_assoc, ap₂, arith, bytes_eq, codes, cond, count_by, decimal, drop, false, filter, filter_map, find, flat_map, fold, get_or, if◌then◌else◌, inl, inr, length, map, max, min, nat_eq, nat_le, nat_lt, not, position, refl, replicate, rules, set, slice_get, subst, suc, sym, take, true, ℕ, ◌%◌, ◌&&◌, ◌*◌, ◌++◌, ◌+◌, ◌-◌, ◌/◌, ◌<◌, ◌==◌, ◌||◌, ◌∙◌, ◌∷◌, ◌≡◌, ◌≢◌, ◌≤◌, ◌⊎◌}
 pub use Rattle.std.proofs.Math.Bool.{and-false, or-false, or-true, or_self}
 pub use Rattle.std.proofs.lemmas.Bool.{and_cases, and_from, and_left, and_parts, and_right, cases_eq, cases_lt, eq-eqb, eqb-false, eqb-true, false_from_ne_true, le-leb, le-ltb, leb-true, lt-leb, lt-ltb, ltb-false, ltb-true, ne_eqb, or_from, or_left, or_parts, or_right}
 pub use Rattle.std.proofs.lemmas.List.{append_cancel_left, flat_map_more, get_or-replicate, get_or-set_other, get_or-set_same, length-append, length-map, length-replicate, length-set, map-append, take-append-drop, take_all, take_more}
@@ -18,31 +18,23 @@ pub use Rattle.std.specs.Io.KnownBytes.{Appends}
 pub use Rattle.std.specs.List.{AllByRecursion, AllZip, list_any, position_or_len, starts_with}
 pub use Rattle.std.specs.Option.{IsSomeAnd}
 pub use Rattle.std.specs.Prelude.{IfOk, IfSome, IsErr, MatchOption, is_none, is_some, option_and_then, option_map, slice_set, unwrap_or, vec_len}
-pub use Rattle.vcd_body.proofs.CallerLemmas.{gave_none_ahead, gave_nothing}
+pub use Rattle.vcd_body.proofs.CallerLemmas.{gave_none_ahead}
 pub use Rattle.vcd_body.proofs.CompareLemmas.{length_extended}
 pub use Rattle.vcd_body.proofs.CurrentLemmas.{held_still, new_holds, room_enough}
 pub use Rattle.vcd_body.proofs.StoreLemmas.{get_other, get_set}
 pub use Rattle.vcd_body.proofs.TableLemmas.{shown_are, value_there}
 pub use Rattle.vcd_body.proofs.WalkLemmas.{walk_passes}
-pub use Rattle.vcd_body.specs.Ahead.{GaveAhead, GivesAhead, LooksOver, PassesNoItem}
-pub use Rattle.vcd_body.specs.Answer.{stop_of_body}
+pub use Rattle.vcd_body.specs.Ahead.{GaveAhead, LooksOver, PassesNoItem}
 pub use Rattle.vcd_body.specs.Contents.{IsLaidOut, codes_shown, held_at, shown_as, shown_code, value_in}
 pub use Rattle.vcd_body.specs.Current.{AreHeld}
-pub use Rattle.vcd_body.specs.Given.{GivesItem, HasGoodText, IsItem, text_of}
-pub use Rattle.vcd_body.specs.Items.{AreRegsAfter, model_form, model_section, regs_after}
+pub use Rattle.vcd_body.specs.Given.{HasGoodText, IsItem}
+pub use Rattle.vcd_body.specs.Items.{AreRegsAfter, model_form, regs_after}
 pub use Rattle.vcd_body.specs.Kept.{Held, digit_in, real_text, value_at_size}
-pub use Rattle.vcd_body.specs.Reads.{Fails, GaveAll, GaveItem, GaveItems}
 pub use Rattle.vcd_body.specs.Stored.{digits_held}
 pub use Rattle.vcd_body.specs.Taken.{IsSection}
 pub use Rattle.vcd_body.specs.Walk.{Begins, Further, Past, Stage, Trail, Walks, stage_at}
-pub use Rattle.vcd_body.specs.declared.answer.Done.{Done}
-pub use Rattle.vcd_body.specs.declared.answer.Done.TheVariants.{Early, Whole}
-pub use Rattle.vcd_body.specs.declared.answer.More.{More}
-pub use Rattle.vcd_body.specs.declared.answer.More.TheVariants.{Again, Ended}
 pub use Rattle.vcd_body.specs.declared.answer.Stop.{Stop}
 pub use Rattle.vcd_body.specs.declared.answer.Stop.TheVariants.{Dump, Read, Unmatched, Write}
-pub use Rattle.vcd_body.specs.declared.fault.BodyFault.{BodyFault}
-pub use Rattle.vcd_body.specs.declared.fault.BodyFault.TheVariants.{ReadFailed}
 pub use Rattle.vcd_body.specs.declared.item.Form.{Form}
 pub use Rattle.vcd_body.specs.declared.item.Item.{Item}
 pub use Rattle.vcd_body.specs.declared.item.Item.TheVariants.{Begin, Change, Finish, Time}
@@ -59,12 +51,11 @@ pub use Rattle.vcd_compare.specs.Kinds.{model_kind}
 pub use Rattle.vcd_compare.specs.Leads.{HasLead}
 pub use Rattle.vcd_compare.specs.LineTexts.{ArePairLines, states_of}
 pub use Rattle.vcd_compare.specs.Lines.{DoNotFall, IsQuiet, changed_at, codes_differ, flag_of, had_line, is_always, lines_due, time_compared}
-pub use Rattle.vcd_compare.specs.Needed.{StepReads, due_with, is_settled_with}
-pub use Rattle.vcd_compare.specs.Outcomes.{AnswersGiveOutcomes, Belongs, BodiesGiveOutcomes, left_of}
+pub use Rattle.vcd_compare.specs.Outcomes.{AnswersGiveOutcomes, BodiesGiveOutcomes, ways_within}
 pub use Rattle.vcd_compare.specs.Pairs.{AreFew, AreLinked, ArePairs, HasEnd, HoldsPairs, IsClassOf, IsLastEnd, IsPairAt, IsUnlikeAt, names_in}
 pub use Rattle.vcd_compare.specs.Paths.{AreApart, AreTexts, EntersPath, EntersText, HasTexts, IsNumberOf, has_dot, joined, node_at, texts_in}
-pub use Rattle.vcd_compare.specs.Run.{BodyBegins, BodyGives, HasCome, RunStands, StepGives, StepsAhead, TellsEnd, flag_after, is_due_now, settled_by, step_end}
-pub use Rattle.vcd_compare.specs.Selected.{AreInside, AreMarks, AreNamedBelow, AreNearest, AreWithin, IsNearest, IsPutInside, both_names, chosen, first_above, is_inside, is_kept, is_one_of, lists_in}
+pub use Rattle.vcd_compare.specs.Run.{Answers, HasHandled, RunStands, Tells, TellsEnd, done_of, flag_after, is_due_now, plan_within, settled_by}
+pub use Rattle.vcd_compare.specs.Selected.{AreInside, AreNamedBelow, AreNearest, AreWithin, both_names, chosen, is_inside, is_kept, is_one_of, lists_in}
 pub use Rattle.vcd_compare.specs.Variables.{AddsVariable, AreCounted, AreNumbered, AreVariables, HasSome, IsAround, IsAt, IsKeyOf, IsNamedAt, IsScopeNumber, named_in, same_key}
 pub use Rattle.vcd_compare.specs.declared.comparing.Comparison.{Comparison}
 pub use Rattle.vcd_compare.specs.declared.comparing.Watched.{Watched}
@@ -85,7 +76,6 @@ pub use Rattle.vcd_head.proofs.PathLemmas.{path_is}
 pub use Rattle.vcd_head.specs.Inside.{front}
 pub use Rattle.vcd_head.specs.Paths.{scopes_text}
 pub use Rattle.vcd_model.proofs.BodyFacts.{all_back, body_fit}
-pub use Rattle.vcd_model.proofs.BodyPrefix.{items_begin}
 pub use Rattle.vcd_model.proofs.FinalValues.{times_within, value_by}
 pub use Rattle.vcd_model.proofs.Growing.{each_after-append, entries-append}
 pub use Rattle.vcd_model.proofs.HeaderFacts.{stream_words}
@@ -99,7 +89,7 @@ pub use Rattle.vcd_model.proofs.TokenTexts.{IsWord}
 pub use Rattle.vcd_model.specs.Backward.{each, each_after}
 pub use Rattle.vcd_model.specs.BodyReading.{body_fault_of, body_items, read_body}
 pub use Rattle.vcd_model.specs.Bytes.{is_empty}
-pub use Rattle.vcd_model.specs.Compare.{Asked, Extent, Kind, Named, Pair, Rule, all_match, all_named, alone_lines, changes_at, count_line, differs, digits_match, ends_with, exactly, fault_after, in_order, is_due, is_fit, is_left_in, is_triggered, kind_of, kind_shown, lines_at, match, named_after, same_kind, state_at, unlike_lines, value_line, values_match, with_time}
+pub use Rattle.vcd_model.specs.Compare.{Asked, Extent, Kind, Named, Pair, Rule, all_match, all_named, alone_lines, changes_at, count_line, differs, digits_match, ends_with, exactly, in_order, is_due, is_fit, is_left_in, is_triggered, kind_of, kind_shown, lines_at, match, named_after, same_kind, state_at, unlike_lines, value_line, values_match, with_time}
 pub use Rattle.vcd_model.specs.Compare.Extent.{Always, EachPair, First}
 pub use Rattle.vcd_model.specs.Compare.Kind.{Digits, Event, Real}
 pub use Rattle.vcd_model.specs.Cut.{is_mark_above}
@@ -113,22 +103,23 @@ pub use Rattle.vcd_model.specs.Input.{Input}
 pub use Rattle.vcd_model.specs.Items.{BodyItem, Entry, entries, entry_after, is_begin, is_end_of_section, leaves_open, marks, time_after}
 pub use Rattle.vcd_model.specs.Laws.{IsPrefixOf}
 pub use Rattle.vcd_model.specs.Outcome.{Opened, Outcome, declarations_allowed}
-pub use Rattle.vcd_model.specs.Reading.{Fault, Placed, Reading, phrases_of, reading_of, texts_of}
+pub use Rattle.vcd_model.specs.Reading.{Placed, Reading, phrases_of, reading_of, texts_of}
 pub use Rattle.vcd_model.specs.Reading.Ending.{AtLast}
 pub use Rattle.vcd_model.specs.Sample.{is_settled, shown}
 pub use Rattle.vcd_model.specs.Selection.{Selected, selects_path, with_path}
 pub use Rattle.vcd_model.specs.SoFar.{IsWhole}
 pub use Rattle.vcd_model.specs.Tokens.{Stream, Token, stream_of}
 pub use Rattle.vcd_model.specs.Values.{Value, extend, extension, same_value}
-pub use Rattle.vcd_model.specs.Within.{Names, alone_in, answer_in, at_path, compared_in, ends_run, lines_where, pair_at, pairs_in, places_of, rest_of, side, times_in, turned, unlike_in, within_close, within_head, within_open}
-pub use Rattle.vcd_text.proofs.AdvancesLemmas.{advances_nowhere, advances_on}
-pub use Rattle.vcd_text.proofs.Writes.{AppendsSome, appends-first, appends-none, appends-some, appends-twice, both-written, counted, some-behind, some-first, takes-failed, takes-twice}
-pub use Rattle.vcd_text.specs.Advances.{Advances, CallEnd}
-pub use Rattle.vcd_text.specs.Ahead.{ahead_of, bytes_of, lines_of, longest_of, passed_of}
-pub use Rattle.vcd_text.specs.Answer.{failed_after}
-pub use Rattle.vcd_text.specs.Device.{Device, Gains, Supply, Takes, Writes, WritesSome}
-pub use Rattle.vcd_text.specs.Feed.{HasGiven, chunk_len_of, limit_of, seen, supply_of, token_of}
-pub use Rattle.vcd_text.specs.Passed.{Passed}
+pub use Rattle.vcd_model.specs.Within.{Names, alone_in, at_path, compared_in, ends_run, lines_where, pair_at, pairs_in, places_of, side, times_in, turned, unlike_in, within_close, within_head, within_open}
+pub use Rattle.vcd_run.proofs.OutcomeLemmas.{gives_outcome}
+pub use Rattle.vcd_run.specs.Outcomes.{Belongs, IsSound, KeepOutput}
+pub use Rattle.vcd_run.specs.Plan.{Plan}
+pub use Rattle.vcd_run.specs.Run.{BodyBegins, left_of}
+pub use Rattle.vcd_run.specs.Task.{RunsOver, TakesOne}
+pub use Rattle.vcd_text.proofs.Writes.{AppendsSome, appends-first, appends-none, appends-some, appends-twice, counted, takes-failed, takes-twice}
+pub use Rattle.vcd_text.specs.Ahead.{bytes_of, longest_of, passed_of}
+pub use Rattle.vcd_text.specs.Device.{Device, Gains, Takes, Writes, WritesSome}
+pub use Rattle.vcd_text.specs.Feed.{HasGiven, limit_of}
 pub use Rattle.vcd_text.specs.declared.ahead.Ahead.{Ahead}
 pub use Rattle.vcd_text.specs.declared.device.Source.{Ghosts}
 pub use Rattle.vcd_text.specs.declared.device.WriteFailed.{WriteFailed}

@@ -28,7 +28,6 @@ pub mod RunEnds
 pub mod TimeSteps
 pub mod AheadSteps
 pub mod RunSteps
-pub mod NeededLemmas
 pub mod StartLemmas
 pub mod RowLemmas
 pub mod Cited

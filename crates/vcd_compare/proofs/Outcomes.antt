@@ -1,8 +1,9 @@
 -- The outcome of a body, by its first items or by all of them.
-use Rattle.vcd_compare.proofs.Cited.{◌≡◌, ◌⊎◌, inl, inr, ℕ, ◌<◌, ◌≤◌, ◌==◌, Bool, true, false, not, cond, ◌&&◌, ◌||◌, nat_lt, List, [], ◌∷◌, ◌++◌, length, Option, Some, None, Result, Ok, Err, refl, sym, ap, subst, ◌∙◌, append-nil, append_assoc, arith, AllByRecursion, cases_lt, eqb-true, eqb-false, le-ltb, lt-ltb, map-append, AllZip-long, is_empty, body_fault_of, body_items, read_body, IdCode, Header, header_of, HeaderPhrase, header_fault_of, header_grammar, Input, BodyItem, marks, IsPrefixOf, Opened, Outcome, declarations_allowed, Fault, Placed, Reading, phrases_of, reading_of, texts_of, AtLast, IsWhole, Stream, Token, stream_of, Asked, count_line, fault_after, Names, answer_in, compared_in, ends_run, within_close, within_open, all_back, body_fit, stream_words, AreFit, fault_output, whole-more, IsWord, failed_after, Device, WritesSome, some-first, Done, Early, Whole, Stop, Dump, Read, Write, Unmatched, DoNotFall, lines_due, time_compared, AnswersGiveOutcomes, Belongs, BodiesGiveOutcomes, left_of, IsPairAt, BodyGives, Answer}
+use Rattle.vcd_compare.proofs.Cited.{◌≡◌, ◌⊎◌, inl, inr, ℕ, ◌<◌, ◌≤◌, ◌==◌, Bool, true, false, not, cond, ◌&&◌, ◌||◌, nat_lt, List, [], ◌∷◌, ◌++◌, length, None, Result, Ok, Err, refl, sym, ap, subst, ◌∙◌, append-nil, append_assoc, arith, AllByRecursion, cases_lt, eqb-true, eqb-false, le-ltb, lt-ltb, map-append, AllZip-long, is_empty, body_fault_of, body_items, read_body, IdCode, Header, header_of, HeaderPhrase, header_fault_of, header_grammar, Input, BodyItem, marks, IsPrefixOf, Opened, declarations_allowed, Placed, Reading, phrases_of, reading_of, texts_of, AtLast, IsWhole, Stream, Token, stream_of, Asked, count_line, Names, compared_in, within_open, all_back, body_fit, stream_words, AreFit, fault_output, whole-more, IsWord, Stop, Dump, Read, Write, Unmatched, DoNotFall, lines_due, time_compared, AnswersGiveOutcomes, Belongs, BodiesGiveOutcomes, left_of, IsPairAt, Answer, Answers, done_of, plan_within, ways_within, IsSound, KeepOutput, gives_outcome}
 use Rattle.vcd_model.specs.HeaderReading.{read_header}
 use Rattle.vcd_model.specs.Outcome.{body_of, open_from}
 use Rattle.vcd_model.specs.Within.{within, within_dump}
+use Rattle.vcd_run.specs.Outcomes.{over_plan}
 use Rattle.vcd_compare.proofs.EarlyEnd.{ended, up_front}
 use Rattle.vcd_compare.proofs.OpenGrows.{open_again, open_later, open_other}
 
@@ -44,56 +45,23 @@ module _ (q : Asked) (h : Header) (ns : List Names) where
       let rest = open_more (items ++ x ∷ []) more up' in
       (one.0 ++ rest.0, ap (within_open q h ns) next ∙ rest.1 ∙ ap (λ l. l ++ rest.0) one.1 ∙ append_assoc (within_open q h ns items) one.0 rest.0)
 
--- ---- outcomes
+  -- no item takes a line back, and none behind those that end a run counts
+  sound : IsSound (plan_within q h ns) h.codes
+  sound limit i front rest items more tokens is =
+      let up = subst (λ l. DoNotFall 0 (marks l)) is (body_up h.codes limit i front rest tokens) in
+      (open_more items more up, λ ends. ended q h ns items more up ends)
 
-module _ (q : Asked) (ns : List Names) (name : List ℕ) (h : Header) (stream : Stream) (rest : List Token) where
-  abbrev opened : Opened
-  opened = record { header = h; stream = stream; rest = rest }
+  module _ (name : List ℕ) where
+    kept : KeepOutput (ways_within q h ns name)
+    kept = record {
+      well = λ lines. (count_line (length (compared_in q h ns)), refl);
+      faulty = λ lines f. fault_output lines name f;
+    }
 
-  abbrev all : List BodyItem
-  all = body_items (read_body h.codes rest)
-
-  pub ended_outcome : ends_run q h ns all ≡ true → within_dump q ns name opened ≡ answer_in q h ns (within_open q h ns all)
-  unfolding within_dump body_of
-  ended_outcome ends = rw (ends, within_dump) refl
-
-  pub clean_outcome : ends_run q h ns all ≡ false → body_fault_of stream (read_body h.codes rest) ≡ None → within_dump q ns name opened ≡ answer_in q h ns (within_open q h ns all ++ within_close q h ns all)
-  unfolding within_dump body_of
-  clean_outcome on none = rw (on, none, within_dump) refl
-
-  pub faulty_outcome : (f : Fault) → ends_run q h ns all ≡ false → body_fault_of stream (read_body h.codes rest) ≡ Some f → within_dump q ns name opened ≡ fault_after (within_open q h ns all) name f
-  unfolding within_dump body_of
-  faulty_outcome f on fault = rw (on, fault, within_dump) refl
-
-  -- items that end the run, and any behind them
-  pub early_outcome : (items more : List BodyItem) → all ≡ items ++ more → DoNotFall 0 (marks all) → ends_run q h ns items ≡ true → within_dump q ns name opened ≡ answer_in q h ns (within_open q h ns items)
-  early_outcome items more is up ends =
-      let both = ended q h ns items more (subst (λ l. DoNotFall 0 (marks l)) is up) ends in
-      ended_outcome (ap (ends_run q h ns) is ∙ both.0) ∙ ap (answer_in q h ns) (ap (within_open q h ns) is ∙ both.1)
-
-  -- the output of a fault is what was due before it
-  after_fault : (lines : List ℕ) (f : Fault) → (fault_after lines name f).output ≡ lines
-  after_fault lines f = fault_output lines name f
-
-  -- all outcomes begin with what is due with the first items
-  pub begins : (items more : List BodyItem) → all ≡ items ++ more → DoNotFall 0 (marks all) → IsPrefixOf (within_open q h ns items) (within_dump q ns name opened).output
-  begins items more is up = by_end (ends_run q h ns all) refl
-    where
-      due : IsPrefixOf (within_open q h ns items) (within_open q h ns all)
-      due = subst (λ l. IsPrefixOf (within_open q h ns items) (within_open q h ns l)) (sym is) (open_more q h ns items more (subst (λ l. DoNotFall 0 (marks l)) is up))
-
-      -- and so does what begins with all that is due
-      longer : (lines text : List ℕ) → text ≡ within_open q h ns all ++ lines → IsPrefixOf (within_open q h ns items) text
-      longer lines text e = (due.0 ++ lines, e ∙ ap (λ l. l ++ lines) due.1 ∙ append_assoc (within_open q h ns items) due.0 lines)
-
-      by_fault : (f : Option Fault) → ends_run q h ns all ≡ false → body_fault_of stream (read_body h.codes rest) ≡ f → IsPrefixOf (within_open q h ns items) (within_dump q ns name opened).output
-      by_fault None on e =
-          longer (within_close q h ns all ++ count_line _) _ (ap (λ (o : Outcome). o.output) (clean_outcome on e) ∙ append_assoc (within_open q h ns all) (within_close q h ns all) (count_line _))
-      by_fault (Some f) on e = longer [] _ (ap (λ (o : Outcome). o.output) (faulty_outcome f on e) ∙ after_fault (within_open q h ns all) f ∙ sym (append-nil (within_open q h ns all)))
-
-      by_end : (b : Bool) → ends_run q h ns all ≡ b → IsPrefixOf (within_open q h ns items) (within_dump q ns name opened).output
-      by_end true e = longer (count_line _) _ (ap (λ (o : Outcome). o.output) (ended_outcome e))
-      by_end false e = by_fault (body_fault_of stream (read_body h.codes rest)) e refl
+    -- the outcome of the definitions is that of the plan
+    planned : (stream : Stream) (rest : List Token) → within_dump q ns name (record { header = h; stream = stream; rest = rest }) ≡ over_plan (plan_within q h ns) (ways_within q h ns name) (body_items (read_body h.codes rest)) (body_fault_of stream (read_body h.codes rest))
+    unfolding within_dump body_of over_plan
+    planned stream rest = refl
 
 -- ---- the header
 
@@ -123,52 +91,22 @@ over_header q limit ns name i front rest placed whole e =
 
 -- ---- what a body gives
 
-module _ (q : Asked) (ns : List Names) (name : List ℕ) (i : Input) (front : List Token) (placed : List (Placed HeaderPhrase)) (limit read : ℕ) (out out' : Device) (whole : IsWhole (header_grammar declarations_allowed) front placed) where
-  abbrev h : Header
-  h = header_of (phrases_of placed)
-
-  abbrev Given : Result Answer Stop → Type 0
-  Given r = BodyGives q h ns i front limit read out out' r
-
-  -- a run that did not fail
-  well : (differs : Bool) (done : Done) (last : ℕ) → Given (Ok (record { differs = differs; done = done; last = last })) → Belongs q h ns (within q limit ns name i) name out out' (Ok (record { differs = differs; done = done; last = last }))
-  well differs Whole last (items, (has, on, written, is), ends) =
-      let header = over_header q limit ns name i front has.rest placed whole has.tokens in
-      let outcome = clean_outcome q ns name h (stream_of limit i) has.rest (ap (ends_run q h ns) has.items_are ∙ on) has.fault_is in
-      (within_open q h ns items ++ within_close q h ns items, header ∙ outcome ∙ ap (λ l. answer_in q h ns (within_open q h ns l ++ within_close q h ns l)) has.items_are, written, is)
-  well differs Early last (items, (b, ends, written, is), at) =
-      let header = over_header q limit ns name i front b.rest placed whole b.tokens in
-      let outcome = early_outcome q ns name h (stream_of limit i) b.rest items b.begins.0 b.begins.1 (body_up h.codes limit i front b.rest b.tokens) ends in
-      (within_open q h ns items, header ∙ outcome, written, is)
-
-  -- the output of what begins so
-  begun : (items : List BodyItem) (rest : List Token) → (stream_of limit i).tokens ≡ front ++ rest → IsPrefixOf items (body_items (read_body h.codes rest)) → WritesSome out out' (within_open q h ns items) → WritesSome out out' (within q limit ns name i).output
-  begun items rest tokens begins_with some =
-      let header = over_header q limit ns name i front rest placed whole tokens in
-      let b = begins q ns name h (stream_of limit i) rest items begins_with.0 begins_with.1 (body_up h.codes limit i front rest tokens) in
-      subst (WritesSome out out') (sym (ap (λ (o : Outcome). o.output) header ∙ b.1)) (some-first out out' (within_open q h ns items) b.0 some)
-
-  gives : (r : Result Answer Stop) → Given r → Belongs q h ns (within q limit ns name (left_of i read r)) name out out' r
-  gives (Ok answer) given = well answer.differs answer.done answer.last given
-  gives (Err (Dump input line fault)) (items, is, has, on, written) =
-      let header = over_header q limit ns name i front has.rest placed whole has.tokens in
-      let outcome = faulty_outcome q ns name h (stream_of limit i) has.rest _ (ap (ends_run q h ns) has.items_are ∙ on) has.fault_is in
-      (within_open q h ns items, is, header ∙ outcome ∙ ap (λ l. fault_after (within_open q h ns l) name (record { number = fault; line = line })) has.items_are, written)
-  gives (Err (Read input)) (items, line, is, has, on, written) =
-      let left = failed_after read i in
-      let header = over_header q limit ns name left front has.rest placed whole has.tokens in
-      let outcome = faulty_outcome q ns name h (stream_of limit left) has.rest _ (ap (ends_run q h ns) has.items_are ∙ on) has.fault_is in
-      (within_open q h ns items, line, is, header ∙ outcome ∙ ap (λ l. fault_after (within_open q h ns l) name (record { number = 31; line = line })) has.items_are, written)
-  gives (Err Write) (inl (items, b, some)) = begun items b.rest b.tokens b.begins some
-  gives (Err Write) (inr (items, has, on, some)) =
-      let header = over_header q limit ns name i front has.rest placed whole has.tokens in
-      let outcome = clean_outcome q ns name h (stream_of limit i) has.rest (ap (ends_run q h ns) has.items_are ∙ on) has.fault_is in
-      let is = header ∙ outcome ∙ ap (λ l. answer_in q h ns (within_open q h ns l ++ within_close q h ns l)) has.items_are in
-      subst (WritesSome out out') (sym (ap (λ (o : Outcome). o.output) is)) (some-first out out' (within_open q h ns items ++ within_close q h ns items) (count_line _) some)
-  gives (Err (Unmatched index)) given = absurd given
+-- the same is left of the input
+left_same : (i : Input) (read : ℕ) (result : Result Answer Stop) → left_of i read (done_of result) ≡ left_of i read result
+left_same i read (Ok answer) = refl
+left_same i read (Err (Dump input line fault)) = refl
+left_same i read (Err (Read input)) = refl
+left_same i read (Err Write) = refl
+left_same i read (Err (Unmatched index)) = refl
 
 pub bodies_give_outcomes : BodiesGiveOutcomes
-bodies_give_outcomes q ns name i front placed limit read out out' result whole given = gives q ns name i front placed limit read out out' whole result given
+bodies_give_outcomes q ns name i front placed limit read out out' result whole given =
+    let h = header_of (phrases_of placed) in
+    let gives = gives_outcome (plan_within q h ns) (ways_within q h ns name) (kept q h ns name) (Answers result) h (sound q h ns) i front limit read out out' (done_of result) given in
+    let left = left_of i read (done_of result) in
+    let all = over_header q limit ns name left front gives.rest placed whole gives.tokens ∙ planned q h ns name (stream_of limit left) gives.rest in
+    let belongs = subst (λ o. Belongs (Answers result) (ways_within q h ns name) o out out' (done_of result)) (sym all) gives.belongs in
+    subst (λ (l : Input). Belongs (Answers result) (ways_within q h ns name) (within q limit ns name l) out out' (done_of result)) (left_same i read result) belongs
 
 -- ---- the answer
 

@@ -1,10 +1,13 @@
--- What a step leaves: with a timestamp, with any other item, at the end of a body, and at a fault.
-use Rattle.vcd_compare.proofs.Cited.{◌≡◌, inl, inr, ℕ, ◌≤◌, max, Bool, true, false, not, List, [], ◌∷◌, ◌++◌, Ok, Err, refl, sym, ap, subst, ◌∙◌, append-nil, append_assoc, arith, is_empty, body_items, read_body, IdCode, Header, Input, BodyItem, time_after, Token, Names, ends_run, within_close, within_open, items_begin, Device, Writes, WritesSome, HasGiven, limit_of, seen, token_of, Ghosts, Feed, both-written, some-behind, stop_of_body, GivesItem, Again, text_of, IsItem, AreRegsAfter, model_form, model_section, regs_after, Fails, GaveAll, GaveItem, GaveItems, IsSection, Early, Whole, Write, BodyFault, ReadFailed, Form, Item, Regs, model_asked, Compares, BodyBegins, BodyGives, HasCome, StepGives, TellsEnd, settled_by, Comparison, Watched, Run}
-use Rattle.vcd_model.specs.Compare.{Asked as ModelAsked}
+-- What a run does as a task: with a timestamp, with any other item, and at the end of a body.
+use Rattle.vcd_compare.proofs.Cited.{◌≡◌, ◌⊎◌, inl, inr, ℕ, ◌≤◌, max, Bool, false, not, List, [], ◌∷◌, ◌++◌, Result, Ok, Err, refl, sym, ap, subst, ◌∙◌, append-nil, arith, is_empty, body_items, read_body, Header, Input, gives_to, IdCode, BodyItem, marks, time_after, Token, ends_run, within_close, within_open, appends-none, Device, Takes, HasGiven, limit_of, Ghosts, WriteFailed, Feed, IfOk, IsItem, Item, AreRegsAfter, regs_after, Regs, BodyBegins, Plan, TakesOne, model_asked, Compares, HasHandled, IsCounted, RunStands, TellsEnd, Tells, plan_within, settled_by, Run}
 use Rattle.vcd_body.specs.declared.item.Item.TheVariants as item
+use Rattle.vcd_body.specs.declared.item.Section.{Section}
 use Rattle.vcd_compare.specs.declared.asked.Asked.{Asked}
+use Rattle.vcd_compare.specs.Lines.{lines_due}
 use Rattle.vcd_compare.proofs.CompareSteps.{compares_still, open_same, section_quiet, time_more}
 use Rattle.vcd_compare.proofs.RunEnds.{not_ended, open_settled}
+use Rattle.vcd_compare.proofs.TimeSteps.{left_due}
+use Rattle.vcd_model.specs.Compare.{Asked as ModelAsked}
 
 -- a timestamp is not before those that were given
 pub time_forth : (items : List BodyItem) (t : ℕ) (r r' : Regs) → r' ≡ regs_after r (item.Time t) → AreRegsAfter (items ++ BodyItem.Time t ∷ []) r' → time_after items ≤ t
@@ -12,30 +15,6 @@ time_forth items t r r' e known =
     let is : r'.time ≡ t = ap (λ (x : Regs). x.time) e in
     let grown : r'.time ≡ max (time_after items) t = known.time_is ∙ time_more items t in
     omega arith
-
--- the item that was given, if it is a change, and if it is the begin or the end of a section
-pub change_given : {X : Type 0} {g : Ghosts X} (codes : List IdCode) (i : Input) (front : List Token) (items : List BodyItem) (f : Feed X g) (r : Regs) (code : ℕ) (form : Form) (text : List ℕ) (x : Item) → x ≡ item.Change code form → text ≡ text_of form f → GivesItem codes i front items f r x
-    → (y : BodyItem) × IsItem codes text (item.Change code form) y × GaveItem codes i front items y f r
-change_given codes i front items f r code form text x is text_is =
-    rw is (λ given. (BodyItem.Changes (record { code = given.0; form = model_form form; text = text_of form f }), (given.0, given.1, rw text_is refl), given.2))
-
-pub section_given : {X : Type 0} {g : Ghosts X} (codes : List IdCode) (i : Input) (front : List Token) (items : List BodyItem) (f : Feed X g) (r : Regs) (x : Item) → IsSection x → GivesItem codes i front items f r x → (y : BodyItem) × IsItem codes [] x y × GaveItem codes i front items y f r
-section_given codes i front items f r (item.Time t) section given = absurd section
-section_given codes i front items f r (item.Begin s) section given = (BodyItem.Begin (model_section s), refl, given)
-section_given codes i front items f r item.End section given = (BodyItem.End, refl, given)
-section_given codes i front items f r (item.Change code form) section given = absurd section
-section_given codes i front items f r item.Finish section given = absurd section
-
--- what was given comes first in the body
-pub begins_with : {X : Type 0} {g : Ghosts X} (h : Header) (i : Input) (front : List Token) (items : List BodyItem) (f : Feed X g) (r : Regs) → GaveItems h.codes i front items f r → BodyBegins h i front (limit_of f) items
-begins_with h i front items f r gave =
-    let first = gave.stands.given_first in
-    let b = items_begin h.codes gave.given first.0 gave.placed gave.so_far in
-    record {
-      rest = gave.given ++ first.0;
-      tokens = first.1 ∙ append_assoc front gave.given first.0;
-      begins = (b.0, b.1 ∙ ap (λ l. l ++ b.0) gave.items_are);
-    }
 
 -- no item was given yet
 pub begins_none : {X : Type 0} {g : Ghosts X} (h : Header) (i : Input) (front : List Token) (f : Feed X g) → HasGiven i front f → BodyBegins h i front (limit_of f) []
@@ -45,120 +24,84 @@ begins_none h i front f given = record {
   begins = (body_items (read_body h.codes given.given_first.0), refl);
 }
 
-module _ {X : Type 0} {g : Ghosts X} (q : ModelAsked) (exceptions : List (List ℕ)) (h : Header) (ns : List Names) (i : Input) (front : List Token) (begin : Device) (items : List BodyItem) (run : Run) (f : Feed X g) (out : Device) (come : HasCome q exceptions h ns i front begin items run f out) where
-  -- nothing has ended it
-  pub not_over : ends_run q h ns items ≡ false
-  not_over = subst (λ (x : ModelAsked). ends_run x h ns items ≡ false) come.asked (not_ended h exceptions ns items run.comparison run.watched come.stands.compares)
+module _ (run run' : Run) (p : Plan) (h : Header) (items : List BodyItem) (has : HasHandled run p h items) where
+  abbrev own : ModelAsked
+  own = model_asked run.comparison.current.asked has.exceptions
 
-  -- nothing was written since
-  pub come_passed : (out' : Device) → Writes out out' [] → HasCome q exceptions h ns i front begin items run f out'
-  come_passed out' writes = record {
-    asked = come.asked;
-    gave = come.gave;
-    stands = come.stands;
-    written = subst (Writes begin out') (append-nil (within_open q h ns items)) (both-written begin out out' (within_open q h ns items) [] come.written writes);
-  }
-
-  module _ (run' : Run) (f' : Feed X g) where
-    -- a fault
-    pub stopped : (fault : BodyFault) (line : ℕ) → line ≡ (token_of f').line → Fails h.codes i front items fault f' → StepGives q exceptions h ns i front begin (within_open q h ns items) run' f' out (Err (stop_of_body fault 0 line))
-    stopped ReadFailed line is fails = (items, (token_of f').line, refl, fails.0.0, not_over, come.written)
-    stopped fault line is fails = (items, refl, rw is fails.0, not_over, come.written)
-
-    -- a write failed before a read
-    pub pass_fails : (out' : Device) → WritesSome out out' [] → BodyGives q h ns i front (limit_of f) (seen f') begin out' (Err Write)
-    pass_fails out' some =
-        let before = some-behind begin out out' (within_open q h ns items) [] come.written some in
-        inl (items, begins_with h i front items f run.regs come.gave, subst (WritesSome begin out') (append-nil (within_open q h ns items)) before)
-
-    -- an item with which nothing is due
-    pub goes_quiet : (x : BodyItem) → run'.comparison.current.asked ≡ run.comparison.current.asked → Compares h exceptions ns (items ++ x ∷ []) run'.comparison run'.watched
-        → within_open (model_asked run.comparison.current.asked exceptions) h ns (items ++ x ∷ []) ≡ within_open (model_asked run.comparison.current.asked exceptions) h ns items
-        → run'.differs ≡ run.differs → GaveItems h.codes i front (items ++ x ∷ []) f' run'.regs → StepGives q exceptions h ns i front begin (within_open q h ns items) run' f' out (Ok Again)
-    goes_quiet x same compares same_open differs gave =
-        let still = subst (λ (r : ModelAsked). within_open r h ns (items ++ x ∷ []) ≡ within_open r h ns items) come.asked same_open in (
-          items ++ x ∷ [],
-          record {
-            asked = ap (λ (a : Asked). model_asked a exceptions) same ∙ come.asked;
-            gave = gave;
-            stands = record {
-              compares = compares;
-              differs = differs ∙ come.stands.differs ∙ ap (λ l. not (is_empty l)) (sym same_open) ∙ ap (λ (a : Asked). not (is_empty (within_open (model_asked a exceptions) h ns (items ++ x ∷ [])))) (sym same);
-            };
-            written = subst (Writes begin out) (sym still) come.written;
-          },
-          ([], still ∙ sym (append-nil (within_open q h ns items))),
-        )
-
-    -- the begin or the end of a section
-    pub section_come : (x : Item) → IsSection x → (r : Regs) → GivesItem h.codes i front items f' r x → run'.regs ≡ r → run'.comparison ≡ run.comparison → run'.watched ≡ run.watched → run'.differs ≡ run.differs → StepGives q exceptions h ns i front begin (within_open q h ns items) run' f' out (Ok Again)
-    section_come x section r gives regs comparison watched differs =
-        let y = section_given h.codes i front items f' r x section gives in
-        let quiet = section_quiet h.codes [] x y.0 section y.1 in
-        let stands = compares_still h exceptions ns items y.0 run.comparison run.watched come.stands.compares quiet.0 quiet.1 in
-        goes_quiet y.0 (ap (λ (c : Comparison). c.current.asked) comparison)
-        (subst (λ (w : Watched). Compares h exceptions ns (items ++ y.0 ∷ []) run'.comparison w) (sym watched) (subst (λ (c : Comparison). Compares h exceptions ns (items ++ y.0 ∷ []) c run.watched) (sym comparison) stands))
-        (open_same h exceptions ns items y.0 run.comparison run.watched come.stands.compares quiet.0) differs (subst (GaveItems h.codes i front (items ++ y.0 ∷ []) f') (sym regs) y.2.gave)
+  module _ (same : run'.comparison.current.asked ≡ run.comparison.current.asked) where
+    goes : (more : List BodyItem) → RunStands h has.exceptions has.ns more run' → HasHandled run' p h more
+    goes more stands = record {
+      exceptions = has.exceptions;
+      ns = has.ns;
+      by_plan = has.by_plan ∙ ap (λ (a : Asked). plan_within (model_asked a has.exceptions) h has.ns) (sym same);
+      stands = stands;
+    }
 
     -- a timestamp
-    module _ (t : ℕ) (forth : time_after items ≤ t) (gave : GaveItems h.codes i front (items ++ BodyItem.Time t ∷ []) f' run'.regs) (out' : Device) where
+    module _ (x : BodyItem) (t : ℕ) (is : x ≡ BodyItem.Time t) (forth : time_after items ≤ t) (last : run'.last ≡ t) (out out' : Device) where
       abbrev after : List BodyItem
       after = items ++ BodyItem.Time t ∷ []
 
-      abbrev own : ModelAsked
-      own = model_asked run.comparison.current.asked exceptions
+      opens : p.opens after ≡ p.opens items ++ settled_by own h has.ns items t
+      opens =
+          ap (λ (q : Plan). q.opens after) has.by_plan
+          ∙ open_settled own h has.ns items t has.stands.compares.up forth
+          ∙ ap (λ (q : Plan). q.opens items ++ settled_by own h has.ns items t) (sym has.by_plan)
 
-      open_is : within_open q h ns after ≡ within_open q h ns items ++ settled_by own h ns items t
-      open_is = subst (λ (r : ModelAsked). within_open r h ns after ≡ within_open r h ns items ++ settled_by own h ns items t) come.asked (open_settled own h ns items t come.stands.compares.up forth)
+      now : t ≡ time_after after
+      now = let grown = time_more items t in omega arith
 
-      all_written : Writes out out' (settled_by own h ns items t) → Writes begin out' (within_open q h ns after)
-      all_written writes = subst (Writes begin out') (sym open_is) (both-written begin out out' (within_open q h ns items) (settled_by own h ns items t) come.written writes)
+      pub takes_time : (result : Result Bool WriteFailed) → Takes out out' (settled_by own h has.ns items t) result × IfOk result (TellsEnd own h has.exceptions has.ns after run')
+          → TakesOne (HasHandled run' p h) (Tells run'.differs run'.last) p items x out out' result
+      takes_time (Ok ended) takes = rw is (record {
+        due = (settled_by own h has.ns items t, opens, takes.0);
+        ends = takes.1.ended ∙ ap (λ (q : Plan). q.ends after) (sym has.by_plan);
+        keeps_on = λ e. let on : ended ≡ false = cc in goes after (takes.1.stands on);
+        tells_all = λ e. (takes.1.differs ∙ ap (λ (q : Plan). not (is_empty (q.opens after))) (sym has.by_plan), last ∙ now);
+      })
+      takes_time (Err e) takes = rw is (record { due = (settled_by own h has.ns items t, opens, takes.0); ends = tt; keeps_on = λ e. absurd (cc); tells_all = λ e. absurd (cc) })
 
-      pub time_on : (ended : Bool) → ended ≡ false → run'.comparison.current.asked ≡ run.comparison.current.asked → Writes out out' (settled_by own h ns items t) → TellsEnd own h exceptions ns after run' ended → StepGives q exceptions h ns i front begin (within_open q h ns items) run' f' out' (Ok Again)
-      time_on ended goes same writes tells = (
-        after,
+    -- an item with which nothing is due
+    pub takes_quiet : (x : BodyItem) (out : Device) → Compares h has.exceptions has.ns (items ++ x ∷ []) run'.comparison run'.watched → within_open own h has.ns (items ++ x ∷ []) ≡ within_open own h has.ns items → run'.differs ≡ run.differs
+        → TakesOne {E = WriteFailed} (HasHandled run' p h) (Tells run'.differs run'.last) p items x out out (Ok false)
+    takes_quiet x out compares same_open differs =
+        let on = not_ended h has.exceptions has.ns (items ++ x ∷ []) run'.comparison run'.watched compares in
         record {
-          asked = ap (λ (a : Asked). model_asked a exceptions) same ∙ come.asked;
-          gave = gave;
-          stands = tells.stands goes;
-          written = all_written writes;
-        },
-        (settled_by own h ns items t, open_is),
-      )
+          due = ([], ap (λ (q : Plan). q.opens (items ++ x ∷ [])) has.by_plan ∙ same_open ∙ ap (λ (q : Plan). q.opens items) (sym has.by_plan) ∙ sym (append-nil (p.opens items)), appends-none out.held);
+          ends = sym (ap (λ (q : Plan). q.ends (items ++ x ∷ [])) has.by_plan ∙ subst (λ (a : Asked). ends_run (model_asked a has.exceptions) h has.ns (items ++ x ∷ []) ≡ false) same on);
+          keeps_on = λ e.
+              goes (items ++ x ∷ []) (record {
+                compares = compares;
+                differs = differs ∙ has.stands.differs ∙ ap (λ l. not (is_empty l)) (sym same_open) ∙ ap (λ (a : Asked). not (is_empty (within_open (model_asked a has.exceptions) h has.ns (items ++ x ∷ [])))) (sym same);
+              });
+          tells_all = λ e. absurd (cc);
+        }
 
-      pub time_ends : (ended : Bool) → ended ≡ true → Writes out out' (settled_by own h ns items t) → TellsEnd own h exceptions ns after run' ended → BodyGives q h ns i front (limit_of f') (seen f') begin out' (Ok (record { differs = run'.differs; done = Early; last = run'.regs.time }))
-      time_ends ended stops writes tells = (
-        after,
-        (
-          begins_with h i front after f' run'.regs gave,
-          subst (λ (r : ModelAsked). ends_run r h ns after ≡ true) come.asked (sym tells.ended ∙ stops),
-          all_written writes,
-          subst (λ (r : ModelAsked). run'.differs ≡ not (is_empty (within_open r h ns after))) come.asked tells.differs,
-        ),
-        gave.known.time_is,
-      )
+  -- the end of the body
+  module _ (counted : IsCounted run.watched run.comparison) (r : Regs) (known : AreRegsAfter items r) (last : run'.last ≡ r.time) (out out' : Device) where
+    pub closes : (result : Result (Unit {0}) WriteFailed) → Takes out out' (lines_due own h has.ns items) result → IfOk result (λ _. run'.differs ≡ not (is_empty (within_open own h has.ns items ++ within_close own h has.ns items)))
+        → Takes out out' (p.closes items) result × IfOk result (λ _. Tells run'.differs run'.last items (p.opens items ++ p.closes items))
+    closes result puts differs =
+        subst (λ (q : Plan). Takes out out' (q.closes items) result × IfOk result (λ _. Tells run'.differs run'.last items (q.opens items ++ q.closes items))) (sym has.by_plan)
+        (rw (left_due h has.exceptions has.ns items run has.stands counted) puts, by_result result differs)
+      where
+        by_result : (a : Result (Unit {0}) WriteFailed) → IfOk a (λ _. run'.differs ≡ not (is_empty (within_open own h has.ns items ++ within_close own h has.ns items))) → IfOk a (λ _. Tells run'.differs run'.last items (within_open own h has.ns items ++ within_close own h has.ns items))
+        by_result (Ok v) is = (is, last ∙ known.time_is)
+        by_result (Err e) none = tt
 
-      pub time_fails : WritesSome out out' (settled_by own h ns items t) → BodyGives q h ns i front (limit_of f') (seen f') begin out' (Err Write)
-      time_fails some =
-          inl (after, begins_with h i front after f' run'.regs gave, subst (WritesSome begin out') (sym open_is) (some-behind begin out out' (within_open q h ns items) (settled_by own h ns items t) come.written some))
+-- the begin or the end of a section
+pub takes_section : (run : Run) (p : Plan) (h : Header) (items : List BodyItem) (has : HasHandled run p h items) (text : List ℕ) (x : BodyItem) (one : Item) (out : Device) → ((s : Section) × (one ≡ item.Begin s)) ⊎ ((one ≡ item.End) ⊎ (one ≡ item.Finish)) → IsItem h.codes text one x
+    → TakesOne {E = WriteFailed} (HasHandled run p h) (Tells run.differs run.last) p items x out out (Ok false)
+takes_section run p h items has text x one out is read =
+    takes_quiet run run p h items has refl x out (compares_still h has.exceptions has.ns items x run.comparison run.watched has.stands.compares quiet.0 quiet.1) (open_same h has.exceptions has.ns items x run.comparison run.watched has.stands.compares quiet.0) refl
+  where
+    read_as : (other : Item) → one ≡ other → IsItem h.codes text other x
+    read_as other e = subst (λ (i : Item). IsItem h.codes text i x) e read
 
-    -- the end of the body
-    module _ (r : Regs) (all : GaveAll h.codes i front items f' r) (out' : Device) where
-      abbrev its : ModelAsked
-      its = model_asked run.comparison.current.asked exceptions
+    by_item : ((s : Section) × (one ≡ item.Begin s)) ⊎ ((one ≡ item.End) ⊎ (one ≡ item.Finish)) → (marks (x ∷ []) ≡ []) × ((d : IdCode) → gives_to d x ≡ false)
+    by_item (inl b) = section_quiet h.codes text (item.Begin b.0) x tt (read_as (item.Begin b.0) b.1)
+    by_item (inr (inl e)) = section_quiet h.codes text item.End x tt (read_as item.End e)
+    by_item (inr (inr e)) = absurd (read_as item.Finish e)
 
-      pub ends_whole : run'.regs ≡ r → Writes out out' (within_close its h ns items) → run'.differs ≡ not (is_empty (within_open its h ns items ++ within_close its h ns items)) → BodyGives q h ns i front (limit_of f') (seen f') begin out' (Ok (record { differs = run'.differs; done = Whole; last = run'.regs.time }))
-      ends_whole same writes differs = (
-        items,
-        (
-          all.has,
-          not_over,
-          both-written begin out out' (within_open q h ns items) (within_close q h ns items) come.written (subst (λ (r : ModelAsked). Writes out out' (within_close r h ns items)) come.asked writes),
-          subst (λ (r : ModelAsked). run'.differs ≡ not (is_empty (within_open r h ns items ++ within_close r h ns items))) come.asked differs,
-        ),
-        ap (λ (s : Regs). s.time) same ∙ all.gave.known.time_is,
-      )
-
-      pub close_fails : WritesSome out out' (within_close its h ns items) → BodyGives q h ns i front (limit_of f') (seen f') begin out' (Err Write)
-      close_fails some =
-          inr (items, all.has, not_over, some-behind begin out out' (within_open q h ns items) (within_close q h ns items) come.written (subst (λ (x : ModelAsked). WritesSome out out' (within_close x h ns items)) come.asked some))
+    quiet : (marks (x ∷ []) ≡ []) × ((d : IdCode) → gives_to d x ≡ false)
+    quiet = by_item is

@@ -1,5 +1,5 @@
 -- How a run stands before the first item.
-use Rattle.vcd_compare.proofs.Cited.{zero, ◌≡◌, ℕ, suc, ◌<◌, ◌≤◌, ◌==◌, Bool, true, false, cond, List, [], ◌∷◌, length, filter, slice_get, Option, Some, None, refl, sym, ap, ◌∙◌, append-nil, arith, replicate, list_any, get_or-replicate, length-replicate, slice_get-get_or, subst, Input, Token, Device, Writes, HasGiven, AreRegsAfter, gave_nothing, RunStands, HasCome, Run, Ghosts, Feed, IdCode, code_of, Header, Value, is_settled, state_at, Names, times_in, within_head, IsViewOf, HeadView, codes_len, AreHeld, model_asked, AreFlags, AreTriggers, Compares, differing, codes_differ, had_line, is_always, time_compared, ArePairs, Comparison, Watched, Pairs}
+use Rattle.vcd_compare.proofs.Cited.{zero, ◌≡◌, ℕ, suc, ◌<◌, ◌≤◌, ◌==◌, Bool, true, false, cond, List, [], ◌∷◌, length, filter, slice_get, Option, Some, None, refl, sym, ap, ◌∙◌, append-nil, arith, replicate, list_any, get_or-replicate, length-replicate, slice_get-get_or, IdCode, code_of, Header, Value, is_settled, state_at, Names, times_in, within_head, IsViewOf, HeadView, codes_len, AreHeld, model_asked, AreFlags, AreTriggers, Compares, differing, codes_differ, had_line, is_always, time_compared, ArePairs, Comparison, Watched, Pairs}
 use Rattle.vcd_model.specs.Compare.{Asked as ModelAsked}
 use Rattle.vcd_model.specs.Within.{within_open}
 use Rattle.vcd_compare.specs.Lines.{flag_of}
@@ -73,13 +73,3 @@ compares_first v h exceptions ns c w views pairs held leads triggers flags at = 
 pub open_first : (q : ModelAsked) (h : Header) (ns : List Names) → within_open q h ns [] ≡ within_head q h ns
 unfolding within_open
 open_first q h ns = rw (none_settled q) (append-nil (within_head q h ns))
-
--- before the first item
-pub come_first : {X : Type 0} {g : Ghosts X} (q : ModelAsked) (exceptions : List (List ℕ)) (h : Header) (ns : List Names) (i : Input) (front : List Token) (begin out : Device) (run : Run) (f : Feed X g) → model_asked run.comparison.current.asked exceptions ≡ q → HasGiven i front f → AreRegsAfter [] run.regs → RunStands h exceptions ns [] run
-    → Writes begin out (within_head q h ns) → HasCome q exceptions h ns i front begin [] run f out
-come_first q exceptions h ns i front begin out run f asked given regs stands writes = record {
-  asked = asked;
-  gave = gave_nothing h.codes i front f run.regs given regs;
-  stands = stands;
-  written = subst (Writes begin out) (sym (open_first q h ns)) writes;
-}

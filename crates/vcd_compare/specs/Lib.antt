@@ -15,4 +15,3 @@ pub mod Leads
 pub mod Classes
 pub mod HasPairs
 pub mod Outcomes
-pub mod Needed

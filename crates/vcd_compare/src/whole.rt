@@ -2,23 +2,20 @@
 ghost use Rattle.std.specs.Prelude.{◌≡◌, ◌-◌, ◌^◌, ◌<◌, ◌≤◌, ℕ, List, length, [], None, replicate, IfOk, false};
 ghost use Rattle.vcd_body.specs.Answer.{EndsAtRead};
 ghost use Rattle.vcd_body.specs.Current.{table_bytes};
-ghost use Rattle.vcd_body.specs.Items.{AreRegsAfter};
-ghost use Rattle.vcd_body.specs.Prompt.{HasPassedOn, LeavesSink};
-ghost use Rattle.vcd_body.specs.Whole.{HoldsItem};
+ghost use Rattle.vcd_body.specs.Prompt.{HasPassedOn};
 ghost use Rattle.vcd_model.specs.Header.{Header};
 ghost use Rattle.vcd_model.specs.Input.{Input};
 ghost use Rattle.vcd_model.specs.Tokens.{Token};
 ghost use Rattle.vcd_model.specs.Within.{Names};
-ghost use Rattle.vcd_text.specs.Advances.{Advances, CallEnd, HasNotFailed};
-ghost use Rattle.vcd_text.specs.Ahead.{ahead_of};
+ghost use Rattle.vcd_run.specs.Run.{BodyGives, CountsBoth, ReadsNeeded, SameWindows, left_of};
+ghost use Rattle.vcd_text.specs.Advances.{HasNotFailed};
 ghost use Rattle.vcd_text.specs.Device.{Counts};
 ghost use Rattle.vcd_text.specs.Feed.{HasGiven, chunk_len_of, limit_of, seen, source_of, supply_of};
 ghost use Rattle.vcd_view.specs.Views.{IsViewOf};
 ghost use Rattle.vcd_compare.specs.Asked.{model_asked, model_extent};
 ghost use Rattle.vcd_compare.specs.Comparing.{IsCounted};
-ghost use Rattle.vcd_compare.specs.Needed.{ReadsNeeded, ReadsOn, ReadsStep};
 ghost use Rattle.vcd_compare.specs.Pairs.{ArePairs};
-ghost use Rattle.vcd_compare.specs.Run.{BodyGives, Closes, CountsBoth, LeavesDue, PutsDue, RunStands, RunsOn, SameRun, Steps, StepsAhead, StepsOver, TakesTime, flag_after, is_due_now};
+ghost use Rattle.vcd_compare.specs.Run.{Answers, HasHandled, LeavesDue, PutsDue, RunStands, SameRun, TakesTime, Tells, done_of, flag_after, is_due_now, plan_within};
 
 use crate::asked::{Asked, Extent};
 use crate::comparing::{Comparison, Watched};
@@ -28,12 +25,9 @@ use crate::leads::Lead;
 use crate::lines::{has_header_lines, put_header_lines, put_lines};
 use crate::pairs::Pairs;
 use crate::rows::Links;
-use std::io;
-use vcd_body::{
-    Done, Item, More, Regs, Share, Slot, Stop, Table, change_text, next_item, pass_items,
-    pass_on_before_read, walk_ahead,
-};
-use vcd_text::{Feed, Sink, Source, Watch, WriteFailed};
+use vcd_body::{Done, Item, Regs, Share, Slot, Stop, Table, walk_ahead};
+use vcd_run::{AheadEnd, Task, run_to_end};
+use vcd_text::{Ahead, Feed, Sink, Source, WriteFailed};
 use vcd_view::HeadView;
 
 /// The slices that a comparison works in.
@@ -93,9 +87,10 @@ impl Pairs {
 pub(crate) struct Run<'p, 'r> {
     comparison: Comparison<'p, 'r>,
     watched: Watched,
-    regs: Regs,
     /// Whether a line was written.
     differs: bool,
+    /// The time of the last item, once the run has ended.
+    last: u64,
 }
 
 impl<'p, 'r> Run<'p, 'r> {
@@ -114,7 +109,6 @@ impl<'p, 'r> Run<'p, 'r> {
             → IsViewOf view.entry h → ArePairs pairs.now h (model_asked asked exceptions) ns
             → RunStands h exceptions ns [] result }
         ensures asked { result.comparison.current.asked ≡ asked }
-        ensures regs { AreRegsAfter [] result.regs }
         ensures counted { IsCounted result.watched result.comparison }
     {
         Run {
@@ -138,8 +132,8 @@ impl<'p, 'r> Run<'p, 'r> {
                 at: asked.from,
                 differing: 0,
             },
-            regs: Regs::new(),
             differs: has_header_lines(pairs),
+            last: 0,
         }
     }
 }
@@ -219,133 +213,72 @@ impl Run<'_, '_> {
         };
         Ok(is_past)
     }
+}
+
+impl Task for Run<'_, '_> {
+    ghost keeps = { λ run plan h items. HasHandled run plan h items };
+
+    ghost tells = { λ run items text. Tells run.differs run.last items text };
+
+    ghost is_ready = { λ run. IsCounted run.watched run.comparison };
+
+    /// Handles the items that lie completely in the chunk, up to a timestamp that `take` has to
+    /// handle. It writes nothing, and never fails.
+    #[inline(always)]
+    fn take_ahead<W: Sink>(
+        &mut self,
+        view: HeadView<'_>,
+        regs: Regs,
+        ahead: Ahead<'_>,
+        out: &mut W,
+    ) -> AheadEnd {
+        let walked = walk_ahead(&mut self.comparison, self.watched, view, regs, ahead, out);
+        self.watched = walked.visit;
+        AheadEnd {
+            passed: walked.ahead.passed(),
+            regs: walked.regs,
+            written: Ok(()),
+        }
+    }
+
+    /// Handles an item, and writes the lines that are due with a timestamp. Returns whether it ends
+    /// the run. Fails if a write does.
+    fn take<W: Sink>(
+        &mut self,
+        view: HeadView<'_>,
+        regs: Regs,
+        item: Item,
+        text: &[u8],
+        out: &mut W,
+    ) -> Result<bool, WriteFailed> {
+        match item {
+            Item::Time(time) => {
+                self.last = time;
+                self.take_time(view, time, out)
+            }
+            Item::Change { .. } => {
+                self.watched.differing = self
+                    .comparison
+                    .take(self.watched, view, regs, item, text, None);
+                Ok(false)
+            }
+            Item::Begin(_) | Item::End | Item::Finish => Ok(false),
+        }
+    }
 
     /// Writes the lines that are due at the end of the body. Fails if a write does.
-    fn close<W: Sink>(&mut self, view: HeadView<'_>, out: &mut W) -> Result<(), WriteFailed>
-        requires failures { (W.device out.old).failures < 2 ^ 64 - 1 }
-        requires counted { IsCounted self.old.watched self.old.comparison }
-        ensures closes { Closes view.entry self.old self.new
-            (W.device out.old) (W.device out.new) result }
-        ensures same { SameRun self.old self.new }
-        ensures counts { Counts (W.device out.old) (W.device out.new) result }
-    {
+    fn close<W: Sink>(
+        &mut self,
+        view: HeadView<'_>,
+        regs: Regs,
+        out: &mut W,
+    ) -> Result<(), WriteFailed> {
+        self.last = regs.time;
         if !self.put_due(view, out)? {
             return Ok(());
         }
         self.differs = true;
         Ok(())
-    }
-
-    /// Handles the items that lie completely in the chunk, up to a timestamp that `take_time` has
-    /// to handle, and moves the feed past them. It reads and writes nothing.
-    #[inline(never)]
-    fn advance_ahead<S: Source>(&mut self, view: HeadView<'_>, feed: &mut Feed<'_, '_, '_, '_, S>)
-        requires counted { IsCounted self.old.watched self.old.comparison }
-        ensures steps { StepsAhead view.entry self.old self.new feed.old feed.new }
-        ensures advances { Advances S.failures feed.old feed.new CallEnd.GoesOn }
-        ensures bounded { seen feed.new < 2 ^ 63 }
-        ensures source { source_of feed.new ≡ source_of feed.old }
-        ensures counted { IsCounted self.new.watched self.new.comparison }
-    {
-        let mut out = Watch::new(io::sink());
-        let walked = walk_ahead(
-            &mut self.comparison,
-            self.watched,
-            view,
-            self.regs,
-            feed.ahead(),
-            &mut out,
-        );
-        self.watched = walked.visit;
-        self.regs = walked.regs;
-        let passed = walked.ahead.passed();
-        pass_items(feed, passed);
-    }
-
-    /// Handles the next item of the feed, and writes the lines that are due with it, or at the end
-    /// of the body. Returns `Again` if the run goes on, otherwise what ended it. Fails at a fault
-    /// of the body, at a failed read, and at a failed write.
-    fn step<S: Source, W: Sink>(
-        &mut self,
-        view: HeadView<'_>,
-        feed: &mut Feed<'_, '_, '_, '_, S>,
-        out: &mut W,
-    ) -> Result<More, Stop>
-        requires feed_failures { S.failures (source_of feed.old) < 2 ^ 64 - 1 }
-        requires out_failures { (W.device out.old).failures < 2 ^ 64 - 1 }
-        requires counted { IsCounted self.old.watched self.old.comparison }
-        ensures steps { Steps view.entry self.old self.new feed.old feed.new
-            (W.device out.old) (W.device out.new) result }
-        ensures needed { ReadsStep view.entry self.old feed.old feed.new
-            (W.device out.old) (W.device out.new) result }
-        ensures over { StepsOver S.failures self.new feed.old feed.new
-            (W.device out.old) (W.device out.new) result }
-        ensures ahead { HoldsItem (limit_of feed.old) (ahead_of feed.old)
-            → source_of feed.new ≡ source_of feed.old }
-        ensures sink { LeavesSink out.old out.new result }
-    {
-        let item = match next_item(feed, view, &mut self.regs) {
-            Ok(item) => item,
-            Err(fault) => return Err(Stop::of_body(fault, 0, feed.line())),
-        };
-        match item {
-            Item::Time(time) => {
-                if self.take_time(view, time, out)? {
-                    return Ok(More::Ended(Done::Early));
-                }
-                Ok(More::Again)
-            }
-            Item::Change { form, .. } => {
-                let text = change_text(feed, form);
-                self.watched.differing = self
-                    .comparison
-                    .take(self.watched, view, self.regs, item, text, None);
-                Ok(More::Again)
-            }
-            Item::Begin(_) => Ok(More::Again),
-            Item::End => Ok(More::Again),
-            Item::Finish => {
-                self.close(view, out)?;
-                Ok(More::Ended(Done::Whole))
-            }
-        }
-    }
-
-    /// Handles all items that are left, and returns whether there was a line, and what ended the
-    /// run. Fails at a fault of the body, at a failed read, and at a failed write.
-    fn run_to_end<S: Source, W: Sink>(
-        &mut self,
-        view: HeadView<'_>,
-        feed: &mut Feed<'_, '_, '_, '_, S>,
-        out: &mut W,
-    ) -> Result<Answer, Stop>
-        requires feed_failures { S.failures (source_of feed.old) < 2 ^ 64 - 1 }
-        requires out_failures { (W.device out.old).failures < 2 ^ 64 - 1 }
-        requires open { HasNotFailed feed.old }
-        requires counted { IsCounted self.old.watched self.old.comparison }
-        ensures runs { RunsOn view.entry self.old feed.old feed.new
-            (W.device out.old) (W.device out.new) result }
-        ensures needed { ReadsOn view.entry self.old feed.old feed.new
-            (W.device out.old) (W.device out.new) }
-        ensures devices { CountsBoth S.failures feed.old feed.new
-            (W.device out.old) (W.device out.new) result }
-        ensures last { EndsAtRead (S.last_failed (source_of feed.new)) result }
-        ensures passed_on { HasPassedOn (W.kept_back out.new) result }
-    {
-        'items: loop {
-            self.advance_ahead(view, feed);
-            pass_on_before_read(feed, out)?;
-            match self.step(view, feed, out)? {
-                More::Again => {}
-                More::Ended(done) => {
-                    return Ok(Answer {
-                        differs: self.differs,
-                        done,
-                        last: self.regs.time,
-                    });
-                }
-            }
-        }
     }
 }
 
@@ -379,24 +312,31 @@ pub fn compare<S: Source, W: Sink>(
     ensures gives { (h : Header) (exceptions : List (List ℕ)) (ns : List Names) (i : Input)
         (front : List Token) → IsViewOf view.entry h
         → ArePairs pairs.now h (model_asked asked exceptions) ns → HasGiven i front feed.old
-        → BodyGives (model_asked asked exceptions) h ns i front (limit_of feed.old)
-        (seen feed.new) (W.device out.old) (W.device out.new) result }
+        → BodyGives (Answers result) (plan_within (model_asked asked exceptions) h ns) h i front
+        (limit_of feed.old) (seen feed.new) (W.device out.old) (W.device out.new)
+        (done_of result) }
     ensures needed { (h : Header) (exceptions : List (List ℕ)) (ns : List Names) (i : Input)
         (front : List Token) → IsViewOf view.entry h
         → ArePairs pairs.now h (model_asked asked exceptions) ns → HasGiven i front feed.old
-        → ReadsNeeded (model_asked asked exceptions) h ns (limit_of feed.old)
-        (chunk_len_of feed.old) i front (supply_of feed.old) (supply_of feed.new)
-        (W.device out.old) (W.device out.new) }
+        → ReadsNeeded (plan_within (model_asked asked exceptions) h ns) h (limit_of feed.old)
+        (chunk_len_of feed.old) i (left_of i (seen feed.new) result) front
+        (supply_of feed.old) (supply_of feed.new) (W.device out.old) (W.device out.new) }
 
     // A failed read or write is counted, and is the last call of its device. No other is.
     ensures devices { CountsBoth S.failures feed.old feed.new
         (W.device out.old) (W.device out.new) result }
     ensures last { EndsAtRead (S.last_failed (source_of feed.new)) result }
+    ensures windows { SameWindows feed.old feed.new }
 
     // If a read fails, the sink keeps nothing back of the output that was due before that read.
     ensures passed_on { HasPassedOn (W.kept_back out.new) result }
 {
     put_header_lines(view, pairs, out)?;
     let mut run = Run::new(view, room, pairs, asked);
-    run.run_to_end(view, feed, out)
+    let done = run_to_end(&mut run, view, feed, out)?;
+    Ok(Answer {
+        differs: run.differs,
+        done,
+        last: run.last,
+    })
 }
