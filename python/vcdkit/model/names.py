@@ -88,9 +88,8 @@ def utf8_names(names: Sequence[str]) -> List[str]:
 
 
 def hint(name: str, paths: Sequence[str]) -> str:
-    """Returns what to write instead of a name that selects nothing."""
-    names = dict.fromkeys(itertools.chain(paths, *map(fronts, paths)))  # then scopes
-    its = [(one, plain(one)) for one in names]
+    """Returns what to write instead of a name that selects nothing: paths, or else scopes."""
+    its = [(one, plain(one)) for one in dict.fromkeys(itertools.chain(paths, *map(fronts, paths)))]
     is_pattern, base = re.search(r"[*?]", name), FIELD.sub("", name)
     asked, core = (plain(name), plain(base)), _core(plain(name))
     near = ([one for one, text in its if text in asked]

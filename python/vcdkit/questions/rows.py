@@ -139,8 +139,9 @@ def as_they_come(source: Source, names: List[str], columns: Sequence[Signal],
         source, names, codes, dict.fromkeys(edges, 1))) if edges
              else ((time, before + changes if before else changes)
                    for time, before, changes in body.steps(source.part(names), codes)))
-    # Row() takes longer than all that makes a pair.
-    return map(tuple.__new__, itertools.repeat(Row), _rows(pairs, columns, bool(edges), only))
+    rows: Iterator[Row] = map(tuple.__new__, itertools.repeat(Row),  # Row() would take longer
+                              _rows(pairs, columns, bool(edges), only))
+    yield from rows
 
 
 def _rows(pairs: Iterable[Tuple[int, body.Changes]], columns: Sequence[Signal], is_every: bool,
