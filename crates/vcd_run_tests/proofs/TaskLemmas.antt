@@ -3,7 +3,6 @@ use Rattle.std.proofs.Common.{◌≡◌, ℕ, Bool, false, List, [], ◌∷◌, 
 use Rattle.std.proofs.Math.Bool.{or-false}
 use Rattle.std.proofs.lemmas.List.Concat.{flat_map-append}
 use Rattle.std.proofs.lemmas.List.Folds.{list_any-append}
-use Rattle.std.specs.List.{list_any}
 use Rattle.std.specs.Prelude.{⊤}
 use Rattle.vcd_model.specs.Cut.{is_mark_above}
 use Rattle.vcd_model.specs.Header.{Header}
@@ -19,7 +18,6 @@ use Rattle.vcd_body.specs.declared.item.Regs.{Regs}
 use Rattle.vcd_run_tests.specs.Plans.{tick, ticking_plan, until_plan}
 use Rattle.vcd_run.specs.Plan.{Plan}
 use Rattle.vcd_run.specs.Task.{RunsOver, TakesOne}
-use Rattle.vcd_run.specs.declared.task.AheadEnd.{AheadEnd}
 
 -- a task that takes nothing ahead
 pub takes_none : {T : Type 0} (keeps : T → Plan → Header → List BodyItem → Type 0) (v : HeadView) (a : Ahead) (r : Regs) (m : T) (out : Device) → RunsOver keeps v a r m m out out (record { passed = 0; regs = r; written = Ok tt })

@@ -1,5 +1,4 @@
-use Rattle.std.proofs.Common.{Ok, Err, Result, IfOk, refl}
-use Rattle.vcd_text.specs.Device.{Device}
+use Rattle.std.proofs.Common.{Ok, Err, Result, IfOk}
 use Rattle.vcd_run_tests.proofs.ticking.TickingTask.close.Goals as goal
 
 any_end : {A E : Type 0} (r : Result A E) → IfOk r (λ _. Unit {0})

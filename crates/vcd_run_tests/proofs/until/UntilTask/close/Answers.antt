@@ -1,6 +1,5 @@
-use Rattle.std.proofs.Common.{ap, subst, sym, ℕ, List}
 use Rattle.vcd_text.proofs.Writes.{appends-none}
-use Rattle.vcd_text.specs.Device.{Device, Takes}
+use Rattle.vcd_text.specs.Device.{Device}
 use Rattle.vcd_run_tests.proofs.until.UntilTask.close.Goals as goal
 
 pub returns-clause-closes : goal.returns-clause-closes

@@ -1,4 +1,3 @@
-use Rattle.std.proofs.Common.{◌≡◌}
 use Rattle.vcd_run_tests.proofs.TaskLemmas.{until_takes}
 use Rattle.vcd_run_tests.proofs.until.UntilTask.take.Goals as goal
 
