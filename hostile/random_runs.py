@@ -12,9 +12,8 @@ from reference import evaluator
 
 COMMANDS = ["check", "list", "pick", "cut", "sample", "edges", "merge"]
 
-# About these lengths reading changes: the shortest window, a chunk, and the longest file whose
-# windows are no longer than the file.
-LENGTHS = [4_096, 4_096, 65_536, 1_048_576]
+# About these lengths reading changes: the shortest window, and a chunk, which no short file fills.
+LENGTHS = [4_096, 65_536]
 
 
 def asked(d, text):

@@ -14,8 +14,7 @@ failing    The reader of the output has ended, or the device of the output is fu
 one stream Standard input has no bytes yet and does not wait. `-` comes twice. Two names are one
            FIFO.
 changing   A file grows or shrinks, before its length is asked for, after that, and between reads.
-           The outcome is that of its last text. In a short file that grows, a token may have as
-           many bytes as the longest input had when the lengths were asked for, or 4,096.
+           The outcome is that of its last text.
 many       64 files have a token limit of 16 MB, if 4 GB of memory are free."""
 import fcntl, os, select, struct, subprocess, sys, tempfile, termios, time
 from contextlib import contextmanager
@@ -37,7 +36,7 @@ ANSWERED = [["--help"], ["merge", "--help"], ["--version"], [], ["chekc"], ["pic
 CLOSED = {streams: 'exec "$@" ' + " ".join(("<&-", ">&-", "2>&-")[stream] for stream in streams)
           for count in (1, 2, 3) for streams in combinations((0, 1, 2), count)}
 CHUNK = 65_536
-# With it a file is no longer small: such a file has at most 1,048,576 bytes.
+# With it a file is no longer short: such a file has at most 65,535 bytes.
 LARGE_COMMENT = b"$comment " + b"x " * (1 << 19) + b"$end\n"
 SIZE_SIGNAL = 25
 SECONDS = 20
@@ -283,26 +282,20 @@ CHANGES += [(CLOCK + LARGE_COMMENT, CLOCK + LARGE_COMMENT + LONG[2])]
 CHANGES += [(ON_A, ON_A[:-5]), (CLOCK + LONG[1], CLOCK), (CLOCK + LARGE_COMMENT, CLOCK)]
 
 
-def token_limit(lengths):
-    """The longest token over inputs that have these lengths when they are asked for."""
-    longest = max(lengths)
-    return max(longest, 4_096) if longest <= 1_048_576 else 1_048_576
-
-
 def changing(program, old, new):
     """A file gets another text before call 1, 2, .. that asks for a length or reads."""
     most = max(len(os.path.commonprefix([old, new])) // 3, 1)
     for command, files in (("check", ["a.vcd"]), ("merge", ["a.vcd", "b.vcd"])):
         for place, call in product(range(len(files) + 1), range(1, 5)):
             words = ["-" if k == place else name for k, name in enumerate(files)]
-            names = [b"(stdin)" if word == "-" else word.encode() for word in words]
+            names = ["(stdin)" if word == "-" else word for word in words]
             with files_with({"a.vcd": old, "b.vcd": ON_B, "new": new}) as folder:
                 with open(os.path.join(folder, files[place % len(files)]), "rb") as given:
                     got = program.run([command] + words, folder, given, changed="a.vcd",
                                       becomes="new", changed_at=call, read_most=most)
-            limit = token_limit([len(new if call == 1 else old), len(ON_B)][:len(files)])
+            case = Case("changing", command, [new, ON_B][:len(files)])
             yield ("%s of %d bytes, then %d, before call %d" % (words, len(old), len(new), call),
-                   [evaluator.run(command, [], [], list(zip(names, [new, ON_B])), limit)], got)
+                   [wanted(case, names, case.inputs)], got)
 
 
 # ---- many files

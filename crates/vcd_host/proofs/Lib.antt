@@ -2,5 +2,6 @@ pub mod AskedLemmas
 mod AskedRows
 pub mod OpensLemmas
 mod LentOutputLemmas
+mod PrefetchedLemmas
 pub mod Cited
 pub mod Facts

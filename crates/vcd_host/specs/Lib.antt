@@ -4,4 +4,5 @@ pub mod Fills
 pub mod LentOutput
 pub mod Asked
 pub mod Opens
+pub mod Prefetched
 pub mod Names

@@ -1,5 +1,5 @@
 //! What a program is run in: where its inputs are opened, and where its output goes.
-ghost use Rattle.std.specs.Prelude.{◌≡◌, ◌≤◌, ℕ, ⊤, Bool, List, length, Option, IfOk, IfSome, is_ok, option_map, Result, true};
+ghost use Rattle.std.specs.Prelude.{◌≡◌, ◌≤◌, ℕ, Bool, List, length, Option, IfOk, IfSome, is_ok, option_map, Result, true};
 ghost use Rattle.vcd_host.specs.Names.{Keeps, OpenFault};
 
 use vcd_text::{Sink, Source, Watch, WriteFailed};
@@ -22,20 +22,16 @@ pub trait Host {
     // over every host uses it to say which calls were made; there is no other way to say that.
     ghost opens: { Self → Option (List ℕ) → Result Self.Input OpenFault → Self → Type 0 };
 
-    // Whether the host is right about the length of this input.
-    ghost knows_length: { Self.Input → Type 0 } = { λ _. ⊤ };
-
     /// Opens the file of this name, or standard input if `name` is `None`, and returns it. Fails if
     /// the input cannot be opened, or if memory runs out.
     fn open(&mut self, name: Option<&str>) -> Result<Self::Input, OpenFault>
         ensures opens { opens self.old (option_map (λ n. n.now) name.entry) result self.new }
         ensures fresh { IfOk result (λ input. Self.Input.failures input ≡ 0) };
 
-    /// Returns a number of bytes that the reads of this input do not exceed, as far as the host
-    /// knows. `None` if it knows none, as in the provided function. A number that is too low cuts
-    /// no input short: at most, a longer token is refused.
+    /// Returns a number of bytes that the reads of this input do not exceed. `None` if the host
+    /// knows none, as in the provided function.
     fn max_bytes_of(&self, _input: &Self::Input) -> Option<usize>
-        ensures { knows_length _input.now → IfSome (Self.Input.rest _input.now)
+        ensures { IfSome (Self.Input.rest _input.now)
             (λ text. IfSome result (λ most. length text ≤ most)) }
     {
         None

@@ -9,12 +9,13 @@
 //! - `host`: `Host` and `Output`
 //! - `asked`: which inputs the words ask for
 //! - `opened`: inputs that are opened one by one
+//! - `prefetched`: a reader whose first bytes are read before they are asked for
 //! - `buffer`: bytes that wait, in memory that is taken once
 //! - `buffered`: an output whose bytes wait in a buffer
 //! - `lent_output`: an output that is bytes that were lent
 //! - `gone`: what found no room there, which only contracts read
 //!
-//! In `specs/`: `Asked`; `Opens`, which inputs were opened; `Buffer`, `Buffered`, `LentOutput`,
+//! In `specs/`: `Asked`; `Opens`, which inputs were opened; `Prefetched`; `Buffer`, `Buffered`, `LentOutput`,
 //! what an output has taken; `Fills`, what is at the front of bytes that were lent.
 #![tactic(auto)]
 
@@ -25,9 +26,11 @@ mod gone;
 mod host;
 mod lent_output;
 mod opened;
+mod prefetched;
 
 pub use asked::inputs_of;
 pub use buffered::Buffered;
 pub use host::{Host, OpenFault, Output};
 pub use lent_output::LentOutput;
 pub use opened::{OpenInputs, OpenStop, called, max_bytes_of_all, open_inputs};
+pub use prefetched::Prefetched;

@@ -102,11 +102,11 @@ pub fn open_inputs<'a, H: Host>(
     Ok(opened)
 }
 
-/// Returns a number of bytes that the reads of none of these inputs exceed, as far as the host
-/// knows. `None` if it does not know one for each.
+/// Returns a number of bytes that the reads of none of these inputs exceed. `None` if the host does
+/// not know one for each.
 pub fn max_bytes_of_all<H: Host>(host: &H, inputs: &[H::Input]) -> Option<usize>
-    ensures { IfSome result (λ most. All (λ r. H.knows_length r
-        → IfSome (H.Input.rest r) (λ text. length text ≤ most)) inputs.now) }
+    ensures { IfSome result (λ most.
+        All (λ r. IfSome (H.Input.rest r) (λ text. length text ≤ most)) inputs.now) }
 {
     let mut longest = 0;
     for input in inputs {

@@ -25,9 +25,9 @@ pub use Rattle.vcd_model.specs.Settled.{is_settled}
 pub use Rattle.vcd_model.specs.Tokens.{Token}
 pub use Rattle.vcd_model.specs.Words.{Job, Words, command_outcome, job_of}
 pub use Rattle.vcd_program.specs.Memory.{End, HaveTexts, IsLeft, IsLeftAs, IsLeftBy, IsLeftIn, IsLeftOf, IsOutOfMemory, OpensIn, bytes_among, bytes_named, noted}
-pub use Rattle.vcd_program.specs.Process.{IsHostOf, OpensInput, OpensOn, bytes_left, length_known}
+pub use Rattle.vcd_program.specs.Process.{IsHostOf, OpensInput, OpensOn, bytes_left}
 pub use Rattle.vcd_program.specs.ProcessRun.{RunsAs, RunsOver}
-pub use Rattle.vcd_program.specs.Runs.{Answers, EndsSo, Fails, Finishes, IsLimitOf, KeepsNoneBack, Leaves, Runs, RunsOn, answer_outcome, names_wanted}
+pub use Rattle.vcd_program.specs.Runs.{Answers, EndsSo, Fails, Finishes, KeepsNoneBack, Leaves, Runs, RunsOn, answer_outcome, names_wanted}
 pub use Rattle.vcd_program.specs.declared.memory.Memory.{Memory}
 pub use Rattle.vcd_program.specs.declared.memory.MemoryFile.{MemoryFile}
 pub use Rattle.vcd_program.specs.declared.process.Process.{Ghosts}
@@ -44,7 +44,7 @@ pub use Rattle.vcd_words.specs.Words.{IsFaultOf, parse_status_of, program_app, w
 pub use Rattle.vcd_words.specs.declared.job.UseFault.{UseFault}
 pub use Rattle.vcdkit.proofs.Statuses.{end-low}
 pub use Rattle.vcdkit.proofs.TurnLemmas.{turns_over}
-pub use Rattle.vcdkit.specs.Calls.{AreWithin, IsLimitFor}
+pub use Rattle.vcdkit.specs.Calls.{AreWithin}
 pub use Rattle.vcdkit.specs.Failure.{writes_failed}
 pub use Rattle.vcdkit.specs.Message.{Shows, unopened_outcome, use_outcome}
 pub use Rattle.vcdkit.specs.Run.{AreInTurn, AreRead, HasRun, IsOutcome, header_behind}

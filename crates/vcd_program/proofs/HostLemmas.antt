@@ -1,5 +1,5 @@
 -- What a run over the host of a process leaves of the process.
-use Rattle.vcd_program.proofs.Cited.{ℕ, List, Bool, ◌∙◌, refl, subst, Option, Result, Error, Text, Device, failed_calls, has_just_failed, Watch, OpenFault, IsHostOf, OpensInput, OpensOn, bytes_left, length_known, RunsOver, Finishes, KeepsNoneBack, RunsOn, Ghosts, ProcessHost, Stream}
+use Rattle.vcd_program.proofs.Cited.{ℕ, List, Bool, ◌∙◌, refl, subst, Option, Result, Error, Text, Device, failed_calls, has_just_failed, Watch, OpenFault, IsHostOf, OpensInput, OpensOn, bytes_left, RunsOver, Finishes, KeepsNoneBack, RunsOn, Ghosts, ProcessHost, Stream}
 use Rattle.std.specs.declared.io.Read.{Ghosts as Reads}
 use Rattle.vcd_text.specs.declared.device.Sink.{Ghosts as Sinks}
 use Rattle.vcd_program.proofs.UnderLemmas.{program-under}
@@ -11,9 +11,9 @@ host-step opens gives ghost_name seeded old new name result is o = (subst (λ s.
 
 -- a run over the host of a process is one over the process
 pub run-hosted : {P F I B K W : Type 0} (p : Ghosts P F I B K) (f : Reads F) (i : Reads I) (w : Sinks W) (flushes : W → Bool → W → Type 0) (host host' : ProcessHost P) (words : List Text) (out out' : W) (err err' : Device) (status : ℕ)
-    → Finishes w.device flushes (λ now err_now n. RunsOn {I = Watch (Stream F I)} words (OpensOn p.opens p.gives) (λ watch. length_known p.knows_file p.knows_input watch.device) (λ watch. bytes_left f.remaining i.remaining watch.device) failed_calls has_just_failed
+    → Finishes w.device flushes (λ now err_now n. RunsOn {I = Watch (Stream F I)} words (OpensOn p.opens p.gives) (λ watch. bytes_left f.remaining i.remaining watch.device) failed_calls has_just_failed
     host host' (w.device out) (w.device now) err err_now n (KeepsNoneBack w.kept_back out now)) out' err' status
     → RunsOver p f i w flushes host.is_seeded host.process.now host'.process.now words out out' err err' status × IsHostOf host.process.ghost_name host.is_seeded host'
 run-hosted p f i w flushes host host' words out out' err err' status =
-    program-under (OpensOn p.opens p.gives) (OpensInput p.opens p.gives host.is_seeded) (λ h. h.process.now) (IsHostOf host.process.ghost_name host.is_seeded) (host-step p.opens p.gives _ _) _ _ _ _ host host' (refl, refl)
+    program-under (OpensOn p.opens p.gives) (OpensInput p.opens p.gives host.is_seeded) (λ h. h.process.now) (IsHostOf host.process.ghost_name host.is_seeded) (host-step p.opens p.gives _ _) _ _ _ host host' (refl, refl)
     w.device flushes (λ now. KeepsNoneBack w.kept_back out now) words (w.device out) out' err err' status

@@ -1,6 +1,6 @@
 -- What a program leaves in bytes that were lent.
 use Rattle.vcd_program.proofs.Cited.{◌≡◌, ◌∷◌, [], ℕ, List, Bool, true, false, ap, sym, refl, subst, inl, inr, drop, get_or, zero, suc, map, codes, Option, Text, Input, Want, Outcome, Words, Device, Supply, Writes, WritesSome, failures_then, Bytes, writes_failed, Shows, AreInTurn, IsOutcome, turns_over, Whole, Part, IsLeftAs, IsLeftIn, OpensIn, noted, Fills, held, written, Fails, Finishes, KeepsNoneBack, Leaves, Runs, RunsOn, Memory, MemoryFile, LentOutput}
-use Rattle.vcd_program.proofs.MemoryLemmas.{bytes_of, holding, known, left-by, no_failures, none_failed, texts-of}
+use Rattle.vcd_program.proofs.MemoryLemmas.{bytes_of, holding, left-by, no_failures, none_failed, texts-of}
 
 -- what such an output says of itself
 abbrev output_device : LentOutput → Device
@@ -69,32 +69,32 @@ module _ (n n' m m' status : ℕ) (ws vs : List ℕ) where
       let o = fails-after (codes "out of memory") fails in
       (o.0, o.1, Leaves.NoMemory inputs read needed (turns-after n n' ws want limit texts old new inputs turns) same o.2)
 
-  runs-after : (words : Option Words) (asked : List (Option Text)) (host after : Memory) (NoneKept : Type 0) → After (λ out out' err err' n. Runs OpensIn known bytes_of no_failures none_failed words asked host after out out' err err' n NoneKept)
+  runs-after : (words : Option Words) (asked : List (Option Text)) (host after : Memory) (NoneKept : Type 0) → After (λ out out' err err' n. Runs OpensIn bytes_of no_failures none_failed words asked host after out out' err err' n NoneKept)
   runs-after words asked host after NoneKept (Runs.Refused fault is same leaves) = let o = outcome-after _ leaves in (o.0, o.1, Runs.Refused fault is same o.2)
-  runs-after words asked host after NoneKept (Runs.Ran want limit is readers done opened ends gives lower near under passed_on) =
+  runs-after words asked host after NoneKept (Runs.Ran want limit is readers done opened ends gives passed_on) =
       let texts = map (λ (b : Bytes). b.rest.now) readers in
-      let one = leaves-after _ want lower texts _ _ (under texts (texts-of readers)) in (
+      let one = leaves-after _ want limit texts _ _ (gives texts (texts-of readers)) in (
         one.0,
         one.1,
         Runs.Ran want limit is readers done opened (ends.0, ends.1, same-count (writes_failed ends.0) (n' ∷ ws) ws _ ends.2, ends.3, (shows-after m m' vs _ ends.4).1, ends.5)
-            (λ all read have. (leaves-after _ want limit read _ _ (gives all read have)).2) lower near (λ read have. (leaves-after _ want lower read _ _ (under read have)).2) passed_on,
+            (λ read have. (leaves-after _ want limit read _ _ (gives read have)).2) passed_on,
       )
   runs-after words asked host after NoneKept (Runs.Stopped job is name opened leaves) = let o = outcome-after _ leaves in (o.0, o.1, Runs.Stopped job is name opened o.2)
   runs-after words asked host after NoneKept (Runs.NoMemory job is opened fails) = let o = fails-after (codes "out of memory") fails in (o.0, o.1, Runs.NoMemory job is opened o.2)
 
-  words-after : (words : List Text) (host after : Memory) (NoneKept : Type 0) → After (λ out out' err err' n. RunsOn words OpensIn known bytes_of no_failures none_failed host after out out' err err' n NoneKept)
+  words-after : (words : List Text) (host after : Memory) (NoneKept : Type 0) → After (λ out out' err err' n. RunsOn words OpensIn bytes_of no_failures none_failed host after out out' err err' n NoneKept)
   words-after words host after NoneKept (RunsOn.Parsed matches is runs) = let o = runs-after _ _ host after NoneKept runs in (o.0, o.1, RunsOn.Parsed matches is o.2)
   words-after words host after NoneKept (RunsOn.NoMatches why is only same (inl some)) = let o = outcome-after _ some.2 in (o.0, o.1, RunsOn.NoMatches why is only same (inl (some.0, some.1, o.2)))
   words-after words host after NoneKept (RunsOn.NoMatches why is only same (inr fails)) = let o = fails-after (codes "out of memory") fails in (o.0, o.1, RunsOn.NoMatches why is only same (inr o.2))
 
 -- what is left in the end: the same loans, and in them what the program leaves
 pub left-in-outputs : (words : List Text) (files : List MemoryFile) (input : Text) (host after : Memory) (status : ℕ) (out out' err err' : LentOutput) → host.files.now ≡ files → host.input.now ≡ input → noted host ≡ [] → written out ≡ [] → written err ≡ []
-    → Finishes output_device flushes (λ now err_now n. RunsOn words OpensIn known bytes_of no_failures none_failed host after (output_device out) (output_device now) (output_device err) err_now n (KeepsNoneBack nothing_kept out now)) out' (output_device err') status
+    → Finishes output_device flushes (λ now err_now n. RunsOn words OpensIn bytes_of no_failures none_failed host after (output_device out) (output_device now) (output_device err) err_now n (KeepsNoneBack nothing_kept out now)) out' (output_device err') status
     → (out'.bytes.ghost_name ≡ out.bytes.ghost_name) × (err'.bytes.ghost_name ≡ err.bytes.ghost_name) × IsLeftAs words files input (written out') (written err') status
 left-in-outputs words files input host after status out out' err err' f i n no_out no_err (Finishes.Flushed before left flushed held same) =
-    let now = subst (λ (sink : LentOutput). RunsOn words OpensIn known bytes_of no_failures none_failed host after (output_device out) (output_device sink) (output_device err) (output_device err') status (KeepsNoneBack nothing_kept out sink)) (sym flushed.1) left in
-    let from_out = subst (λ l. RunsOn words OpensIn known bytes_of no_failures none_failed host after (holding false (out.bytes.ghost_name ∷ l)) (output_device out') (output_device err) (output_device err') status (KeepsNoneBack nothing_kept out out')) no_out now in
-    let from_err = subst (λ l. RunsOn words OpensIn known bytes_of no_failures none_failed host after (holding false (out.bytes.ghost_name ∷ [])) (output_device out') (holding false (err.bytes.ghost_name ∷ l)) (output_device err') status (KeepsNoneBack nothing_kept out out')) no_err from_out in
+    let now = subst (λ (sink : LentOutput). RunsOn words OpensIn bytes_of no_failures none_failed host after (output_device out) (output_device sink) (output_device err) (output_device err') status (KeepsNoneBack nothing_kept out sink)) (sym flushed.1) left in
+    let from_out = subst (λ l. RunsOn words OpensIn bytes_of no_failures none_failed host after (holding false (out.bytes.ghost_name ∷ l)) (output_device out') (output_device err) (output_device err') status (KeepsNoneBack nothing_kept out out')) no_out now in
+    let from_err = subst (λ l. RunsOn words OpensIn bytes_of no_failures none_failed host after (holding false (out.bytes.ghost_name ∷ [])) (output_device out') (holding false (err.bytes.ghost_name ∷ l)) (output_device err') status (KeepsNoneBack nothing_kept out out')) no_err from_out in
     let bare = words-after out.bytes.ghost_name out'.bytes.ghost_name err.bytes.ghost_name err'.bytes.ghost_name status (written out') (written err') words host after _ from_err in
     (bare.0, bare.1, (noted after, left-by false false words files input host after _ (written out') (written err') status _ f i n (refl, refl, refl, refl) bare.2))
 left-in-outputs words files input host after status out out' err err' f i n no_out no_err (Finishes.Failed before left machine fails held same) = let bad : false ≡ true = fails.0 in cc

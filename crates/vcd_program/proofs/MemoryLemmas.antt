@@ -30,13 +30,6 @@ no_failures b = 0
 abbrev pub none_failed : Bytes → Bool
 none_failed b = false
 
--- their lengths are known
-abbrev pub known : Bytes → Type 0
-known b = ⊤
-
-pub all-known : (inputs : List Bytes) → All known inputs
-all-known inputs = λ k d less. tt
-
 -- what opening one after the other leaves: the files as they were, the names noted, and the bytes
 -- of each name
 record HasOpened (files : List MemoryFile) (input : Text) (names : List (Option Text)) (inputs : List Bytes) (host after : Memory) : Type 0 where
@@ -112,13 +105,13 @@ module _ (a b : Bool) where
 
   -- what words leave that were parsed
   left-parsed : (words : Option Words) (asked : List (Option Text)) (files : List MemoryFile) (input : Text) (host after : Memory) (left : End) (out err : List ℕ) (status : ℕ) (NoneKept : Type 0) → host.files.now ≡ files → host.input.now ≡ input → noted host ≡ [] → LeftAs left after out err status
-      → Runs OpensIn known bytes_of no_failures none_failed words asked host after (holding false []) (holding a out) (holding false []) (holding b err) status NoneKept → IsLeftOf words asked files input left ⊎ IsOutOfMemory left
+      → Runs OpensIn bytes_of no_failures none_failed words asked host after (holding false []) (holding a out) (holding false []) (holding b err) status NoneKept → IsLeftOf words asked files input left ⊎ IsOutOfMemory left
   left-parsed words asked files input host after left out err status NoneKept f i n holds (Runs.Refused fault is same leaves) =
       inl (IsLeftOf.Refused fault is (is-left left after out err status [] (command_outcome words [] []) holds (ap noted same ∙ n) leaves))
-  left-parsed words asked files input host after left out err status NoneKept f i n holds (Runs.Ran want limit is readers done opened ends gives lower near under passed_on) =
+  left-parsed words asked files input host after left out err status NoneKept f i n holds (Runs.Ran want limit is readers done opened ends gives passed_on) =
       let o = opened-in files input host asked readers after f i opened in
       let texts = map (λ (b : Bytes). b.rest.now) readers in
-      by_end o texts (o.bytes ∙ texts-of readers) (gives (all-known readers) texts (texts-of readers))
+      by_end o texts (o.bytes ∙ texts-of readers) (gives texts (texts-of readers))
     where
       by_end : HasOpened files input asked readers host after → (texts : List Text) → HaveTexts files input asked texts
           → Leaves (command_outcome words (map called asked)) want limit texts (map (supply bytes_of no_failures) readers) (map (supply bytes_of no_failures) done) (holding false []) (holding a out) (holding false []) (holding b err) status → IsLeftOf words asked files input left ⊎ IsOutOfMemory left
@@ -139,7 +132,7 @@ module _ (a b : Bool) where
 
   -- what any words leave
   pub left-by : (words : List Text) (files : List MemoryFile) (input : Text) (host after : Memory) (left : End) (out err : List ℕ) (status : ℕ) (NoneKept : Type 0) → host.files.now ≡ files → host.input.now ≡ input → noted host ≡ [] → LeftAs left after out err status
-      → RunsOn words OpensIn known bytes_of no_failures none_failed host after (holding false []) (holding a out) (holding false []) (holding b err) status NoneKept → IsLeftBy words files input left
+      → RunsOn words OpensIn bytes_of no_failures none_failed host after (holding false []) (holding a out) (holding false []) (holding b err) status NoneKept → IsLeftBy words files input left
   left-by words files input host after left out err status NoneKept f i n holds (RunsOn.NoMatches why is only same (inl some)) =
       IsLeftBy.NoMatches why is only some.0 some.1 (is-left left after out err status [] (answer_outcome why some.1) holds (ap noted same ∙ n) some.2)
   left-by words files input host after left out err status NoneKept f i n holds (RunsOn.NoMatches why is only same (inr fails)) = IsLeftBy.NoMemory (out-of-memory left after out err status holds fails)
@@ -149,10 +142,10 @@ module _ (a b : Bool) where
   -- the output is flushed, as nothing is kept in a buffer
   left-flushed : {W : Type 0} (device : W → Device) (Quiet : W → Type 0) (flushes : W → Bool → W → Type 0) (words : List Text) (files : List MemoryFile) (input : Text) (host after : Memory) (left : End) (out' : W) (out err : List ℕ) (status : ℕ)
       → ((old new : W) (done : Bool) → flushes old done new → (done ≡ true) × (new ≡ old)) → device out' ≡ holding a out → host.files.now ≡ files → host.input.now ≡ input → noted host ≡ [] → LeftAs left after out err status
-      → Finishes device flushes (λ now err_now n. RunsOn words OpensIn known bytes_of no_failures none_failed host after (holding false []) (device now) (holding false []) err_now n (Quiet now)) out' (holding b err) status → IsLeftBy words files input left
+      → Finishes device flushes (λ now err_now n. RunsOn words OpensIn bytes_of no_failures none_failed host after (holding false []) (device now) (holding false []) err_now n (Quiet now)) out' (holding b err) status → IsLeftBy words files input left
   left-flushed device Quiet flushes words files input host after left out' out err status flush is f i n holds (Finishes.Flushed before leaves flushed held same) =
       left-by words files input host after left out err status (Quiet before) f i n holds
-      (subst (λ d. RunsOn words OpensIn known bytes_of no_failures none_failed host after (holding false []) d (holding false []) (holding b err) status (Quiet before)) (ap device (sym (flush before out' true flushed).1) ∙ is) leaves)
+      (subst (λ d. RunsOn words OpensIn bytes_of no_failures none_failed host after (holding false []) d (holding false []) (holding b err) status (Quiet before)) (ap device (sym (flush before out' true flushed).1) ∙ is) leaves)
   left-flushed device Quiet flushes words files input host after left out' out err status flush is f i n holds (Finishes.Failed before leaves machine fails held same) =
       let bad : false ≡ true = (flush before out' false fails).0 in cc
   left-flushed device Quiet flushes words files input host after left out' out err status flush is f i n holds (Finishes.Unflushed before shown was leaves below fails held same then status_is) =
@@ -161,9 +154,9 @@ module _ (a b : Bool) where
   pub left-in-memory : {W : Type 0} (device : W → Device) (Quiet : W → Type 0) (flushes : W → Bool → W → Type 0) (words : List Text) (files : List MemoryFile) (input : Text) (host after : Memory) (left : End) (out' : W) (out err : List ℕ) (status : ℕ) (out0 err0 err1 : Device)
       → ((old new : W) (done : Bool) → flushes old done new → (done ≡ true) × (new ≡ old)) → device out' ≡ holding a out → host.files.now ≡ files → host.input.now ≡ input → noted host ≡ [] → LeftAs left after out err status
       → out0 ≡ holding false [] → err0 ≡ holding false [] → err1 ≡ holding b err
-      → Finishes device flushes (λ now err_now n. RunsOn words OpensIn known bytes_of no_failures none_failed host after out0 (device now) err0 err_now n (Quiet now)) out' err1 status → IsLeftBy words files input left
+      → Finishes device flushes (λ now err_now n. RunsOn words OpensIn bytes_of no_failures none_failed host after out0 (device now) err0 err_now n (Quiet now)) out' err1 status → IsLeftBy words files input left
   left-in-memory device Quiet flushes words files input host after left out' out err status out0 err0 err1 flush is f i n holds e0 e1 e2 fin =
       left-flushed device Quiet flushes words files input host after left out' out err status flush is f i n holds
-      (subst (λ d. Finishes device flushes (λ now err_now n. RunsOn words OpensIn known bytes_of no_failures none_failed host after (holding false []) (device now) (holding false []) err_now n (Quiet now)) out' d status) e2
-      (subst (λ d. Finishes device flushes (λ now err_now n. RunsOn words OpensIn known bytes_of no_failures none_failed host after (holding false []) (device now) d err_now n (Quiet now)) out' err1 status) e1
-      (subst (λ d. Finishes device flushes (λ now err_now n. RunsOn words OpensIn known bytes_of no_failures none_failed host after d (device now) err0 err_now n (Quiet now)) out' err1 status) e0 fin)))
+      (subst (λ d. Finishes device flushes (λ now err_now n. RunsOn words OpensIn bytes_of no_failures none_failed host after (holding false []) (device now) (holding false []) err_now n (Quiet now)) out' d status) e2
+      (subst (λ d. Finishes device flushes (λ now err_now n. RunsOn words OpensIn bytes_of no_failures none_failed host after (holding false []) (device now) d err_now n (Quiet now)) out' err1 status) e1
+      (subst (λ d. Finishes device flushes (λ now err_now n. RunsOn words OpensIn bytes_of no_failures none_failed host after d (device now) err0 err_now n (Quiet now)) out' err1 status) e0 fin)))

@@ -1,5 +1,5 @@
 -- What a program leaves, from what its calls do.
-use Rattle.vcd_program.proofs.Cited.{◌≡◌, ◌≢◌, ◌≤◌, ◌+◌, ◌⊎◌, ℕ, Bool, true, false, List, [], length, map, refl, sym, subst, ap, ◌∙◌, inl, inr, arith, codes, cond, ◌==◌, All, IfSome, Option, None, Some, Result, Ok, Err, Text, is_simple_and_free, ErrorKind, Input, Want, outcome, Outcome, clean_outcome, program_line, Job, Words, job_of, Keeps, Device, Puts, Supply, Writes, WritesSome, supply, appends-none, is_merge, model_want, names_asked, IsFaultOf, parse_status_of, program_app, UseFault, AreWithin, IsLimitFor, Shows, unopened_outcome, use_outcome, HasRun, IsOutcome, Whole, Part, Opens, OpensSome, OpensUpTo, StopsAmong, called, text_of, Answers, EndsSo, Finishes, IsLimitOf, Leaves, Runs, names_wanted, OpenFault, OpenStop, Bor, length-map, wants_merge}
+use Rattle.vcd_program.proofs.Cited.{◌≡◌, ◌≢◌, ◌≤◌, ◌+◌, ◌⊎◌, ℕ, Bool, true, false, List, [], length, map, refl, sym, subst, ap, ◌∙◌, inl, inr, arith, codes, cond, ◌==◌, Option, None, Some, Result, Ok, Err, Text, is_simple_and_free, ErrorKind, Input, Want, outcome, Outcome, clean_outcome, program_line, Job, Words, job_of, Keeps, Device, Puts, Supply, Writes, WritesSome, supply, appends-none, is_merge, model_want, names_asked, IsFaultOf, parse_status_of, program_app, UseFault, Shows, unopened_outcome, use_outcome, HasRun, IsOutcome, Whole, Part, Opens, OpensSome, OpensUpTo, StopsAmong, called, text_of, Answers, EndsSo, Finishes, Leaves, Runs, names_wanted, OpenFault, OpenStop, Bor, length-map, wants_merge}
 use Rattle.clap.specs.declared.error.kind.ErrorKind.TheVariants as kind
 use Rattle.vcd_model.specs.Outcome.{fault_text}
 use Rattle.vcd_model.specs.Words as model
@@ -85,19 +85,19 @@ pub without-output : (o : Outcome) (out err err' : Device) (status : ℕ) → o.
 without-output o out err err' status none shown is = Whole (subst (λ l. Writes out out l) (sym none) (writes-none out)) shown is
 
 -- memory ran out before an input was opened
-pub no-memory : {H I : Type 0} (opens : H → Option Text → Result I OpenFault → H → Type 0) (knows : I → Type 0) (rest : I → Option (List ℕ)) (failures : I → ℕ) (last_failed : I → Bool) (words : Option Words) (names : List (Option Text)) (host : H) (out err err' : Device) (status : ℕ) (NoneKept : Type 0) (j : Job)
-    → job_of words ≡ Ok j → Shows err err' (program_line (codes "out of memory")) → status ≡ 3 → Runs opens knows rest failures last_failed words names host host out out err err' status NoneKept
-no-memory opens knows rest failures last_failed words names host out err err' status NoneKept j e shown is = Runs.NoMemory j e ([], names, refl, [], host, refl, inl refl) (writes-none out, shown, is)
+pub no-memory : {H I : Type 0} (opens : H → Option Text → Result I OpenFault → H → Type 0) (rest : I → Option (List ℕ)) (failures : I → ℕ) (last_failed : I → Bool) (words : Option Words) (names : List (Option Text)) (host : H) (out err err' : Device) (status : ℕ) (NoneKept : Type 0) (j : Job)
+    → job_of words ≡ Ok j → Shows err err' (program_line (codes "out of memory")) → status ≡ 3 → Runs opens rest failures last_failed words names host host out out err err' status NoneKept
+no-memory opens rest failures last_failed words names host out err err' status NoneKept j e shown is = Runs.NoMemory j e ([], names, refl, [], host, refl, inl refl) (writes-none out, shown, is)
 
 -- words that ask for no job
-pub refused : {H I : Type 0} (opens : H → Option Text → Result I OpenFault → H → Type 0) (knows : I → Type 0) (rest : I → Option (List ℕ)) (failures : I → ℕ) (last_failed : I → Bool) (words : Option Words) (names : List (Option Text)) (host : H) (out err err' : Device) (status : ℕ) (NoneKept : Type 0) (f : UseFault)
-    → IsFaultOf f (job_of words) → Shows err err' (use_outcome f).message → status ≡ (use_outcome f).status → Runs opens knows rest failures last_failed words names host host out out err err' status NoneKept
-refused {H} {I} opens knows rest failures last_failed words names host out err err' status NoneKept f e shown is = by_fault f e shown is
+pub refused : {H I : Type 0} (opens : H → Option Text → Result I OpenFault → H → Type 0) (rest : I → Option (List ℕ)) (failures : I → ℕ) (last_failed : I → Bool) (words : Option Words) (names : List (Option Text)) (host : H) (out err err' : Device) (status : ℕ) (NoneKept : Type 0) (f : UseFault)
+    → IsFaultOf f (job_of words) → Shows err err' (use_outcome f).message → status ≡ (use_outcome f).status → Runs opens rest failures last_failed words names host host out out err err' status NoneKept
+refused {H} {I} opens rest failures last_failed words names host out err err' status NoneKept f e shown is = by_fault f e shown is
   where
-    said : (g : model.UseFault) → job_of words ≡ Err g → Shows err err' (model.use_outcome g).message → status ≡ 2 → Runs opens knows rest failures last_failed words names host host out out err err' status NoneKept
+    said : (g : model.UseFault) → job_of words ≡ Err g → Shows err err' (model.use_outcome g).message → status ≡ 2 → Runs opens rest failures last_failed words names host host out out err err' status NoneKept
     said g e shown is = Runs.Refused g e refl (subst (λ o. IsOutcome o out out err err' status) (sym (command-refused words g e)) (Whole (writes-none out) shown is))
 
-    by_fault : (f : UseFault) → IsFaultOf f (job_of words) → Shows err err' (use_outcome f).message → status ≡ (use_outcome f).status → Runs opens knows rest failures last_failed words names host host out out err err' status NoneKept
+    by_fault : (f : UseFault) → IsFaultOf f (job_of words) → Shows err err' (use_outcome f).message → status ≡ (use_outcome f).status → Runs opens rest failures last_failed words names host host out out err err' status NoneKept
     by_fault use_fault.BadWords e shown is = said model.UseFault.BadWords e shown is
     by_fault (use_fault.BadLimit word) e shown is = said (model.UseFault.BadLimit word.now) e shown is
     by_fault (use_fault.BadTime word) e shown is = said (model.UseFault.BadTime word.now) e shown is
@@ -105,21 +105,21 @@ refused {H} {I} opens knows rest failures last_failed words names host out err e
     by_fault use_fault.NotRising e shown is = said model.UseFault.NotRising e shown is
     by_fault use_fault.TooManyFiles e shown is = said model.UseFault.TooManyFiles e shown is
     by_fault use_fault.InputTwice e shown is = said model.UseFault.InputTwice e shown is
-    by_fault use_fault.OutOfMemory e shown is = no-memory opens knows rest failures last_failed words names host out err err' status NoneKept e.0 e.1 (memory-shown err err' shown) is
+    by_fault use_fault.OutOfMemory e shown is = no-memory opens rest failures last_failed words names host out err err' status NoneKept e.0 e.1 (memory-shown err err' shown) is
 
 -- an input that cannot be opened
-pub stopped : {H I : Type 0} (opens : H → Option Text → Result I OpenFault → H → Type 0) (knows : I → Type 0) (rest : I → Option (List ℕ)) (failures : I → ℕ) (last_failed : I → Bool) (words : Option Words) (asked names : List (Option Text)) (host host' : H) (out err err' : Device) (status : ℕ) (NoneKept : Type 0)
+pub stopped : {H I : Type 0} (opens : H → Option Text → Result I OpenFault → H → Type 0) (rest : I → Option (List ℕ)) (failures : I → ℕ) (last_failed : I → Bool) (words : Option Words) (asked names : List (Option Text)) (host host' : H) (out err err' : Device) (status : ℕ) (NoneKept : Type 0)
     (j : Job) (why : OpenStop) (said : Option (Bor Text)) → job_of words ≡ Ok j → names ≡ asked → why ≡ stop.Unopened said → StopsAmong opens names host host' why → Shows err err' (unopened_outcome (called (text_of said))).message → status ≡ 3
-    → Runs opens knows rest failures last_failed words asked host host' out out err err' status NoneKept
-stopped opens knows rest failures last_failed words asked names host host' out err err' status NoneKept j why said e named is at shown three =
+    → Runs opens rest failures last_failed words asked host host' out out err err' status NoneKept
+stopped opens rest failures last_failed words asked names host host' out err err' status NoneKept j why said e named is at shown three =
     Runs.Stopped j e (text_of said) (subst (λ l. OpensUpTo opens l (text_of said) host host') named (subst (λ w. StopsAmong opens names host host' w) is at))
     (without-output (unopened_outcome (called (text_of said))) out err err' status refl shown three)
 
 -- memory ran out while inputs were opened
-pub memory-stopped : {H I : Type 0} (opens : H → Option Text → Result I OpenFault → H → Type 0) (knows : I → Type 0) (rest : I → Option (List ℕ)) (failures : I → ℕ) (last_failed : I → Bool) (words : Option Words) (asked names : List (Option Text)) (host host' : H) (out err err' : Device) (status : ℕ) (NoneKept : Type 0)
+pub memory-stopped : {H I : Type 0} (opens : H → Option Text → Result I OpenFault → H → Type 0) (rest : I → Option (List ℕ)) (failures : I → ℕ) (last_failed : I → Bool) (words : Option Words) (asked names : List (Option Text)) (host host' : H) (out err err' : Device) (status : ℕ) (NoneKept : Type 0)
     (j : Job) (why : OpenStop) → job_of words ≡ Ok j → names ≡ asked → why ≡ stop.OutOfMemory → StopsAmong opens names host host' why → Shows err err' (program_line (codes "out of memory")) → status ≡ 3
-    → Runs opens knows rest failures last_failed words asked host host' out out err err' status NoneKept
-memory-stopped opens knows rest failures last_failed words asked names host host' out err err' status NoneKept j why e named is at shown three =
+    → Runs opens rest failures last_failed words asked host host' out out err err' status NoneKept
+memory-stopped opens rest failures last_failed words asked names host host' out err err' status NoneKept j why e named is at shown three =
     Runs.NoMemory j e (subst (λ l. OpensSome opens l host host') named (subst (λ w. StopsAmong opens names host host' w) is at)) (writes-none out, shown, three)
 
 -- ---- answers of a parse
@@ -177,38 +177,25 @@ answer-failed why text out out' err err' e written shown = answered why 0 text o
 pub names-many : {A : Type 0} (bytes : A → Text) (names : List A) (asked : List (Option Text)) → map bytes names ≡ map called asked → length names ≡ length asked
 names-many bytes names asked e = sym (length-map names bytes) ∙ ap length e ∙ length-map asked called
 
--- inputs about whose lengths a host is right give at most as many bytes as it says
-pub within-known : {I : Type 0} (knows : I → Type 0) (rest : I → Option (List ℕ)) (longest : Option ℕ) (readers now : List I) → now ≡ readers → IfSome longest (λ most. All (λ r. knows r → IfSome (rest r) (λ text. length text ≤ most)) readers) → All knows now
-    → AreWithin rest longest now
-within-known knows rest None readers now same said known = tt
-within-known knows rest (Some most) readers now same said known = rw same (λ k d less. said k d less (subst (All knows) same known k d less))
-
--- such a limit is that one, or a lower one of at least 4,096 bytes
-pub near-limit : (longest : Option ℕ) (wide narrow : ℕ) → IsLimitFor longest wide narrow → IsLimitOf wide narrow
-near-limit longest wide narrow (inl same) = inl same
-near-limit longest wide narrow (inr less) = inr (less.2, less.0)
-
 -- the job was run over the inputs that the words ask for
-pub ran : {H I : Type 0} (opens : H → Option Text → Result I OpenFault → H → Type 0) (knows : I → Type 0) (rest : I → Option (List ℕ)) (failures : I → ℕ) (last_failed : I → Bool) (words : Option Words) (asked : List (Option Text)) (host host' : H) (out out' err err' : Device) (status : ℕ) (NoneKept : Type 0)
-    (want : Want) (limit lower chunk : ℕ) (names wanted : List Text) (readers after : List I)
+pub ran : {H I : Type 0} (opens : H → Option Text → Result I OpenFault → H → Type 0) (rest : I → Option (List ℕ)) (failures : I → ℕ) (last_failed : I → Bool) (words : Option Words) (asked : List (Option Text)) (host host' : H) (out out' err err' : Device) (status : ℕ) (NoneKept : Type 0)
+    (want : Want) (limit chunk : ℕ) (names wanted : List Text) (readers after : List I)
     → job_of words ≡ Ok (record { want = want; limit = limit }) → chunk ≡ 65536 → names ≡ map called asked → wanted ≡ names_wanted want → Opens opens host asked readers host'
     → EndsSo names wanted (map failures readers) (map failures after) (map last_failed after) out out' err err' status
-    → (All knows readers → (texts : List Text) → map rest readers ≡ map (λ text. Some text) texts → HasRun want limit chunk names texts (map (supply rest failures) readers) (map (supply rest failures) after) out out' err err' status)
-    → IsLimitOf limit lower → ((texts : List Text) → map rest readers ≡ map (λ text. Some text) texts → HasRun want lower chunk names texts (map (supply rest failures) readers) (map (supply rest failures) after) out out' err err' status)
+    → ((texts : List Text) → map rest readers ≡ map (λ text. Some text) texts → HasRun want limit chunk names texts (map (supply rest failures) readers) (map (supply rest failures) after) out out' err err' status)
     → (map failures after ≢ map failures readers → NoneKept)
-    → Runs opens knows rest failures last_failed words asked host host' out out' err err' status NoneKept
-ran opens knows rest failures last_failed words asked host host' out out' err err' status NoneKept want limit lower chunk names wanted readers after e at named wants opened ends gives near under passed_on =
+    → Runs opens rest failures last_failed words asked host host' out out' err err' status NoneKept
+ran opens rest failures last_failed words asked host host' out out' err err' status NoneKept want limit chunk names wanted readers after e at named wants opened ends gives passed_on =
     Runs.Ran want limit e readers after opened
     (subst (λ l. EndsSo l (names_wanted want) (map failures readers) (map failures after) (map last_failed after) out out' err err' status) named (subst (λ l. EndsSo names l (map failures readers) (map failures after) (map last_failed after) out out' err err' status) wants ends))
-    (λ known texts h. leaves (command_outcome words (map called asked)) limit texts (λ inputs. command-is words want limit (map called asked) inputs e) (gives known texts h)) lower near
-    (λ texts h. leaves (outcome want lower (map called asked)) lower texts (λ inputs. refl) (under texts h)) passed_on
+    (λ texts h. leaves texts (gives texts h)) passed_on
   where
-    leaves : (due : List Input → Outcome) (n : ℕ) (texts : List Text) → ((inputs : List Input) → due inputs ≡ outcome want n (map called asked) inputs) → HasRun want n chunk names texts (map (supply rest failures) readers) (map (supply rest failures) after) out out' err err' status
-        → Leaves due want n texts (map (supply rest failures) readers) (map (supply rest failures) after) out out' err err' status
-    leaves due n texts is has =
-        leaves-of due want n (map called asked) texts (map (supply rest failures) readers) (map (supply rest failures) after) out out' err err' status is
-        (subst (λ l. HasRun want n 65536 l texts (map (supply rest failures) readers) (map (supply rest failures) after) out out' err err' status) named
-        (subst (λ c. HasRun want n c names texts (map (supply rest failures) readers) (map (supply rest failures) after) out out' err err' status) at has))
+    leaves : (texts : List Text) → HasRun want limit chunk names texts (map (supply rest failures) readers) (map (supply rest failures) after) out out' err err' status
+        → Leaves (command_outcome words (map called asked)) want limit texts (map (supply rest failures) readers) (map (supply rest failures) after) out out' err err' status
+    leaves texts has =
+        leaves-of (command_outcome words (map called asked)) want limit (map called asked) texts (map (supply rest failures) readers) (map (supply rest failures) after) out out' err err' status (λ inputs. command-is words want limit (map called asked) inputs e)
+        (subst (λ l. HasRun want limit 65536 l texts (map (supply rest failures) readers) (map (supply rest failures) after) out out' err err' status) named
+        (subst (λ c. HasRun want limit c names texts (map (supply rest failures) readers) (map (supply rest failures) after) out out' err err' status) at has))
 
 -- ---- the flush
 

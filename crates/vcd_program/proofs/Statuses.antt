@@ -18,19 +18,19 @@ answers-low : (why : ErrorKind) (out out' err err' : Device) (status : ℕ) → 
 answers-low why out out' err err' status (inl said) = outcome-low (answer_outcome why said.1) out out' err err' status (answer-low (parse_status_of why) said.1 (parse_status_of why == 0) (kind-low why)) said.2
 answers-low why out out' err err' status (inr fails) = omega (arith, fails.2)
 
-runs-low : {H I : Type 0} (opens : H → Option Text → Result I OpenFault → H → Type 0) (knows : I → Type 0) (rest : I → Option (List ℕ)) (failures : I → ℕ) (last_failed : I → Bool) (words : Option Words) (asked : List (Option Text)) (host host' : H) (out out' err err' : Device) (status : ℕ) (NoneKept : Type 0)
-    → Runs opens knows rest failures last_failed words asked host host' out out' err err' status NoneKept → status ≤ 3
-runs-low opens knows rest failures last_failed words asked host host' out out' err err' status NoneKept (Runs.Refused fault is same leaves) =
+runs-low : {H I : Type 0} (opens : H → Option Text → Result I OpenFault → H → Type 0) (rest : I → Option (List ℕ)) (failures : I → ℕ) (last_failed : I → Bool) (words : Option Words) (asked : List (Option Text)) (host host' : H) (out out' err err' : Device) (status : ℕ) (NoneKept : Type 0)
+    → Runs opens rest failures last_failed words asked host host' out out' err err' status NoneKept → status ≤ 3
+runs-low opens rest failures last_failed words asked host host' out out' err err' status NoneKept (Runs.Refused fault is same leaves) =
     let two : (command_outcome words [] []).status ≡ 2 = ap (λ o. o.status) (command-refused words fault is) in
     outcome-low (command_outcome words [] []) out out' err err' status (omega arith) leaves
-runs-low opens knows rest failures last_failed words asked host host' out out' err err' status NoneKept (Runs.Ran want limit is readers after opened ends leaves lower near under passed_on) = omega (arith, ends.3, end-low ends.0)
-runs-low opens knows rest failures last_failed words asked host host' out out' err err' status NoneKept (Runs.Stopped job is name opened leaves) = outcome-low (unopened_outcome (called name)) out out' err err' status (omega arith) leaves
-runs-low opens knows rest failures last_failed words asked host host' out out' err err' status NoneKept (Runs.NoMemory job is opened fails) = omega (arith, fails.2)
+runs-low opens rest failures last_failed words asked host host' out out' err err' status NoneKept (Runs.Ran want limit is readers after opened ends leaves passed_on) = omega (arith, ends.3, end-low ends.0)
+runs-low opens rest failures last_failed words asked host host' out out' err err' status NoneKept (Runs.Stopped job is name opened leaves) = outcome-low (unopened_outcome (called name)) out out' err err' status (omega arith) leaves
+runs-low opens rest failures last_failed words asked host host' out out' err err' status NoneKept (Runs.NoMemory job is opened fails) = omega (arith, fails.2)
 
-pub words-low : {H I : Type 0} (words : List Text) (opens : H → Option Text → Result I OpenFault → H → Type 0) (knows : I → Type 0) (rest : I → Option (List ℕ)) (failures : I → ℕ) (last_failed : I → Bool) (host host' : H) (out out' err err' : Device) (status : ℕ) (NoneKept : Type 0)
-    → RunsOn words opens knows rest failures last_failed host host' out out' err err' status NoneKept → status ≤ 3
-words-low words opens knows rest failures last_failed host host' out out' err err' status NoneKept (RunsOn.Parsed matches is runs) = runs-low _ _ _ _ _ _ _ _ _ _ _ _ _ status _ runs
-words-low words opens knows rest failures last_failed host host' out out' err err' status NoneKept (RunsOn.NoMatches why is only same answers) = answers-low why out out' err err' status answers
+pub words-low : {H I : Type 0} (words : List Text) (opens : H → Option Text → Result I OpenFault → H → Type 0) (rest : I → Option (List ℕ)) (failures : I → ℕ) (last_failed : I → Bool) (host host' : H) (out out' err err' : Device) (status : ℕ) (NoneKept : Type 0)
+    → RunsOn words opens rest failures last_failed host host' out out' err err' status NoneKept → status ≤ 3
+words-low words opens rest failures last_failed host host' out out' err err' status NoneKept (RunsOn.Parsed matches is runs) = runs-low _ _ _ _ _ _ _ _ _ _ _ _ status _ runs
+words-low words opens rest failures last_failed host host' out out' err err' status NoneKept (RunsOn.NoMatches why is only same answers) = answers-low why out out' err err' status answers
 
 pub finishes-low : {W : Type 0} (device : W → Device) (flushes : W → Bool → W → Type 0) (Left : (out : W) → (err : Device) → ℕ → Type 0) (out' : W) (err' : Device) (status : ℕ) → ((out : W) (err : Device) (n : ℕ) → Left out err n → n ≤ 3)
     → Finishes device flushes Left out' err' status → status ≤ 3

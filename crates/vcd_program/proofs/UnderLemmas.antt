@@ -13,13 +13,13 @@ module _ {H P I : Type 0} (opens : H → Option Text → Result I OpenFault → 
       let more = opens-under o.0 names inputs after one.1 o.2 in
       ((under_host o.0, one.0, more.0), more.1)
 
-  module _ (knows : I → Type 0) (rest : I → Option (List ℕ)) (failures : I → ℕ) (last_failed : I → Bool) (host host' : H) (holds : Holds host) where
-    runs-under : (words : Option Words) (asked : List (Option Text)) (out out' err err' : Device) (status : ℕ) (NoneKept : Type 0) → Runs opens knows rest failures last_failed words asked host host' out out' err err' status NoneKept
-        → Runs opens_under knows rest failures last_failed words asked (under_host host) (under_host host') out out' err err' status NoneKept × Holds host'
+  module _ (rest : I → Option (List ℕ)) (failures : I → ℕ) (last_failed : I → Bool) (host host' : H) (holds : Holds host) where
+    runs-under : (words : Option Words) (asked : List (Option Text)) (out out' err err' : Device) (status : ℕ) (NoneKept : Type 0) → Runs opens rest failures last_failed words asked host host' out out' err err' status NoneKept
+        → Runs opens_under rest failures last_failed words asked (under_host host) (under_host host') out out' err err' status NoneKept × Holds host'
     runs-under words asked out out' err err' status NoneKept (Runs.Refused fault is same leaves) = (Runs.Refused fault is (ap under_host same) leaves, subst Holds (sym same) holds)
-    runs-under words asked out out' err err' status NoneKept (Runs.Ran want limit is readers after opened ends leaves lower near under passed_on) =
+    runs-under words asked out out' err err' status NoneKept (Runs.Ran want limit is readers after opened ends leaves passed_on) =
         let o = opens-under host asked readers host' holds opened in
-        (Runs.Ran want limit is readers after o.0 ends leaves lower near under passed_on, o.1)
+        (Runs.Ran want limit is readers after o.0 ends leaves passed_on, o.1)
     runs-under words asked out out' err err' status NoneKept (Runs.Stopped job is name opened leaves) =
         let o = opens-under host opened.0 opened.3 opened.4 holds opened.5 in
         let last = step opened.4 host' name _ o.1 opened.6 in
@@ -33,8 +33,8 @@ module _ {H P I : Type 0} (opens : H → Option Text → Result I OpenFault → 
               (Runs.NoMemory job is (opened.0, opened.1, opened.2, opened.3, under_host opened.4, o.0, inr (next.0, next.1, next.2, last.0)) fails, last.1)
         ]
 
-    words-under : (words : List Text) (out out' err err' : Device) (status : ℕ) (NoneKept : Type 0) → RunsOn words opens knows rest failures last_failed host host' out out' err err' status NoneKept
-        → RunsOn words opens_under knows rest failures last_failed (under_host host) (under_host host') out out' err err' status NoneKept × Holds host'
+    words-under : (words : List Text) (out out' err err' : Device) (status : ℕ) (NoneKept : Type 0) → RunsOn words opens rest failures last_failed host host' out out' err err' status NoneKept
+        → RunsOn words opens_under rest failures last_failed (under_host host) (under_host host') out out' err err' status NoneKept × Holds host'
     words-under words out out' err err' status NoneKept (RunsOn.Parsed matches is runs) =
         let r = runs-under _ _ out out' err err' status NoneKept runs in
         (RunsOn.Parsed matches is r.0, r.1)
@@ -42,8 +42,8 @@ module _ {H P I : Type 0} (opens : H → Option Text → Result I OpenFault → 
 
     -- the same once the output was flushed
     pub program-under : {W : Type 0} (device : W → Device) (flushes : W → Bool → W → Type 0) (KeptNone : W → Type 0) (words : List Text) (out : Device) (out' : W) (err err' : Device) (status : ℕ)
-        → Finishes device flushes (λ now err_now n. RunsOn words opens knows rest failures last_failed host host' out (device now) err err_now n (KeptNone now)) out' err' status
-        → Finishes device flushes (λ now err_now n. RunsOn words opens_under knows rest failures last_failed (under_host host) (under_host host') out (device now) err err_now n (KeptNone now)) out' err' status × Holds host'
+        → Finishes device flushes (λ now err_now n. RunsOn words opens rest failures last_failed host host' out (device now) err err_now n (KeptNone now)) out' err' status
+        → Finishes device flushes (λ now err_now n. RunsOn words opens_under rest failures last_failed (under_host host) (under_host host') out (device now) err err_now n (KeptNone now)) out' err' status × Holds host'
     program-under device flushes KeptNone words out out' err err' status (Finishes.Flushed before left flushed held same) =
         let r = words-under words _ _ _ _ _ _ left in
         (Finishes.Flushed before r.0 flushed held same, r.1)

@@ -1,5 +1,5 @@
 -- A process as a host: what is read of its files and of its standard input, and what is opened.
-use Rattle.std.specs.Prelude.{◌≡◌, ◌≢◌, ◌≤◌, ℕ, ⊤, Bool, true, false, IfSome, List, [], ◌∷◌, length, Option, Some, None, Result, Ok, Err}
+use Rattle.std.specs.Prelude.{◌≡◌, ◌≢◌, ◌≤◌, ℕ, Bool, true, false, IfSome, List, [], ◌∷◌, length, Option, Some, None, Result, Ok, Err}
 use Rattle.std.specs.IoError.{error_kind}
 pub use Rattle.std.specs.declared.io.Error.{Error}
 use Rattle.std.specs.declared.io.ErrorKind.TheVariants as kind
@@ -21,12 +21,6 @@ abbrev pub bytes_left : {F I : Type 0} → (F → Option (List ℕ)) → (I → 
 bytes_left of_file of_input (File file) = of_file file.device
 bytes_left of_file of_input (Input input) = of_input input.device
 bytes_left of_file of_input Refused = Some (0 ∷ [])
-
--- whether the process is right about the length of the file of an input, or of standard input
-abbrev pub length_known : {F I : Type 0} → (F → Type 0) → (I → Type 0) → Stream F I → Type 0
-length_known of_file of_input (File file) = of_file file.device
-length_known of_file of_input (Input input) = of_input input.device
-length_known of_file of_input Refused = ⊤
 
 -- what is read for an input: in a process without random numbers nothing of it
 abbrev pub read_as : {F I : Type 0} → Bool → Stream F I → Stream F I

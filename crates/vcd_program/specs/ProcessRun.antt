@@ -9,7 +9,7 @@ use Rattle.vcd_text.specs.declared.device.Sink.{Ghosts as Sinks}
 use Rattle.vcd_text.specs.declared.device.Watch.{Watch}
 use Rattle.vcd_words.specs.declared.job.UseFault.{UseFault}
 use Rattle.vcdkit.specs.Message.{Shows, use_outcome}
-use Rattle.vcd_program.specs.Process.{OpensInput, bytes_left, length_known}
+use Rattle.vcd_program.specs.Process.{OpensInput, bytes_left}
 use Rattle.vcd_program.specs.Runs.{Finishes, KeepsNoneBack, RunsOn}
 use Rattle.vcd_program.specs.declared.process.Process.{Ghosts}
 use Rattle.vcd_program.specs.declared.process.Stream.{Stream}
@@ -18,7 +18,7 @@ use Rattle.vcd_program.specs.declared.process.Stream.{Stream}
 -- `process` and is `process'`, with random numbers or without
 abbrev pub RunsOver : {P F I B K W : Type 0} → Ghosts P F I B K → Reads F → Reads I → Sinks W → (W → Bool → W → Type 0) → (seeded : Bool) → (process process' : P) → List Text → (out out' : W) → (err err' : Device) → ℕ → Type 0
 RunsOver {F = F} {I = I} p f i w flushes seeded process process' words out out' err err' status =
-    Finishes w.device flushes (λ now err_now n. RunsOn {I = Watch (Stream F I)} words (OpensInput p.opens p.gives seeded) (λ watch. length_known p.knows_file p.knows_input watch.device) (λ watch. bytes_left f.remaining i.remaining watch.device) failed_calls has_just_failed
+    Finishes w.device flushes (λ now err_now n. RunsOn {I = Watch (Stream F I)} words (OpensInput p.opens p.gives seeded) (λ watch. bytes_left f.remaining i.remaining watch.device) failed_calls has_just_failed
     process process' (w.device out) (w.device now) err err_now n (KeepsNoneBack w.kept_back out now)) out' err' status
 
 -- the same with random numbers if the process gives some

@@ -26,7 +26,7 @@ fn run_job<H: Host, W: Sink, E: Sink, B: BuildHasher>(
     requires sinks { MayFailOnce W.Sink E.Sink out.old err.old }
     requires chunk { job.chunk ≡ 65536 }
     requires job { AsksFor matches.now job.task job.limit }
-    ensures runs { RunsMatches H.opens H.knows_length H.Input.Source W.Sink E.Sink
+    ensures runs { RunsMatches H.opens H.Input.Source W.Sink E.Sink
         matches.now host.old host.new out.old out.new err.old err.new result }
     ensures failures { (E.device err.new).failures ≤ (E.device err.old).failures + 1 }
 {
@@ -65,7 +65,7 @@ fn run_matches<H: Host, W: Sink, E: Sink, B: BuildHasher>(
     hasher: &B,
 ) -> u8
     requires sinks { MayFailOnce W.Sink E.Sink out.old err.old }
-    ensures runs { RunsMatches H.opens H.knows_length H.Input.Source W.Sink E.Sink
+    ensures runs { RunsMatches H.opens H.Input.Source W.Sink E.Sink
         matches.now host.old host.new out.old out.new err.old err.new result }
     ensures failures { (E.device err.new).failures ≤ (E.device err.old).failures + 1 }
 {
@@ -114,7 +114,7 @@ fn parse_and_run<H: Host, W: Sink, E: Sink, B: BuildHasher>(
     hasher: &B,
 ) -> u8
     requires sinks { MayFailOnce W.Sink E.Sink out.old err.old }
-    ensures runs { RunsWords (map string_bytes words.now) H.opens H.knows_length
+    ensures runs { RunsWords (map string_bytes words.now) H.opens
         H.Input.Source W.Sink E.Sink host.old host.new out.old out.new err.old err.new result }
     ensures failures { (E.device err.new).failures ≤ (E.device err.old).failures + 1 }
 {
@@ -147,7 +147,7 @@ pub fn run_program<H: Host, W: Output, E: Sink, B: BuildHasher>(
     requires out_failures { (W.device out.old).failures < 2 ^ 64 - 1 }
     requires err_failures { (E.device err.old).failures < 2 ^ 64 - 2 }
     ensures { Finishes W.device W.flushes (λ now err_now status. RunsOn
-        (map string_bytes words.now) H.opens H.knows_length
+        (map string_bytes words.now) H.opens
         H.Input.rest H.Input.failures H.Input.last_failed host.old host.new
         (W.device out.old) (W.device now) (E.device err.old) err_now status
         (KeepsNoneBack W.kept_back out.old now))

@@ -9,41 +9,46 @@ use std::hash::RandomState;
 use std::io::{ErrorKind, Stdin};
 use std::os::fd::AsRawFd;
 use std::{env, fs, io};
-use vcd_host::Buffered;
+use vcd_host::{Buffered, Prefetched};
 use vcd_text::{Sink, Watch};
 use vcd_words::UseFault;
 use vcdkit::{Again, use_fault};
 
-/// The longest file whose length decides how long the windows are. A longer file needs windows of
-/// this length anyway, which is the default token limit.
-const MAX_SHORT_FILE: u64 = 1_048_576;
+/// The longest file that is read when it is opened, so that the windows need not be longer than it.
+const MAX_SHORT_FILE: u64 = 65_535;
 
-/// Returns the length of a file with this metadata, if it is short. `None` if it is no regular
-/// file, if it is longer than `MAX_SHORT_FILE`, or if its length is 0 or unknown. A file of length
-/// 0 may have bytes: the system makes those of some files while they are read.
-fn short_len(about: io::Result<Metadata>) -> Option<usize> {
-    let about = about.ok()?;
+/// Returns how many bytes to read when a file with this metadata is opened: one more than its
+/// length, so that its end is seen. 0 if it is no regular file, if it is longer than
+/// `MAX_SHORT_FILE`, or if its length is 0 or unknown: the system makes the bytes of some files of
+/// length 0 while they are read.
+fn prefetched_len(about: io::Result<Metadata>) -> usize {
+    let Ok(about) = about else {
+        return 0;
+    };
     let len = about.len();
     if about.is_file() && 0 < len && len <= MAX_SHORT_FILE {
-        return usize::try_from(len).ok();
+        return len as usize + 1;
     }
-    None
+    0
 }
 
 /// Where the system shows what standard input is.
 const STANDARD_INPUT: &str = "/proc/self/fd/0";
 
 /// The process itself. No contract says which arguments, files, streams or random numbers a call
-/// returns, or that a length is right, since a file may grow while it is read.
+/// returns.
+///
+/// A short file is read when it is opened. The length that the system reports only decides whether
+/// that is tried: if the file grows, it is read to its end like any other.
 #[derive(Drop)]
 struct OwnProcess<'r> {
     rt: &'r HostRuntime,
 }
 
 impl Process for OwnProcess<'_> {
-    type File = File;
+    type File = Prefetched<File>;
 
-    type Input = Stdin;
+    type Input = Prefetched<Stdin>;
 
     type Seed = RandomState;
 
@@ -57,10 +62,6 @@ impl Process for OwnProcess<'_> {
 
     ghost seeds = { λ _ _. ⊤ };
 
-    ghost knows_file = { λ _. ⊥ };
-
-    ghost knows_input = { λ _. ⊥ };
-
     /// Returns the arguments, the program's name first. Fails if one of them is not UTF-8, or if
     /// memory runs out.
     fn words(&self, alloc: Global) -> Result<Vec<String>, UseFault<'static>> {
@@ -72,13 +73,16 @@ impl Process for OwnProcess<'_> {
     }
 
     /// Opens the file of this name, and returns it. Fails if it cannot be opened.
-    fn open(&mut self, name: &str) -> io::Result<File> {
-        File::open(self.rt, name)
+    fn open(&mut self, name: &str) -> io::Result<Prefetched<File>> {
+        let file = File::open(self.rt, name)?;
+        let len = prefetched_len(file.metadata());
+        Ok(Prefetched::new(self.rt.alloc(), file, len))
     }
 
     /// Returns standard input.
-    fn input(&mut self) -> Stdin {
-        self.rt.stdin()
+    fn input(&mut self) -> Prefetched<Stdin> {
+        let len = prefetched_len(fs::metadata(self.rt, STANDARD_INPUT));
+        Prefetched::new(self.rt.alloc(), self.rt.stdin(), len)
     }
 
     /// Returns a hasher that is made from random numbers of the system. `None` if it has none.
@@ -86,16 +90,15 @@ impl Process for OwnProcess<'_> {
         RandomState::new(self.rt).ok()
     }
 
-    /// Returns the length that a regular file has now, if it is from 1 byte to 1 MiB (`short_len`);
-    /// `None` for any other.
-    fn max_bytes_of_file(&self, file: &File) -> Option<usize> {
-        short_len(file.metadata())
+    /// Returns the length of a file whose end was seen when it was opened; `None` for any other.
+    fn max_bytes_of_file(&self, file: &Prefetched<File>) -> Option<usize> {
+        file.len()
     }
 
-    /// Returns the length that standard input has now, if it is a regular file from 1 byte to 1 MiB
-    /// (`short_len`); `None` for any other.
-    fn max_bytes_of_input(&self, _input: &Stdin) -> Option<usize> {
-        short_len(fs::metadata(self.rt, STANDARD_INPUT))
+    /// Returns the length of standard input if its end was seen when it was opened; otherwise
+    /// `None`.
+    fn max_bytes_of_input(&self, input: &Prefetched<Stdin>) -> Option<usize> {
+        input.len()
     }
 }
 

@@ -1,6 +1,6 @@
 //! Any process, and how its files and its standard input are opened and read.
 ghost use Rattle.std.specs.Prelude.{◌≡◌, ℕ, Bool, List, Option, map, IfErr, IfOk, Result, string_bytes};
-ghost use Rattle.vcd_program.specs.Process.{bytes_left, Error, GivesAtMost, length_known, OpensOn, read_as, UseFault};
+ghost use Rattle.vcd_program.specs.Process.{bytes_left, Error, GivesAtMost, OpensOn, read_as, UseFault};
 ghost use Rattle.vcd_program.specs.Names.{failed_calls};
 
 use std::alloc::Global;
@@ -13,7 +13,7 @@ use vcd_words::UseFault;
 use vcdkit::Again;
 
 /// What a process has besides its output and its error stream. The program is proved over any
-/// process, also over one that is wrong about lengths.
+/// process.
 pub trait Process {
     /// A file that is open.
     type File: Read + Drop;
@@ -41,12 +41,6 @@ pub trait Process {
     // What `seed` may return.
     ghost seeds: { Self → Option Self.Seed → Type 0 };
 
-    // Whether the process is right about the length of this file.
-    ghost knows_file: { Self.File → Type 0 };
-
-    // Whether the process is right about the length of standard input.
-    ghost knows_input: { Self.Input → Type 0 };
-
     /// Returns the arguments, the program's name first. Fails if one of them is not UTF-8, or if
     /// memory runs out.
     fn words(&self, alloc: Global) -> Result<Vec<String>, UseFault<'static>>
@@ -65,15 +59,15 @@ pub trait Process {
     fn seed(&self) -> Option<Self::Seed>
         ensures { seeds self.now result };
 
-    /// Returns a number of bytes that the reads of this file do not exceed, as far as the process
-    /// knows; `None` if it knows none.
+    /// Returns a number of bytes that the reads of this file do not exceed; `None` if the process
+    /// knows none.
     fn max_bytes_of_file(&self, file: &Self::File) -> Option<usize>
-        ensures { knows_file file.now → GivesAtMost (Self.File.remaining file.now) result };
+        ensures { GivesAtMost (Self.File.remaining file.now) result };
 
-    /// Returns a number of bytes that the reads of standard input do not exceed, as far as the
-    /// process knows; `None` if it knows none.
+    /// Returns a number of bytes that the reads of standard input do not exceed; `None` if the
+    /// process knows none.
     fn max_bytes_of_input(&self, input: &Self::Input) -> Option<usize>
-        ensures { knows_input input.now → GivesAtMost (Self.Input.remaining input.now) result };
+        ensures { GivesAtMost (Self.Input.remaining input.now) result };
 }
 
 /// An input of a process with such files and such a standard input.
@@ -129,8 +123,6 @@ impl<P: Process> Host for ProcessHost<'_, P> {
 
     ghost opens = { λ old name result new. OpensOn P.opens P.gives old name result new };
 
-    ghost knows_length = { λ watch. length_known P.knows_file P.knows_input watch.device };
-
     /// Has the process open the file of this name, or returns its standard input if `name` is
     /// `None`. Fails if the process cannot open it, or has no memory for it.
     fn open(&mut self, name: Option<&str>) -> Result<Watch<Stream<P::File, P::Input>>, OpenFault> {
@@ -145,8 +137,8 @@ impl<P: Process> Host for ProcessHost<'_, P> {
         }
     }
 
-    /// Returns a number of bytes that the reads of this input do not exceed, as far as the process
-    /// knows; `None` if it knows none.
+    /// Returns a number of bytes that the reads of this input do not exceed; `None` if the process
+    /// knows none.
     fn max_bytes_of(&self, input: &Watch<Stream<P::File, P::Input>>) -> Option<usize> {
         match &input.device {
             Stream::File(file) => self.process.max_bytes_of_file(&file.device),

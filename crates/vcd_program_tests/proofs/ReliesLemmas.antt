@@ -1,6 +1,6 @@
 -- What callers rely on, from the contract of the program.
 use Rattle.std.proofs.Common.{◌≡◌, ℕ, Bool, true, false, List, [], ◌∷◌, map, ap, ◌∙◌, inl, inr, refl, subst}
-use Rattle.std.specs.Prelude.{All, Option, Some, None, Result, Ok, Err, is_some}
+use Rattle.std.specs.Prelude.{Option, Some, None, Result, Ok, Err, is_some}
 use Rattle.std.specs.declared.io.Read.{Ghosts as Reads}
 use Rattle.clap.specs.Words.{Text}
 use Rattle.vcd_model.specs.Input.{Input}
@@ -22,14 +22,14 @@ use Rattle.vcdkit.specs.Inputs.{headers_in}
 use Rattle.vcdkit.specs.Run.{AreInTurn, AreMergedInTurn, AreRead, IsOutcome}
 use Rattle.vcd_host.specs.declared.host.OpenFault.{OpenFault}
 use Rattle.vcd_host.specs.declared.host.OpenFault.TheVariants.{Unopened, OutOfMemory}
-use Rattle.vcd_program.specs.Process.{OpensInput, bytes_left, length_known}
+use Rattle.vcd_program.specs.Process.{OpensInput, bytes_left}
 use Rattle.vcd_program.specs.ProcessRun.{Delivers, RunsAs}
 use Rattle.vcd_program.specs.Runs.{Finishes, KeepsNoneBack, Leaves, Runs, RunsOn}
 use Rattle.vcd_program.proofs.UnderLemmas.{program-under}
 use Rattle.vcd_program.specs.declared.process.Process.{Ghosts}
 use Rattle.vcd_program.specs.declared.process.Stream.{Stream}
 use Rattle.vcd_program.specs.declared.process.Stream.TheVariants.{File, Input as Standard, Refused as Failing}
-use Rattle.vcd_program_tests.specs.Relies.{AreOnTurn, EndsFlushed, EndsWith, OpensOne, Over, OverMany, OverOne, Relies, ReliesOnProcess, bytes_of, is_merge, is_right, stream_bytes}
+use Rattle.vcd_program_tests.specs.Relies.{AreOnTurn, EndsFlushed, EndsWith, OpensOne, Over, OverMany, OverOne, Relies, ReliesOnProcess, bytes_of, is_merge, stream_bytes}
 
 ends-with : (o : Outcome) (out out' err err' : Device) (status : ℕ) → IsOutcome o out out' err err' status → EndsWith o out out' err err' status
 ends-with o out out' err err' status (IsOutcome.Whole written shown is) = inl (written, shown, is)
@@ -106,11 +106,8 @@ same-map : {A B : Type 0} (f g : A → B) → ((x : A) → f x ≡ g x) → (xs 
 same-map f g same [] = refl
 same-map f g same (x ∷ xs) = ap (λ y. y ∷ map f xs) (same x) ∙ ap (λ l. g x ∷ l) (same-map f g same xs)
 
-all-so : {A : Type 0} (Old New : A → Type 0) → ((x : A) → Old x → New x) → (xs : List A) → All Old xs → All New xs
-all-so Old New so xs all k d low = so _ (all k d low)
-
--- `rest` and `known` say the same as `rest_now` and `knows_now`
-module _ {H I : Type 0} (words : List Text) (opens : H → Option Text → Result I OpenFault → H → Type 0) (knows knows_now : I → Type 0) (right : (x : I) → knows_now x → knows x) (rest rest_now : I → Option (List ℕ)) (same : (x : I) → rest x ≡ rest_now x) (failures : I → ℕ)
+-- `rest` says the same as `rest_now`
+module _ {H I : Type 0} (words : List Text) (opens : H → Option Text → Result I OpenFault → H → Type 0) (rest rest_now : I → Option (List ℕ)) (same : (x : I) → rest x ≡ rest_now x) (failures : I → ℕ)
     (out out' err err' : Device) (status : ℕ) where
   over-now : (limit : ℕ) (due_of : List Input → Outcome) (want : Want) (readers after : List I) (texts : List Text) → (map rest readers ≡ map (λ text. Some text) texts → Leaves due_of want limit texts (map (supply rest failures) readers) (map (supply rest failures) after) out out' err err' status)
       → map rest_now readers ≡ map (λ text. Some text) texts → Over want limit due_of out out' err err' status texts (map (supply rest_now failures) readers) (map (supply rest_now failures) after)
@@ -120,10 +117,10 @@ module _ {H I : Type 0} (words : List Text) (opens : H → Option Text → Resul
       (subst (λ l. Leaves due_of want limit texts (map (supply rest_now failures) readers) l out out' err err' status) (supplies after)
       (subst (λ l. Leaves due_of want limit texts l (map (supply rest failures) after) out out' err err' status) (supplies readers) (leaves (same-map rest rest_now same readers ∙ have))))
 
-  relies-of : (last_failed : I → Bool) (host host' : H) (kept kept' : ℕ) → RunsOn words opens knows rest failures last_failed host host' out out' err err' status (kept ≡ 0 → kept' ≡ 0) → Relies words opens knows_now rest_now failures last_failed host host' out out' err err' kept kept' status
+  relies-of : (last_failed : I → Bool) (host host' : H) (kept kept' : ℕ) → RunsOn words opens rest failures last_failed host host' out out' err err' status (kept ≡ 0 → kept' ≡ 0) → Relies words opens rest_now failures last_failed host host' out out' err err' kept kept' status
   relies-of last_failed host host' kept kept' (RunsOn.Parsed matches are (Runs.Refused fault is same leaves)) = Relies.Refused matches are fault is same (ends-with _ out out' err err' status leaves)
-  relies-of last_failed host host' kept kept' (RunsOn.Parsed matches are (Runs.Ran want limit is readers after opened ends leaves lower near under passed_on)) =
-      Relies.Ran matches are want limit is readers after opened ends (λ all texts. over-now limit _ want readers after texts (leaves (all-so knows_now knows right readers all) texts)) lower near (λ texts. over-now lower _ want readers after texts (under texts)) passed_on
+  relies-of last_failed host host' kept kept' (RunsOn.Parsed matches are (Runs.Ran want limit is readers after opened ends leaves passed_on)) =
+      Relies.Ran matches are want limit is readers after opened ends (λ texts. over-now limit _ want readers after texts (leaves texts)) passed_on
   relies-of last_failed host host' kept kept' (RunsOn.Parsed matches are (Runs.Stopped job is name opened leaves)) = Relies.Stopped matches are name opened (ends-with _ out out' err err' status leaves)
   relies-of last_failed host host' kept kept' (RunsOn.Parsed matches are (Runs.NoMemory job is opened fails)) = Relies.NoMemory matches are opened fails
   relies-of last_failed host host' kept kept' (RunsOn.NoMatches why is only same answers) = Relies.NoMatches why same answers
@@ -141,11 +138,6 @@ same-bytes f i (File file) = refl
 same-bytes f i (Standard input) = refl
 same-bytes f i Failing = refl
 
-right-known : {P F I B K : Type 0} (p : Ghosts P F I B K) (stream : Stream F I) → is_right p stream → length_known p.knows_file p.knows_input stream
-right-known p (File file) right = right
-right-known p (Standard input) right = right
-right-known p Failing right = right
-
 opens-one : {P F I B K : Type 0} (p : Ghosts P F I B K) (seeded : Bool) (process : P) (name : Option Text) (result : Result (Watch (Stream F I)) OpenFault) (process' : P) → OpensInput p.opens p.gives seeded process name result process' → OpensOne p seeded process name result process'
 opens-one p true process None (Ok watch) process' o = o
 opens-one p false process None (Ok watch) process' o = o
@@ -162,10 +154,10 @@ process-of p f i w flushes e sends process process' out out' err err' status d =
     by_run : RunsAs p f i w flushes process process' out out' (e.device err) (e.device d.before) status → ReliesOnProcess p f i w flushes e sends process process' out out' err err' status
     by_run (RunsAs.Ran words given r) =
         let seeded = is_some r.0 in
-        let runs = (program-under (OpensInput p.opens p.gives seeded) (OpensOne p seeded) (λ process. process) (λ _. Unit {0}) (λ old new name result _ o. (opens-one p seeded old name result new o, tt)) _ _ _ _ process process' tt
+        let runs = (program-under (OpensInput p.opens p.gives seeded) (OpensOne p seeded) (λ process. process) (λ _. Unit {0}) (λ old new name result _ o. (opens-one p seeded old name result new o, tt)) _ _ _ process process' tt
         w.device flushes (λ now. KeepsNoneBack w.kept_back out now) words (w.device out) out' (e.device err) (e.device d.before) status r.2).0 in
         ReliesOnProcess.Ran words given r.0 r.1 d.before
         (ends-flushed w.device flushes _ _ out' (e.device d.before) status
-        (λ now err_now n left. relies-of words (OpensOne p seeded) _ (λ watch. is_right p watch.device) (λ watch. right-known p watch.device) _ (bytes_of f i) (λ watch. same-bytes f i watch.device) _ (w.device out) (w.device now) (e.device err) err_now n _ process process' (w.kept_back out) (w.kept_back now) left) runs)
+        (λ now err_now n left. relies-of words (OpensOne p seeded) _ (bytes_of f i) (λ watch. same-bytes f i watch.device) _ (w.device out) (w.device now) (e.device err) err_now n _ process process' (w.kept_back out) (w.kept_back now) left) runs)
         d.done (d.flushed, d.held, d.same)
     by_run (RunsAs.NoWords fault refused same unwritten shown is) = ReliesOnProcess.NoWords fault refused same unwritten d.before shown is d.done (d.flushed, d.held, d.same)

@@ -107,24 +107,21 @@ pub record Over (want : Want) (limit : ℕ) (outcome_of : List Input → Outcome
 -- ---- a run on words
 
 -- Before the output is flushed, of which `kept` bytes were kept back, and now `kept'` are: which
--- inputs were opened; over any inputs how the job ended, and which calls failed; over inputs whose
--- texts are known the outcome of the words, if the host is right about all lengths; and whatever
--- the lengths, the outcome under a limit that may be lower. If a read failed, nothing is kept back.
-pub data Relies {H I : Type 0} (words : List Text) (opens : H → Option Text → Result I OpenFault → H → Type 0) (knows : I → Type 0) (rest : I → Option (List ℕ)) (failures : I → ℕ) (last_failed : I → Bool) (host host' : H) (out out' err err' : Device) (kept kept' : ℕ) (status : ℕ) : Type 0 where
+-- inputs were opened; over any inputs how the job ended, and which calls failed; and over inputs
+-- whose texts are known the outcome of the words. If a read failed, nothing is kept back.
+pub data Relies {H I : Type 0} (words : List Text) (opens : H → Option Text → Result I OpenFault → H → Type 0) (rest : I → Option (List ℕ)) (failures : I → ℕ) (last_failed : I → Bool) (host host' : H) (out out' err err' : Device) (kept kept' : ℕ) (status : ℕ) : Type 0 where
   Ran : (matches : ArgMatches) (are : HasMatchesOf program_app words matches) (want : Want) (limit : ℕ) (is : job_of (words_used matches) ≡ Ok (record { want = want; limit = limit })) (readers after : List I) (opened : Opens opens host (inputs_asked matches) readers host')
       (ends : (why : _) × CountsReads (map failures readers) (map failures after) why × (failures_then (writes_failed why) out' ≡ out.failures + writes_failed why) × (status ≡ end_status why) × Says err err' (end_message (map called (inputs_asked matches)) (names_wanted want) why)
       × EndsAtReadOf (map last_failed after) why)
-      (gives : All knows readers → (texts : List Text) → map rest readers ≡ map (λ text. Some text) texts
+      (gives : (texts : List Text) → map rest readers ≡ map (λ text. Some text) texts
       → Over want limit (command_outcome (words_used matches) (map called (inputs_asked matches))) out out' err err' status texts (map (supply rest failures) readers) (map (supply rest failures) after))
-      (lower : ℕ) (near : (lower ≡ limit) ⊎ ((4096 ≤ lower) × (lower ≤ limit))) (under : (texts : List Text) → map rest readers ≡ map (λ text. Some text) texts
-      → Over want lower (outcome want lower (map called (inputs_asked matches))) out out' err err' status texts (map (supply rest failures) readers) (map (supply rest failures) after))
-      (passed_on : map failures after ≢ map failures readers → kept ≡ 0 → kept' ≡ 0) → Relies words opens knows rest failures last_failed host host' out out' err err' kept kept' status
+      (passed_on : map failures after ≢ map failures readers → kept ≡ 0 → kept' ≡ 0) → Relies words opens rest failures last_failed host host' out out' err err' kept kept' status
   Stopped : (matches : ArgMatches) (are : HasMatchesOf program_app words matches) (name : Option Text) (opened : OpensUpTo opens (inputs_asked matches) name host host') (ends : EndsWith (unopened_outcome (called name)) out out' err err' status)
-      → Relies words opens knows rest failures last_failed host host' out out' err err' kept kept' status
-  NoMemory : (matches : ArgMatches) (are : HasMatchesOf program_app words matches) (opened : OpensSome opens (inputs_asked matches) host host') (ends : EndsWithout out out' err err' status) → Relies words opens knows rest failures last_failed host host' out out' err err' kept kept' status
+      → Relies words opens rest failures last_failed host host' out out' err err' kept kept' status
+  NoMemory : (matches : ArgMatches) (are : HasMatchesOf program_app words matches) (opened : OpensSome opens (inputs_asked matches) host host') (ends : EndsWithout out out' err err' status) → Relies words opens rest failures last_failed host host' out out' err err' kept kept' status
   Refused : (matches : ArgMatches) (are : HasMatchesOf program_app words matches) (fault : _) (is : job_of (words_used matches) ≡ Err fault) (same : host' ≡ host) (ends : EndsWith (command_outcome (words_used matches) [] []) out out' err err' status)
-      → Relies words opens knows rest failures last_failed host host' out out' err err' kept kept' status
-  NoMatches : (why : ErrorKind) (same : host' ≡ host) (answers : Answers why out out' err err' status) → Relies words opens knows rest failures last_failed host host' out out' err err' kept kept' status
+      → Relies words opens rest failures last_failed host host' out out' err err' kept kept' status
+  NoMatches : (why : ErrorKind) (same : host' ≡ host) (answers : Answers why out out' err err' status) → Relies words opens rest failures last_failed host host' out out' err err' kept kept' status
 
 -- ---- a process
 
@@ -140,12 +137,6 @@ stream_bytes f i Failing = Some (0 ∷ [])
 
 abbrev pub bytes_of : {F I : Type 0} → Reads F → Reads I → Watch (Stream F I) → Option (List ℕ)
 bytes_of f i watch = stream_bytes f i watch.device
-
--- whether the process is right about the length of an input
-abbrev pub is_right : {P F I B K : Type 0} → Ghosts P F I B K → Stream F I → Type 0
-is_right p (File file) = p.knows_file file.device
-is_right p (Standard input) = p.knows_input input.device
-is_right p Failing = ⊤
 
 -- The process opened the file of this name, or gave its standard input, and changed by nothing
 -- else. Without random numbers each read of the input fails.
@@ -176,7 +167,7 @@ pub record EndsFlushed {W : Type 0} (device : W → Device) (flushes : W → Boo
 -- arguments, and nothing but the message for that was written.
 pub data ReliesOnProcess {P F I B K W E : Type 0} (p : Ghosts P F I B K) (f : Reads F) (i : Reads I) (w : Sinks W) (flushes : W → Bool → W → Type 0) (e : Sinks E) (sends : E → Bool → E → Type 0) (process process' : P) (out out' : W) (err err' : E) (status : ℕ) : Type 0 where
   Ran : (words : List Text) (given : p.words process words) (seed : Option B) (seed_is : p.seeds process seed) (before : E)
-      (runs : EndsFlushed w.device flushes (λ now err_now n. Relies {I = Watch (Stream F I)} words (OpensOne p (is_some seed)) (λ watch. is_right p watch.device) (bytes_of f i) failed_calls has_just_failed
+      (runs : EndsFlushed w.device flushes (λ now err_now n. Relies {I = Watch (Stream F I)} words (OpensOne p (is_some seed)) (bytes_of f i) failed_calls has_just_failed
       process process' (w.device out) (w.device now) (e.device err) err_now (w.kept_back out) (w.kept_back now) n) out' (e.device before) status)
       (done : Bool) (flushed : IsFlushed e.device sends done before err') → ReliesOnProcess p f i w flushes e sends process process' out out' err err' status
   NoWords : (fault : UseFault) (refused : p.refuses process fault) (same : process' ≡ process) (unwritten : out' ≡ out) (before : E) (shown : Says (e.device err) (e.device before) (use_outcome fault).message) (is : status ≡ (use_outcome fault).status)

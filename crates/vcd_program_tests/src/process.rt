@@ -57,10 +57,6 @@ impl Process for InMemory {
 
     ghost seeds = { λ _ _. ⊤ };
 
-    ghost knows_file = { λ _. ⊥ };
-
-    ghost knows_input = { λ _. ⊥ };
-
     fn words(&self, alloc: Global) -> Result<Vec<String>, UseFault<'static>> {
         match self.lack {
             Lack::Text => Err(UseFault::BadWords),

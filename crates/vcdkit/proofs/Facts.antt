@@ -5,4 +5,4 @@ pub use Rattle.vcdkit.proofs.MessageLemmas.{puts-shows}
 pub use Rattle.vcdkit.proofs.OpenLemmas.{BegunSoFar, Opening, all_begun, counted, goes_on, nothing_begun, nothing_stops, still, still_low, stops, stops_full}
 pub use Rattle.vcdkit.proofs.OutcomeLemmas.{asked_for}
 pub use Rattle.vcdkit.proofs.RunLemmas.{ended_last, ended_passed, few_writes, followed, list_last, list_passed, list_reads, list_writes, listed, merged_last, merged_passed, most_one, no_memory, no_room, no_ticks, one_last, one_of, read_on, readers_end, refused, set_one, shown_once}
-pub use Rattle.vcdkit.proofs.WithinLemmas.{run_within, same_limit, short_texts}
+pub use Rattle.vcdkit.proofs.WithinLemmas.{run_within, short_texts}

@@ -264,11 +264,6 @@ run_within a b c d le want names texts old new out out' err err' status short (N
     let all = lefts_short a b c d le is_header_over [] texts old new inputs short read in
     NoMemory inputs (read_within a b c d le is_header_over [] texts old new inputs short read) (all_within a b c d le old new inputs all want needed) (turns_within a b c d le texts old new inputs out out' short all want turns) same written shown status_is
 
--- under one limit any texts will do
-pub same_limit : (limit : ℕ) (texts : List (List ℕ)) → AllByRecursion (IsShort limit limit) texts
-same_limit limit [] = tt
-same_limit limit (text ∷ texts) = (inl refl, same_limit limit texts)
-
 -- ---- readers that give few bytes
 
 -- a reader that is known to give few bytes

@@ -66,9 +66,9 @@ AreWithin rest longest readers = IfSome longest (λ most. All (λ r. IfSome (res
 abbrev pub IsWithin : Option ℕ → ℕ → Type 0
 IsWithin longest limit = (most : ℕ) × (longest ≡ Some most) × (most ≤ limit)
 
--- the same limit; or a lower one, but not lower than a length that is known, or than 4,096 bytes
+-- the same limit; or a lower one, but not lower than a length that is known
 abbrev pub IsLimitFor : Option ℕ → (wide narrow : ℕ) → Type 0
-IsLimitFor longest wide narrow = (narrow ≡ wide) ⊎ ((narrow ≤ wide) × IsWithin longest narrow × (4096 ≤ narrow))
+IsLimitFor longest wide narrow = (narrow ≡ wide) ⊎ ((narrow ≤ wide) × IsWithin longest narrow)
 
 -- the same job, with windows that may be shorter, but not shorter than any token of inputs of this
 -- length
@@ -100,9 +100,3 @@ EndsSo g w e job names old new out out' err err' status = (why : Option Failure)
 abbrev pub RunsJob : {X W E : Type 0} → Ghosts X → Sinks W → Sinks E → Job → List (List ℕ) → (old new : List X) → (out out' : W) → (err err' : E) → ℕ → Type 0
 RunsJob g w e job names old new out out' err err' status = (texts : List (List ℕ)) → map g.rest old ≡ map (λ text. Some text) texts
     → HasRun (model_want job.task) job.limit job.chunk names texts (supplies g old) (supplies g new) (w.device out) (w.device out') (e.device err) (e.device err') status
-
--- the same under a token limit that may be lower, as the readers were said to give at most this many
--- bytes; each is read as far as under any limit, even if it gives more
-abbrev pub RunsUnder : {X W E : Type 0} → Ghosts X → Sinks W → Sinks E → Option ℕ → Job → List (List ℕ) → (old new : List X) → (out out' : W) → (err err' : E) → ℕ → Type 0
-RunsUnder g w e longest job names old new out out' err err' status = (limit : ℕ) × IsLimitFor longest job.limit limit × ((texts : List (List ℕ)) → map g.rest old ≡ map (λ text. Some text) texts
-    → HasRun (model_want job.task) limit job.chunk names texts (supplies g old) (supplies g new) (w.device out) (w.device out') (e.device err) (e.device err') status)

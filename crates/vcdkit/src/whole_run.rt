@@ -1,6 +1,6 @@
 //! A job, from its readers to its output, its message and its status.
 ghost use Rattle.std.specs.Prelude.{◌≡◌, ◌+◌, ◌-◌, ◌^◌, ◌<◌, ◌≤◌, map, length, string_bytes, true, false, IfSome};
-ghost use Rattle.vcdkit.specs.Names.{AreReaders, AreWithin, AreWithinBound, chunk_len_of, CountsAt, CountsReadsOf, CountsWrites, Does, end_of, EndsAtRead, EndsAtReadOf, EndsAtStop, EndsSo, FailOnce, failure_of, HasNotFailed, HasPassedOn, HasPassedOnAt, InputEnds, is_asked, is_merge, IsEnough, IsValid, JobEnds, limit_of, MayFailOnce, merge_end, Merges, names_asked, Narrows, PassesOn, reads_failed, request_for, request_of_task, room_size, RunsJob, RunsUnder, SameLoans, source_of, stop_writes, WantEnds, writes_failed};
+ghost use Rattle.vcdkit.specs.Names.{AreReaders, AreWithin, AreWithinBound, chunk_len_of, CountsAt, CountsReadsOf, CountsWrites, Does, end_of, EndsAtRead, EndsAtReadOf, EndsAtStop, EndsSo, FailOnce, failure_of, HasNotFailed, HasPassedOn, HasPassedOnAt, InputEnds, is_asked, is_merge, IsEnough, IsValid, JobEnds, limit_of, MayFailOnce, merge_end, Merges, names_asked, Narrows, PassesOn, reads_failed, request_for, request_of_task, room_size, RunsJob, SameLoans, source_of, stop_writes, WantEnds, writes_failed};
 
 use crate::failure::Failure;
 use crate::inputs::{MAX_DECLARATIONS, Reading, read_head_of, read_heads, windows_for};
@@ -246,8 +246,7 @@ pub fn run_with_hasher<S: Source, W: Sink, E: Sink, B: BuildHasher>(
     }
 }
 
-/// How long a window is at least after it was shortened. Most tokens are no longer, so that a file
-/// may grow while it is read.
+/// How long a window is at least after it was shortened. A shorter one would save nothing.
 const SHORTEST: usize = 4_096;
 
 /// Returns this job with buffers for chunk and token of at most `longest` bytes, or 4,096 if
@@ -271,9 +270,6 @@ fn narrowed(job: Job, longest: Option<usize>) -> Job
 /// bytes if it is less, so that a run over small inputs takes and clears less memory. What is
 /// written is the same. The other arguments, the output and the status are those of
 /// `run_with_hasher`.
-///
-/// If a reader returns more than `longest` bytes, these are read too, but its tokens have to fit
-/// into the shorter buffers: a longer token is refused.
 pub fn run_within<S: Source, W: Sink, E: Sink, B: BuildHasher>(
     alloc: Global,
     job: Job,
@@ -287,6 +283,7 @@ pub fn run_within<S: Source, W: Sink, E: Sink, B: BuildHasher>(
     requires names { length names.now ≡ length readers.old }
     requires readers { AreReaders S.failures readers.old }
     requires alone { is_merge job.task ≡ false → length readers.old ≡ 1 }
+    requires within { AreWithin S.rest longest readers.old }
     requires sinks { MayFailOnce W.Sink E.Sink out.old err.old }
     ensures failures { FailOnce W.Sink E.Sink out.old out.new err.old err.new }
     ensures ends { EndsSo S.Source W.Sink E.Sink job (map string_bytes names.now)
@@ -296,13 +293,9 @@ pub fn run_within<S: Source, W: Sink, E: Sink, B: BuildHasher>(
     ensures passed_on { PassesOn S.failures W.kept_back
         readers.old readers.new out.old out.new }
 
-    // If no reader returns more than `longest` bytes, it is the outcome of the definitions.
-    ensures gives { AreWithin S.rest longest readers.old
-        → RunsJob S.Source W.Sink E.Sink job (map string_bytes names.now)
-        readers.old readers.new out.old out.new err.old err.new result }
-
-    // Whatever the readers give, it is their outcome under a token limit that may be lower.
-    ensures under { RunsUnder S.Source W.Sink E.Sink longest job (map string_bytes names.now)
+    // Over readers whose bytes are known, it is the outcome of the definitions, under the token
+    // limit of the job.
+    ensures gives { RunsJob S.Source W.Sink E.Sink job (map string_bytes names.now)
         readers.old readers.new out.old out.new err.old err.new result }
 {
     let narrow = narrowed(job, longest);

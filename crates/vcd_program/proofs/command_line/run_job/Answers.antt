@@ -1,12 +1,12 @@
-use Rattle.vcd_program.proofs.Cited.{rules, ◌≡◌, length, map, ap, sym, subst, ◌∙◌, arith, string_bytes, model_want, names_asked, words_used, unopened_outcome, Shows, inputs_asked, inputs_for, called, text_of, Opens, asked-is, opens-many}
-use Rattle.vcd_program.proofs.Facts.{memory-shown, memory-stopped, merge-same, names-many, names-same, near-limit, no-memory, ran, shown_once, stopped, within-known}
+use Rattle.vcd_program.proofs.Cited.{rules, AreWithin, ◌≡◌, length, map, ap, sym, subst, ◌∙◌, arith, string_bytes, model_want, names_asked, words_used, unopened_outcome, Shows, inputs_asked, inputs_for, called, text_of, Opens, asked-is, opens-many}
+use Rattle.vcd_program.proofs.Facts.{memory-shown, memory-stopped, merge-same, names-many, names-same, no-memory, ran, shown_once, stopped}
 use Rattle.vcd_host.specs.declared.opened.OpenStop.TheVariants as stop
 use Rattle.vcd_program.proofs.command_line.run_job.Goals as goal
 
 pub returns-in_default-clause-runs : goal.returns-in_default-clause-runs
 returns-in_default-clause-runs g c =
     let m = c.args.matches.now in
-    no-memory g.H.Host.opens g.H.Host.knows_length g.H.Input.Source.rest g.H.Input.Source.failures g.H.Input.Source.last_failed (words_used m) (inputs_asked m) c.args.host.now (g.W.Sink.device c.args.out.now) (g.E.Sink.device c.args.err.now) (g.E.Sink.device c.use_fault.new.err) c.use_fault.result _ _ c.requires.job
+    no-memory g.H.Host.opens g.H.Input.Source.rest g.H.Input.Source.failures g.H.Input.Source.last_failed (words_used m) (inputs_asked m) c.args.host.now (g.W.Sink.device c.args.out.now) (g.E.Sink.device c.args.err.now) (g.E.Sink.device c.use_fault.new.err) c.use_fault.result _ _ c.requires.job
     (memory-shown (g.E.Sink.device _) (g.E.Sink.device _) c.use_fault.ensures.line) c.use_fault.ensures.status
 
 pub run_within-requires-clause-names : goal.run_within-requires-clause-names
@@ -26,6 +26,9 @@ run_within-requires-clause-readers g c =
     let few = asked.1.few in
     record { some = omega (arith, all, some); few = omega (arith, all, few); low = search rules }
 
+pub run_within-requires-clause-within : goal.run_within-requires-clause-within
+run_within-requires-clause-within g c = subst (λ readers. AreWithin g.H.Input.Source.rest c.max_bytes_of_all-longest.result readers) (c.deref.ensures.value ∙ sym c.as_mut_slice.ensures.value) c.max_bytes_of_all-longest.ensures
+
 pub returns-in-Ok-open_inputs-clause-runs : goal.returns-in-Ok-open_inputs-clause-runs
 returns-in-Ok-open_inputs-clause-runs g c =
     let m = c.args.matches.now in
@@ -34,11 +37,10 @@ returns-in-Ok-open_inputs-clause-runs g c =
     ap (map text_of) c.as_slice.ensures.value ∙ c.in-Ok.ensures ∙ ap (λ merge. inputs_for merge m) (c.is_merge.ensures ∙ merge-same c.args.job.task) ∙ asked.0 in
     let opened = subst (λ names. Opens g.H.Host.opens c.args.host.now names c.in-Ok-open_inputs.inputs.readers.items c.open_inputs.new.host) named c.in-Ok-open_inputs.ensures.opened in
     let opened_now = subst (λ readers. Opens g.H.Host.opens c.args.host.now (inputs_asked m) readers c.open_inputs.new.host) (sym c.as_mut_slice.ensures.value) opened in
-    let under = c.run_within.ensures.under in
-    ran g.H.Host.opens g.H.Host.knows_length g.H.Input.Source.rest g.H.Input.Source.failures g.H.Input.Source.last_failed (words_used m) (inputs_asked m) c.args.host.now c.open_inputs.new.host (g.W.Sink.device c.args.out.now) (g.W.Sink.device c.run_within.new.out) (g.E.Sink.device c.args.err.now) (g.E.Sink.device c.run_within.new.err) c.run_within.result _
-    (model_want c.args.job.task) c.args.job.limit under.0 c.args.job.chunk (map string_bytes c.as_slice-in-Ok-open_inputs.result.now) (names_asked c.args.job.task) c.as_mut_slice.result.now c.run_within.new.readers
+    ran g.H.Host.opens g.H.Input.Source.rest g.H.Input.Source.failures g.H.Input.Source.last_failed (words_used m) (inputs_asked m) c.args.host.now c.open_inputs.new.host (g.W.Sink.device c.args.out.now) (g.W.Sink.device c.run_within.new.out) (g.E.Sink.device c.args.err.now) (g.E.Sink.device c.run_within.new.err) c.run_within.result _
+    (model_want c.args.job.task) c.args.job.limit c.args.job.chunk (map string_bytes c.as_slice-in-Ok-open_inputs.result.now) (names_asked c.args.job.task) c.as_mut_slice.result.now c.run_within.new.readers
     c.requires.job c.requires.chunk (ap (map string_bytes) c.as_slice-in-Ok-open_inputs.ensures.value ∙ c.in-Ok-open_inputs.ensures.names ∙ ap (map called) named) (names-same c.args.job.task) opened_now c.run_within.ensures.ends
-    (λ known. c.run_within.ensures.gives (within-known g.H.Host.knows_length g.H.Input.Source.rest c.max_bytes_of_all-longest.result _ _ (c.as_mut_slice.ensures.value ∙ sym c.deref.ensures.value) c.max_bytes_of_all-longest.ensures known)) (near-limit _ _ _ under.1) under.2 c.run_within.ensures.passed_on
+    c.run_within.ensures.gives c.run_within.ensures.passed_on
 
 pub returns-in-Err-Unopened-clause-runs : goal.returns-in-Err-Unopened-clause-runs
 returns-in-Err-Unopened-clause-runs g c =
@@ -49,7 +51,7 @@ returns-in-Err-Unopened-clause-runs g c =
     let is : c.in-Err-Unopened.field-0 ≡ stop.Unopened c.in-Err-Unopened.name = search rules in
     let line = subst (λ name. Shows (g.E.Sink.device c.args.err.now) (g.E.Sink.device c.open_fault.new.err) (unopened_outcome name).message) c.called.ensures c.open_fault.ensures.line in
     let shown = rw c.in-Err-Unopened.name-is at line in
-    stopped g.H.Host.opens g.H.Host.knows_length g.H.Input.Source.rest g.H.Input.Source.failures g.H.Input.Source.last_failed (words_used m) (inputs_asked m) (map text_of c.as_slice.result.now) c.args.host.now c.open_inputs.new.host (g.W.Sink.device c.args.out.now) (g.E.Sink.device c.args.err.now) (g.E.Sink.device c.open_fault.new.err) c.open_fault.result
+    stopped g.H.Host.opens g.H.Input.Source.rest g.H.Input.Source.failures g.H.Input.Source.last_failed (words_used m) (inputs_asked m) (map text_of c.as_slice.result.now) c.args.host.now c.open_inputs.new.host (g.W.Sink.device c.args.out.now) (g.E.Sink.device c.args.err.now) (g.E.Sink.device c.open_fault.new.err) c.open_fault.result
     _ _ c.in-Err-Unopened.field-0 c.in-Err-Unopened.name c.requires.job named is c.in-Err-Unopened.ensures.stop shown c.open_fault.ensures.status
 
 pub returns-clause-runs : goal.returns-clause-runs
@@ -59,7 +61,7 @@ returns-clause-runs g c =
     let named : map text_of c.as_slice.result.now ≡ inputs_asked m =
     ap (map text_of) c.as_slice.ensures.value ∙ c.in-Ok.ensures ∙ ap (λ merge. inputs_for merge m) (c.is_merge.ensures ∙ merge-same c.args.job.task) ∙ asked.0 in
     let is : c.in-Err-OutOfMemory.field-0 ≡ stop.OutOfMemory = search rules in
-    memory-stopped g.H.Host.opens g.H.Host.knows_length g.H.Input.Source.rest g.H.Input.Source.failures g.H.Input.Source.last_failed (words_used m) (inputs_asked m) (map text_of c.as_slice.result.now) c.args.host.now c.open_inputs.new.host (g.W.Sink.device c.args.out.now) (g.E.Sink.device c.args.err.now)
+    memory-stopped g.H.Host.opens g.H.Input.Source.rest g.H.Input.Source.failures g.H.Input.Source.last_failed (words_used m) (inputs_asked m) (map text_of c.as_slice.result.now) c.args.host.now c.open_inputs.new.host (g.W.Sink.device c.args.out.now) (g.E.Sink.device c.args.err.now)
     (g.E.Sink.device c.use_fault-in-Err-OutOfMemory.new.err) c.use_fault-in-Err-OutOfMemory.result _ _ c.in-Err-OutOfMemory.field-0 c.requires.job named is c.in-Err-OutOfMemory.ensures.stop
     (memory-shown (g.E.Sink.device _) (g.E.Sink.device _) c.use_fault-in-Err-OutOfMemory.ensures.line) c.use_fault-in-Err-OutOfMemory.ensures.status
 
