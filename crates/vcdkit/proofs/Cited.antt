@@ -33,6 +33,7 @@ pub use Rattle.vcd_merge.proofs.MergeCounts.{map_set, set_last}
 pub use Rattle.vcd_merge.proofs.MergeRoomLemmas.{merge_within}
 pub use Rattle.vcd_merge.proofs.PartLemmas.{lent_len, part_other, part_put, parts_same}
 pub use Rattle.vcd_merge.specs.MergeParts.{AreParts, SameLengths, part, part_len}
+pub use Rattle.vcd_model.specs.Bound.{AreAllWindows}
 pub use Rattle.vcd_merge.specs.MergeRoom.{MergeIsWithinBound, windows_size}
 pub use Rattle.vcd_merge.specs.MergeRun.{AreLeft, AreOpened, AreReadOnTurn, HasEnded, ReadOnTurn, known_first, known_whole}
 pub use Rattle.vcd_merge.specs.MergeRun.AreReadOnTurn.{OnTurn, Unread}
@@ -90,6 +91,7 @@ pub use Rattle.vcd_words.specs.declared.refusal.Refusal.{Refusal}
 pub use Rattle.vcdkit.specs.Calls.{AreWithin, IsLimitFor, Narrows, supplies}
 pub use Rattle.vcdkit.specs.Failure.{CountsRead, CountsReads, CountsReadsOf, EndsAtRead, EndsAtReadOf, HasPassedOn, end_of, failure_of, head_failure, merge_end}
 pub use Rattle.vcdkit.specs.Inputs.{AreBegun, AreParked, AreShown, Begins, BeginsAt, HasFailed, HaveBegun, IsBegun, IsNew, IsWhy, SameParts, Stops, headers_in, place_of}
+pub use Rattle.vcdkit.specs.Lent.{AreLentWithin}
 pub use Rattle.vcdkit.specs.Message.{Shows, end_message, end_status, refusal_status}
 pub use Rattle.vcdkit.specs.Run.{AreInTurn, AreMergedInTurn, AreNeeded, AreRead, Ends, EndsAll, HasRun, IsAfter, IsOfJob, IsOutcome, Leaves, LeavesAll, OneKeepsUp, header_behind, known, settled_for, settles_among}
 pub use Rattle.vcdkit.specs.Run.AreMergedInTurn.{InBodies, InHeaders}

@@ -1,5 +1,5 @@
 -- How a run over its inputs ends, and what it leaves then.
-use Rattle.vcdkit.proofs.Cited.{◌≡◌, ◌==◌, ℕ, ◌+◌, ◌*◌, ◌/◌, ◌<◌, ◌≤◌, Bool, true, false, inl, List, [], length, map, Option, Some, Result, Ok, Err, refl, sym, ap, subst, ◌∙◌, arith, add-zero, get_or, slice_set, set-get_or, mul-div_cancel_left, mul-le, map_map, Head, AreParts, part_len, Seat, Input, Want, refusal_outcome, is_header_over, is_settled, Opened, Outcome, dumps_of, fault_outcome, merge_outcome, name_at, open_from, Fault, Token, Device, Supply, Writes, supply, appends-none, NamesInput, MergeIsWithinBound, windows_size, failures_with, Lane, Done, Stop, Dump, Read, Write, Unmatched, Windows, merge_within, Failure, Stopped, Refused, OutOfMemory, Refusal, failure_of, merge_end, CountsReads, CountsReadsOf, model_refusal, AreBegun, AreParked, AreShown, HaveBegun, Stops, end_message, end_status, refusal_status, Shows, AreNeeded, EndsAll, HasRun, LeavesAll, InBodies, InHeaders, WithOutcome, NoMemory, Whole, Part}
+use Rattle.vcdkit.proofs.Cited.{◌≡◌, ◌==◌, ℕ, ◌+◌, ◌*◌, ◌/◌, ◌<◌, ◌≤◌, Bool, true, false, inl, List, [], length, map, Option, Some, Result, Ok, Err, refl, sym, ap, subst, ◌∙◌, arith, add-zero, get_or, slice_set, set-get_or, mul-div_cancel_left, mul-le, map_map, Head, AreParts, part_len, Seat, Input, Want, refusal_outcome, is_header_over, is_settled, Opened, Outcome, dumps_of, fault_outcome, merge_outcome, name_at, open_from, Fault, Token, Device, Supply, Writes, supply, appends-none, NamesInput, MergeIsWithinBound, windows_size, AreLentWithin, failures_with, Lane, Done, Stop, Dump, Read, Write, Unmatched, Windows, Failure, Stopped, Refused, OutOfMemory, Refusal, failure_of, merge_end, CountsReads, CountsReadsOf, model_refusal, AreBegun, AreParked, AreShown, HaveBegun, Stops, end_message, end_status, refusal_status, Shows, AreNeeded, EndsAll, HasRun, LeavesAll, InBodies, InHeaders, WithOutcome, NoMemory, Whole, Part}
 use Rattle.vcd_model.specs.Job.{outcome, request_of}
 use Rattle.vcd_merge.specs.MergeRun.{Belongs, Follows}
 use Rattle.vcd_body.specs.declared.answer.Done.TheVariants as done
@@ -176,21 +176,12 @@ parts_of n chunk limit cs ts vs some c l ec et ev = record {
 -- ---- what a merge is lent
 
 -- windows of n inputs under these limits
-pub lends_within : (n chunk limit seats : ℕ) (heads : List Head) (w : Windows) → 0 < n → chunk ≤ 65536 → length w.chunks.now ≡ n * chunk → length w.tokens.now ≡ n * limit → length w.values.now ≡ n * limit → length heads ≡ n → seats ≡ n
+pub lends_within : (n chunk limit seats : ℕ) (heads : List Head) (w : Windows) → AreLentWithin n w heads → 0 < n → chunk ≤ 65536 → length w.chunks.now ≡ n * chunk → length w.tokens.now ≡ n * limit → length w.values.now ≡ n * limit → seats ≡ n
     → MergeIsWithinBound (part_len seats w.tokens.now) heads (windows_size w)
-lends_within n chunk limit seats heads w some small lc lt lv many alike =
+lends_within n chunk limit seats heads w fits some small lc lt lv alike =
     let here = part_is n limit w.tokens.now some lt in
-    rw (alike, here) (merge_within limit heads (windows_size w) (record {
-      chunk = all_chunks;
-      token = omega (arith, lt, alone limit);
-      value = omega (arith, lv, alone limit);
-    }))
-  where
-    all_chunks : length w.chunks.now ≤ length heads * 65536
-    all_chunks = rw (lc, many) (mul-le n chunk n 65536 (omega arith) small)
-
-    alone : (size : ℕ) → length heads * size ≡ n * size
-    alone size = ap (λ m. m * size) many
+    let chunks : length w.chunks.now ≤ n * 65536 = rw lc (mul-le n chunk n 65536 (omega arith) small) in
+    rw (alike, here) (fits limit (record { chunk = chunks; token = omega (arith, lt); value = omega (arith, lv) }))
 
 -- ---- the reads of a merge
 

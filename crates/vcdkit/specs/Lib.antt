@@ -4,6 +4,7 @@ pub mod Inputs
 pub mod Message
 pub mod Run
 pub mod Calls
+pub mod Lent
 -- the words, and the job that they ask for
 pub use Rattle.vcd_words.specs.Job
 pub use Rattle.vcd_words.specs.Refusal

@@ -20,6 +20,7 @@ pub use Rattle.vcd_merge.specs.MergeParts.{SameLengths}
 pub use Rattle.vcdkit.specs.Calls.{AreReaders, AreWithin, EndsSo, FailOnce, InputEnds, JobEnds, MayFailOnce, Merges, Narrows, RunsJob, WantEnds}
 pub use Rattle.vcdkit.specs.Failure.{CountsAt, CountsReadsOf, CountsWrites, end_of, EndsAtRead, EndsAtReadOf, failure_of, HasPassedOn, head_failure, merge_end, PassesOn, stop_failure, writes_failed}
 pub use Rattle.vcdkit.specs.Inputs.{AddsBegun, BeginsAmong, BeginsBy, HasParts, IsNewIn, IsNewOver, OpensAll, OpensInput, SameParts}
+pub use Rattle.vcdkit.specs.Lent.{AreLentWithin, IsLentWithin}
 pub use Rattle.vcdkit.specs.Message.{failure_message, failure_status, refusal_message, refusal_status, Reports, Shows, stop_message, stop_status, unopened_outcome, use_outcome}
 pub use Rattle.vcdkit.specs.Tasks.{cut_request, IsEnough, request_for, task_request}
 pub use Rattle.vcdkit.specs.declared.failure.Failure.TheVariants.{OutOfMemory, Refused}

@@ -1,6 +1,6 @@
 //! The inputs of a job: the memory of their windows, and their headers.
 ghost use Rattle.std.specs.Prelude.{◌≡◌, ◌≢◌, ◌*◌, ◌-◌, ◌^◌, ◌<◌, ◌≤◌, ℕ, All, IfOk, OnOk, length, map, vec_len};
-ghost use Rattle.vcdkit.specs.Names.{AddsBegun, BeginsAmong, BeginsBy, chunk_len_of, CountsAt, CountsReadsOf, EndsAtRead, EndsAtReadOf, failure_of, HasNotFailed, HasParts, IsNewIn, IsNewOver, limit_of, MayLend, OpensAll, OpensInput, SameLengths, SameLoans, SameParts, source_of, writes_failed};
+ghost use Rattle.vcdkit.specs.Names.{AddsBegun, AreLentWithin, BeginsAmong, BeginsBy, chunk_len_of, CountsAt, CountsReadsOf, EndsAtRead, EndsAtReadOf, failure_of, HasNotFailed, HasParts, IsNewIn, IsNewOver, limit_of, MayLend, OpensAll, OpensInput, SameLengths, SameLoans, SameParts, source_of, writes_failed};
 
 use crate::failure::Failure;
 use std::alloc::{AllocError, Global};
@@ -172,7 +172,7 @@ impl Inputs {
 
 /// Reads the headers of all inputs in order, and returns them with the parked feeds. Each of the
 /// slices in `windows` has one equal part for each reader. All headers together may have 16,777,216
-/// declarations. Fails at the first header with a fault, at a failed read, or if memory runs out.
+/// declarations. What they keep is within the bound, together with the windows. Fails at the first header with a fault, at a failed read, or if memory runs out.
 pub(crate) fn read_heads<S: Source, B: BuildHasher>(
     alloc: Global,
     readers: &mut [S],
@@ -187,6 +187,8 @@ pub(crate) fn read_heads<S: Source, B: BuildHasher>(
     ensures last { EndsAtReadOf (map S.last_failed readers.new) (failure_of result) }
     ensures no_write { writes_failed (failure_of result) ≡ 0 }
     ensures lengths { SameLengths windows.old windows.new }
+    ensures bound { IfOk result (λ inputs.
+        AreLentWithin (length readers.old) windows.new inputs.heads.items) }
     ensures many { IfOk result (λ inputs. (length inputs.heads.items ≡ length readers.old)
         × (length inputs.seats.items ≡ length readers.old)) }
     ensures seated { IfOk result (λ inputs.

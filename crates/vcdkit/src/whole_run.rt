@@ -1,6 +1,6 @@
 //! A job, from its readers to its output, its message and its status.
 ghost use Rattle.std.specs.Prelude.{◌≡◌, ◌+◌, ◌-◌, ◌^◌, ◌<◌, ◌≤◌, map, length, string_bytes, true, false, IfSome};
-ghost use Rattle.vcdkit.specs.Names.{AreReaders, AreWithin, AreWithinBound, chunk_len_of, CountsAt, CountsReadsOf, CountsWrites, Does, end_of, EndsAtRead, EndsAtReadOf, EndsAtStop, EndsSo, FailOnce, failure_of, HasNotFailed, HasPassedOn, HasPassedOnAt, InputEnds, is_asked, is_merge, IsEnough, IsValid, JobEnds, limit_of, MayFailOnce, merge_end, Merges, names_asked, Narrows, PassesOn, reads_failed, request_for, request_of_task, room_size, RunsJob, SameLoans, source_of, stop_writes, WantEnds, writes_failed};
+ghost use Rattle.vcdkit.specs.Names.{AreReaders, AreWithin, AreWithinBound, chunk_len_of, CountsAt, CountsReadsOf, CountsWrites, Does, end_of, EndsAtRead, EndsAtReadOf, EndsAtStop, EndsSo, FailOnce, failure_of, HasNotFailed, HasPassedOn, HasPassedOnAt, InputEnds, is_asked, is_merge, IsEnough, IsLentWithin, IsValid, JobEnds, limit_of, MayFailOnce, merge_end, Merges, names_asked, Narrows, PassesOn, reads_failed, request_for, request_of_task, room_size, RunsJob, SameLoans, source_of, stop_writes, WantEnds, writes_failed};
 
 use crate::failure::Failure;
 use crate::inputs::{MAX_DECLARATIONS, Reading, read_head_of, read_heads, windows_for};
@@ -38,7 +38,8 @@ fn merged(answer: Result<Done, Stop>) -> Result<Done, Failure>
 
 /// Runs the task over the body that follows the header of `view`, in this room, which has the
 /// lengths that `need_of` returns, or writes the list of variables if `task` is `None`. Returns
-/// what ended it. Fails if the task or the list does. It gets no allocator, so it takes no memory.
+/// what ended it. Fails if the task or the list does. It gets no allocator, so it takes no memory,
+/// and all that it is lent is within the bound.
 fn run_in<S: Source, W: Sink>(
     task: Option<Task<'_>>,
     view: HeadView<'_>,
@@ -53,6 +54,7 @@ fn run_in<S: Source, W: Sink>(
     requires room { IsEnough task view room }
     requires bound { AreWithinBound (limit_of feed.old) (chunk_len_of feed.old) view
         (room_size room) }
+    ensures bound { IsLentWithin feed.old view.entry (room_size room.entry) }
     ensures gives { Does (request_for task.entry) view.entry feed.old feed.new
         (W.device out.old) (W.device out.new) result }
     ensures reads { S.failures (source_of feed.new)

@@ -1,5 +1,6 @@
 use Rattle.vcdkit.proofs.Cited.{rules, ◌≡◌, ℕ, ◌-◌, ◌<◌, length, Err, refl, ap, subst, arith, HeadShown, shown, part_len, OutOfMemory}
 use Rattle.vcdkit.proofs.Facts.{BegunSoFar, all_begun, counted, goes_on, nothing_begun, nothing_stops, still, still_low, stops, stops_full}
+use Rattle.vcdkit.proofs.Cited.{sym, AreAllWindows, merge_within, windows_size}
 use Rattle.vcdkit.proofs.inputs.read_heads.Goals as goal
 
 pub returns-in_err-with_capacity-clause-begins : goal.returns-in_err-with_capacity-clause-begins
@@ -73,3 +74,9 @@ returns-clause-begins g c = λ texts h.
     let e : l.input ≡ length l.readers = omega arith in
     all_begun limit chunk (length c.args.readers.now) g.S.Source.rest g.S.Source.failures texts c.args.readers.now l.readers l.most l.inputs.heads.items l.inputs.seats.items l.windows.chunks.now l.windows.tokens.now
     (subst (λ (k : ℕ). BegunSoFar limit chunk (length c.args.readers.now) g.S.Source.rest g.S.Source.failures texts c.args.readers.now l.readers k l.most l.inputs.heads.items l.inputs.seats.items l.windows.chunks.now l.windows.tokens.now) e (l.invariant.told texts h))
+
+pub returns-clause-bound : goal.returns-clause-bound
+returns-clause-bound g c = λ limit windows.
+    let heads = c.loop-input.inputs.heads.items in
+    let many : length heads ≡ length c.args.readers.now = omega (arith, c.loop-input.invariant.heads_many) in
+    merge_within limit heads (windows_size c.loop-input.windows) (subst (λ n. AreAllWindows limit n (windows_size c.loop-input.windows)) (sym many) windows)

@@ -1,4 +1,4 @@
-use Rattle.vcdkit.proofs.Cited.{◌≡◌, ◌∙◌, ◌*◌, ◌/◌, List, length, Err, refl, sym, ap, ap₂, subst, arith, rules, length-map, Seat, parts_same, OutOfMemory, AreParked, headers_in}
+use Rattle.vcdkit.proofs.Cited.{◌≡◌, ◌∙◌, ◌*◌, ◌/◌, List, length, Err, refl, sym, ap, ap₂, subst, arith, rules, length-map, Seat, parts_same, OutOfMemory, AreLentWithin, AreParked, headers_in}
 use Rattle.vcdkit.proofs.Facts.{nothing_stops, still_low, counts_merge, lends_within, merge_ends, part_is, parts_of, stopped, merged_last, merged_passed}
 use Rattle.vcdkit.proofs.whole_run.run_merge.Goals as goal
 
@@ -39,9 +39,9 @@ merge-requires-clause-bound g c =
     let lc = same.chunks ∙ c.deref_mut.ensures.len ∙ c.in_ok-memory.ensures.0 in
     let lt = same.tokens ∙ c.deref_mut-2.ensures.len ∙ c.in_ok-memory.ensures.1 in
     let lv = same.values ∙ c.deref_mut-3.ensures.len ∙ c.in_ok-memory.ensures.2 in
-    let heads : length c.deref.result.now ≡ n = ap length c.deref.ensures.value ∙ c.in_ok-inputs.ensures.many.0 in
+    let fits = subst (λ heads. AreLentWithin n c.read_heads.new.windows heads) (sym c.deref.ensures.value) c.in_ok-inputs.ensures.bound in
     let seats : length c.deref_mut-4.result.now ≡ n = ap length c.deref_mut-4.ensures.value ∙ c.in_ok-inputs.ensures.many.1 in
-    lends_within n c.args.job.now.chunk c.args.job.now.limit (length c.deref_mut-4.result.now) c.deref.result.now c.read_heads.new.windows c.requires.readers.some c.args.job.now.chunk_in_range.1 lc lt lv heads seats
+    lends_within n c.args.job.now.chunk c.args.job.now.limit (length c.deref_mut-4.result.now) c.deref.result.now c.read_heads.new.windows fits c.requires.readers.some c.args.job.now.chunk_in_range.1 lc lt lv seats
 
 pub merge-requires-clause-reads : goal.merge-requires-clause-reads
 merge-requires-clause-reads g c = still_low g.S.Source.failures _ c.args.readers.now c.read_heads.new.readers c.in_ok-inputs.ensures.reads c.requires.readers.low
