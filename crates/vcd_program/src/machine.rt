@@ -6,7 +6,7 @@ use crate::process_run::{run_process, run_words};
 use std::alloc::Global;
 use std::fs::{File, Metadata};
 use std::hash::RandomState;
-use std::io::{ErrorKind, Stdin};
+use std::io::{ErrorKind, IsTerminal, Stdin, Write};
 use std::os::fd::AsRawFd;
 use std::{env, fs, io};
 use vcd_host::{Buffered, Prefetched};
@@ -31,6 +31,9 @@ fn prefetched_len(about: io::Result<Metadata>) -> usize {
     }
     0
 }
+
+/// What the error stream gets if the dump comes from a terminal.
+const WAITS: &[u8] = b"vcdkit: the dump comes from standard input (for a file, write -i FILE)\n";
 
 /// Where the system shows what standard input is.
 const STANDARD_INPUT: &str = "/proc/self/fd/0";
@@ -79,10 +82,15 @@ impl Process for OwnProcess<'_> {
         Ok(Prefetched::new(self.rt.alloc(), file, len))
     }
 
-    /// Returns standard input.
+    /// Returns standard input. If it is a terminal, a line on the error stream says so, because
+    /// nothing else shows that the program waits for a dump.
     fn input(&mut self) -> Prefetched<Stdin> {
+        let input = self.rt.stdin();
+        if input.is_terminal() {
+            let _ = self.rt.stderr().write(WAITS);
+        }
         let len = prefetched_len(fs::metadata(self.rt, STANDARD_INPUT));
-        Prefetched::new(self.rt.alloc(), self.rt.stdin(), len)
+        Prefetched::new(self.rt.alloc(), input, len)
     }
 
     /// Returns a hasher that is made from random numbers of the system. `None` if it has none.
