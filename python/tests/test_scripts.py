@@ -1220,16 +1220,28 @@ class Conditions(Case):
                 ("q < 0", b"vcdkit-when: bad condition: q is never < 0: a dump has no signs; write "
                  b"signed(q)\n"),
                 ("q[2:0] > 7", b"vcdkit-when: bad condition: q[2:0] is never > 7: it has 3 bits\n"),
-                ("q < 0bx0", b"vcdkit-when: bad condition: q is never < x0, as that has x or z\n"),
-                ("q == 4'b1x0z", b"vcdkit-when: bad condition: q is never == digits with x or z: "
+                ("q < 0bx0", b"vcdkit-when: bad condition: nothing is < digits with x or z\n"),
+                ("q == 4'b1x0z", b"vcdkit-when: bad condition: nothing is == digits with x or z: "
                  b"write ===\n"), ("q >= 15", b""), ("q > 14.5", b""),
                 ("signed(q) < 0", b""), ("i < -4", b""),
+                ("8'hx > q + 1", b"vcdkit-when: bad condition: nothing is < digits with x or z\n"),
+                ("q != 4'b0x0z", b""),
                 ("i[31:0] > 5", b""), ("i[31:0] == 4294967291", b"")):
             status, out, messages = run("vcdkit-when", ["--count", dump, text])
             self.assertEqual((status, out, messages), (2, b"", wanted) if wanted else
                              (0, b"1\n", b""), text)
         for text in "q >= 0", "0 <= q", "0 > q", "i[31:0] < 0":
             self.assertIn(b"write signed(", run("vcdkit-when", [dump, text])[2])
+
+    def test_real_numbers_as_in_c(self):
+        dump = self.file("a.vcd", b"$var real 64 ! r $end $var wire 1100 a w $end $enddefinitions "
+                         b"$end #0 r0 ! b1%s a\n" % (b"0" * 1099))
+        for text in ("1.5 / r > 1e308", "-1.5 / r < -1e308", "r / r != r / r", "!(r / r < 1)",
+                     "r ** -1 > 1e308", "(r + 10) ** 1000000000 > 1e308",
+                     "(r - 10) ** 999999999 < -1e308", "(r - 1) ** 0.5 != (r - 1) ** 0.5",
+                     "(r + 1e308) * 10 > 1e308", "w * (r + 1.5) > 1e308",
+                     "(r + 0.5) ** w == r", "(1 / (w - w)) is x"):
+            self.assertEqual(run("vcdkit-when", [dump, text]), (0, b"0\n", b""), text)
 
     def test_rules_of_several_clocks(self):
         """Each says what it says alone at its clock."""

@@ -3,6 +3,8 @@ what past(), rose() and their like mean, by IEEE Std 1800.
 
 An expression is asked for its digits in a width and a sign, which its context gives. Digits are 0,
 1, x, z, and - for a signal that has no value yet. A real number is a float; x if it is unknown."""
+import ctypes
+import ctypes.util
 import itertools
 import math
 import re
@@ -17,6 +19,8 @@ LEVELS = (("?:",), ("||",), ("&&",), ("|",), ("^", "~^", "^~"), ("&",),
           ("+", "-"), ("*", "/", "%"), ("**",))
 LEVEL = {sign: level for level, signs in enumerate(LEVELS) for sign in signs}
 UNARY, OPERAND = len(LEVELS), len(LEVELS) + 1
+C = ctypes.CDLL(ctypes.util.find_library("m"))
+C.pow.restype, C.pow.argtypes = ctypes.c_double, [ctypes.c_double] * 2
 
 
 class Expression(NamedTuple):
@@ -62,6 +66,22 @@ def number(digits: Digits, is_signed: bool) -> Any:
 def binary(value: int, width: int) -> str:
     """Returns the digits of a number."""
     return format(value % 2**width, "0%db" % width)
+
+
+def as_real(value: Any) -> float:
+    """Returns a whole number as a real one."""
+    try:
+        return float(value)
+    except OverflowError:
+        return math.inf if value > 0 else -math.inf
+
+
+def real_quotient(one: float, other: float) -> float:
+    """Returns a quotient as IEEE Std 754 has it."""
+    if other != 0:
+        return one / other
+    is_minus = (math.copysign(1, one) < 0) != (math.copysign(1, other) < 0)
+    return math.nan if one == 0 or math.isnan(one) else -math.inf if is_minus else math.inf
 
 
 def truth(digits: Digits) -> str:
@@ -123,7 +143,7 @@ def leaf(text: str, width: int, is_signed: bool, read: Callable[[Look], Digits],
         value = read(look)
         if to == 0:  # a real number is asked for
             its = number(value, is_signed)
-            return its if its is not None else "-" if "-" in value else "x"
+            return as_real(its) if its is not None else "-" if "-" in value else "x"
         return value.rjust(to, fill) if fill else extended(value, to, as_signed)
     return Expression(text, binding, width, is_signed, digits)
 
@@ -133,7 +153,7 @@ def fixed(text: str, value: int) -> Expression:
     width = max(32, value.bit_length() + 1)
 
     def digits(_: Look, to: int, as_signed: bool) -> Digits:
-        return value if to == 0 else binary(value, to)
+        return as_real(value) if to == 0 else binary(value, to)
     return Expression(text, UNARY if value < 0 else OPERAND, width, True, digits)
 
 
@@ -166,7 +186,7 @@ def context(text: str, binding: int, of: Tuple[int, bool], value: Read) -> Expre
         if to or not width:
             return value(look, to, as_signed)
         its = number(value(look, width, is_signed), is_signed)
-        return "x" if its is None else its
+        return "x" if its is None else as_real(its)
     return Expression(text, binding, width, is_signed, digits)
 
 
@@ -222,8 +242,7 @@ def of_numbers(sign: str, one: Expression, other: Expression) -> Read:
         if None in its:
             return "x" * (to or 1)
         if to == 0:
-            return "x" if sign == "/" and its[1] == 0 else (
-                its[0] / its[1] if sign == "/" else NUMBERS[sign](*its))
+            return real_quotient(*its) if sign == "/" else NUMBERS[sign](*its)
         found = NUMBERS[sign](*its)
         return "x" * to if found is None else binary(found, to)
     return value
@@ -237,10 +256,7 @@ def of_power(one: Expression, other: Expression) -> Read:
         if base is None or top is None:
             return "x" * (to or 1)
         if to == 0:
-            try:
-                return math.pow(base, top)
-            except (ValueError, OverflowError):
-                return "x"
+            return C.pow(as_real(base), as_real(top))
         found = power(base, top, to)
         return "x" * to if found is None else binary(found, to)
     return value
@@ -350,6 +366,7 @@ def at_edges(name: str, one: Expression) -> Expression:
 
 BINARY = [sign for signs in LEVELS[1:] for sign in signs]
 UNSIZED = re.compile(r"(?<![\w'.\[:])\d+(?![\w'])|(?<![\d_])'")  # may not be in {}
+UNKNOWN = re.compile(r"\d*'[sS]?[bodhBODH][\da-fA-F_]*[xzXZ?][\w?]*\Z")  # digits with x or z
 READ_AS = re.compile(r"^(\$(un)?signed\()+|\)+$")
 REDUCTIONS = ["&", "~&", "|", "~|", "^", "~^", "^~"]
 
@@ -427,6 +444,8 @@ class Random:
         if chance < .52:
             return read_as(random.choice(["$signed", "$unsigned"]), self.make(depth - 1))
         sign, one, other = random.choice(self.signs), self.make(depth - 1), self.make(depth - 1)
+        if sign in ("==", *ORDERS) and any(UNKNOWN.match(side.text) for side in (one, other)):
+            sign = "!=="  # it never holds, so it is refused
         if any(READ_AS.sub("", a.text) in self.names and re.match(r"[-+]?\d+\Z", b.text)
                for a, b in ((one, other), (other, one))):
             sign = "+"  # conditions have a rule of their own for a name beside a number
@@ -462,7 +481,8 @@ class Random:
         one, other = self.random.choice(self.reals), self.random.choice(
             [*self.reals, self._beside_real(self.make(depth - 1))])
         if self.random.random() < .3:
-            one = joined(self.random.choice("+-*"), one, self.random.choice(self.reals))
+            one = joined(self.random.choice(["+", "-", "*", "/", "**"]), one,
+                         self.random.choice(self.reals))
         sides = [one, other] if self.random.random() < .5 else [other, one]
         signs = ["<", "<=", ">", ">="] + ["==", "!="] * all(
             one.is_real and one.text in self.names for one in sides)

@@ -262,7 +262,7 @@ def compare(asked: argparse.Namespace, report: Lines) -> None:
         raise UsageError("the dumps have no path in common: --map OLD=NEW renames a scope")
     say_headers(report, sides, apart, asked.common)
     report.compared = "compared %s (A has %d, B has %d)" % (
-        counted(len(pairs), "signal"), *(len(side.signals) for side in sides))
+        counted(len(pairs), "signal"), len(sides[0].signals), len(sides[1].signals))
     if len(pairs) < asked.least:
         raise UsageError("%s: --at-least asks for %d" % (report.compared, asked.least))
     same = same_within(asked.tolerance, asked.x_matches)

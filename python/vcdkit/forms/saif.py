@@ -36,9 +36,9 @@ def _instances(top: Scope, nets: Nets, ticks: int) -> Iterator[str]:
     """Returns the lines of the scopes that have a bit in them, or below. Scopes may be nested
     deeper than calls."""
     some = set()
-    for scope in reversed([*top.walk()]):  # those in it come before it
-        if nets.get(id(scope)) or any(id(one) in some for one in scope.scopes):
-            some.add(id(scope))
+    for one in reversed([*top.walk()]):  # those in it come before it
+        if nets.get(id(one)) or any(id(inner) in some for inner in one.scopes):
+            some.add(id(one))
     waiting: List[Tuple[Union[Scope, str], str]] = [(top, "")]  # scopes, and last lines
     while waiting:
         scope, indent = waiting.pop()

@@ -1,7 +1,7 @@
 """What the operators of Verilog make of values: clause 5 of IEEE Std 1364-2005.
 
 A value of some bits is an int if all its digits are 0 or 1, else its digits, a str. A real number
-is an int or a float. A signal that has no value yet has the digit -, which counts as x, except
+is a float, with the arithmetic of IEEE Std 754. A signal that has no value yet has the digit -, which counts as x, except
 where digits themselves are asked for. Each operator takes the kind in which it works first."""
 import functools
 import math
@@ -22,8 +22,13 @@ class Kind(NamedTuple):
     sign: int
 
     def of(self, number: Any) -> Any:
-        """Returns a number in as many bits."""
-        return ((number & self.mask) ^ self.sign) - self.sign if self.width else number
+        """Returns a number in as many bits, or as a float."""
+        if self.width:
+            return ((number & self.mask) ^ self.sign) - self.sign
+        try:
+            return float(number)
+        except OverflowError:
+            return math.inf if number > 0 else -math.inf
 
 
 def kind_of(width: int, is_signed: bool = False) -> Kind:
@@ -47,7 +52,7 @@ def value_of_digits(digits: str, kind: Kind) -> Value:
 def converted(value: Value, own: Kind, to: Kind) -> Value:
     """Returns a value of a kind as one of another kind. Digits are added only on the left."""
     if not isinstance(value, str):
-        return value if to.sign or not to.width else value & own.mask
+        return to.of(value) if not to.width else value if to.sign else value & own.mask
     if to.width and own.width:
         return value.rjust(to.width, value[0] if to.sign else "0")
     return "-" if "-" in value else "x"
@@ -58,7 +63,7 @@ def _arithmetic(operate: Operate, kind: Kind, *values: Value) -> Value:
     if str not in map(type, values):
         try:
             return kind.of(operate(*values))
-        except (ArithmeticError, ValueError):
+        except ZeroDivisionError:
             pass
     return "x" * (kind.width or 1)
 
@@ -68,10 +73,28 @@ def _quotient(one: int, other: int) -> int:
     return abs(one) // abs(other) * (1 if (one < 0) == (other < 0) else -1)
 
 
+def _real_quotient(one: float, other: float) -> float:
+    """Returns a quotient of real numbers."""
+    if other:
+        return one / other
+    return math.copysign(math.inf, one) * math.copysign(1, other) if abs(one) > 0 else math.nan
+
+
+def _real_power(one: float, other: Any) -> float:
+    """Returns a power of real numbers, as the function pow of C does."""
+    other = REAL.of(other)
+    try:
+        return math.pow(one, other)
+    except (OverflowError, ValueError):
+        if one < 0 and other % 1:
+            return math.nan
+        return math.copysign(math.inf, one) if other % 2 == 1 else math.inf
+
+
 def _power(kind: Kind, one: Value, other: Value) -> Value:
-    """Returns a power. That of 0 to a negative number is unknown."""
+    """Returns a power. That of the whole number 0 to a negative one is unknown."""
     if not kind.width or isinstance(one, str) or isinstance(other, str):
-        return _arithmetic(math.pow, kind, one, other)
+        return _arithmetic(_real_power, kind, one, other)
     if other >= 0:
         return kind.of(pow(one, other, kind.mask + 1))
     return (one ** (other % 2) if one in (1, -1) else 0) if one else "x" * (kind.width or 1)
@@ -161,8 +184,8 @@ def _chosen(kind: Kind, test: Value, one: Value, other: Value) -> Value:
 
 def _joined(of: Tuple[Sequence[Kind], int], *values: Value) -> Value:
     """Returns the digits of values of some kinds, joined, so many times."""
-    return value_of_digits(of[1] * "".join(map(digits_of, values, (kind.width for kind in of[0]))),
-                           REAL)
+    digits = of[1] * "".join(map(digits_of, values, (kind.width for kind in of[0])))
+    return digits if digits.strip("01") else int(digits, 2)
 
 
 def _became(digit: str, kind: Kind, one: Value, was: Value) -> Value:
@@ -196,7 +219,7 @@ def _arithmetical(function: Operate, level: int = 0, has_bits: bool = False) -> 
 
 def _ordering(sign: str, function: Operate) -> Operator:
     """Returns the row of an operator that compares."""
-    operate = functools.partial(_compared, function)
+    operate: Operate = functools.partial(_compared, function)
     return Operator(_not(operate) if sign == "!=" else operate, 6 if sign in ("==", "!=") else 7,
                     "common", False, "1 if {0} %s {1} else 0" % sign)
 
@@ -220,7 +243,7 @@ OPERATORS: Dict[str, Operator] = {
        for sign in SHIFTS},
     "+": _arithmetical(operator.add, 9), "-": _arithmetical(operator.sub, 9),
     "*": _arithmetical(operator.mul, 10), "/": _arithmetical(_quotient, 10),
-    "real /": _arithmetical(operator.truediv),
+    "real /": _arithmetical(_real_quotient),
     "%": _arithmetical(lambda a, b: a - b * _quotient(a, b), 10, True),
     "**": Operator(_power, 11, "context"), "?:": Operator(_chosen, kind="context"),
     "unary +": Operator(lambda _, one: one, kind="context"),

@@ -255,8 +255,8 @@ def same_within(tolerance: float, x_matches: bool = False) -> Same:
 
 def _unscaled(dump: Source) -> Source:
     """Returns a dump without its time scale."""
-    return dump.like(Headed(functools.partial(
-        re.sub, rb"(?m)^\$timescale\n.*\n\$end\n", b"", count=1), dump.cut().text))
+    return dump.like(Headed(lambda text: re.sub(
+        rb"(?m)^\$timescale\n.*\n\$end\n", b"", text, count=1), dump.cut().text))
 
 
 class Comparison:

@@ -136,28 +136,25 @@ def _type(node: Node) -> None:
     elif parts:
         node.kind = BIT
         if its.kind == "common":
-            for one, other, mine in (*parts, sign), (*parts[::-1], MIRRORED.get(sign, sign)):
-                if one.sign == "name" and other.sign == "number":
-                    _compare(one, other, mine)
-                is_unknown = other.sign == "literal" and isinstance(other.value, str)
-                if one.sign == "name" and is_unknown and sign == "==":
-                    raise bad("%s is never == digits with x or z: write ===" % one.value.text)
+            _compare(parts[0], parts[1], sign)
+            _compare(parts[1], parts[0], MIRRORED.get(sign, sign))
 
 
 def _compare(name: Node, number: Node, sign: str) -> None:
-    """Takes it that a name is compared with a number: one below 0 makes it signed."""
-    value, kind, its = number.value, name.kind, name.value.text
-    if not kind.width:
+    """Refuses a comparison with a number that never holds. A number below 0 makes a name signed."""
+    value, kind = number.value, name.kind
+    has_x = number.sign in ("number", "literal") and isinstance(value, str)
+    if has_x and sign in ("==", *MIRRORED):
+        raise bad("nothing is %s digits with x or z%s" % (sign, ": write ===" * (sign == "==")))
+    if number.sign != "number" or name.sign != "name" or not kind.width:
         return
-    if isinstance(value, str):
-        if len(value) > kind.width:
-            raise bad("%s has more digits than the %d of %s" % (value, kind.width, its))
-    elif value < 0:
+    its = name.value.text
+    if has_x and len(value) > kind.width:
+        raise bad("%s has more digits than the %d of %s" % (value, kind.width, its))
+    if has_x:
+        return
+    if value < 0:
         kind = name.kind = kind_of(kind.width, True)
-    if isinstance(value, str):
-        if sign in MIRRORED:
-            raise bad("%s is never %s %s, as that has x or z" % (its, sign, value))
-        return
     least, greatest = -kind.sign, kind.mask ^ kind.sign
     if sign in ("==", "!=") and value % 1:
         raise bad("%s is never %s: it is a whole number" % (its, value))

@@ -31,7 +31,8 @@ def sampled(source: Source, times: Iterable[int], names: List[str],
     found: Dict[int, Dict[int, Cell]] = {}
     for begin in range(0, len(every), TIMES_OF_A_CALL):
         some = every[begin:begin + TIMES_OF_A_CALL]
-        text, asked = [], source.made("sample", ["--at", ",".join(map(str, some)), "--", *words])
+        asked = source.made("sample", ["--at", ",".join(map(str, some)), "--", *words])
+        text: List[bytes] = []
         try:
             text += asked.blocks()
         except DumpFault as fault:

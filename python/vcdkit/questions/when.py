@@ -203,8 +203,8 @@ class Questions:
         try:
             for time, numbers in self.times():
                 for at in numbers:
-                    waiting[at].append((*map(self.counts.__getitem__, pairs[at]),
-                                        Row(time, self.cells[at].row[:])))
+                    counts = [self.counts[one] for one in pairs[at]]
+                    waiting[at].append((counts[0], counts[1], Row(time, self.cells[at].row[:])))
                     if len(waiting[at]) > MAX_WAITING:
                         raise UsageError("more than %d transactions are open" % MAX_WAITING)
                 if all(waiting):
