@@ -8,7 +8,7 @@ nothing of the package. So it is slow, and short enough to be read beside the pa
 test_every_small_dump.py compares these functions with the package and the scripts."""
 import re
 from fractions import Fraction
-from math import ceil, floor, gcd, isclose, isfinite
+from math import ceil, floor, gcd, isclose, isfinite, isnan
 from typing import Any, Dict, List, NamedTuple, Optional, Sequence, Set, Tuple, Union
 
 # All digits of a value in lower case, a real number, or `r` and a text that is no number.
@@ -640,12 +640,19 @@ Spans = Sequence[Tuple[Value, int, int, bool]]  # a value, from when to when, wh
 
 
 def range_of(spans: Spans) -> Optional[Dict[str, float]]:
-    """The least and the largest real number, and the mean over time, which lies between them."""
+    """The least and the largest real number, and the mean over time, which lies between them. NaN
+    does not count; the mean of what has an infinite number is that, and of both kinds NaN."""
     its = [(value, to - time) for value, time, to, _ in spans
-           if isinstance(value, float) and isfinite(value)]
-    return {"least": min(its)[0] + 0.0, "largest": max(its)[0] + 0.0,
-            "mean": float(sum(Fraction(value) * length for value, length in its)
-                          / sum(length for _, length in its))} if its else None
+           if isinstance(value, float) and not isnan(value)]
+    if not its:
+        return None
+    ends = [min(its)[0] + 0.0, max(its)[0] + 0.0]
+    if not all(map(isfinite, ends)):
+        mean = ends[0] + ends[1]
+    else:
+        mean = float(sum(Fraction(value) * length for value, length in its)
+                     / sum(length for _, length in its))
+    return {"least": ends[0], "largest": ends[1], "mean": mean}
 
 
 def shares(spans: Spans, form: str) -> List[Dict[str, Any]]:
@@ -836,7 +843,7 @@ def factors_of(scales: Sequence[Optional[int]]) -> List[int]:
 def compare(dumps: Sequence[Dump], asked: Compare) -> Tuple[List[str], bool]:
     """The lines of vcdkit-diff, and whether it refuses the question: a window that begins after the
     end of a dump, a NAME that is not in both dumps, an exception that is in neither, no clock,
-    nothing in common, no edge, or no line where no variable is compared."""
+    nothing in common, no edge in either dump, or no line where no variable is compared."""
     whole, dumps = dumps, windows(dumps, asked)
     if any(window_of_both(whole, asked)[0] > last_time(dump) * factor for dump, factor in zip(
             whole, factors_of([dump.tick for dump in whole]))):
@@ -859,7 +866,7 @@ def compare(dumps: Sequence[Dump], asked: Compare) -> Tuple[List[str], bool]:
     lines += [line for mark, line in found if asked.every or mark == found[0][0]]
     edges_of_each = [len(edge_times(dump, [(code, asked.edge) for code in asked.codes(dump)]))
                      for dump in dumps] if fit else [0, 0]
-    if asked.edge and fit and 0 in edges_of_each:
+    if asked.edge and fit and edges_of_each == [0, 0]:
         return lines, True
     lines += ends(dumps, edges_of_each, asked, bool(found))
     return lines, not fit and not lines
@@ -886,8 +893,9 @@ def headers(dumps: Sequence[Dump], its: Sequence[Sequence[Variable]]) -> List[st
 def ends(dumps: Sequence[Dump], counts: Sequence[int], asked: Compare, is_different: bool
          ) -> List[str]:
     """The line about the longer dump; at a clock that about the numbers of edges, if no value
-    differs."""
-    if asked.is_common:
+    differs. If the clock of one dump has no edge, nothing is compared, so this is said of what both
+    have too."""
+    if asked.is_common and not (asked.edge and 0 in counts):
         return []
     if asked.edge:
         return ["edges %d %d" % tuple(counts)] * (counts[0] != counts[1] and not is_different)

@@ -83,9 +83,10 @@ class Case:
             self.dump, [one.code for one in ordered], int(time))[1])) for time in times}
         self.same("sample", "%s %s" % (times, names), [] if fault else wanted,
                   lambda: self.whole.sample(times, names), fault)
-        self.same("rows at times", "%s %s" % (times, names), [] if fault and its else [
+        self.same("rows at times", "%s %s" % (times, names), [
             by_definition.row_at(self.dump, [one.code for one in its], int(time))
-            for time in times], lambda: self.whole.rows(names, at=times), fault if its else "")
+            for time in times if not its or not self.fault_by(int(time))],
+                  lambda: self.whole.rows(names, at=times), fault if its else "")
         counted = [one for one in self.variables
                    if one in by_definition.chosen(self.variables, names)]
         self.same("edges", "%s" % names, [] if self.dump.fault else dict(zip(

@@ -282,9 +282,9 @@ def expected(texts, scales, asked):
     found = differs(pairs, looks, until, factors, asked) if pairs else []
     lines += found
     counts = [len(its) for its in looks] if pairs else [0, 0]
-    if asked["edge"] and pairs and not all(counts):
+    if asked["edge"] and pairs and not any(counts):
         return [*lines, None]  # nothing to compare
-    if asked["common"]:
+    if asked["common"] and (all(counts) or not asked["edge"]):
         return lines
     if asked["edge"]:
         return lines + ["edges %d %d" % tuple(counts)] * (counts[0] != counts[1] and not found)

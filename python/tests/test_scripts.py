@@ -325,6 +325,18 @@ class Answers(Case):
             self.assertEqual((facts["least"], facts["largest"]), (least, largest))
             self.assertAlmostEqual(facts["mean"], mean)
 
+    def test_stats_of_infinite_numbers(self):
+        for body, line in ((b"rnan ! #9", ""), (b"r1 ! #5 rinf ! #9", "1 to inf, mean inf"),
+                           (b"r-inf ! #5 rnan ! #9", "-inf to -inf, mean -inf"),
+                           (b"r-inf ! #5 rinf ! #9", "-inf to inf, mean nan"),
+                           (b"r1 ! #3 rnan ! #6 r2 ! #9", "1 to 2, mean 1.5")):
+            dump = self.file("a.vcd", b"$var real 64 ! r $end $enddefinitions $end #0 %s\n" % body)
+            self.assertEqual([one for one in said("vcdkit-stats", dump, "r") if "range" in one],
+                             ["  range " + line] if line else [])
+            its = json.loads(said("vcdkit-stats", "--json", dump, "r")[0])["range"]
+            self.assertEqual("%s" % its if its is None else "%(least)s to %(largest)s, mean "
+                             "%(mean)s" % its, re.sub(r"\b1 to", "1.0 to", line.replace("to 2", "to 2.0")) or "None")
+
     def test_stats_of_a_code_of_several_types(self):
         dump = self.file("a.vcd", b"$timescale 1ns $end $var real 64 ! r $end $var wire 64 ! w "
                          b"$end $enddefinitions $end #0 r1.5 ! #5 b1 ! #10 r1_000 ! #20\n")
@@ -724,10 +736,30 @@ class Rules(Case):
             self.assertEqual(lines, [wanted, "status 1"] if wanted else ["status 0"], words)
         self.assertEqual(said("vcdkit-diff", "--from", "21ns", one, other), ["status 2"])
         self.assertEqual(run("vcdkit-diff", ["--rise", "c", "--to", "4", one, other])[2].decode(),
-                         "vcdkit-diff: %s: c never rises in this window\n" % one)
+                         "vcdkit-diff: in both dumps, c never rises in this window\n")
         self.assertEqual(said("vcdkit-diff", "--always", one, other), [
             v % ("0ns", "0000", "xxxx"), v % ("10ns", "0011", "001x"),
             v % ("15ns", "0011", "0100"), "status 1"])
+
+    def test_a_clock_without_an_edge(self):
+        """It is a difference if only one dump has edges, also with --common, as nothing is
+        compared; if none has, the question is wrong."""
+        head = b"$timescale 1 %s $end $var wire 1 ! c $end $enddefinitions $end #0 0! "
+        one = self.file("a.vcd", head % b"ns" + b"#5000 1! #9000\n")
+        other, out = self.file("b.vcd", head % b"us" + b"#9\n"), self.file("out.xml", b"")
+        for words in ["--rise", "c", "--to", "9us"], ["--common", "--rise", "c", "--junit", out]:
+            self.assertEqual(said("vcdkit-diff", *words, one, other)[-2:],
+                             ["edges 1 0", "status 1"])
+        self.assertEqual([(of.get("name"), len(of)) for of in xml.parse(out).iter("testcase")],
+                         [("size", 0), ("differs", 1), ("edges", 1)])
+        self.assertEqual(run("vcdkit-diff", ["--fall=c", one, other])[::2], (
+            2, b"vcdkit-diff: in both dumps, c never falls\n"))
+        window = ["--from", "5500", "--to", "5600", one, other]
+        self.assertEqual(said("vcdkit-diff", "--common", *window),
+                         ["differs 5500ns c 1 0", "status 1"])
+        self.assertEqual(run("vcdkit-diff", ["--rise=c", *window]), (
+            2, b"", ("vcdkit-diff: %s: it has no time in this window: its ticks are 1us\n"
+                     % other).encode()))
 
     def test_two_dumps_of_other_ticks(self):
         head = (b"$timescale %s $end $var wire 1 ! c $end $var real 64 r r $end "
@@ -771,7 +803,7 @@ class Rules(Case):
         other = self.file("b.vcd", text % b"10ns" + b"#4 1! #5 0! #10 b1 v 1! #20 b0 v #200\n")
         one = self.file("a.vcd", text % b"1ns" + b"#42 1! #43 0! #100 b1 v 1! #200 b0 v #2000\n")
         for window, wanted in ((["--from", "41"], ["edges 2 1", "status 1"]),
-                               (["--from", "43"], ["status 1"]), (["--to", "41"], ["status 2"])):
+                               (["--from", "43"], ["status 1"]), (["--to", "41"], ["edges 0 1", "status 1"])):
             self.assertEqual(said("vcdkit-diff", "--rise", "c", *window, one, other),
                              ["timescale 1ns 10ns", *wanted], window)
 
@@ -931,9 +963,12 @@ class Rules(Case):
             self.assertIn(wanted[0], (0, 1), wanted)
             self.assertEqual(run("vcdkit-" + name, [*more[:-1], *words, "--", more[-1]]), wanted)
         self.assertIn(b"unrecognized arguments: --no", run("vcdkit-values", [dump, "t", "--no"])[2])
+        self.assertIn(b"unrecognized arguments: -q; write -- before what is no option",
+                      run("vcdkit-when", [dump, "-q"])[2])
         self.assertIn(b"--no: selects nothing", run("vcdkit-values", [dump, "--", "--no"])[2])
         self.assertEqual(said("vcdkit-when", dump, "-1 < t.q"), said("vcdkit-when", dump, "t.q>-1"))
         self.assertEqual(said("vcdkit-when", dump, "-1<t.q", "--count"), ["1", "status 0"])
+        self.assertEqual(said("vcdkit-when", dump, "-t.q"), said("vcdkit-when", dump, "--", "-t.q"))
 
 
 WORDS = b"""$timescale 1ns $end $scope module tb $end
@@ -1741,6 +1776,11 @@ class Picks(Case):
             places = [at for at, one in enumerate(dump.signals) if one.path in paths]
             names = names_for(sorted(paths), dump.signals.columns()[0])
             self.assertEqual(b"".join(picked.picked(dump, places)), dump.pick(names).read(), names)
+
+    def test_of_no_variable(self):
+        dump = self.file("a.vcd", b"$enddefinitions $end #5\n")
+        self.assertEqual(run("vcdkit-find", ["--pick", dump]), (0, Dump(dump).cut().read(), b""))
+        self.assertEqual(said("vcdkit-find", dump), ["status 0"])
 
 
 if __name__ == "__main__":

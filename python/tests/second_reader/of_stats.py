@@ -86,18 +86,22 @@ def values_of(pulses: Sequence[Pulse], form: Optional[str]) -> List[Tuple[Any, .
     return sorted(found, key=str)
 
 
-def range_of(pulses: Sequence[Pulse]) -> Optional[Tuple[float, float, Fraction]]:
+def range_of(pulses: Sequence[Pulse]) -> Optional[Tuple[float, float, Any]]:
     """Returns the least and the greatest real number, and the exact mean over time."""
     found = [(number(one.value.text), one.ticks) for one in pulses if isinstance(one.value, Real)]
-    finite = [(real, ticks) for real, ticks in found if real is not None and math.isfinite(real)]
-    if not finite:
+    its = [(real, ticks) for real, ticks in found if real is not None and not math.isnan(real)]
+    if not its:
         return None
-    mean = sum(Fraction(real) * ticks for real, ticks in finite) / sum(ticks for _, ticks in finite)
-    return min(finite)[0], max(finite)[0], Fraction(mean)
+    infinite = {real for real, _ in its if math.isinf(real)}
+    mean: Any = math.nan if len(infinite) > 1 else infinite.pop() if infinite else sum(
+        Fraction(real) * ticks for real, ticks in its) / sum(ticks for _, ticks in its)
+    return min(its)[0], max(its)[0], mean
 
 
 def is_near(got: Any, wanted: Any) -> bool:
-    """Whether a number is rounded from an exact one."""
+    """Whether a number is rounded from an exact one. JSON has a text for one that is not finite."""
+    if isinstance(got, str) or isinstance(wanted, float):
+        return isinstance(got, str) and repr(float(got)) == repr(wanted)
     return got is not None and abs(Fraction(got) - wanted) <= abs(wanted) / 10**9
 
 
@@ -141,8 +145,8 @@ def same_facts(of: Asker, words: List[str], got: Dict[str, Any], wanted: Tuple[V
         got["duty"], duty), bool(lengths) and not variable.is_event)
     span = range_of(facts.pulses)
     of.same("stats, the range", [*words, variable.path], got["range"] and (
-        got["range"]["least"], got["range"]["largest"],
-        is_near(got["range"]["mean"], span[2] if span else 0)),
+        float(got["range"]["least"]), float(got["range"]["largest"]),
+        is_near(got["range"]["mean"], span[2] if span else None)),
         span and (span[0], span[1], True))
 
 
@@ -307,7 +311,7 @@ def lines_of(facts: Dict[str, Any], time: Any, most: int) -> List[str]:
         found.append("  duty %.4g%%" % (facts["duty"] * 100))
     if span:
         found.append("  range %s to %s, mean %g" % (
-            real_text(span["least"]), real_text(span["largest"]), span["mean"]))
+            real_text(span["least"]), real_text(span["largest"]), float(span["mean"])))
     for one in values[:most]:
         found.append("  value %s %s %.4g%%, %d time%s" % (
             one["value"], time(one["ticks"]), one["share"] * 100, one["times"],

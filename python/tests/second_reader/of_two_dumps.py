@@ -270,7 +270,8 @@ def ask_diff(of: Asker) -> None:
     if os.path.exists(page):
         os.unlink(page)
     said = run("diff", words)
-    is_refused = (asked.window.begin > min(of.dump.end, other.end) or 0 in counts
+    is_refused = (asked.window.begin > min(of.dump.end, other.end)
+                  or counts == [0, 0] and bool(sides.pairs)
                   or asked.is_common and not sides.pairs and not sides.sizes
                   or not all(any(is_inside(each, name) for each in names)
                              for names in sides.all_names for name in asked.names))
@@ -302,12 +303,14 @@ def same_lines(of: Asker, words: List[str], said: Said, sides: Sides, found: Lis
         wanted += [["timescale", *scales]] * (scales[0] != scales[1])
         wanted += [["alone", *each] for each in sides.alone()]
         lasts = [last_of(dump, asked.window) for dump in (one, other)]
-        if counts:
+        if counts and 0 not in counts:
             wanted += [["edges", *counts]] * (counts[0] != counts[1] and not found)
-        elif moment(one, lasts[0]) != moment(other, lasts[1]):
+        elif not counts and moment(one, lasts[0]) != moment(other, lasts[1]):
             wanted.append(["ends", *(last if is_json else None if last is None else
                                      dump.time_text(last, unit)
                                      for dump, last in zip((one, other), lasts))])
+    if counts and 0 in counts and sides.pairs:  # nothing is compared
+        wanted += [["edges", *counts]] * (counts[0] != counts[1])
     wanted += [["size", name] for name in sides.sizes]
     least = min((each.mark for each in found), default=0)
     for each in found:

@@ -43,7 +43,7 @@ MARK = "\0"  # which no argument has
 OF_FILES = ("--names", "--rules")  # options that name a file to read
 REPEATED = ("--map", "--except", "--channel")  # other options may be given once
 FIRST, LAST = "0", str(LAST_TICK)  # of --from and --to
-NEGATIVE = re.compile(r"-(?:[.\d].*[<>=]|[({\"])")
+NEGATIVE = re.compile(r"-(?:[.\d].*[<>=]|[({\"]|[A-Za-z_]\w*\.)")
 BROKEN_PIPE = 128 + 13  # the status that a shell shows of a program that SIGPIPE ended
 JSON = "write one JSON object per line, with times in ticks"
 UNIT = "the largest without a fraction"
@@ -129,8 +129,8 @@ class Parser(argparse.ArgumentParser):
     def parsed(self, words: List[str]) -> Tuple[argparse.Namespace, List[str]]:
         """Returns the arguments, and the words that fit none. Nothing behind `--` is an option:
         argparse would forget that when it looks for the names between options, so these words
-        get a mark meanwhile. So does a condition that begins with a minus and a number, a
-        parenthesis or the like."""
+        get a mark meanwhile. So does a condition that begins with a minus and a path, a number,
+        a parenthesis or the like."""
         at = words.index("--") if "--" in words else len(words)
         marked = [MARK + word if NEGATIVE.match(word) else word for word in words[:at]]
         marked += [MARK + word for word in words[at + 1:]]
@@ -154,7 +154,8 @@ class Parser(argparse.ArgumentParser):
         near = [its for one in dict.fromkeys(rest) if one[:2] == "--"
                 for its in difflib.get_close_matches(one.partition("=")[0], known, 1)]
         self.error("unrecognized arguments: %s%s" % (
-            " ".join(rest), "; there is " + ", ".join(near) if near else ""))
+            " ".join(rest), "; there is " + ", ".join(near) if near else
+            "; write -- before what is no option" * (rest[0][:2] != "--")))
 
     def parse_args(self, words: List[str]) -> argparse.Namespace:  # type: ignore[override]
         asked, rest = self.parsed(words)

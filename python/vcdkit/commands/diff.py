@@ -186,7 +186,11 @@ def parts_of(dumps: Sequence[Dump], asked: argparse.Namespace) -> List[Dump]:
     for dump, scale in zip(dumps, scales):
         check_begin(dump, shorter.text(begin))
         factor = scale.femtoseconds // shorter.femtoseconds
-        parts.append(dump.cut(-(-begin // factor), end // factor) if has_clock else
+        first, last = -(-begin // factor), end // factor
+        if has_clock and first > last:
+            raise UsageError("%s: it has no time in this window: its ticks are %s" % (
+                dump.name, scale))
+        parts.append(dump.cut(first, last) if has_clock else
                      dump.cut(begin // factor, -(-end // factor)))
     return parts
 
@@ -272,12 +276,11 @@ def compare(asked: argparse.Namespace, report: Lines) -> None:
     if is_part(asked) and len(set(scales)) > 1:
         comparison.window = window_of_both(scales, asked)
     found = say_values(report, asked, comparison)
-    for side, count in zip(sides, comparison.counts):
-        if clocks and pairs and not count:
-            raise UsageError("%s: %s never %s%s" % (
-                side.dump.name, name, "rises" if asked.rise else "falls",
-                " in this window" * is_part(asked)))
-    if not asked.common and not (clocks and found):
+    if clocks and pairs and not any(comparison.counts):
+        raise UsageError("in both dumps, %s never %s%s" % (
+            name, "rises" if asked.rise else "falls", " in this window" * is_part(asked)))
+    is_idle = clocks and not all(comparison.counts)  # then nothing was compared
+    if is_idle or not asked.common and not (clocks and found):
         say_ends(report, sides, comparison, bool(clocks))
     if not pairs and not report.differs():
         raise UsageError("no variable is compared")

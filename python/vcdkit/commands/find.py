@@ -67,7 +67,7 @@ def main(words: List[str]) -> int:
         print("vcdkit-find: no path matches" + hint, file=sys.stderr)
         return 1
     if asked.pick:
-        sys.stdout.buffer.writelines(picked(dump, places))
+        sys.stdout.buffer.writelines(picked(dump, places) if places else dump.cut().blocks())
     elif asked.tree:
         write_tree(dump.tree, is_found)
     for one in found if not asked.pick and not asked.tree else ():

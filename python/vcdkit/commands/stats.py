@@ -5,7 +5,7 @@ The first line of a signal has its path, type and size. These lines follow, if t
   period 10ns to 12ns, mean 10.2ns, 9 times
                                 from one rise of a bit, or trigger of an event, to the next
   duty 50%                      the part of these periods in which the bit is 1
-  range -1.5 to 3, mean 0.25    of the finite ones, with the mean over time
+  range -1.5 to 3, mean 0.25    of a real number, with the mean over time; without nan
   value 1 60ns 49.2%, 10 times, 5ns to 7ns
                                 how long and how often it has this value, and its shortest and
                                 longest pulse that begins and ends in the window
@@ -27,7 +27,7 @@ from typing import Any, Dict, Iterator, List, Optional, Sequence
 
 from .. import __version__
 from ..forms import saif
-from ..forms.text import counted, mean_text, shown, write_json
+from ..forms.text import counted, in_json, mean_text, shown, write_json
 from ..model.signals import Signal
 from ..model.times import Window
 from ..questions.dump import Dump
@@ -40,11 +40,12 @@ from . import check_begin, command, dump_of, natural, parser, times_of, window_o
 def facts_of(signal: Signal, counted: Statistics, form: Optional[str], count: Optional[int]
              ) -> Dict[str, Any]:
     """Returns what is counted of a signal, with times in ticks; what it does not have is `None`."""
+    span = counted.range() if signal.is_real else None
     return {"path": signal.path, "type": signal.type, "size": signal.size,
             "changes": counted.changes,
             "period": counted.periods.facts() if counted.periods.count else None,
             "duty": None if signal.type == "event" else counted.duty(),
-            "range": counted.range() if signal.is_real else None,
+            "range": {key: in_json(one, None) for key, one in span.items()} if span else None,
             "values": [{**one, "value": shown(one["value"], form)}
                        for one in shares_of(counted, count)]}
 
@@ -64,7 +65,7 @@ def lines_of(dump: Dump, facts: Dict[str, Any], rest: int, asked: argparse.Names
         yield "  duty %.4g%%" % (100 * facts["duty"])
     if span:
         yield "  range %s to %s, mean %.6g" % (shown(span["least"]), shown(span["largest"]),
-                                               span["mean"])
+                                               float(span["mean"]))
     for value in facts["values"]:
         pulses = "" if value["shortest"] is None else ", %s to %s" % (
             time(value["shortest"]), time(value["longest"]))

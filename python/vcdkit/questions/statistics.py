@@ -115,16 +115,17 @@ class Statistics:
         return self._high_of_periods / self.periods.sum
 
     def range(self) -> Optional[Dict[str, float]]:
-        """Returns the facts of the numbers that it has; `None` if there is none."""
-        numbers = [(value_in(text, self.signal.size), held.ticks)
-                   for text, held in self.values.items()]
-        finite = [(number, ticks) for number, ticks in numbers
-                  if isinstance(number, float) and math.isfinite(number)]
-        span = sum(ticks for _, ticks in finite)
-        if not span:
+        """Returns the facts of the numbers that it has, also of infinite ones; `None` if there is
+        none."""
+        its = [(value_in(text, self.signal.size), held.ticks) for text, held in self.values.items()]
+        numbers = [(number, ticks) for number, ticks in its
+                   if isinstance(number, float) and not math.isnan(number)]
+        if not numbers:
             return None
-        return {"least": min(finite)[0], "largest": max(finite)[0],
-                "mean": float(sum(Fraction(number) * ticks for number, ticks in finite) / span)}
+        mean = sum(number for number, _ in numbers if math.isinf(number))
+        return {"least": min(numbers)[0], "largest": max(numbers)[0], "mean": mean or float(
+            sum(Fraction(number) * ticks for number, ticks in numbers)
+            / sum(ticks for _, ticks in numbers))}
 
 
 def shares_of(counted: Statistics, count: Optional[int]) -> List[Dict[str, Any]]:
