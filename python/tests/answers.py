@@ -463,11 +463,11 @@ def looks(dump: Dump, codes: Set[str], clocks: Clocks) -> List[Look]:
     """Where a condition over some codes is evaluated: at each time at which one of them changes,
     and at the begin of a part, if that is not 0, with the values at its end; or at the edges of
     clocks, with the values just before. An event is triggered at its time; at a clock, from its
-    time to before the next edge. Decided: before one of the signals has a value, and between its
-    changes, there is nothing to evaluate."""
+    time to before the next edge. Decided: before one of the signals has a value, also at the begin
+    of a part, and between its changes, there is nothing to evaluate."""
     events = {one.code for one in dump.variables if is_event(one)} & codes
     of = [one for one in dump.changes if one.code in codes]
-    begins = [dump.begin] * (dump.begin > 0)
+    begins = [dump.begin] * any(value_at(dump, code, dump.begin) for code in codes - events)
     times = edge_times(dump, clocks) if clocks else sorted({*begins, *(one.time for one in of)})
     value = value_before if clocks else value_at
     found = []

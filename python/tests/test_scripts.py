@@ -1075,11 +1075,12 @@ class Conditions(Case):
 
     def test_events_at_the_begin_of_a_window(self):
         dump = self.file("a.vcd", self.HEAD + b"#0 0! 1e #5 1! #9 1e #10\n")
-        for begin, wanted in (("7", ["7ns"]), ("9", []), ("0", [])):
-            for condition in "!go", "!go | req is x":
-                self.assertEqual(said("vcdkit-when", "--from", begin, dump, condition)[:-1], wanted)
+        # A condition is evaluated there if a signal of it has a value.
+        for begin, wanted in (("7", ["7ns"]), ("9", []), ("0", ["5ns"])):
+            for condition, its in ("req & !go", wanted), ("!go", []), ("!go | ack === 1", []):
+                self.assertEqual(said("vcdkit-when", "--from", begin, dump, condition)[:-1], its)
         self.assertEqual(said("vcdkit-when", "--latency", "--from", "7", dump,
-                              "!go -> go within 9ns")[0], "7ns 9ns 2ns")
+                              "req & !go -> go within 9ns")[0], "7ns 9ns 2ns")
 
     def pipelined(self):
         """A dump with requests at the edges of 1, 2, 3 and 7, and answers at those of 4, 5 and

@@ -480,6 +480,8 @@ class Random:
         """Returns a comparison with a real number."""
         one, other = self.random.choice(self.reals), self.random.choice(
             [*self.reals, self._beside_real(self.make(depth - 1))])
+        if UNKNOWN.match(other.text):
+            other = self.random.choice(self.reals)
         if self.random.random() < .3:
             one = joined(self.random.choice(["+", "-", "*", "/", "**"]), one,
                          self.random.choice(self.reals))

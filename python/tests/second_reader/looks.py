@@ -55,11 +55,13 @@ def looks_at_edges(dump: Dump, edges: Edges, begin: int = 0, end: int = LAST) ->
 
 
 def looks_at_changes(dump: Dump, codes: Set[str], begin: int = 0, end: int = LAST) -> List[Look]:
-    """Returns the begin of a window that does not begin at 0, and each time in it of which the
-    codes have a value or a trigger, with the values at its end."""
-    first = [Look(begin, dump.at(begin), dump.events_at(begin))] if begin else []
+    """Returns the begin of a window that does not begin at 0, if one of the codes has a value
+    there, and each time in it of which the codes have a value or a trigger, with the values at its
+    end."""
+    has_begin = begin and not codes.isdisjoint(dump.at(begin))
+    first = [Look(begin, dump.at(begin), dump.events_at(begin))] if has_begin else []
     return first + [Look(step.time, step.end, step.events) for step in dump.steps_in(begin, end)
-                    if codes & step.codes and (step.time > begin or not begin)]
+                    if codes & step.codes and (step.time > begin or not has_begin)]
 
 
 def rows_at_changes(dump: Dump, columns: Sequence[Variable], begin: int, end: int,

@@ -1,9 +1,9 @@
 """Writes the values of several signals as CSV, with a column for each
 
-There is a row for each change and for --from, with the values at the end of the time; for each edge
-of a clock (--rise, --fall), with those just before it; or for each time of --at. Events have no
-column. `-` means no value yet; with --hex, X is a mixture with x or z. For pandas, use --decimal or
-dtype=str.
+There is a row for each change and for --from (if a signal has a value by then), with the values at
+the end of the time; for each edge of a clock (--rise, --fall), with those just before it; or for
+each time of --at. Events have no column. `-` means no value yet; with --hex, X is a mixture with x
+or z. For pandas, use --decimal or dtype=str.
 
 With a --channel 'NAME: CONDITION: SIGNAL ..' for each channel of a bus, row n has the n-th edge at
 which the condition of each holds, the signals, and how many edges there are from one to the next

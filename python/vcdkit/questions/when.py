@@ -1,7 +1,7 @@
 """The times at which a condition holds, and how long answers take."""
 import collections
 import functools
-from typing import (Any, Callable, Collection, Deque, Dict, Iterator, List, NamedTuple, Optional,
+from typing import (Any, Callable, Deque, Dict, Iterator, List, NamedTuple, Optional,
                     Sequence, Tuple)
 
 from ..errors import DumpFault, UnknownName, UsageError
@@ -246,15 +246,16 @@ class Questions:
         """Returns each time at which conditions are looked at, those of which a value is another
         one there, or that may say something at each edge, and the clocks of which they are; they
         have the values there."""
-        conditions, begin = self.conditions, self.dump.begin()
+        conditions = self.conditions
         columns = [one for its in self.columns for one in its]
         names = [*dict.fromkeys([*conditions.paths, *self.clocks, *(one.path for one in columns)])]
         codes = {*conditions.over, *(one.code.encode() for one in columns)}
         always = self.again | conditions.with_more if self.edges else 0
-        due = -1 if self.edges or begin else 0
+        due = -1 if self.edges else 0
         for time, changes, clocks in (
                 body.at_clocks(self.dump, names, codes, self.edges) if self.edges
-                else _with_begin(self.dump.part(names), codes, begin)):
+                else ((time, [*before, *changes], 0) for time, before, changes in body.steps(
+                    self.dump.part(names), codes))):
             for cells in self.cells:
                 cells.take(changes)
             due |= conditions.take(changes) | always
@@ -265,26 +266,6 @@ class Questions:
                     self.counts[bit] += 1
             yield time, due & some, clocks
             due &= ~some
-
-
-def _with_begin(part: Source, codes: Collection[bytes], begin: int
-                ) -> Iterator[Tuple[int, body.Changes, int]]:
-    """Returns each time at which one of some codes changes, and these changes; also the begin of a
-    cut, if that is not 0. It has no clock."""
-    is_due = begin > 0
-    fault: Optional[DumpFault] = None
-    try:
-        for time, before, changes in body.steps(part, codes):
-            if is_due and time > begin:
-                yield begin, [], 0
-            is_due = False
-            yield time, before + changes if before else changes, 0
-    except DumpFault as error:
-        fault = error
-    if is_due and (fault is None or part.is_finished(begin, fault)):
-        yield begin, [], 0
-    if fault:
-        raise fault
 
 
 def state(dump: Source, text: str, has_clock: bool) -> Conditions:
