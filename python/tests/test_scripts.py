@@ -1181,7 +1181,7 @@ class Conditions(Case):
         words = ["--every", "--rise", "clk", dump]
         status, _, messages = run("vcdkit-when", ["--rules", rules, "--junit", out, *words])
         self.assertEqual((status, messages.count(b"\n")), (0, 2))
-        self.assertIn(b"warning: a: requests that begin before the previous one is answered: 2. "
+        self.assertIn(b"rules:1: a: requests that begin before the previous one is answered: 2. "
                       b"They get the same answer; with `each", messages)
         self.assertEqual([[its.tag for its in one] for one in xml.parse(out).getroot()],
                          [["system-out"], []])
@@ -1215,12 +1215,14 @@ class Conditions(Case):
         for text, message in (
                 ("a: req\nb: ack\n# c\na: clk\n", "rules:4: there is a rule a before"),
                 ("a@clk: req\na@!clk: ack\n", "rules:2: there is a rule a before"),
-                ("a: each req\n", "a: it has no clock: name a clock with --rise or --fall (in "
-                 "Python: rise or fall), or write a@CLOCK"),
+                ("a: each req\n", "rules:1: a: it has no clock: name a clock with --rise or --fall "
+                 "(in Python: rise or fall), or write NAME@CLOCK"),
+                (": req\n", "rules:1: a rule is `name: condition`"),
+                ("@clk: req\n", "rules:1: a rule is"), ("\na req\n", "rules:2: a rule is"),
                 ("a@clk: each req\n", "a: bad condition: each is as in each req -> ack within 5"),
                 ("a@clk: each !(req -> ack within 5)\n", "a: bad condition: each is as in"),
                 ("a@clk: req\nb: ack\n", "b: it has no clock"),
-                ("a@none: req\n", "a: none: selects nothing"), ("a@: req\n", "a@: write a clock")):
+                ("a@none: req\n", "a: none: selects nothing"), ("a@: req\n", "rules:1: a@: write a clock")):
             status, got, messages = run("vcdkit-when", ["--rules", self.file(
                 "rules", text.encode()), dump])
             self.assertEqual((status, got), (2, b""), text)
@@ -1243,7 +1245,7 @@ class Conditions(Case):
         rules = self.file("rules", b"a: req\nb: req = 1\n")
         self.assertEqual(run("vcdkit-when", ["--rules", rules, "--junit", out, dump])[0], 2)
         self.assertEqual([one.get("message") for one in xml.parse(out).iter("error")],
-                         ["b: bad condition: use == instead of ="])
+                         [rules + ":2: b: bad condition: use == instead of ="])
 
     def test_comparisons_that_never_hold(self):
         dump = self.file("a.vcd", b"$var wire 4 ! q [3:0] $end $var integer 32 i i [31:0] $end "
@@ -1343,8 +1345,10 @@ class Conditions(Case):
         self.assertEqual(said("vcdkit-when", "--rules", both, events), ["a: 0, 1 time", "status 1"])
         self.assertEqual(said("vcdkit-when", events, "!e"), ["status 1"])
         bad = self.file("bad", b"one: req\ntwo: req ==\n")
-        self.assertEqual(run("vcdkit-when", ["--rules", bad, dump])[2],
-                         b"vcdkit-when: two: bad condition: it ends too early\n")
+        self.assertEqual(run("vcdkit-when", ["--rules", bad, dump])[2].decode(),
+                         "vcdkit-when: %s:2: two: bad condition: it ends too early\n" % bad)
+        marked = self.file("marked", b"\xef\xbb\xbfone: req\n")
+        self.assertEqual(said("vcdkit-when", "--rules", marked, dump)[0][:4], "one:")
         fault = self.file("fault.vcd", self.HEAD + b"#0 0! #5 1! #7 ?\n")
         status, lines, _ = run("vcdkit-when", ["--never", "--rules", rules, "--junit", out, fault])
         self.assertEqual((status, lines), (2, b"rises: 5ns, 1 time\nwaits 1: 5ns, 1 time\n"))

@@ -32,12 +32,14 @@ WORDED = re.compile(r"(never +|always +|each +|)(.*)", re.S)
 
 class Rule(NamedTuple):
     """A condition with a name, and the word before it: it may hold at no time (never), has to hold
-    at each (always), or has to hold at some time; or each request has its own answer (each)."""
+    at each (always), or has to hold at some time; or each request has its own answer (each).
+    Messages begin with the place of its line."""
 
     name: str
     word: str
     condition: str
     clock: str = ""
+    place: str = ""
 
     @property
     def asked(self) -> Asked:
@@ -46,7 +48,7 @@ class Rule(NamedTuple):
         if self.word == "always":
             has_answer = "->" in re.sub('"[^"]*"', "", text)
             text = ("!(%s)" if has_answer else "!(%s) !== 1'b0") % text
-        return Asked(self.name, text, self.clock, self.word == "each")
+        return Asked(self.place + self.name, text, self.clock, self.word == "each")
 
     def is_met(self, found: bool, is_never: bool) -> bool:
         """Whether the rule is met, if its list has times."""
@@ -95,14 +97,15 @@ def rules_of(path: str) -> List[Rule]:
     """Returns the rules in a file; a line that is empty or begins with # is none."""
     found: Dict[str, Rule] = {}
     for number, line in enumerate(text_of_file(path).splitlines(), 1):
-        name, sign, condition = line.strip().partition(": ")
-        if line.strip() and line.strip()[:1] != "#":
-            if not sign:
-                raise UsageError("%s:%d: a rule is `name: condition`" % (path, number))
-            (name, clock), (word, text) = named(name), re.findall(WORDED, condition)[0]
+        place, line = "%s:%d: " % (path, number), line.strip()
+        if line and line[:1] != "#":
+            front, sign, condition = line.partition(": ")
+            (name, clock), (word, text) = named(front, place), re.findall(WORDED, condition)[0]
+            if not sign or not name:
+                raise UsageError(place + "a rule is `name: condition`")
             if name in found:
-                raise UsageError("%s:%d: there is a rule %s before" % (path, number, name))
-            found[name] = Rule(name, word.strip(), text, clock)
+                raise UsageError("%sthere is a rule %s before" % (place, name))
+            found[name] = Rule(name, word.strip(), text, clock, place)
     if not found:
         raise UsageError("%s: it has no rule" % path)
     return [*found.values()]
@@ -204,8 +207,8 @@ def answer(asked: argparse.Namespace, tests: List[Test]) -> int:
         print("vcdkit-when: warning: " + line, file=sys.stderr)
     for rule, one in zip(rules, asking.each):
         if one.clock and not asking.counts[one.clock] and (asked.never or rule.word):
-            raise UsageError("%sits clock has no edge in this window, so it was never evaluated"
-                             % (rule.name and rule.name + ": "))
+            raise UsageError(one.front + "its clock has no edge in this window, so it was never "
+                             "evaluated")
     if asked.rules is not None:
         sys.stdout.flush()
         names = ", ".join(missed[:3]) + ", .." * (len(missed) > 3)

@@ -37,11 +37,11 @@ class Asked(NamedTuple):
     in_order: bool = False
 
 
-def named(text: str) -> Tuple[str, str]:
-    """Reads NAME, or NAME@CLOCK, of a rule or a channel."""
+def named(text: str, place: str = "") -> Tuple[str, str]:
+    """Reads NAME, or NAME@CLOCK, of a rule or a channel, which is at a place."""
     name, sign, clock = text.partition("@")
     if sign and not clock.strip("!"):
-        raise UsageError("%s: write a clock behind @, as %s@tb.clk" % (text, name))
+        raise UsageError("%s%s: write a clock behind @, as %s@tb.clk" % (place, text, name))
     return name, clock
 
 
@@ -51,6 +51,7 @@ class _Question:
     def __init__(self, asked: Asked, condition: Condition, ticks: int, clock: int):
         self.asked, self.condition, self.ticks, self.clock = asked, condition, ticks, clock
         self.has_time = bool(condition.span and condition.span.unit)  # and counts no edges
+        self.front = asked.name and asked.name + ": "  # of messages
         self.overlaps = 0  # requests that began before the answer of the one before
         self.alone: Tuple[List[int], List[int]] = [], []  # requests, and answers, without the other
         self.is_refusal = condition.is_refusal or asked.in_order
@@ -96,13 +97,12 @@ class _Question:
     def warning(self) -> str:
         """Returns what may be wrong although each request got its answer; nothing if that is
         nothing."""
-        front = self.asked.name and self.asked.name + ": "
         if self.asked.in_order:
             return "%srequests that the end of the dump leaves without an answer: %d" % (
-                front, len(self.waiting)) if self.waiting else ""
+                self.front, len(self.waiting)) if self.waiting else ""
         return "%srequests that begin before the previous one is answered: %d. They get the same " \
             "answer; with %s, each gets its own" % (
-                front, self.overlaps, "`each req -> ack within N`" if front else
+                self.front, self.overlaps, "`each req -> ack within N`" if self.front else
                 "vcdkit-table --channel") if self.overlaps else ""
 
     def late_at_end(self, is_over: Callable[[int], bool]) -> List[Outcome]:
@@ -143,8 +143,7 @@ class Questions:
                     name, is_fall = asked.clock.lstrip("!"), asked.clock[:1] == "!"
                     self._add_edges(clock, *((None, name) if is_fall else (name, None)))
                 elif not has_clock and (len(bits) > 1 or asked.in_order):
-                    raise UsageError("it has no clock: %s, or write %s@CLOCK" % (
-                        NAME_A_CLOCK, asked.name))
+                    raise UsageError("it has no clock: %s, or write NAME@CLOCK" % NAME_A_CLOCK)
                 one = self.conditions.add(asked.condition, clock)
                 if columns and one.answer:
                     raise UsageError(SEVERAL)

@@ -14,7 +14,7 @@ Path = Union[str, "os.PathLike[str]"]
 def text_of_file(path: str) -> str:
     """Returns the text of a file, or of standard input for `-`."""
     with failing(path), open("/dev/stdin" if path == "-" else path, "rb") as file:
-        return file.read().decode("utf-8", "surrogateescape")
+        return file.read().decode("utf-8-sig", "surrogateescape")
 
 
 def check_outputs(outputs: Iterable[Optional[str]], inputs: Iterable[Optional[str]]) -> None:
