@@ -46,7 +46,7 @@ class Change(NamedTuple):
 class Dump(NamedTuple):
     """A dump up to its end or its fault: variables, changes, timestamps, the femtoseconds of a tick
     (None without a time scale), the line and the name of the fault, as "3: bad time", the last time
-    whose changes are all known, and with which time a part begins."""
+    whose changes are all known, with which time a part begins, and of what it is a part."""
 
     variables: List[Variable]
     changes: List[Change]
@@ -55,6 +55,7 @@ class Dump(NamedTuple):
     fault: str = ""
     finished: int = FOREVER
     begin: int = 0
+    whole: Any = None
 
 
 # ---- Names, times and kinds.
@@ -213,7 +214,7 @@ def cut(dump: Dump, begin: int, end: int) -> Dump:
     first = [changes[-1] for changes in early if changes]
     its = [one for one in dump.changes if begin <= one.time <= end]
     return dump._replace(
-        begin=max(begin, dump.begin),
+        begin=max(begin, dump.begin), whole=dump.whole or dump,
         changes=[one._replace(time=begin, section="$dumpvars") for one in first] + its,
         times=[begin, *(time for time in dump.times if begin < time <= end),
                *[end] * any(begin < end < time for time in dump.times)],
@@ -460,6 +461,16 @@ class Look(NamedTuple):
 
 
 def looks(dump: Dump, codes: Set[str], clocks: Clocks) -> List[Look]:
+    """Where a condition over some codes is evaluated, and what its signals were at earlier edges: a
+    part has also those before it."""
+    before = [one for one in looks_alone(dump.whole, codes, clocks) if one.time < dump.begin] if (
+        clocks and dump.whole) else []
+    found = looks_alone(dump, codes, clocks)
+    return [Look(one.time, {**one.values, **earlier(dump, [*before, *found[:at]])}, one.between)
+            for at, one in enumerate(found) if one.time <= dump.finished]
+
+
+def looks_alone(dump: Dump, codes: Set[str], clocks: Clocks) -> List[Look]:
     """Where a condition over some codes is evaluated: at each time at which one of them changes,
     and at the begin of a part, if that is not 0, with the values at its end; or at the edges of
     clocks, with the values just before. An event is triggered at its time; at a clock, from its
@@ -478,8 +489,7 @@ def looks(dump: Dump, codes: Set[str], clocks: Clocks) -> List[Look]:
                                                            else one.time == time) for one in of)
                for code in events}
         found.append(Look(time, {**values, **now}, {**values, **dict.fromkeys(now, "0")}))
-    return [Look(one.time, {**one.values, **earlier(dump, found[:at])}, one.between)
-            for at, one in enumerate(found) if one.time <= dump.finished]
+    return found
 
 
 def earlier(dump: Dump, its: Sequence[Look]) -> Values:

@@ -445,7 +445,7 @@ def part_of(dump: Dump) -> by_definition.Dump:
 
 def last_of(dump: by_definition.Dump) -> by_definition.Dump:
     """Returns a dump with its last timestamp only, as parts leave out times without a change."""
-    return dump._replace(times=[by_definition.last_time(dump)], begin=0)
+    return dump._replace(times=[by_definition.last_time(dump)], begin=0, whole=None)
 
 
 def plain_list(one: Any) -> Any:

@@ -1082,6 +1082,31 @@ class Conditions(Case):
         self.assertEqual(said("vcdkit-when", "--latency", "--from", "7", dump,
                               "req & !go -> go within 9ns")[0], "7ns 9ns 2ns")
 
+    def test_the_past_before_a_window(self):
+        """The clock rises at 100, 300, .. 1900, then at 500100, 500300, ..; q counts these."""
+        times = [*range(100, 2000, 200), *range(500100, 502000, 200)]
+        body = b"".join(b"#%d 1c b%s q #%d 0c 1e " % (time, bin(at)[2:].encode(), time + 100)
+                        for at, time in enumerate(times, 1))
+        dump = self.file("a.vcd", b"$var wire 1 c clk $end $var wire 8 q q $end $var event 1 e go "
+                         b"$end $enddefinitions $end #0 0c b0 q " + body + b"\n")
+        for begin in 0, 1901, 500100, 500101:
+            whole = [time for time in times if time >= begin]
+            for condition, wanted in (
+                    ("changed(q)", whole), ("past(q) + 1 == q", [one for one in whole if one > 100]),
+                    ("past(q, 9) == 1", [500100]), ("past(past(q, 4), 9) == 0", [500700]),
+                    ("q == 11 & past(go)", [500300] if begin != 500100 else []),
+                    ("past(q, 30) is x", whole)):
+                words = ["--every", "--rise", "clk", "--from", str(begin), dump, condition]
+                wanted = [one for one in wanted if one >= begin]
+                self.assertEqual(said("vcdkit-when", *words)[:-1], list(map(str, wanted)), words)
+                rows = said("vcdkit-table", *words[1:-2], dump, "--if", condition, "q")[1:-1]
+                self.assertEqual([one.partition(",")[0] for one in rows], list(map(str, wanted)))
+                part = Dump(dump).cut(begin).pick(["clk", "q", "go"])
+                self.assertEqual(list(part.when(condition, rise="clk", every=True)), wanted)
+        rules = self.file("rules", b"a@clk: changed(q)\nb@!clk: past(q, 2) == 8\n")
+        self.assertEqual(said("vcdkit-when", "--rules", rules, "--from", "1900", dump)[:2],
+                         ["a: 1900, 1 time", "b: 2000, 1 time"])
+
     def pipelined(self):
         """A dump with requests at the edges of 1, 2, 3 and 7, and answers at those of 4, 5 and
         9."""

@@ -43,15 +43,19 @@ def edge_times(dump: Dump, edges: Edges) -> Set[int]:
 
 def looks_at_edges(dump: Dump, edges: Edges, begin: int = 0, end: int = LAST) -> List[Look]:
     """Returns the edges of a window, with the values just before them. An event counts if it was
-    triggered since the last edge."""
+    triggered since the last edge, and in the window. The first edge of the window has the edge
+    before it, if the dump has one."""
     times, found = edge_times(dump, edges), []
     events: Set[str] = set()
-    for step in dump.steps_in(begin, end):
+    is_inside = False
+    for step in dump.steps_in(0, end):
+        if step.time >= begin and not is_inside:
+            is_inside, events = True, set()
         if step.time in times:
             found.append(Look(step.time, step.before, events, found[-1] if found else None))
             events = set()
         events = events | step.events
-    return found
+    return [one for one in found if one.time >= begin]
 
 
 def looks_at_changes(dump: Dump, codes: Set[str], begin: int = 0, end: int = LAST) -> List[Look]:

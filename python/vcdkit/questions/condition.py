@@ -15,7 +15,7 @@ from ..model.operators import (BIT, OPERATORS, REAL, SHIFTS, Kind, Operator, Val
                                kind_of, value_of_digits)
 from ..model.signals import Signal
 from ..model.values import extension, real_of
-from ..reading.body import Changes
+from ..reading import body
 from ..reading.source import Source
 from .expression import Node, ConditionText, Span, bad
 
@@ -215,6 +215,7 @@ class Conditions:
         self._pasts: List[Tuple[int, Node]] = []  # places of the last condition, and what is past
         # A call has the value at this edge of a clock.
         self._samples: List[Tuple[int, Deque[Value], str, int]] = []
+        self._depths: Dict[int, int] = {}  # how many edges of each clock they go back at most
         self._sampled: Callable[[], Sequence[Value]] = tuple  # the values of all calls
         self._known: Dict[str, Any] = {"v": self._values, "converted": converted}
         self._tests: List[str] = []  # a call for each bit
@@ -240,8 +241,11 @@ class Conditions:
         for place, count, call in reversed(calls):  # the inner ones first
             self._values[place] = value = eval(call, self._known)
             self._samples.append((place, collections.deque([value] * count, count), call, clock))
-        if self._pasts and not clock:
+        if calls and not clock:
             raise bad("past, rose, fell, stable and changed look at edges: " + NAME_A_CLOCK)
+        if calls:  # the first of these edges says only which events are over
+            depth = 1 + sum(count for _, count, _ in calls)
+            self._depths[clock] = max(self._depths.get(clock, 0), depth)
         bits = found.bit | answer
         self.with_more |= bits if answer or self._pasts else 0
         for signal in (name.signal for name in its.values()):
@@ -251,7 +255,7 @@ class Conditions:
             self.with_more |= bits if signal.type == "event" else 0
         return found
 
-    def take(self, changes: Changes) -> int:
+    def take(self, changes: body.Changes) -> int:
         """Takes changes, of which some may be of other signals; returns the conditions that name
         those of the others."""
         found, values, over = 0, self._values, self.over.get
@@ -275,6 +279,23 @@ class Conditions:
                 found |= self.over[code][0]
                 self._values[place] = 0
         return found
+
+    def look_back(self, names: List[str], edges: Dict[body.Edge, int]) -> None:
+        """Takes the past that a part has where it begins: the values at the edges before."""
+        begin, span = self._dump.begin(), 1 << 10
+        whole = self._dump.like(self._dump.whole("pick", "cut"))
+        is_enough = not begin or not self._depths
+        while not is_enough:
+            part, names = whole.cut(max(begin - span, 0), begin - 1), self._dump.full(names)
+            counts = collections.Counter(its for *_, its in body.at_clocks(part, names, (), edges))
+            is_enough = span >= begin or all(depth <= sum(
+                count for its, count in counts.items() if its & clock)
+                                             for clock, depth in self._depths.items())
+            if is_enough:
+                for _, changes, clocks in body.at_clocks(part, names, self.over, edges):
+                    self.take(changes)
+                    self.end(clocks)
+            span *= 16
 
     def compiled(self) -> Callable[..., int]:
         """Returns what returns those of some conditions that hold at the values that there are."""

@@ -1,6 +1,7 @@
 """The rows of a table: values at times, at changes and at the edges of clocks."""
 import itertools
-from typing import Collection, Dict, Iterable, Iterator, List, Optional, Sequence, Set, Tuple
+from typing import (Callable, Collection, Dict, Iterable, Iterator, List, Optional, Sequence, Set,
+                    Tuple)
 
 from ..errors import DumpFault, UsageError
 from ..model.names import utf8_names
@@ -136,20 +137,23 @@ def as_they_come(source: Source, names: List[str], columns: Sequence[Signal],
     with the values at its end. With a condition, it returns only the rows at which that holds. The
     names select all these signals."""
     codes = {one.code.encode() for one in columns}.union(only.over if only else ())
+    holds = only.compiled() if only else None
+    if only:
+        only.look_back(names, dict.fromkeys(edges, 1))
     pairs = (((time, changes) for time, changes, _ in body.at_clocks(
         source, names, codes, dict.fromkeys(edges, 1))) if edges
              else ((time, before + changes if before else changes)
                    for time, before, changes in body.steps(source.part(names), codes)))
     rows: Iterator[Row] = map(tuple.__new__, itertools.repeat(Row),  # Row() would take longer
-                              _rows(pairs, columns, bool(edges), only))
+                              _rows(pairs, columns, bool(edges), only, holds))
     yield from rows
 
 
 def _rows(pairs: Iterable[Tuple[int, body.Changes]], columns: Sequence[Signal], is_every: bool,
-          only: Optional[Conditions]) -> Iterator[Pair]:
+          only: Optional[Conditions], holds: Optional[Callable[..., int]]) -> Iterator[Pair]:
     """Returns a row for each time with its changes, unless no value of a column is another one, if
     not every one is asked for."""
-    cells, holds = Cells(columns), only.compiled() if only else None
+    cells = Cells(columns)
     for time, changes in pairs:
         is_other = cells.take(changes)
         if only:

@@ -251,6 +251,7 @@ class Questions:
         codes = {*conditions.over, *(one.code.encode() for one in columns)}
         always = self.again | conditions.with_more if self.edges else 0
         due = -1 if self.edges else 0
+        conditions.look_back(names, self.edges)
         for time, changes, clocks in (
                 body.at_clocks(self.dump, names, codes, self.edges) if self.edges
                 else ((time, [*before, *changes], 0) for time, before, changes in body.steps(
