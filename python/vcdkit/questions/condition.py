@@ -17,7 +17,7 @@ from ..model.signals import Signal
 from ..model.values import extension, real_of
 from ..reading import body
 from ..reading.source import Source
-from .expression import Node, ConditionText, Span, bad
+from .expression import BITS, Node, ConditionText, Span, bad
 
 MIRRORED = {"<": ">", "<=": ">=", ">": "<", ">=": "<="}
 NAME_A_CLOCK = "name a clock with --rise or --fall (in Python: rise or fall)"
@@ -77,6 +77,8 @@ def _name(dump: Source, name: str, base: str, found: Dict[str, Dict[int, Signal]
     field = () if found[name] else field_of(name)
     its = found[base if field else name]
     if not its:
+        if re.search(r"\[[^\]]*[^-\d:\]][^\]]*\]\Z", name):
+            raise bad(BITS)
         try:
             dump.select(name)
         except UnknownName as error:

@@ -25,6 +25,7 @@ FUNCTIONS = ("signed", "unsigned", "past", "rose", "fell", "stable", "changed")
 # What to write instead of words and signs of other languages.
 EDGE = "for an edge of a signal, use rose(..) or fell(..); for a clock, --rise or --fall"
 LATER = "for a later edge, use req -> ack within N"
+BITS = "the bits of a signal are numbers, without blanks between, as in tb.q[7:4]"
 INSTEAD = {**{word: "use %s instead of %s" % (sign, word) for word, sign in (
     ("and", "&&"), ("or", "||"), ("not", "!"), ("xor", "^"))},
     "posedge": EDGE, "negedge": EDGE, "##": LATER}
@@ -122,7 +123,7 @@ class ConditionText:
         for token in [*TOKEN.finditer(text), None]:
             rest = text[end:token.start() if token else None].strip()  # nothing but blanks
             if rest:
-                raise bad({"=": "use == instead of =", '"': 'a " has no second one'}.get(
+                raise bad({"=": "use == instead of =", '"': 'a " has no second one', "[": BITS}.get(
                     rest[0], "it cannot be read at " + rest)
                           if text[:end + len(rest)][-2:] != "|=" else LATER)
             if token:
