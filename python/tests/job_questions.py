@@ -109,7 +109,9 @@ class Jobs(Pictures):
         self.same("table", [*words, *["--histogram"] * is_histogram, "--unit=tick", *(
             "--%s=%s" % (one, self.of.clock) for one in which), *window.words, self.path],
             [] if late else [",".join(map(str, line)) for line in lines],
-            late[0] if late else int(bool(part.fault)), late[1] if late else part.fault or False)
+            late[0] if late else int(bool(part.fault)),
+            late[1] if late else part.fault or any(None in of for of in found) or any(
+                (edge or 0) < 0 for of in steps for edge in of))
 
     def ask_latencies(self) -> None:
         """Asks how long answers take."""

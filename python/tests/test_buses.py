@@ -193,7 +193,7 @@ def rows(channels: List[str], folder: str, scope: str, *options: str) -> List[st
         [TABLE, "--hex", "--rise", scope + "aclk", *options, *(
             "--channel=" + one.replace("@", scope) for one in channels),
          os.path.join(folder, "dump.vcd")], check=True, stdout=subprocess.PIPE,
-        universal_newlines=True).stdout.splitlines()
+        stderr=subprocess.DEVNULL, universal_newlines=True).stdout.splitlines()
 
 
 def main() -> int:
@@ -228,7 +228,7 @@ def main() -> int:
             got = subprocess.run(
                 [TABLE, "--hex", *("--channel=" + one for one in CROSSING),
                  os.path.join(folder, "dump.vcd")], check=True, stdout=subprocess.PIPE,
-                universal_newlines=True).stdout.splitlines()
+                stderr=subprocess.DEVNULL, universal_newlines=True).stdout.splitlines()
             done = len(lines["fifo"])
             wrong += got[:done + 1] != ["w (ps),tb.wdata,r (ps),tb.rdata,w to r", *lines["fifo"]]
             wrong += len(got) - done - 1 != int(lines["left"][0])

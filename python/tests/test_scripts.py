@@ -1170,6 +1170,29 @@ class Conditions(Case):
             self.assertIn(b"more than 2 transactions are open",
                           run("vcdkit-table", [dump, *words, "b: !req & req"])[2])
 
+    def test_transfers_after_a_flush(self):
+        """Requests at 10, 20, 30 and 70 ns, answers at 40, 50 and 90 ns."""
+        dump, note = self.pipelined(), (
+            "vcdkit-table: transactions that lack a transfer: %d; with a number of edges below 0: "
+            "%d\n")
+        for flush, channels, rows, lacking, early in (
+                ("rose(req)", "ab", ["20,40,2", "30,50,2", ",90,"], 1, 0),
+                ("ack & past(ack)", "ab", ["10,40,3", "20,,", "30,,", "70,90,2"], 2, 0),
+                ("req", "ab", [",40,", ",50,", ",90,"], 3, 0), ("fell(ack)", "b", ["40", "50", "90"], 0, 0),
+                ("req & ack", "ba", ["40,10,-3", "50,20,-3", "90,30,-6", ",70,"], 1, 3)):
+            given = ["--channel=%s%s" % (one, {"a": ": req", "b": ": ack"}[one])
+                     for one in channels]
+            for words in (["--rise", "clk", *given],
+                          [one.replace(":", "@clk:", 1) for one in given]):
+                words += ["--flush", flush, dump]
+                status, out, message = run("vcdkit-table", words)
+                self.assertEqual((status, out.decode().splitlines()[1:]), (0, rows), flush)
+                self.assertEqual(message.decode(), note % (lacking, early) * bool(lacking + early))
+        for words, wanted in ((["clk"], b"--flush goes with --channel\n"),
+                              (["--channel=a@clk: req"], b": --flush: bad condition: it ends")):
+            status, out, message = run("vcdkit-table", [dump, *words, "--flush", "req &"])
+            self.assertEqual((status, out, wanted in message), (2, b"", True), message)
+
     def test_requests_that_overlap(self):
         dump, words = self.pipelined(), ["--latency", "--rise", "clk"]
         for every, warning in (

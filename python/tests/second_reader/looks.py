@@ -140,19 +140,22 @@ def in_order(looks: Sequence[Look], before: Test, after: Test, span: Tuple[bool,
     return lost, surplus, len(waiting)
 
 
-def transfers(each: Sequence[Sequence[Look]], tests: Sequence[Test]
+def transfers(each: Sequence[Sequence[Look]], tests: Sequence[Test], flushes: Sequence[int] = ()
               ) -> List[List[Optional[Tuple[int, Look]]]]:
     """Returns the lines of transactions: in the n-th are the n-th looks at which the tests hold,
-    each with the number of the look; each test has its own looks."""
+    each with the number of the look; each test has its own looks. At each flush, they begin
+    anew."""
     lines: List[List[Optional[Tuple[int, Look]]]] = []
-    for column, (looks, test) in enumerate(zip(each, tests)):
-        line = 0
-        for number, look in enumerate(looks):
-            if holds(test, look):
-                if line == len(lines):
-                    lines.append([None] * len(tests))
-                lines[line][column] = number, look
-                line += 1
+    for begin, end in zip([-1, *flushes], [*flushes, LAST + 1]):
+        first = len(lines)
+        for column, (looks, test) in enumerate(zip(each, tests)):
+            line = first
+            for number, look in enumerate(looks):
+                if begin < look.time < end and holds(test, look):
+                    if line == len(lines):
+                        lines.append([None] * len(tests))
+                    lines[line][column] = number, look
+                    line += 1
     return lines
 
 

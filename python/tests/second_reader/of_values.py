@@ -9,7 +9,7 @@ from typing import Any, Dict, List, NamedTuple, Optional, Set, Tuple
 from asker import Asker, Said, Skip, run
 from conditions import Test
 from dumps import Dump, State, Value, Variable
-from looks import Edges, Look, looks_at_edges, rows_at_changes, transfers
+from looks import Edges, Look, holds, looks_at_edges, rows_at_changes, transfers
 from shown import all_from_json, from_json, in_json, shown
 
 Row = Tuple[Look, List[Optional[Value]]]
@@ -144,8 +144,10 @@ def ask_channels(of: Asker) -> None:
     names = of.random.sample(["ar", "r", "a channel", "b,c", "\u00e9"], of.random.randint(1, 3))
     its, pairs = [channel_of(of, name) for name in names], list(zip(names, names[1:]))
     mode = of.random.choice(["", "", "--json", "--histogram"])
+    flush = of.conditions.make(1, True) if of.happens(.4) else None
     if all(one.edges for one in its) and of.happens(.5):
         options = []
+    options += ["--flush=" + flush.text] if flush else []
     words += [*options, *window.words, *[mode] * bool(mode), *(["--unit", unit] if unit else [])]
     words = [*("--channel=" + one.word for one in its), *of.placed(words, [of.path])]
     said, is_json = run("table", words), mode == "--json"
@@ -155,8 +157,11 @@ def ask_channels(of: Asker) -> None:
     head = [cell for one in its for cell in one.head(is_json, unit)]
     wanted: List[List[Any]] = []
     each = [looks_at_edges(dump, one.edges or edges, window.begin, window.end) for one in its]
-    for line in transfers(each, [one.test for one in its]):
+    flushes = [look.time for look in each[0] if flush and holds(flush.test, look)]
+    lacking = early = 0
+    for line in transfers(each, [one.test for one in its], flushes):
         wanted.append([])
+        lacking += None in line
         for found, channel in zip(line, its):
             look = found[1] if found else None
             values = [look.values.get(one.code) if look else None for one in channel.columns]
@@ -167,6 +172,9 @@ def ask_channels(of: Asker) -> None:
             wanted[-1].append(other[0] + 1 - sum(look.time <= one[1].time for look in looks)
                               if one and other else None)
             counts[pair, wanted[-1][-1]] += 1
+        early += any((edge or 0) < 0 for edge in wanted[-1][len(wanted[-1]) - len(pairs):])
+    note = ("vcdkit-table: transactions that lack a transfer: %d; with a number of edges below 0: "
+            "%d\n" % (lacking, early)) * bool(lacking or early)
     head += ["%s to %s" % pair for pair in pairs]
     if mode == "--histogram":
         head = ["edges", *head[len(head) - len(pairs):]]
@@ -176,7 +184,7 @@ def ask_channels(of: Asker) -> None:
         csv.reader(io.StringIO(said.text, newline="")))
     of.same("channels", words, (said.status, got, said.message), (
         0, [dict(zip(head, row)) for row in wanted] if is_json else
-        [["" if cell is None else str(cell) for cell in row] for row in [head, *wanted]], ""))
+        [["" if cell is None else str(cell) for cell in row] for row in [head, *wanted]], note))
 
 
 def keys_of(columns: List[Variable]) -> List[str]:

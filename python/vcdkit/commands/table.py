@@ -9,6 +9,7 @@ With a --channel 'NAME: CONDITION: SIGNAL ..' for each channel of a bus, row n h
 which the condition of each holds, the signals, and how many edges there are from one to the next
 (below 0 if that comes first). Cells are empty if there is no n-th edge. NAME@CLOCK has the rising
 edges of a clock of its own, NAME@!CLOCK the falling ones; edges are those of the second one.
+Transfers are joined only by their number: a line on standard error counts what may be wrong.
 
 examples:
   vcdkit-table --rise tb.clk --if 'tb.valid & tb.ready' sim.vcd tb.address tb.data
@@ -22,12 +23,12 @@ import itertools
 import os
 import re
 import sys
-from typing import Any, Callable, Iterable, List, Tuple
+from typing import Any, Callable, Iterable, Iterator, List, Tuple
 
 from ..forms.text import in_json, shown, write_json
 from ..model.signals import keys_of
 from ..model.values import Cell, Value
-from ..questions.when import Questions, named
+from ..questions.when import Questions, Transaction, named
 from . import (check_begin, command, dump_of, is_part, parser, part_of, times_at,
                warn_of_quotes)
 
@@ -44,6 +45,9 @@ def words_of(words: List[str]) -> argparse.Namespace:
                        help="write only the rows at which this holds")
     which.add_argument("--channel", dest="channels", action="append", default=[],
                        metavar="CHANNEL", help="join transfers in order (see below)")
+    options.add_argument("--flush", metavar="CONDITION", help="with --channel: at the edges (of the "
+                         "first channel) at which this holds, such as a reset, no transfer counts, "
+                         "and no transaction stays open")
     options.add_argument("--histogram", action="store_true",
                          help="with --channel: count how many transfers took each number of "
                          "edges")
@@ -53,8 +57,9 @@ def words_of(words: List[str]) -> argparse.Namespace:
         options.error("--at goes with none of --rise, --fall, --from and --to")
     if bool(asked.channels) == bool(asked.names or asked.names_of is not None):
         options.error("give NAMEs, --names or --channel")
-    if asked.histogram and not asked.channels:
-        options.error("--histogram goes with --channel")
+    for name in "histogram", "flush":
+        if getattr(asked, name) and not asked.channels:
+            options.error("--%s goes with --channel" % name)
     each = [(re.split("(?<! ): ", one, maxsplit=2) + ["", ""])[:3] for one in asked.channels]
     if any(not name.strip() or not condition.strip() for name, condition, _ in each):
         options.error("a channel is 'NAME: CONDITION: SIGNAL ..', with a space after each colon "
@@ -66,12 +71,26 @@ def words_of(words: List[str]) -> argparse.Namespace:
     return asked
 
 
+def counted(transactions: Iterable[Transaction]) -> Iterator[Tuple[Transaction, List[Any]]]:
+    """Returns transactions with the edges from one transfer to the next. Behind them it says how
+    many lack a transfer, or have one that comes before that to its left."""
+    lacking = early = 0
+    for of in transactions:
+        edges = [other[0] - one[1] if one and other else None for one, other in zip(of, of[1:])]
+        lacking += None in of
+        early += any(one is not None and one < 0 for one in edges)
+        yield of, edges
+    if lacking or early:
+        sys.stdout.flush()
+        print("vcdkit-table: transactions that lack a transfer: %d; with a number of edges below "
+              "0: %d" % (lacking, early), file=sys.stderr)
+
+
 def joined(asking: Questions, names: List[str], heads: List[List[str]], cells: Cells,
            is_histogram: bool) -> Tuple[List[str], Iterable[List[Any]]]:
     """Returns the head and the rows of channels with some names and heads."""
     pairs = ["%s to %s" % pair for pair in zip(names, names[1:])]
-    each = ((of, [other[0] - one[1] if one and other else None for one, other in zip(of, of[1:])])
-            for of in asking.transactions())
+    each = counted(asking.transactions())
     if is_histogram:
         counts = collections.Counter(pair for _, edges in each for pair in enumerate(edges))
         return ["edges", *pairs], [[one, *(counts[at, one] for at in range(len(pairs)))]
@@ -111,8 +130,9 @@ def main(words: List[str]) -> int:
              if asked.json else ["%s (%s)" % (name, unit), *(one.path for one in its)]
              for name, its in zip(names, columns)]
     if asked.channels:
-        asking = Questions(dump, [(name, text, clock) for name, clock, text, _ in channels],
-                           asked.rise, asked.fall, True, columns)
+        rules = [(name, text, clock) for name, clock, text, _ in channels]
+        rules += [("--flush", asked.flush, channels[0][1])] if asked.flush else []
+        asking = Questions(dump, rules, asked.rise, asked.fall, True, columns)
         head, rows = joined(asking, names, heads, cells, asked.histogram)
     else:
         head, rows = heads[0], itertools.starmap(cells, dump.rows(

@@ -121,7 +121,7 @@ class Questions:
 
     def __init__(self, dump: Source, rules: Sequence[Sequence[Any]], rise: Optional[str],
                  fall: Optional[str], every: bool, columns: Sequence[List[Signal]] = ()):
-        """Rules are as Asked. They may have columns, whose values are asked for."""
+        """Rules are as Asked. The first ones may have columns, whose values are asked for."""
         self.dump, self.clocks = dump, []  # type: Source, List[str]
         its = [Asked(*rule) for rule in rules]
         # The bits of the clocks: the first is that of the rules without an own one.
@@ -193,15 +193,19 @@ class Questions:
                 yield begin, numbers
 
     def transactions(self) -> Iterator[Transaction]:
-        """Returns the n-th edges of all conditions, for each n, as soon as they are there; at the
-        end or at a fault, those that are left."""
-        waiting: List[Deque[Transfer]] = [collections.deque() for _ in self.each]
+        """Returns the n-th edges of all conditions that have columns, for each n, as soon as they
+        are there; at the end or at a fault, those that are left. Where one without columns holds,
+        the edge does not count, and none is left."""
+        waiting: List[Deque[Transfer]] = [collections.deque() for _ in self.columns]
         clocks = [one.clock for one in self.each]
         pairs = list(zip(clocks, [*clocks[1:], clocks[-1]]))
         fault: Optional[DumpFault] = None
         try:
             for time, numbers in self.times():
-                for at in numbers:
+                is_flush = numbers[-1] >= len(waiting)
+                while is_flush and any(waiting):
+                    yield [its.popleft() if its else None for its in waiting]
+                for at in () if is_flush else numbers:
                     counts = [self.counts[one] for one in pairs[at]]
                     waiting[at].append((counts[0], counts[1], Row(time, self.cells[at].row[:])))
                     if len(waiting[at]) > MAX_WAITING:
