@@ -1082,6 +1082,39 @@ class Conditions(Case):
         self.assertEqual(said("vcdkit-when", "--latency", "--from", "7", dump,
                               "req & !go -> go within 9ns")[0], "7ns 9ns 2ns")
 
+    def test_a_clock_in_a_vector(self):
+        """A bit of a vector is the clock that it is as a signal of its own."""
+        rnd = random.Random(5)
+        rows = ["".join(rnd.choice("00011101xz") for _ in range(4)) for _ in range(80)]
+        body = "".join("#%d b%s v b%s q %s" % (10 * at, re.sub("^(0+(?=[01])|x+(?=x)|z+(?=z))", "",
+                                                               row), bin(at)[2:], " ".join(
+            digit + code for digit, code in zip(row, "cdef")) + "\n") for at, row in enumerate(rows))
+        dump = self.file("a.vcd", (b"$timescale 1ns $end $scope module t $end $var wire 4 v v [2:5] "
+                                   b"$end $var wire 8 q q $end $var wire 1 c c $end $var wire 1 d d "
+                                   b"$end $var wire 1 e e $end $var wire 1 f f $end $upscope $end "
+                                   b"$enddefinitions $end " + body.encode()))
+        for bit, alone, edges in ("2", "c", ["--rise"]), ("4", "e", ["--rise", "--fall"]):
+            for edge in edges:
+                for words in (["table", "--if", "past(t.q) > 3", dump, "t.q"],
+                              ["when", "--every", "--from", "333", dump, "changed(t.q)"],
+                              ["table", "--channel", "a: t.q > 9: t.q", dump],
+                              ["when", "--latency", "--fall", "t.v[3]", dump,
+                               "t.q > 9 -> t.v[5] within 3"]):
+                    if edge not in words:
+                        script, *rest = words
+                        self.assertEqual(
+                            said("vcdkit-" + script, edge, "t.v[%s]" % bit, *rest),
+                            said("vcdkit-" + script, edge, "t." + alone, *rest))
+            rules = [self.file("rules", b"a@%s: t.q > 7\nb@!%s: past(t.q, 2) > 9\n" % (
+                (name.encode(),) * 2)) and said("vcdkit-when", "--rules", os.path.join(
+                    self.folder.name, "rules"), dump) for name in ("t.v[%s]" % bit, "t." + alone)]
+            self.assertEqual(*rules)
+        for name, wanted in (("t.v[6]", "t.v[6]: the bits of t.v are [2:5]"),
+                             ("t.v[2:3]", "t.v[2:3]: selects nothing; there is t.v"),
+                             ("t.v", "t.v: is not a one-bit clock: it has 4 bits")):
+            self.assertEqual(run("vcdkit-when", ["--rise", name, dump, "t.q"])[2].decode(),
+                             "vcdkit-when: %s\n" % wanted)
+
     def test_the_past_before_a_window(self):
         """The clock rises at 100, 300, .. 1900, then at 500100, 500300, ..; q counts these."""
         times = [*range(100, 2000, 200), *range(500100, 502000, 200)]

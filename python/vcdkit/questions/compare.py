@@ -327,7 +327,7 @@ class Comparison:
         side, clock = self._sides[at], self._clocks[at]
         part = side.picked([*(pair.signals[at].path for pair in self._pairs), clock.path])
         return body.at_clocks(part or side.dump, [], {pair.codes[at] for pair in self._pairs},
-                              {(clock.code.encode(), *self._edge): 1})
+                              {(clock.code.encode(), 0, *self._edge): 1})
 
     def _at_edges(self) -> Iterator[Found]:
         codes = [pair.codes for pair in self._pairs]

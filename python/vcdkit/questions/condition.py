@@ -9,7 +9,7 @@ import re
 from typing import (Any, Callable, Deque, Dict, Iterable, List, NamedTuple, Optional, Sequence,
                     Tuple)
 
-from ..errors import UnknownName
+from ..errors import UnknownName, UsageError
 from ..model.names import FIELD, bare, field_of, full_names
 from ..model.operators import (BIT, OPERATORS, REAL, SHIFTS, Kind, Operator, Value, converted,
                                kind_of, value_of_digits)
@@ -60,8 +60,8 @@ class _Name(NamedTuple):
                          to)
 
 
-def _names(dump: Source, words: Iterable[str], quoted: Sequence[str]) -> Dict[str, _Name]:
-    """Returns the signals of a dump that a condition names, some of them in quotes."""
+def names_in(dump: Source, words: Iterable[str], quoted: Sequence[str]) -> Dict[str, _Name]:
+    """Returns the signals of a dump, or bits of these, that words name, some of them in quotes."""
     bases, paths = {name: FIELD.sub("", name) for name in words}, dump.signals.columns()[0]
     full = full_names([*bases, *bases.values()], paths, dump.signals, True)
     its: Dict[str, Dict[int, Signal]] = {name: {} for name in full}
@@ -78,7 +78,7 @@ def _name(dump: Source, name: str, base: str, found: Dict[str, Dict[int, Signal]
     its = found[base if field else name]
     if not its:
         if re.search(r"\[[^\]]*[^-\d:\]][^\]]*\]\Z", name):
-            raise bad(BITS)
+            raise UsageError("%s: %s" % (name, BITS))
         try:
             dump.select(name)
         except UnknownName as error:
@@ -89,18 +89,18 @@ def _name(dump: Source, name: str, base: str, found: Dict[str, Dict[int, Signal]
                 raise UnknownName(error.name, "; for digits that are %s, write `tb.q is %s`" % (
                     (name.lower(),) * 2)) from None
             raise
-        raise bad("%s is a scope: name a signal in it" % name)
+        raise UsageError("%s is a scope: name a signal in it" % name)
     place, signal = next(iter(its.items()))
     if len({one.code for one in its.values()}) > 1:
-        raise bad("%s names %d signals: %s, .." % (base, len(its), signal.path))
+        raise UsageError("%s names %d signals: %s, .." % (base, len(its), signal.path))
     if not field:
         return _Name(name, signal, 0, signal.size)
     if signal.is_real or signal.type == "event":
-        raise bad("%s: %s has no bits" % (name, signal.path))
+        raise UsageError("%s: %s has no bits" % (name, signal.path))
     bits = dump.declarations[place].bits
     begin, end = (bits.index(bit) if bit in bits else -1 for bit in field)
     if not 0 <= begin <= end:
-        raise bad("%s: the bits of %s are [%d:%d]" % (name, signal.path, bits[0], bits[-1]))
+        raise UsageError("%s: the bits of %s are [%d:%d]" % (name, signal.path, bits[0], bits[-1]))
     return _Name(name, signal, begin, end + 1)
 
 
@@ -228,7 +228,8 @@ class Conditions:
         tree = parser.tree()
         if not parser.names:
             raise bad("it names no signal; for all edges of a clock, name the clock")
-        its = _names(self._dump, dict.fromkeys(node.value for node in parser.names), parser.quoted)
+        its = names_in(self._dump, dict.fromkeys(node.value for node in parser.names),
+                       parser.quoted)
         for node in parser.names:
             node.value = its[node.value]
             node.kind = node.value.kind

@@ -157,8 +157,7 @@ class Dump(Source):
             self, condition, rise is not None or fall is not None)
         if at is not None:
             return at_times(self, columns, [self.ticks(time) for time in _each(at)], its, only)
-        every = [*its, *(name for name in (rise, fall) if name is not None),
-                 *(only.paths if only else ())]
+        every = [*its, *edges.values(), *(only.paths if only else ())]
         return as_they_come(self, every, list(columns.values()), edges, only)
 
     def table(self, names: Names, at: Optional[Iterable[Time]] = None, rise: Optional[str] = None,

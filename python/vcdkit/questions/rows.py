@@ -3,13 +3,13 @@ import itertools
 from typing import (Callable, Collection, Dict, Iterable, Iterator, List, Optional, Sequence, Set,
                     Tuple)
 
-from ..errors import DumpFault, UsageError
-from ..model.names import utf8_names
+from ..errors import DumpFault, UnknownName, UsageError
+from ..model.names import field_of, utf8_names
 from ..model.signals import Signal, words_of
 from ..model.values import Cell, Row, same, value_in, value_of
 from ..reading import body
 from ..reading.source import Source
-from .condition import Conditions
+from .condition import Conditions, names_in
 
 TIMES_OF_A_CALL = 5000  # a word of Linux has at most 131,071 bytes
 RISE, FALL = (b"0", b"1"), (b"1", b"0")
@@ -85,21 +85,29 @@ def _holding(source: Source, condition: Conditions, times: Iterable[int]) -> Set
     return found.union(waiting if held else ())
 
 
-def edges_of(source: Source, rise: Optional[str], fall: Optional[str]) -> Set[body.Edge]:
-    """Returns the edges of the clocks that are named."""
-    return {(_clock(source, name).code.encode(), *edge)
-            for name, edge in ((rise, RISE), (fall, FALL)) if name is not None}
+def edges_of(source: Source, rise: Optional[str], fall: Optional[str]) -> Dict[body.Edge, str]:
+    """Returns the edges of the clocks that are named, and the paths of these."""
+    named = [(_clock(source, name), edge) for name, edge in ((rise, RISE), (fall, FALL))
+             if name is not None]
+    return {(clock.code.encode(), place, *edge): clock.path for (clock, place), edge in named}
 
 
-def _clock(source: Source, name: str) -> Signal:
-    """Returns the signal of one bit that a name selects; UsageError if it is none."""
-    clock = source[name]
+def _clock(source: Source, name: str) -> Tuple[Signal, int]:
+    """Returns the signal of one bit that a name selects, or the signal and the place of its bit,
+    from the right; UsageError if it is none."""
+    try:
+        clock = source[name]
+    except UnknownName:
+        its = names_in(source, [name], [])[name] if field_of(name) else None
+        if its and its.end - its.begin == 1:
+            return its.signal, its.signal.size - its.end
+        raise
     is_what = ("it is an event" if clock.type == "event"
                else "it is a real number" if clock.is_real
                else "it has %d bits" % clock.size if clock.size != 1 else "")
     if is_what:
         raise UsageError("%s: is not a one-bit clock: %s" % (name, is_what))
-    return clock
+    return clock, 0
 
 
 class Cells:
@@ -131,7 +139,7 @@ class Cells:
 
 
 def as_they_come(source: Source, names: List[str], columns: Sequence[Signal],
-                 edges: Set[body.Edge], only: Optional[Conditions]) -> Iterator[Row]:
+                 edges: Collection[body.Edge], only: Optional[Conditions]) -> Iterator[Row]:
     """Returns a row for each time that has one of some edges, with the values just before it; if
     there is no edge, for each time at whose end a value of a column is another one than before it,
     with the values at its end. With a condition, it returns only the rows at which that holds. The

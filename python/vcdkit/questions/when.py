@@ -163,8 +163,8 @@ class Questions:
 
     def _add_edges(self, clock: int, rise: Optional[str], fall: Optional[str]) -> None:
         """Adds the edges of a clock."""
-        self.clocks += [name for name in (rise, fall) if name is not None]
-        for edge in edges_of(self.dump, rise, fall):
+        for edge, path in edges_of(self.dump, rise, fall).items():
+            self.clocks.append(path)
             self.edges[edge] = self.edges.get(edge, 0) | clock
 
     def outcomes(self) -> Iterator[Tuple[Numbers, Outcome]]:

@@ -19,7 +19,8 @@ BLOCK = 1 << 16
 Changes = List[Tuple[bytes, bytes]]  # a code and a value each
 Step = Tuple[int, Changes, Changes]  # a time, the values from before it, and the others
 Blocks = Callable[[BinaryIO], Iterable[bytes]]
-Edge = Tuple[bytes, bytes, bytes]  # the code of a clock, a digit and the digit after it
+# The code of a clock, the place of its bit from the right, a digit and the digit after it.
+Edge = Tuple[bytes, int, bytes, bytes]
 
 
 def change(line: bytes) -> Tuple[bytes, bytes]:
@@ -159,15 +160,15 @@ def at_clocks(source: Source, names: List[str], codes: Collection[bytes], edges:
     clocks, since the last such time, up to just before this one: those at the last one are among
     them, and so are values from before this one; then the bits of the edges there. The names select
     all these signals."""
-    last = {code: b"" for code, _, _ in edges}
+    last = {code: b"" for code, *_ in edges}
     found: Changes = []
-    its = {*codes, *last}
+    its, between = {*codes, *last}, _Between(edges)
     for time, before, changes in steps(source.part(names), its, _led(source, its)):
         bits = 0
-        for code, digit in before + changes if before else changes:
+        for code, text in before + changes if before else changes:
             if code in last:
-                bits |= edges.get((code, last[code], digit), 0)
-                last[code] = digit
+                bits |= between[code, last[code], text]
+                last[code] = text
         found += before
         if bits:
             yield time, found, bits
@@ -175,6 +176,30 @@ def at_clocks(source: Source, names: List[str], codes: Collection[bytes], edges:
         elif len(found) > MAX_SEEN:
             found = list(dict(found).items())
         found += changes
+
+
+class _Between(Dict[Tuple[bytes, bytes, bytes], int]):
+    """Of a code, a value and the value after it the bits of the edges between the two."""
+
+    def __init__(self, edges: Dict[Edge, int]):
+        super().__init__()
+        self._edges = edges
+
+    def __missing__(self, key: Tuple[bytes, bytes, bytes]) -> int:
+        if len(self) >= MAX_SEEN:
+            self.clear()
+        found = 0
+        for (code, place, *digits), bits in self._edges.items():
+            if code == key[0] and digits == [_digit(text, place) for text in key[1:]]:
+                found |= bits
+        self[key] = found
+        return found
+
+
+def _digit(text: bytes, place: int) -> bytes:
+    """Returns the digit at a place from the right; to the left of those that are written, the first
+    one goes on."""
+    return text[~place:][:1] if place < len(text) else text[:1] if text[:1] in b"xz" else b"0"
 
 
 def _led(source: Source, codes: Collection[bytes]) -> Set[bytes]:
