@@ -35,10 +35,7 @@ def _escaped(name: str) -> str:
 def _instances(top: Scope, nets: Nets, ticks: int) -> Iterator[str]:
     """Returns the lines of the scopes that have a bit in them, or below. Scopes may be nested
     deeper than calls."""
-    some = set()
-    for one in reversed([*top.walk()]):  # those in it come before it
-        if nets.get(id(one)) or any(id(inner) in some for inner in one.scopes):
-            some.add(id(one))
+    some = {id(one) for bits in nets.values() for bit in bits for one in bit.of.scopes}
     waiting: List[Tuple[Union[Scope, str], str]] = [(top, "")]  # scopes, and last lines
     while waiting:
         scope, indent = waiting.pop()

@@ -96,11 +96,12 @@ class Dump(Source):
     def changes(self, name: str) -> Iterator[Tuple[int, Cell]]:
         """Returns the times, in ticks, and the values of one signal, as they come: one for each
         value that the dump writes, even if it is the same again. Each trigger of an event is a 1.
-        At a fault, those of the last time may not be all. Raises UnknownName if the name selects
+        A time that a fault leaves unfinished has none. Raises UnknownName if the name selects
         nothing, and UsageError if it selects several."""
         signal = self[name]
-        pairs = body.at_once(self.part([name]), signal.code.encode())
-        return ((time, value_in(value, signal.size)) for time, value in pairs)
+        steps = body.steps(self.part([name]), [signal.code.encode()])
+        return ((time, value_in(value, signal.size)) for time, before, changes in steps
+                for _, value in before + changes)
 
     def arrays(self, name: str) -> Tuple[Any, Any]:
         """Returns the changes of one signal as arrays of numpy: the times as uint64, and the values

@@ -160,15 +160,17 @@ def at_clocks(source: Source, names: List[str], codes: Collection[bytes], edges:
     clocks, since the last such time, up to just before this one: those at the last one are among
     them, and so are values from before this one; then the bits of the edges there. The names select
     all these signals."""
-    last = {code: b"" for code, *_ in edges}
+    last = {clock[:2]: b"" for clock in edges}
+    places = {code: [place for one, place in last if one == code] for code, _ in last}
     found: Changes = []
-    its, between = {*codes, *last}, _Between(edges)
+    its = {*codes, *places}
     for time, before, changes in steps(source.part(names), its, _led(source, its)):
         bits = 0
         for code, text in before + changes if before else changes:
-            if code in last:
-                bits |= between[code, last[code], text]
-                last[code] = text
+            for place in places.get(code, ()):
+                digit, key = _digit(text, place), (code, place)
+                bits |= edges.get((code, place, last[key], digit), 0)
+                last[key] = digit
         found += before
         if bits:
             yield time, found, bits
@@ -176,24 +178,6 @@ def at_clocks(source: Source, names: List[str], codes: Collection[bytes], edges:
         elif len(found) > MAX_SEEN:
             found = list(dict(found).items())
         found += changes
-
-
-class _Between(Dict[Tuple[bytes, bytes, bytes], int]):
-    """Of a code, a value and the value after it the bits of the edges between the two."""
-
-    def __init__(self, edges: Dict[Edge, int]):
-        super().__init__()
-        self._edges = edges
-
-    def __missing__(self, key: Tuple[bytes, bytes, bytes]) -> int:
-        if len(self) >= MAX_SEEN:
-            self.clear()
-        found = 0
-        for (code, place, *digits), bits in self._edges.items():
-            if code == key[0] and digits == [_digit(text, place) for text in key[1:]]:
-                found |= bits
-        self[key] = found
-        return found
 
 
 def _digit(text: bytes, place: int) -> bytes:

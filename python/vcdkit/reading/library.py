@@ -3,6 +3,7 @@
 What the library is, extras/c/vcdkit.h says: this file alone knows how it is called."""
 import contextlib
 import ctypes
+import functools
 import io
 import mmap
 import os
@@ -31,9 +32,6 @@ class _Place(ctypes.Structure):
                 ("fault", ctypes.c_uint64), ("line", ctypes.c_uint64)]
 
 
-_loaded: Dict[str, ctypes.CDLL] = {}
-
-
 def path() -> Optional[str]:
     """Returns the library that VCDKIT_LIBRARY names (none where it is empty), else the one beside
     the package; None where there is none."""
@@ -44,25 +42,23 @@ def path() -> Optional[str]:
     return beside if os.path.exists(beside) else None
 
 
-def _library() -> ctypes.CDLL:
-    """Returns the library, which is loaded at the first call."""
-    name = path() or ""
-    if name not in _loaded:
-        try:
-            library = ctypes.CDLL(name)
-            number, size, at = ctypes.POINTER(ctypes.c_uint64), ctypes.c_size_t, ctypes.c_void_p
-            library.vcdkit_run.restype = ctypes.c_uint8
-            library.vcdkit_run.argtypes = [
-                ctypes.POINTER(_Lent), size, at, size, ctypes.POINTER(_File), size, ctypes.c_uint64,
-                at, size, number, at, size, number]
-            if hasattr(library, "vcdkit_changes"):
-                library.vcdkit_changes.restype = ctypes.c_uint8
-                library.vcdkit_changes.argtypes = [at, size, at, size, ctypes.c_uint64,
-                                                   ctypes.POINTER(_Place), at, size]
-        except (OSError, AttributeError) as error:
-            raise RunFailed("%s: %s" % (name, error)) from error
-        _loaded[name] = library
-    return _loaded[name]
+@functools.lru_cache(maxsize=None)
+def _library(name: Optional[str]) -> ctypes.CDLL:
+    """Returns a library, which is loaded at the first call."""
+    try:
+        library = ctypes.CDLL(name or "")
+        number, size, at = ctypes.POINTER(ctypes.c_uint64), ctypes.c_size_t, ctypes.c_void_p
+        library.vcdkit_run.restype = ctypes.c_uint8
+        library.vcdkit_run.argtypes = [
+            ctypes.POINTER(_Lent), size, at, size, ctypes.POINTER(_File), size, ctypes.c_uint64,
+            at, size, number, at, size, number]
+        if hasattr(library, "vcdkit_changes"):
+            library.vcdkit_changes.restype = ctypes.c_uint8
+            library.vcdkit_changes.argtypes = [at, size, at, size, ctypes.c_uint64,
+                                               ctypes.POINTER(_Place), at, size]
+    except (OSError, AttributeError) as error:
+        raise RunFailed("%s: %s" % (name, error)) from error
+    return library
 
 
 def _lent(data: Data) -> Tuple[int, int, object]:
@@ -89,7 +85,7 @@ def run(words: Sequence[str], given: Data = b"", files: Sequence[Tuple[bytes, Da
     while True:
         out = mmap.mmap(-1, max(room, 1))  # a page is taken once it is written
         said = ctypes.create_string_buffer(said_room)
-        status = _library().vcdkit_run(
+        status = _library(path()).vcdkit_run(
             *asked, _lent(out)[0], room, ctypes.byref(used), ctypes.addressof(said), said_room,
             ctypes.byref(said_used))
         if status == OUT_OF_MEMORY:
@@ -102,7 +98,7 @@ def run(words: Sequence[str], given: Data = b"", files: Sequence[Tuple[bytes, Da
 def changes(text: Text, code: bytes, room: int = 1 << 18) -> Optional["array[int]"]:
     """Returns the changes of a code, three uint64 each: a time, a value, and ones where its digits
     are 0 or 1. None where the dump has a fault or no such code, or the library cannot say."""
-    if not hasattr(_library(), "vcdkit_changes"):
+    if not hasattr(_library(path()), "vcdkit_changes"):
         return None
     found, reading, seed = array("Q"), _Place(), int.from_bytes(os.urandom(8), "little")
     data, error = _read(text)
@@ -112,8 +108,9 @@ def changes(text: Text, code: bytes, room: int = 1 << 18) -> Optional["array[int
     name_at, name_length, _ = _lent(code)
     some, status = array("Q", bytes(3 * 8 * room)), FULL
     while status == FULL:
-        status = _library().vcdkit_changes(at, length, name_at, name_length, seed,
-                                           ctypes.byref(reading), some.buffer_info()[0], room)
+        status = _library(path()).vcdkit_changes(
+            at, length, name_at, name_length, seed, ctypes.byref(reading), some.buffer_info()[0],
+            room)
         found += some if reading.count == room else some[:3 * reading.count]
     del kept
     return None if status else found
