@@ -231,11 +231,13 @@ def is_part(asked: argparse.Namespace) -> bool:
 
 def part_of(dump: Dump, asked: argparse.Namespace) -> Dump:
     """Returns the dump from --from to --to."""
+    check_begin(dump, asked.begin)
     return dump.cut(asked.begin, asked.end) if is_part(asked) else dump
 
 
 def window_of(dump: Dump, asked: argparse.Namespace) -> Window:
     """Returns the window from --from to --to."""
+    check_begin(dump, asked.begin)
     return Window(dump.ticks(asked.begin, is_up=True), dump.ticks(asked.end) + 1)
 
 

@@ -98,17 +98,11 @@ class Lines:
         if rest > 0:
             front = " ".join(map(str, lines[0][:1 + (what == "alone")]))
             self.lines[what].append("%s .. %d more (--every)" % (front, rest))
-            if self._asked.json:
-                write_json({"kind": "more", "of": front, "lines": rest})
-            else:
-                print(self.lines[what][-1])
+            self.put(self.lines[what][-1], kind="more", of=front, lines=rest)
 
-    def say_file(self, what: str, path: str) -> None:
-        """Says that a file was written."""
-        if self._asked.json:
-            write_json({"kind": what, "file": path})
-        else:
-            print(what, path)
+    def put(self, text: str, **row: Any) -> None:
+        """Writes a line, or a row as JSON."""
+        write_json(row) if self._asked.json else print(text)
 
     def differs(self) -> bool:
         return any(self.lines.values())
@@ -177,8 +171,6 @@ def parts_of(dumps: Sequence[Dump], asked: argparse.Namespace) -> List[Dump]:
     the window and end after it."""
     scales = [dump.timescale for dump in dumps if dump.timescale]
     if len(set(scales)) < 2:
-        for dump in dumps:
-            check_begin(dump, asked.begin)
         return [part_of(dump, asked) for dump in dumps]
     (begin, end), shorter = window_of_both(scales, asked), min(
         scales, key=lambda scale: scale.femtoseconds)
@@ -236,7 +228,7 @@ def write_parts(report: Lines, sides: Sides, times: Sequence[int], spans: Sequen
     for letter, side, at, span in zip("ab", sides, times, spans):
         path = part_in(into, letter)
         write(path, side.dump.around(at, span).blocks())
-        report.say_file("window", path)
+        report.put("window " + path, kind="window", file=path)
 
 
 def say_values(report: Lines, asked: argparse.Namespace, comparison: Comparison
@@ -291,7 +283,7 @@ def compare(asked: argparse.Namespace, report: Lines) -> None:
             sides, comparison.factors, found, clocks, same,
             spans[0] * comparison.factors[0] if spans else None)
         write(asked.html, (text.encode("ascii") for text in page))
-        report.say_file("page", asked.html)
+        report.put("page " + asked.html, kind="page", file=asked.html)
 
 
 def map_of(text: str) -> Tuple[str, str]:

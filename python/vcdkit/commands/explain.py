@@ -129,10 +129,8 @@ def explain_all(asked: argparse.Namespace) -> int:
     found = []
     for one in verdicts(files, verdict, asked.jobs):
         found.append(one)
-        if asked.json:
-            write_json({"file": one.file, "kind": one.kind, **one.facts})
-        else:
-            print(one.text, flush=True)
+        row = {"file": one.file, "kind": one.kind, **one.facts}
+        write_json(row) if asked.json else print(one.text, flush=True)
     if not asked.json and len(found) > 1:
         print(summary([one.kind for one in found]))
     write_tests(asked.junit, "vcdkit-explain", list(map(test_of, found)))

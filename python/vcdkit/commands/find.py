@@ -29,14 +29,12 @@ def write_tree(top: Scope, is_found: Callable[[Signal], bool]) -> None:
     for scope in reversed(scopes):
         counts[id(scope)] = sum(map(is_found, scope.signals)) + sum(
             counts[id(inner)] for inner in scope.scopes)
-    at_top = sum(map(is_found, top.signals))
-    if at_top:
-        print("(top) %d" % at_top)
+    counts[id(top)] = sum(map(is_found, top.signals))  # it counts only its own
     for scope in scopes:
         depth = depths[id(scope)]
         depths.update((id(inner), depth + 1) for inner in scope.scopes)
-        if counts[id(scope)] and scope is not top:
-            print("%s%s %d" % ("  " * depth, scope.name, counts[id(scope)]))
+        if counts[id(scope)]:
+            print("%s%s %d" % ("  " * depth, scope.name or "(top)", counts[id(scope)]))
 
 
 @command
@@ -71,8 +69,5 @@ def main(words: List[str]) -> int:
     elif asked.tree:
         write_tree(dump.tree, is_found)
     for one in found if not asked.pick and not asked.tree else ():
-        if asked.json:
-            write_json(one._asdict())
-        else:
-            print(*one)
+        write_json(one._asdict()) if asked.json else print(*one)
     return 0

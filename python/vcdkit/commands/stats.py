@@ -34,7 +34,7 @@ from ..questions.dump import Dump
 from ..questions.statistics import Statistics, shares_of, statistics_of
 from ..questions.toggles import BitCounts, counts_of
 from ..reading.files import check_outputs, write
-from . import check_begin, command, dump_of, natural, parser, times_of, window_of
+from . import command, dump_of, natural, parser, times_of, window_of
 
 
 def facts_of(signal: Signal, counted: Statistics, form: Optional[str], count: Optional[int]
@@ -118,7 +118,6 @@ def main(words: List[str]) -> int:
     dump = dump_of(asked)
     times_of(dump, asked)  # a unit needs a time scale
     dump.select(asked.names)
-    check_begin(dump, asked.begin)
     window = window_of(dump, asked)
     if asked.toggle or asked.saif is not None:
         write_bits(dump, window, asked)

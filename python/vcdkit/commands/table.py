@@ -29,8 +29,7 @@ from ..forms.text import in_json, shown, write_json
 from ..model.signals import keys_of
 from ..model.values import Cell, Value
 from ..questions.when import Questions, Transaction, named
-from . import (check_begin, command, dump_of, is_part, parser, part_of, times_at,
-               warn_of_quotes)
+from . import command, dump_of, is_part, parser, part_of, times_at, warn_of_quotes
 
 Cells = Callable[[int, List[Cell]], List[Any]]  # makes the cells of a time and values
 
@@ -113,7 +112,6 @@ def main(words: List[str]) -> int:
     scale = whole.timescale
     unit = asked.unit or (scale.unit if scale else "tick")
     whole.ticks("0" if unit == "tick" else "0" + unit)  # a unit needs a time scale
-    check_begin(whole, asked.begin)
     # Values at the begin of a cut are a section, and none that changed.
     dump, form = part_of(whole, asked), asked.form
     decimal = scale.in_unit(unit) if scale and unit != "tick" and not asked.json else (

@@ -24,7 +24,7 @@ from ..model.times import Window
 from ..questions.dump import Dump
 from ..questions.lanes import lanes_of
 from ..questions.streams import Reader
-from . import check_begin, command, dump_of, is_part, parser, window_of
+from . import check_begin, command, dump_of, is_part, natural, parser, window_of
 
 LEAST_WIDTH, MAX_WIDTH = 100, 20000  # pixels: room for a time of the axis; that of lanes
 MAX_SIGNALS = 200  # rows of a picture
@@ -33,21 +33,12 @@ MAX_SIGNALS = 200  # rows of a picture
 def shown_window(dump: Dump, asked: argparse.Namespace) -> Window:
     """Returns the window that the words ask for, which ends with the dump if that is earlier."""
     if asked.around is None:
-        check_begin(dump, asked.begin)
         return dump.window_to_end(window_of(dump, asked))
     if asked.context is None:
         raise UsageError("--around needs --context TIME, how much before and after it")
     begin, last = dump.window(asked.around, asked.context)
     check_begin(dump, dump.time(begin), "--around", False)
     return dump.window_to_end(Window(begin, last + 1))
-
-
-def width(text: str) -> int:
-    """Reads the word of --width."""
-    if not text.isascii() or not text.isdigit() or not LEAST_WIDTH <= int(text) <= MAX_WIDTH:
-        raise argparse.ArgumentTypeError("it is a number of pixels, %d to %d"
-                                         % (LEAST_WIDTH, MAX_WIDTH))
-    return int(text)
 
 
 def mark_of(dump: Dump, asked: argparse.Namespace, window: Window) -> Optional[int]:
@@ -82,7 +73,7 @@ def main(words: List[str]) -> int:
     options.add_argument("--context", metavar="TIME",
                          help="how much time to show before and after it")
     options.add_argument("--mark", metavar="TIME", help="draw a line at this time")
-    options.add_argument("--width", type=width, default=1000, metavar="N",
+    options.add_argument("--width", type=natural, default=1000, metavar="N",
                          help="width of the traces: %d to %d pixels [default: 1000]"
                          % (LEAST_WIDTH, MAX_WIDTH))
     options.add_argument("--light", action="store_true", help="draw dark lines on white")
@@ -94,6 +85,8 @@ def main(words: List[str]) -> int:
         options.error("--around goes with none of --from and --to")
     if asked.context is not None and asked.around is None:
         options.error("--context goes with --around")
+    if not LEAST_WIDTH <= asked.width <= MAX_WIDTH:
+        options.error("--width takes %d to %d pixels" % (LEAST_WIDTH, MAX_WIDTH))
     dump = dump_of(asked)
     places = dump.places(dump.full(asked.names))
     if not asked.html and len(places) > MAX_SIGNALS:

@@ -24,8 +24,7 @@ from ..forms.text import counted, mean_text, write_json
 from ..questions.dump import Dump
 from ..questions.when import Asked, Questions, named
 from ..reading.files import check_outputs, text_of_file
-from . import (FAULT, check_begin, command, dump_of, parser, part_of, question, times_of,
-               warn_of_quotes)
+from . import FAULT, command, dump_of, parser, part_of, question, times_of, warn_of_quotes
 
 WORDED = re.compile(r"(never +|always +|each +|)(.*)", re.S)
 
@@ -195,7 +194,6 @@ def answer(asked: argparse.Namespace, tests: List[Test]) -> int:
                        asked.every)
     if asked.latency and (asking.each[0].is_refusal or not asking.each[0].condition.answer):
         raise UsageError("latencies are those of a condition such as req -> ack within 50")
-    check_begin(dump, asked.begin)
     if asked.rules is not None:
         missed = list_rules(asking, rules, text, asked, tests)
         status = int(bool(missed))

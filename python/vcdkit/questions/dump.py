@@ -11,7 +11,7 @@ from ..model.names import utf8_names
 from ..model.signals import Signal, keys_of
 from ..model.times import Time
 from ..model.values import Cell, Edges, Row, Value, value_in
-from ..reading import arrays, body, library
+from ..reading import body, library
 from ..reading.files import write
 from ..reading.source import Names, Source, merge, way
 from ..reading.texts import Bytes, File, Text
@@ -96,12 +96,11 @@ class Dump(Source):
     def changes(self, name: str) -> Iterator[Tuple[int, Cell]]:
         """Returns the times, in ticks, and the values of one signal, as they come: one for each
         value that the dump writes, even if it is the same again. Each trigger of an event is a 1.
-        A time that a fault leaves unfinished has none. Raises UnknownName if the name selects
+        At a fault, those of the last time may not be all. Raises UnknownName if the name selects
         nothing, and UsageError if it selects several."""
         signal = self[name]
-        steps = body.steps(self.part([name]), [signal.code.encode()])
-        return ((time, value_in(value, signal.size)) for time, before, changes in steps
-                for _, value in before + changes)
+        pairs = body.at_once(self.part([name]), signal.code.encode())
+        return ((time, value_in(value, signal.size)) for time, value in pairs)
 
     def arrays(self, name: str) -> Tuple[Any, Any]:
         """Returns the changes of one signal as arrays of numpy: the times as uint64, and the values
@@ -117,10 +116,9 @@ class Dump(Source):
             found = library.changes(self.text, signal.code.encode())
             if found is not None:
                 return _columns(found, numpy)
-        if is_short and utf8_names([name]) == [name]:  # it is alone in the part
-            with self.part([name]).body() as out:
-                return arrays.of_digits(out, signal, numpy)
-        pairs = list(self.changes(name))
+        # A time is read as a whole, which is faster than changes().
+        pairs = [(time, value_in(text, signal.size)) for time, before, changes in body.steps(
+            self.part([name]), [signal.code.encode()]) for _, text in before + changes]
         times = numpy.array([time for time, _ in pairs], dtype=numpy.uint64)
         numbers = [_number(one) for _, one in pairs]
         if signal.is_real:

@@ -70,19 +70,15 @@ def _holding(source: Source, condition: Conditions, times: Iterable[int]) -> Set
     """Returns those of some times at whose end a condition holds."""
     waiting, found = sorted(set(times), reverse=True), set()
     holds = condition.compiled()
-    held = holds()
     part = source.cut(0, max(waiting, default=0)).part([*condition.paths])
     for time, before, changes in body.steps(part, condition.over):
+        while waiting and waiting[-1] < time:
+            found.update([waiting.pop()] * bool(holds()))
         condition.take(before + changes)
-        while waiting and waiting[-1] <= time:
-            if waiting[-1] == time:
-                held = holds()
-            one = waiting.pop()
-            if held:
-                found.add(one)
+        if waiting and waiting[-1] == time:
+            found.update([waiting.pop()] * bool(holds()))
         condition.end()
-        held = holds()
-    return found.union(waiting if held else ())
+    return found.union(waiting if holds() else ())
 
 
 def edges_of(source: Source, rise: Optional[str], fall: Optional[str]) -> Dict[body.Edge, str]:

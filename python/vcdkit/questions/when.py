@@ -170,17 +170,16 @@ class Questions:
     def outcomes(self) -> Iterator[Tuple[Numbers, Outcome]]:
         """Returns what becomes of each condition, with its number, as soon as that is known. Those
         without an answer that begin to hold at a time come as one."""
-        fault: Optional[DumpFault] = None
         try:
             yield from self._known()
+            fault = None
         except DumpFault as error:
             fault = error
         waiting = [number for number, its in enumerate(self.each) if its.has_time and its.waiting]
         last = self.dump.check().last or 0 if waiting and not fault else 0
         for number in waiting:
-            for one in self.each[number].late_at_end(
-                    lambda time: self.dump.is_finished(time, fault) if fault else time <= last):
-                yield (number,), one
+            yield from (((number,), one) for one in self.each[number].late_at_end(
+                lambda time: self.dump.is_finished(time, fault) if fault else time <= last))
         if fault:
             raise fault
 
