@@ -356,9 +356,10 @@ def at_edges(name: str, one: Expression) -> Expression:
         if name in ("rose", "fell"):
             digit = "1" if name == "rose" else "0"
             return "%d" % (now[-1] == digit != was[-1])
-        if "-" in str(was) + str(now):
+        if any(isinstance(side, str) and "-" in side for side in (was, now)):
             return "x"
-        return "%d" % ((was == now) == (name == "stable"))
+        is_same = was == now or was != was and now != now  # NaN is NaN
+        return "%d" % (is_same == (name == "stable"))
     return own(text, OPERAND, 1, False, value)
 
 
@@ -430,6 +431,8 @@ class Random:
         chance = random.random()
         if self.reals and chance < .06:
             return self._of_reals(depth)
+        if self.has_past and chance < .08 and self.reals:
+            return at_edges(random.choice(["stable", "changed"]), random.choice(self.reals))
         if self.has_past and chance < .16:
             return self._past(self.make(depth - 1))
         if chance < .3:

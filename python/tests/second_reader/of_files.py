@@ -10,6 +10,7 @@ import subprocess
 from typing import Any, Callable, Dict, List, NamedTuple, Tuple
 
 from asker import PYTHON, Asker, Skip, run
+from conditions import quoted
 from dumps import Dump, Variable
 from looks import looks_at_changes, looks_at_edges, rows_at_changes, starts, waits
 from of_conditions import condition
@@ -47,6 +48,9 @@ def faulty(of: Asker) -> Faulty:
     if re.search(rb"(?m)^[^\n]*#\d+[ \t]+\S", of.text[place:]) or len(lines) < 2:
         raise Skip  # several items on a line: what is before a fault in it, its line does not say
     at = of.random.randrange(1, len(lines))
+    inside = [place for place in range(1, len(lines)) if is_open_before(lines, place)]
+    if inside and of.happens(.3):
+        at = choice(inside)
     if of.happens(.4):
         lines = lines[:at] + [lines[at][:of.random.randrange(len(lines[at]) + 1)]]
     else:
@@ -60,10 +64,17 @@ def faulty(of: Asker) -> Faulty:
         raise Skip
     line, fault = int(found[1]), found[2]
     front = Dump(before(text, line))
-    if not front.times or fault == "time inside a section":
+    if not front.times:
         raise Skip
-    is_next = fault in ("bad time", "time goes back")
+    is_next = fault in ("bad time", "time goes back", "time inside a section")
     return Faulty(path, line, fault, front, front.times[-1] - (not is_next))
+
+
+def is_open_before(lines: List[bytes], place: int) -> bool:
+    """Whether a section of a body is open before one of its lines."""
+    words = [word for line in lines[:place] for word in line.split()]
+    opened = [at for at, word in enumerate(words) if word.startswith(b"$dump")]
+    return bool(opened) and b"$end" not in words[opened[-1]:]
 
 
 def before(text: bytes, line: int) -> bytes:
@@ -85,6 +96,63 @@ def before(text: bytes, line: int) -> bytes:
             kept.append(word + b" " + words[at])
             at += 1
     return text[:place] + b"\n" + b"\n".join(kept + [b"$end"] * is_open) + b"\n"
+
+
+# ---- What is refused, and limits.
+
+TWICE = {"table": ["--rise", "--fall", "--if", "--from", "--to", "--at", "--unit", "--flush"],
+         "when": ["--rise", "--fall", "--rules", "--junit", "--from", "--to", "--unit"],
+         "diff": ["--rise", "--fall", "--from", "--to", "--context", "--html", "--at-least"],
+         "x": ["--from", "--to", "--unit", "--names"], "find": ["--names"],
+         "stats": ["--from", "--to", "--values", "--saif"], "values": ["--at", "--unit"],
+         "wave": ["--from", "--to", "--around", "--mark", "--width"],
+         "explain": ["--reach", "--jobs", "--junit", "--salvage"]}
+
+
+def ask_twice(of: Asker) -> None:
+    """Asks with an option that is given twice: neither of the two may be left out silently."""
+    script = of.random.choice(sorted(TWICE))
+    option = of.random.choice(TWICE[script])
+    words = [*of.random.choice([[option, "1"], [option + "=1"]]), of.path,
+             *of.random.choice([[option, "2"], [option + "=2"]]), *of.maybe(.5, "tb")]
+    said = run(script, words)
+    of.same("an option twice", [script, *words], (
+        said.status, said.output, "argument %s: it may be given only once" % option in said.message
+    ), (2, b"", True))
+
+
+def ask_no_window(of: Asker) -> None:
+    """Asks for a window that ends before it begins."""
+    dump, clock = of.dump, of.conditions.name(of.clock())
+    begin = of.random.randint(1, max(1, dump.end))
+    if begin > dump.end:
+        raise Skip
+    script = of.random.choice(["table", "when", "x", "stats", "diff", "wave"])
+    words = ["--from", str(begin), "--to", str(of.random.randrange(begin))]
+    words += of.maybe(.5, "--rise=" + clock) if script in ("table", "when", "diff") else []
+    words = of.placed(words, [of.path, *[of.path] * (script == "diff"), quoted(clock) if (
+        script == "when") else clock])
+    said = run(script, words)
+    of.same("no window", [script, *words], (said.status, said.output, bool(said.message)),
+            (2, b"", True))
+
+
+def ask_nested(of: Asker) -> None:
+    """Asks about scopes that are nested up to the limit."""
+    depth = of.random.choice([1, 300, 500, 990, 1000])
+    names = ["s%d" % at for at in range(depth)]
+    text = "%s$var wire 1 ! q $end\n$enddefinitions $end\n#0\n0!\n#5\n1!\n#9\n" % "".join(
+        "$scope module %s $end\n" % name for name in names)
+    path = of.write(of.path + ".nested.vcd", text.encode())
+    said = run("find", ["--tree", path])
+    of.same("nested, the tree", [path], (said.status, said.lines),
+            (0, ["%s%s 1" % ("  " * at, name) for at, name in enumerate(names)]))
+    said = run("stats", ["--saif", "-", path, names[0]])
+    of.same("nested, SAIF", [path], (said.status, re.findall(r"INSTANCE (\w+)", said.text),
+                                     said.text.count("(TC 1)"), said.text.count("(") - said.text.
+                                     count(")")), (0, names, 1, 0))
+    said = run("table", [path, names[0]])
+    of.same("nested, a table", [path], (said.status, said.lines[1:]), (0, ["0,0", "5,1"]))
 
 
 # ---- Before a fault.
