@@ -122,8 +122,10 @@ class ConditionText:
         self._at, self._depth, end = 0, 0, 0
         for token in [*TOKEN.finditer(text), None]:
             rest = text[end:token.start() if token else None].strip()  # nothing but blanks
+            last = self._tokens[-1][0] if self._tokens else ""
             if rest:
-                raise bad({"=": "use == instead of =", '"': 'a " has no second one', "[": BITS}.get(
+                raise bad({"=": "write %s= without a blank" % last if last in ("<", ">", "!") else
+                           "use == instead of =", '"': 'a " has no second one', "[": BITS}.get(
                     rest[0], "it cannot be read at " + rest)
                           if text[:end + len(rest)][-2:] != "|=" else LATER)
             if token:
