@@ -9,7 +9,6 @@ With a --channel 'NAME: CONDITION: SIGNAL ..' for each channel of a bus, row n h
 which the condition of each holds, the signals, and how many edges there are from one to the next
 (below 0 if that comes first). Cells are empty if there is no n-th edge. NAME@CLOCK has the rising
 edges of a clock of its own, NAME@!CLOCK the falling ones; edges are those of the second one.
-Transfers are joined only by their number: a line on standard error counts what may be wrong.
 
 examples:
   vcdkit-table --rise tb.clk --if 'tb.valid & tb.ready' sim.vcd tb.address tb.data

@@ -31,14 +31,13 @@ WORDED = re.compile(r"(never +|always +|each +|)(.*)", re.S)
 
 class Rule(NamedTuple):
     """A condition with a name, and the word before it: it may hold at no time (never), has to hold
-    at each (always), or has to hold at some time; or each request has its own answer (each).
-    Messages begin with the place of its line."""
+    at each (always), or has to hold at some time; or each request has its own answer (each)."""
 
     name: str
     word: str
     condition: str
     clock: str = ""
-    place: str = ""
+    place: str = ""  # of its line, with which messages begin
 
     @property
     def asked(self) -> Asked:
