@@ -11,8 +11,8 @@ closed     One, two or all of the standard streams are closed: no file takes the
 failing    The reader of the output has ended, or the device of the output is full. A limit on the
            size of files (`ulimit -f`) ends the program with a signal, or, if that is ignored, makes
            the write fail. What was written before is the beginning of the output.
-one stream Standard input has no bytes yet and does not wait. `-` comes twice. Two names are one
-           FIFO.
+one stream Standard input has no bytes yet and does not wait, or is a terminal. `-` comes twice. Two
+           names are one FIFO.
 changing   A file grows or shrinks, before its length is asked for, after that, and between reads.
            The outcome is that of its last text.
 many       64 files have a token limit of 16 MB, if 4 GB of memory are free."""
@@ -298,6 +298,23 @@ def changing(program, old, new):
                    [wanted(case, names, case.inputs)], got)
 
 
+# ---- a terminal
+
+WAITS = b"vcdkit: the dump comes from standard input (for a file, write -i FILE)\n"
+
+
+def terminal(program):
+    """Standard input is a terminal, whose user gives a dump and ends it."""
+    for words in (["check"], ["merge", "-"]):
+        end, given = os.openpty()
+        os.write(end, CLOCK + b"\x04")
+        got = program.run(words, given=given)
+        os.close(given)
+        os.close(end)
+        out, message, status = wanted(Case("terminal", words[0], [CLOCK]), ["(stdin)"], [CLOCK])
+        yield "%s of a terminal" % words, [(out, WAITS + message, status)], got
+
+
 # ---- many files
 
 def free_memory():
@@ -328,7 +345,7 @@ def main():
     program = Program(*sys.argv[1:3])
     jobs = [partial(part, program) for part in (
         many_files, closed_without_a_job, closed_input_of_a_merge, places_of_closed,
-        fault_and_failing_write, limited_size, input_twice, one_fifo)]
+        fault_and_failing_write, limited_size, input_twice, one_fifo, terminal)]
     jobs += [partial(changing, program, old, new) for old, new in CHANGES]
     jobs += [partial(part, program, case) for case in CASES
              for part in (closed, failing_outputs, without_waiting)]
