@@ -169,9 +169,10 @@ class Jobs(Pictures):
         found = of_jobs.rules(part, rules, clocks, every)
         late = self.late(window.begin)
         is_well = not found if is_never else len(found) == len(rules)
+        is_idle = is_never and bool(clocks) and not by_definition.edge_times(part, clocks)
         self.same("when", ["--rules=" + self.saved, *["--never"] * is_never, *["--every"] * every,
                            *words, *window.words, self.path], [] if late else of_jobs.rule_lines(
-                               part, found), 2 if late or part.fault else int(not is_well),
+                               part, found), 2 if late or part.fault or is_idle else int(not is_well),
                   late[1] if late else part.fault or True)
 
     def ask_toggles(self) -> None:

@@ -143,9 +143,9 @@ class Scripts:
         rows, fault = by_definition.rows_at_changes(part, codes), part.fault
         if kind == "at":
             times = ["12", "5", "0", "5", "3"][self.number % 2:]
-            rows = [by_definition.row_at(self.dump, codes, int(time)) for time in times]
+            rows = [by_definition.row_at(self.dump, codes, int(time)) for time in times
+                    if not self.fault_by(int(time))]
             fault, words = self.fault_by(max(map(int, times))), [*words, "--at=" + ",".join(times)]
-            rows = [] if fault else rows
         elif kind == "edges" and self.of.clock:
             which = self.turn([("rise",), ("fall",), ("rise", "fall")], 5)
             words += ["--%s=%s" % (one, self.of.clock) for one in which]
@@ -182,10 +182,11 @@ class Scripts:
         if form == ["--count"]:
             lines = [] if fault else ["%d" % len(times)]
         late = self.late(window.begin)
-        status = 2 if fault or late else int(bool(times) == is_never)
+        is_idle = is_never and bool(clocks) and not by_definition.edge_times(part, clocks)
+        status = 2 if fault or late or is_idle else int(bool(times) == is_never)
         self.same("when", [*form, *["--every"] * every, *["--never"] * is_never, *window.words, *(
             "--%s=%s" % (one, self.of.clock) for one in which), self.path, text],
-            [] if late else lines, status, late[1] if late else fault or False)
+            [] if late else lines, status, late[1] if late else fault or is_idle)
 
     def ask_unknown(self) -> None:
         """Asks for values with an x."""
