@@ -1,5 +1,5 @@
 // Runs of the two tasks, over sources that return five bytes in each read, and devices that fail.
-ghost use Rattle.std.specs.Prelude.{◌≡◌};
+ghost use Rattle.std.specs.Prelude.{◌≡◌, ◌≤◌};
 
 use crate::{Ticking, Until};
 use std::alloc::Global;
