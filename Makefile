@@ -7,7 +7,7 @@
 #     code. Nothing of them is proved: four CPU minutes
 # make test    the gate: all proofs, the must-fail edits, the tests, and the programs as two
 #     compilers build them; then, with these programs, docs-check, completions-check, extras-check
-#     and hostile-check: 40 to 70 minutes
+#     and hostile-check: 50 to 90 minutes
 # make hostile runs the programs while memory, reads and writes fail, with closed streams, and on
 #     dumps that are truncated, crafted or random, and asks the package and the scripts about every
 #     small dump, and what a second reader knows: some minutes
