@@ -205,7 +205,7 @@ static ROWS: [Row; 13] = [
         opened: &[],
         out: b"",
         message: b"error: unexpected argument '-o' found\n\n  \
-            tip: output goes to standard output; use '> FILE'\n\n\
+            tip: to pass '-o' as a value, use '-- -o'\n\n\
             Usage: vcdkit merge [OPTIONS] FILE...\n\n\
             For more information, try '--help'.\n",
         status: 2,
