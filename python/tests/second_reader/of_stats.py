@@ -311,7 +311,7 @@ def lines_of(facts: Dict[str, Any], time: Any, most: int) -> List[str]:
         found.append("  duty %.4g%%" % (facts["duty"] * 100))
     if span:
         found.append("  range %s to %s, mean %g" % (
-            real_text(span["least"]), real_text(span["largest"]), float(span["mean"])))
+            *(real_text(float(span[one])) for one in ("least", "largest")), float(span["mean"])))
     for one in values[:most]:
         found.append("  value %s %s %.4g%%, %d time%s" % (
             one["value"], time(one["ticks"]), one["share"] * 100, one["times"],
