@@ -1109,6 +1109,11 @@ class Conditions(Case):
                 (name.encode(),) * 2)) and said("vcdkit-when", "--rules", os.path.join(
                     self.folder.name, "rules"), dump) for name in ("t.v[%s]" % bit, "t." + alone)]
             self.assertEqual(*rules)
+            other = self.file("b.vcd", re.sub(rb"b101(?=[01]* q)", b"b111", open(dump, "rb").read()))
+            found = [said("vcdkit-diff", edges[-1], name, "--always", dump, other)
+                     for name in ("t.v[%s]" % bit, "t." + alone)]
+            self.assertEqual(*found)
+            self.assertEqual(found[0][-1], "status 1")
         for name, wanted in (("t.v[6]", "t.v[6]: the bits of t.v are [2:5]"),
                              ("t.v[2:3]", "t.v[2:3]: selects nothing; there is t.v"),
                              ("t.v", "t.v: is not a one-bit clock: it has 4 bits")):

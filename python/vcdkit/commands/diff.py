@@ -280,7 +280,7 @@ def compare(asked: argparse.Namespace, report: Lines) -> None:
         write_parts(report, sides, found[0].times, spans, asked.into or ".")
     if found and asked.html is not None:
         page = page_of_two.texts_of(
-            sides, comparison.factors, found, clocks, same,
+            sides, comparison.factors, found, [one for one, _ in clocks], same,
             spans[0] * comparison.factors[0] if spans else None)
         write(asked.html, (text.encode("ascii") for text in page))
         report.put("page " + asked.html, kind="page", file=asked.html)

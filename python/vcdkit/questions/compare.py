@@ -11,7 +11,7 @@ from typing import (Callable, Dict, Generator, Iterator, List, NamedTuple, Optio
                     Tuple, Union)
 
 from ..errors import UnknownName, UsageError
-from ..model.names import bare, fronts, full_names, hint, names_for, places_of, plain
+from ..model.names import FIELD, bare, fronts, full_names, hint, names_for, places_of, plain
 from ..model.signals import Signal
 from ..model.times import LAST_TICK, Timescale
 from ..model.values import full, real_of
@@ -20,6 +20,7 @@ from ..reading.comparing import Line, differing, keys_in
 from ..reading.source import Source
 from ..reading.texts import Headed
 from .picked import MAX_NAMES
+from .rows import Clock, clock_of
 
 BLOCK = 1 << 18
 # Which differences are due, as vcdkit-compare calls it; the second is the first one of each pair.
@@ -124,17 +125,23 @@ class Side:
         """Returns the exception for a name that is not there."""
         return UnknownName("%s: %s" % (self.dump.name, name), hint(name, self.names))
 
-    def clock(self, name: str) -> Signal:
-        """Returns the signal of one bit that has a name."""
+    def _having(self, name: str) -> List[Signal]:
+        """Returns the signals that have a name."""
         full = full_names([name], self.names, self._known)[name]
         pairs: List[Tuple[Signal, str]] = list(zip(self.signals, self.names))
-        its = ([signal for signal, its in pairs if its == full]
-               or [signal for signal, its in pairs if plain(its) == plain(name)])
+        return ([signal for signal, its in pairs if its == full]
+                or [signal for signal, its in pairs if plain(its) == plain(name)])
+
+    def clock(self, name: str) -> Clock:
+        """Returns the signal of one bit that has a name, or the vector and the place of its bit."""
+        its, vector = self._having(name), FIELD.sub("", name)
+        for one in [] if its else self._having(vector):
+            return clock_of(self.dump, bare(one.path) + name[len(vector):])
         if not its:
             raise self.unknown(name)
         if len({one.code for one in its}) > 1 or kind(its[0]) != 1:
             raise UsageError("%s: %s is not a one-bit clock" % (self.dump.name, name))
-        return its[0]
+        return its[0], 0
 
     def alone(self, other: "Side") -> List[Tuple[str, int]]:
         """Returns the names of what the other one does not have, and how many signals each has. A
@@ -263,7 +270,7 @@ class Comparison:
     """The comparison of pairs: at each time, or at the edges of a clock that both have."""
 
     def __init__(self, sides: Sides, pairs: List[Pair], same: Same, extent: str,
-                 clocks: Sequence[Signal] = (), edge: Tuple[bytes, bytes] = (b"", b"")):
+                 clocks: Sequence[Clock] = (), edge: Tuple[bytes, bytes] = (b"", b"")):
         self._sides, self._pairs, self._same, self._extent = sides, pairs, same, extent
         self._clocks, self._edge = clocks, edge
         self.factors = factors_of([side.scale for side in sides])
@@ -324,10 +331,10 @@ class Comparison:
         return (line for line in differing(dumps, keys, words) if not self._same(*line[2]))
 
     def _edges_of(self, at: int) -> Iterator[Tuple[int, body.Changes, int]]:
-        side, clock = self._sides[at], self._clocks[at]
+        side, (clock, place) = self._sides[at], self._clocks[at]
         part = side.picked([*(pair.signals[at].path for pair in self._pairs), clock.path])
         return body.at_clocks(part or side.dump, [], {pair.codes[at] for pair in self._pairs},
-                              {(clock.code.encode(), 0, *self._edge): 1})
+                              {(clock.code.encode(), place, *self._edge): 1})
 
     def _at_edges(self) -> Iterator[Found]:
         codes = [pair.codes for pair in self._pairs]

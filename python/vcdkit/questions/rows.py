@@ -14,6 +14,7 @@ from .condition import Conditions, names_in
 TIMES_OF_A_CALL = 5000  # a word of Linux has at most 131,071 bytes
 RISE, FALL = (b"0", b"1"), (b"1", b"0")
 Pair = Tuple[int, List[Cell]]  # a time and the values of a row
+Clock = Tuple[Signal, int]  # a signal, and the place of the clock's bit in it, from the right
 
 
 def states(places: Dict[int, Signal]) -> Dict[int, Signal]:
@@ -83,14 +84,13 @@ def _holding(source: Source, condition: Conditions, times: Iterable[int]) -> Set
 
 def edges_of(source: Source, rise: Optional[str], fall: Optional[str]) -> Dict[body.Edge, str]:
     """Returns the edges of the clocks that are named, and the paths of these."""
-    named = [(_clock(source, name), edge) for name, edge in ((rise, RISE), (fall, FALL))
+    named = [(clock_of(source, name), edge) for name, edge in ((rise, RISE), (fall, FALL))
              if name is not None]
     return {(clock.code.encode(), place, *edge): clock.path for (clock, place), edge in named}
 
 
-def _clock(source: Source, name: str) -> Tuple[Signal, int]:
-    """Returns the signal of one bit that a name selects, or the signal and the place of its bit,
-    from the right; UsageError if it is none."""
+def clock_of(source: Source, name: str) -> Clock:
+    """Returns the clock that a name selects; UsageError if it is none."""
     try:
         clock = source[name]
     except UnknownName:
