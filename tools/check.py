@@ -1,5 +1,6 @@
 #!/usr/bin/env python3
-"""check.py [FILE..]: runs the commands that pages and tests show, and compares what they print.
+"""check.py [--write] [FILE..]: runs the commands that pages and tests show, and compares what they
+print.
 
 In each ```console block of a page (without arguments, of DOCUMENTS), bash runs each line that
 begins with a dollar sign and a blank, in the top directory of the repository. The lines below it,
@@ -11,6 +12,10 @@ in what is printed, its name is $T. If a block begins with ```console PROGRAM ..
 programs (or modules of Python) is missing, the block is skipped, and the last line of the output
 says so.
 
+A table below a line <!-- made by: COMMAND --> has to be what the command prints. With --write, such
+tables are written anew, and nothing else is checked. What other tables name has to be in the crates
+(contracts.py says which tables and what they may name).
+
 A file of tests, whose name ends in .console, is one block. A command behind `1$ ` has to end with
 status 1, and one behind `$ ` with status 0. A pipe fails if any part of it does (pipefail).
 
@@ -18,7 +23,7 @@ As the pages say, the top directory and extras/ are on the PATH, and python/ is 
 `vcdkit` is the program that VCDKIT names, or the ./vcdkit that `make` built, and `vcdkit-compare`
 is the one beside it.
 
-The exit status is 0 if everything is as written, 1 if some output differs, and 2 if one of these
+The exit status is 0 if everything is as written, 1 if something differs, and 2 if one of these
 programs is missing."""
 import difflib
 import importlib.util
@@ -29,6 +34,8 @@ import subprocess
 import sys
 import tempfile
 
+from contracts import faults_of
+
 TOP = os.path.dirname(os.path.dirname(os.path.abspath(__file__)))
 DOCUMENTS = ["README.md", "docs/TUTORIAL.md", "docs/FAQ.md", "docs/MANUAL.md",
              "docs/INTERNALS.md", "docs/RECIPES.md", "docs/MANY_DUMPS.md", "docs/PYTHON.md",
@@ -36,6 +43,7 @@ DOCUMENTS = ["README.md", "docs/TUTORIAL.md", "docs/FAQ.md", "docs/MANUAL.md",
 PROGRAM = os.path.abspath(os.path.join(TOP, os.environ.get("VCDKIT") or "vcdkit"))
 SECONDS = 300
 START = re.compile(r"([0-9]*)\$ (.*)")
+MADE = re.compile(r"(?m)^<!-- made by: (.*) -->\n((?:\|.*\n)*)")
 
 
 def commands_of(document):
@@ -83,13 +91,42 @@ def printed_by(command, folder, programs, status):
     return lines + ["(status %d)" % done.returncode] * (status not in (None, done.returncode))
 
 
+def text_of(document):
+    """The text of a document."""
+    with open(os.path.join(TOP, document), encoding="utf-8") as file:
+        return file.read()
+
+
+def tables_of(document):
+    """The tables of a document that a command makes, as commands_of returns commands."""
+    text = text_of(document)
+    return [[text.count("\n", 0, made.start()) + 1, made[1], made[2].splitlines(), [], None]
+            for made in MADE.finditer(text)]
+
+
+def write(documents):
+    """Writes the tables of these documents anew that a command makes, and returns the status."""
+    for document in documents:
+        with tempfile.TemporaryDirectory() as folder:
+            text = MADE.sub(lambda made: "\n".join(
+                ["<!-- made by: %s -->" % made[1], *printed_by(made[1], folder, folder, None), ""]),
+                text_of(document))
+        with open(os.path.join(TOP, document), "w", encoding="utf-8") as file:
+            file.write(text)
+    return 0
+
+
 def check(documents, programs):
     """Runs the commands of these documents, with the directory of the programs first on the PATH,
     and returns the exit status."""
-    run, differ, missing = 0, 0, set()
+    run, differ, faults, missing = 0, 0, 0, set()
     for document in documents:
+        for number, fault in faults_of(text_of(document)):
+            faults += 1
+            print("%s:%d: %s" % (document, number, fault))
         with tempfile.TemporaryDirectory() as folder:
-            for number, command, expected, needs, status in commands_of(document):
+            commands = commands_of(document) + tables_of(document)
+            for number, command, expected, needs, status in commands:
                 absent = {program for program in needs
                           if not shutil.which(program) and not importlib.util.find_spec(program)}
                 if absent:
@@ -104,10 +141,12 @@ def check(documents, programs):
                         print("    " + line)
     print("%d of %d commands as they should be" % (run - differ, run)
           + ("; those that need %s were skipped" % ", ".join(sorted(missing))) * bool(missing))
-    return 1 if differ or not run else 0
+    return 1 if differ or faults or not run else 0
 
 
 def main(documents):
+    if documents[:1] == ["--write"]:
+        return write(documents[1:])
     folder, name = os.path.split(PROGRAM)
     compare = os.path.join(folder, name.replace("vcdkit", "vcdkit-compare", 1))
     with tempfile.TemporaryDirectory() as programs:
