@@ -51,6 +51,9 @@ def lines_of(crate: str, is_table: bool) -> "list[str]":
 
 def main(words: "list[str]") -> int:
     """Prints the edits, and returns the exit status."""
+    if words[:1] == ["--help"]:
+        print(__doc__)
+        return 0
     is_table = words[:1] == ["--table"]
     if is_table:
         print("| the wrong program | edit | function | clause |\n|---|---|---|---|")
