@@ -19,7 +19,7 @@ from answers import Change, Part, Tree, Variable, past
 from vcdkit import Dump, DumpFault, Value, VcdkitError
 from vcdkit.questions import dump
 from vcdkit.reading import comparing, library, program, source
-from vcdkit.reading.texts import Text
+from vcdkit.reading.texts import Text, library_path, program_path
 
 EACH = 100  # of so many questions one goes through the program too
 Outcome = Any
@@ -99,8 +99,8 @@ class Ways:
         evaluator.read_head = Heads()
         self._evaluator = Evaluator()
         self._library, self._lines = (library.run, library.changes), comparing.lines
-        self.others = [program] if program.path() else []
-        if library.path():
+        self.others = [program] if program_path() else []
+        if library_path():
             self.others.append(library)
         self.take()
 

@@ -229,7 +229,8 @@ class Scripts(Case):
             os.makedirs(folder)
             for name in "launch", "vcdkit-find":
                 os.symlink(os.path.join(EXTRAS, name), os.path.join(folder, name))
-        program = self.file("vcdkit", b"#!/bin/sh\necho a wire 1 !\n")
+        program = self.file("vcdkit", b"#!/bin/sh\necho '$var wire 1 ! a $end'\n"
+                            b"echo '$enddefinitions $end'\n")
         os.chmod(program, 0o755)
         for place in os.path.join("treeextras", "extras"), "tree":
             near = os.path.join(self.folder.name, place.split(os.sep)[0])

@@ -37,10 +37,11 @@ try:
 except ImportError:
     pandas = None
 import vcdkit
+import vcdkit.reading.library
 from vcdkit import (Dump, DumpFault, Edges, NoTimescale, RunFailed, Timescale, UnknownName,
                     UsageError, Value, VcdkitError, merge)
 
-PROGRAM = vcdkit.reading.program.path()
+PROGRAM = vcdkit.reading.texts.program_path()
 SAMPLES = os.path.join(TOP, "samples")
 NESTED = os.path.join(SAMPLES, "nested.vcd")
 SMALL = 1_000_000

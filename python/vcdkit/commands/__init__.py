@@ -1,26 +1,27 @@
-"""The commands vcdkit-diff, vcdkit-explain, .. : a module each, whose main() the shell calls."""
+"""The commands vcdkit-diff, vcdkit-explain, .. : a module each, whose main() the shell calls. What
+only some of them need is imported where it is used, because each import takes a part of their
+start."""
 import argparse
 import functools
 import io
 import os
 import re
-import shlex
 import stat
 import sys
-from typing import Any, Callable, Iterator, List, NoReturn, Optional, TextIO, Tuple
+from typing import (TYPE_CHECKING, Any, Callable, Iterator, List, NoReturn, Optional, TextIO,
+                    Tuple)
 
 from .. import __version__
 from ..errors import DumpFault, RunFailed, UsageError, VcdkitError
 from ..forms.terminal import Progress
 from ..forms.text import FORMS
 from ..model.times import LAST_TICK, UNITS, Window
-from ..questions.dump import Dump
-from ..questions.saved import names_of
-from ..reading import program
-from ..reading.files import text_of_file
-from ..reading.filtering import blocks_of
 from ..reading.formats import ENDINGS
-from ..reading.source import Source
+from ..reading.texts import program_path
+
+if TYPE_CHECKING:
+    from ..questions.dump import Dump
+    from ..reading.source import Source
 
 STATUSES = """
 exit status:
@@ -192,6 +193,7 @@ def filtering(module: str, usage: str, text: str,
               made: Callable[[Iterator[bytes]], Iterator[bytes]]) -> Main:
     """Makes main() of a filter, which makes blocks of its output of those of its input."""
     def main(words: List[str]) -> int:
+        from ..reading.filtering import blocks_of
         options = parser(usage, text, failed="")
         options.add_argument("file", metavar="FILE", nargs="?", default="-", help="the dump, which "
                              "may be compressed [default: standard input, uncompressed]")
@@ -203,12 +205,14 @@ def filtering(module: str, usage: str, text: str,
 
 
 def dump_of(asked: argparse.Namespace, file: Optional[str] = None,
-            token_limit: Optional[int] = None) -> Dump:
+            token_limit: Optional[int] = None) -> "Dump":
     """Returns the dump of FILE, or of another file that is asked for. Then `names` also has those
     of --names."""
+    from ..questions.dump import Dump
     dump = Dump(asked.file if file is None else file, None, token_limit, asked.four_state)
     path, asked.names_of = getattr(asked, "names_of", None), None
     if path is not None:
+        from ..questions.saved import names_of
         asked.names = [*asked.names, *names_of(path, dump)]
     return dump
 
@@ -220,6 +224,7 @@ def times_at(asked: argparse.Namespace) -> Optional[List[str]]:
         return None if text is None else text.split(",")
     if text == asked.file == "-":
         raise UsageError("--at: standard input has the dump")
+    from ..reading.files import text_of_file
     return [time for line in text_of_file(text).splitlines() for word in line.split()[:1]
             for time in word.split(",")]
 
@@ -229,26 +234,26 @@ def is_part(asked: argparse.Namespace) -> bool:
     return (asked.begin, asked.end) != (FIRST, LAST)
 
 
-def part_of(dump: Dump, asked: argparse.Namespace) -> Dump:
+def part_of(dump: "Dump", asked: argparse.Namespace) -> "Dump":
     """Returns the dump from --from to --to."""
     check_begin(dump, asked.begin)
     return dump.cut(asked.begin, asked.end) if is_part(asked) else dump
 
 
-def window_of(dump: Dump, asked: argparse.Namespace) -> Window:
+def window_of(dump: "Dump", asked: argparse.Namespace) -> Window:
     """Returns the window from --from to --to."""
     check_begin(dump, asked.begin)
     return Window(dump.ticks(asked.begin, is_up=True), dump.ticks(asked.end) + 1)
 
 
-def check_begin(dump: Dump, time: str, option: str = "--from", is_up: bool = True) -> None:
+def check_begin(dump: "Dump", time: str, option: str = "--from", is_up: bool = True) -> None:
     """Refuses the time of an option if it is after the end of the dump."""
     is_late = after_end(dump, time, is_up)
     if is_late:
         raise UsageError("%s: %s" % (option, is_late))
 
 
-def after_end(dump: Dump, time: str, is_up: bool = False) -> str:
+def after_end(dump: "Dump", time: str, is_up: bool = False) -> str:
     """Returns what to say of a time that is after the last timestamp of a dump; of another one an
     empty text. A time between two ticks is the one before it, or after it. It reads up to that
     time, and raises a fault that comes before it."""
@@ -265,7 +270,7 @@ def after_end(dump: Dump, time: str, is_up: bool = False) -> str:
         time, "" if last is None else ", " + dump.time(last))
 
 
-def times_of(dump: Source, asked: argparse.Namespace) -> Callable[[int], str]:
+def times_of(dump: "Source", asked: argparse.Namespace) -> Callable[[int], str]:
     """Returns what shows ticks as a time, such as 115ns, or in the unit of --unit. A unit needs a
     time scale."""
     if asked.unit not in (None, "tick"):
@@ -273,7 +278,7 @@ def times_of(dump: Source, asked: argparse.Namespace) -> Callable[[int], str]:
     return functools.partial(dump.time, unit=asked.unit or "")
 
 
-def warn_of_quotes(name: str, condition: str, dump: Source) -> None:
+def warn_of_quotes(name: str, condition: str, dump: "Source") -> None:
     """Warns if the output of a command goes to a file of the working directory whose name is a
     number or a path of the dump: a shell takes `tb.q > 3` without quotes for such a file."""
     try:
@@ -304,7 +309,7 @@ def command(function: Callable[[List[str]], int]) -> Main:
         if hasattr(sys, "set_int_max_str_digits"):
             sys.set_int_max_str_digits(0)  # vectors and times may be longer
         # Pipes to the program hold no output in memory, so they come first here.
-        if program.path():
+        if program_path():
             os.environ.setdefault("VCDKIT_WAY", "program")
         sys.stderr = sys.stderr or open(os.devnull, "w")  # None where it was closed
         _write_bytes(sys.stderr)
@@ -338,6 +343,7 @@ def command(function: Callable[[List[str]], int]) -> Main:
 def _remedy(error: VcdkitError, words: List[str], command_name: str) -> str:
     """Returns what to add to a message: of a fault what helps, and of a name in place of a file
     which arguments are dumps."""
+    import shlex  # only a message needs it
     if isinstance(error, RunFailed):
         name, _, said = str(error).partition(": ")
         if error.is_of_unpacker and command_name != "vcdkit-explain":
@@ -356,7 +362,8 @@ def _remedy(error: VcdkitError, words: List[str], command_name: str) -> str:
         return " (the first %s; - is standard input)" % dumps if is_name else ""
     if not isinstance(error, DumpFault):
         return ""
-    from ..questions.causes import NINE, STRING, look_at  # only a message needs it
+    from ..questions.causes import NINE, STRING, look_at
+    from ..questions.dump import Dump
     if error.file == "(stdin)":
         return "\nsee: .. | vcdkit-explain -"
     if "--four-state" not in words and os.path.isfile(error.file):

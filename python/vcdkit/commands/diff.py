@@ -22,7 +22,6 @@ from concurrent.futures import ThreadPoolExecutor
 from typing import Any, Callable, Dict, Iterable, List, Optional, Sequence, Tuple
 
 from ..errors import UsageError, VcdkitError, failing
-from ..forms import page_of_two
 from ..forms.junit import Test, write_tests
 from ..forms.text import FORMS, counted, in_json, write_json
 from ..forms.text import shown as value_text
@@ -279,6 +278,7 @@ def compare(asked: argparse.Namespace, report: Lines) -> None:
     if found and asked.context:
         write_parts(report, sides, found[0].times, spans, asked.into or ".")
     if found and asked.html is not None:
+        from ..forms import page_of_two
         page = page_of_two.texts_of(
             sides, comparison.factors, found, [one for one, _ in clocks], same,
             spans[0] * comparison.factors[0] if spans else None)

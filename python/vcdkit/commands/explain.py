@@ -25,7 +25,7 @@ import sys
 from typing import List, Optional, TextIO
 
 from ..errors import DumpFault, RunFailed
-from ..forms.junit import test_of, write_tests
+from ..forms.junit import Test, write_tests
 from ..forms.text import write_json
 from ..model.times import amount_of
 from ..questions.causes import BROKEN, CUT_OFF, NO_HEADER, look_at
@@ -115,6 +115,13 @@ def words_of(words: List[str]) -> argparse.Namespace:
     if asked.is_many and asked.salvage is not None:
         options.error("--salvage is for one dump, without --reach, --json and --junit")
     return asked
+
+
+def test_of(verdict: Verdict) -> Test:
+    """Returns the test of a verdict on a dump."""
+    kind = {"valid": "", "unread": "error"}.get(verdict.kind, "failure")
+    return Test("vcdkit-explain", verdict.file, kind, verdict.text,
+                "\n".join([verdict.text, *verdict.around]))
 
 
 def explain_all(asked: argparse.Namespace) -> int:

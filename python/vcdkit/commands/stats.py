@@ -23,18 +23,19 @@ examples:
   vcdkit-stats --saif power.saif --from 1us --to 2us sim.vcd tb.cpu"""
 import argparse
 import sys
-from typing import Any, Dict, Iterator, List, Optional, Sequence
+from typing import TYPE_CHECKING, Any, Dict, Iterator, List, Optional, Sequence
 
 from .. import __version__
-from ..forms import saif
 from ..forms.text import counted, in_json, mean_text, shown, write_json
 from ..model.signals import Signal
 from ..model.times import Window
 from ..questions.dump import Dump
 from ..questions.statistics import Statistics, shares_of, statistics_of
-from ..questions.toggles import BitCounts, counts_of
 from ..reading.files import check_outputs, write
 from . import command, dump_of, natural, parser, times_of, window_of
+
+if TYPE_CHECKING:
+    from ..questions.toggles import BitCounts
 
 
 def facts_of(signal: Signal, counted: Statistics, form: Optional[str], count: Optional[int]
@@ -76,7 +77,7 @@ def lines_of(dump: Dump, facts: Dict[str, Any], rest: int, asked: argparse.Names
         yield "  and " + counted(rest, "other value")
 
 
-def write_toggles(bits: Sequence[BitCounts], asked: argparse.Namespace) -> None:
+def write_toggles(bits: Sequence["BitCounts"], asked: argparse.Namespace) -> None:
     """Writes a line for each bit, those that toggle most first, and how many did."""
     ordered = sorted(bits, key=lambda bit: -(bit.rises + bit.falls))
     for bit in ordered if asked.json else ():
@@ -93,6 +94,8 @@ def write_toggles(bits: Sequence[BitCounts], asked: argparse.Namespace) -> None:
 
 def write_bits(dump: Dump, window: Window, asked: argparse.Namespace) -> None:
     """Writes what each bit does."""
+    from ..forms import saif
+    from ..questions.toggles import counts_of
     window = dump.window_to_end(window)
     bits = counts_of(dump, asked.names, window, asked.saif is not None)
     if asked.toggle:

@@ -22,14 +22,15 @@ import itertools
 import os
 import re
 import sys
-from typing import Any, Callable, Iterable, Iterator, List, Tuple
+from typing import TYPE_CHECKING, Any, Callable, Iterable, Iterator, List, Tuple
 
 from ..forms.text import in_json, shown, write_json
 from ..model.signals import keys_of
 from ..model.values import Cell, Value
-from ..questions.when import Questions, Transaction, named
 from . import command, dump_of, is_part, parser, part_of, times_at, warn_of_quotes
 
+if TYPE_CHECKING:
+    from ..questions.when import Questions, Transaction
 Cells = Callable[[int, List[Cell]], List[Any]]  # makes the cells of a time and values
 
 
@@ -62,6 +63,8 @@ def words_of(words: List[str]) -> argparse.Namespace:
     if any(not name.strip() or not condition.strip() for name, condition, _ in each):
         options.error("a channel is 'NAME: CONDITION: SIGNAL ..', with a space after each colon "
                       "(the signals may be left out)")
+    if each:
+        from ..questions.when import named
     asked.channels = [(*named(name), condition, re.findall("[^ ]+", names))
                       for name, condition, names in each]
     if len({name for name, *_ in asked.channels}) < len(each):
@@ -69,7 +72,7 @@ def words_of(words: List[str]) -> argparse.Namespace:
     return asked
 
 
-def counted(transactions: Iterable[Transaction]) -> Iterator[Tuple[Transaction, List[Any]]]:
+def counted(transactions: Iterable["Transaction"]) -> Iterator[Tuple["Transaction", List[Any]]]:
     """Returns transactions with the edges from one transfer to the next. Behind them it says how
     many lack a transfer, or have one that comes before that to its left."""
     lacking = early = 0
@@ -84,7 +87,7 @@ def counted(transactions: Iterable[Transaction]) -> Iterator[Tuple[Transaction, 
               "0: %d" % (lacking, early), file=sys.stderr)
 
 
-def joined(asking: Questions, names: List[str], heads: List[List[str]], cells: Cells,
+def joined(asking: "Questions", names: List[str], heads: List[List[str]], cells: Cells,
            is_histogram: bool) -> Tuple[List[str], Iterable[List[Any]]]:
     """Returns the head and the rows of channels with some names and heads."""
     pairs = ["%s to %s" % pair for pair in zip(names, names[1:])]
@@ -127,6 +130,7 @@ def main(words: List[str]) -> int:
              if asked.json else ["%s (%s)" % (name, unit), *(one.path for one in its)]
              for name, its in zip(names, columns)]
     if asked.channels:
+        from ..questions.when import Questions
         rules = [(name, text, clock) for name, clock, text, _ in channels]
         rules += [("--flush", asked.flush, channels[0][1])] if asked.flush else []
         asking = Questions(dump, rules, asked.rise, asked.fall, True, columns)
@@ -134,7 +138,9 @@ def main(words: List[str]) -> int:
     else:
         head, rows = heads[0], itertools.starmap(cells, dump.rows(
             asked.names, times, asked.rise, asked.fall, asked.condition))
-    _ = dump.header  # so that a bad window is refused before anything is written
+    if is_part(asked):
+        with dump.body():
+            pass  # a bad window is refused before anything is written
     is_file = os.path.isfile("/dev/stdin" if asked.file == "-" else asked.file)
     if not is_file and isinstance(sys.stdout, io.TextIOWrapper):
         sys.stdout.reconfigure(line_buffering=True)  # the rows of a pipe are seen as they come

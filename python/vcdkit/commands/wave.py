@@ -18,12 +18,8 @@ import sys
 from typing import List, Optional
 
 from ..errors import UsageError
-from ..forms import page
-from ..forms.svg import draw
 from ..model.times import Window
 from ..questions.dump import Dump
-from ..questions.lanes import lanes_of
-from ..questions.streams import Reader
 from . import check_begin, command, dump_of, is_part, natural, parser, window_of
 
 LEAST_WIDTH, MAX_WIDTH = 100, 20000  # pixels: room for a time of the axis; that of lanes
@@ -55,6 +51,8 @@ def mark_of(dump: Dump, asked: argparse.Namespace, window: Window) -> Optional[i
 
 def write_page(dump: Dump, window: Window, mark: Optional[int], asked: argparse.Namespace) -> None:
     """Writes the page of --html."""
+    from ..forms import page
+    from ..questions.streams import Reader
     chosen = dump.select(asked.names)
     streams = Reader().read(dump.part(asked.names), chosen, window,
                             lambda time: time - window.begin)
@@ -97,6 +95,8 @@ def main(words: List[str]) -> int:
     if asked.html:
         write_page(dump, window, mark, asked)
     else:
+        from ..forms.svg import draw
+        from ..questions.lanes import lanes_of
         chosen = [dump.declarations[place] for place in places]
         draw(dump, chosen, lanes_of(dump, asked.names, window, asked.width), mark,
              asked.form, asked.light)

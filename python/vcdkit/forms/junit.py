@@ -1,12 +1,10 @@
 """JUnit files, which CI servers show as tests."""
 import re
-import xml.etree.ElementTree as xml
 from typing import NamedTuple, Optional, Sequence
 
-from ..questions.verdicts import Verdict
 from ..reading.files import write
 
-NOT_OF_XML = re.compile("[^\t\n\r -\ud7ff\ue000-\ufffd\U00010000-\U0010ffff]")
+NOT_OF_XML = re.compile("[\0-\x08\x0b\x0c\x0e-\x1f]|[\ud800-\udfff\ufffe\uffff]")
 
 
 class Test(NamedTuple):
@@ -30,6 +28,7 @@ def write_tests(path: Optional[str], name: str, tests: Sequence[Test]) -> None:
     """Writes the file of a suite of tests, if one is asked for."""
     if path is None:
         return
+    import xml.etree.ElementTree as xml  # it takes time, and few commands write such a file
     kinds = [test.kind for test in tests]
     suite = xml.Element("testsuite", name=name, tests=str(len(tests)),
                         failures=str(kinds.count("failure")), errors=str(kinds.count("error")))
@@ -41,10 +40,3 @@ def write_tests(path: Optional[str], name: str, tests: Sequence[Test]) -> None:
         if test.note:
             xml.SubElement(case, "system-out").text = clean(test.note)
     write(path, [b"<?xml version='1.0' encoding='utf-8'?>\n", xml.tostring(suite, "utf-8")])
-
-
-def test_of(verdict: Verdict) -> Test:
-    """Returns the test of a verdict on a dump."""
-    kind = {"valid": "", "unread": "error"}.get(verdict.kind, "failure")
-    return Test("vcdkit-explain", verdict.file, kind, verdict.text,
-                "\n".join([verdict.text, *verdict.around]))

@@ -1,8 +1,8 @@
 """A picture of waveforms as SVG."""
+import html
 import math
 import os
 from typing import Dict, List, Optional, Sequence, Tuple
-from xml.sax.saxutils import escape
 
 from ..model.signals import Declaration, Signal
 from ..model.times import UNITS, Timescale
@@ -87,7 +87,7 @@ class Picture:
     def text(self, x: float, y: float, text: str, kind: str = "", anchor: str = "start",
              title: str = "") -> None:
         """Writes a text, and a longer one where the mouse is over it."""
-        text, title = (escape(clean(one)) for one in (text, title))
+        text, title = (html.escape(clean(one), False) for one in (text, title))
         self.add('<text x="%.1f" y="%.1f" class="%s" text-anchor="%s">%s%s</text>', x, y, kind,
                  anchor, "<title>%s</title>" % title if title else "", text)
 
@@ -230,7 +230,7 @@ class Picture:
         size = self.right + 3 * PAD, bottom + 2 * PAD
         print('<svg xmlns="http://www.w3.org/2000/svg" width="%d" height="%d" viewBox="0 0 %d %d" '
               'role="img">' % (*size, *size))
-        print("<title>%s</title>" % escape(clean(title)))
+        print("<title>%s</title>" % html.escape(clean(title), False))
         print('<style>%s</style><rect width="100%%" height="100%%" fill="%s"/>'
               % (STYLE % colours, colours["back"]))
         print("\n".join(self.out) + "\n</svg>")

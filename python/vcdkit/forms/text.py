@@ -1,12 +1,13 @@
 """Values and times as a reader sees them, or as JSON has them."""
-import json
 import math
 import re
-from typing import Any, Callable, Dict, NamedTuple, Optional, Union
+from typing import TYPE_CHECKING, Any, Callable, Dict, NamedTuple, Optional, Union
 
 from ..model.times import UNITS
 from ..model.values import Cell, Value
-from ..reading.source import Source
+
+if TYPE_CHECKING:
+    from ..reading.source import Source
 
 
 class Form(NamedTuple):
@@ -55,7 +56,7 @@ def counted(count: int, what: str) -> str:
     return "%d %s%s" % (count, what, "s" * (count != 1))
 
 
-def mean_text(dump: Source, ticks: float, unit: Optional[str]) -> str:
+def mean_text(dump: "Source", ticks: float, unit: Optional[str]) -> str:
     """Returns a mean length of time to six digits: in a unit that is given, else in the largest one
     of which it has one. 0 is in the unit of the time scale, as in other times."""
     scale = dump.timescale
@@ -71,6 +72,7 @@ def mean_text(dump: Source, ticks: float, unit: Optional[str]) -> str:
 
 def write_json(row: Dict[str, Any]) -> None:
     """Writes a row as JSON, on a line of its own. A byte that is no UTF-8 is written as \\xNN."""
+    import json
     text = json.dumps(row, ensure_ascii=False)
     print(re.sub("[\udc80-\udcff]", lambda byte: "\\\\x%02x" % (ord(byte.group()) - 0xdc00), text))
 

@@ -6,6 +6,8 @@ from typing import (Any, Dict, FrozenSet, Iterable, Iterator, List, NamedTuple, 
 
 from .times import Timescale
 
+Columns = Tuple[List[str], List[str], List[int], List[str]]  # paths, types, sizes and codes
+
 
 class Signal(NamedTuple):
     """A variable of a header: its path, its type (`wire`, `reg`, `real`, ..), its size in bits and
@@ -80,15 +82,14 @@ def each(columns: Sequence[Sequence[Any]]) -> Iterator[Signal]:
 
 
 class Signals(Sequence[Any]):  # of Signals, but mypy is to take a path as what may be in it
-    """The variables of a header, in the order of declaration, of the rows of `list`. A Signal is
-    made each time it is asked for."""
+    """The variables of a header, in the order of declaration. A Signal is made each time it is
+    asked for."""
 
-    def __init__(self, rows: str):
-        words = words_of(rows)
-        self._columns = words[0::4], words[1::4], list(map(int, words[2::4])), words[3::4]
+    def __init__(self, columns: Columns):
+        self._columns = columns
         self._paths: FrozenSet[str] = frozenset()
 
-    def columns(self) -> Tuple[List[str], List[str], List[int], List[str]]:
+    def columns(self) -> Columns:
         """Returns the paths, the types, the sizes and the codes, a list of each."""
         return self._columns
 

@@ -1,22 +1,21 @@
-"""Dump: questions about one dump."""
+"""Dump: questions about one dump. What only some of them need is imported where it is used, because
+each import takes a part of a script's start."""
 import functools
 import importlib
 import os
 import re
-import warnings
-from typing import (IO, Any, Dict, Iterable, Iterator, List, Optional, Tuple, Union)
+from typing import IO, Any, Dict, Iterable, Iterator, List, Optional, Tuple, Union
 
 from ..errors import RunFailed, UsageError
 from ..model.names import utf8_names
 from ..model.signals import Signal, keys_of
 from ..model.times import Time
 from ..model.values import Cell, Edges, Row, Value, value_in
-from ..reading import body, library
+from ..reading import body, program
 from ..reading.files import write
 from ..reading.source import Names, Source, merge, way
 from ..reading.texts import Bytes, File, Text
 from .rows import as_they_come, at_times, edges_of, sampled, states
-from .when import Questions, state
 
 __all__ = ["Dump", "merge", "way"]
 
@@ -112,7 +111,8 @@ class Dump(Source):
             raise RunFailed("arrays() needs numpy: %s" % error) from error
         signal = self[name]
         is_short = signal.size <= 64 and not signal.is_real
-        if is_short and way() is library and signal.type != "event":
+        if is_short and way() is not program and signal.type != "event":
+            from ..reading import library
             found = library.changes(self.text, signal.code.encode())
             if found is not None:
                 return _columns(found, numpy)
@@ -152,8 +152,10 @@ class Dump(Source):
         edges = edges_of(self, rise, fall)
         if at is not None and edges:
             raise UsageError("rows are at times or at edges: give `at`, or `rise` and `fall`")
-        only = None if condition is None else state(
-            self, condition, rise is not None or fall is not None)
+        only = None
+        if condition is not None:
+            from .when import state
+            only = state(self, condition, rise is not None or fall is not None)
         if at is not None:
             return at_times(self, columns, [self.ticks(time) for time in _each(at)], its, only)
         every = [*its, *edges.values(), *(only.paths if only else ())]
@@ -181,12 +183,14 @@ class Dump(Source):
         falls, with the values just before that time, with both at each of these edges; with
         `every`, each such time counts at which it holds. UsageError if it is no condition,
         UnknownName if a name of it selects nothing."""
+        from .when import Questions
         asking = Questions(self, [("", condition)], rise, fall, every)
         return (time for time, _ in asking.times())
 
 
 def compiled(pattern: str, flags: int = 0) -> "re.Pattern[str]":
     """Returns a regular expression. UsageError if it is none."""
+    import warnings
     try:
         with warnings.catch_warnings():
             warnings.simplefilter("ignore", FutureWarning)  # of [[ in an expression

@@ -1,7 +1,7 @@
 """The rows of a table: values at times, at changes and at the edges of clocks."""
 import itertools
-from typing import (Callable, Collection, Dict, Iterable, Iterator, List, Optional, Sequence, Set,
-                    Tuple)
+from typing import (TYPE_CHECKING, Callable, Collection, Dict, Iterable, Iterator, List, Optional,
+                    Sequence, Set, Tuple)
 
 from ..errors import DumpFault, UnknownName, UsageError
 from ..model.names import field_of, utf8_names
@@ -9,7 +9,9 @@ from ..model.signals import Signal, words_of
 from ..model.values import Cell, Row, same, value_in, value_of
 from ..reading import body
 from ..reading.source import Source
-from .condition import Conditions, names_in
+
+if TYPE_CHECKING:
+    from .condition import Conditions
 
 TIMES_OF_A_CALL = 5000  # a word of Linux has at most 131,071 bytes
 RISE, FALL = (b"0", b"1"), (b"1", b"0")
@@ -52,7 +54,7 @@ def sampled(source: Source, times: Iterable[int], names: List[str],
 
 
 def at_times(source: Source, columns: Collection[int], times: List[int], names: List[str],
-             only: Optional[Conditions] = None) -> Iterator[Row]:
+             only: Optional["Conditions"] = None) -> Iterator[Row]:
     """Returns a row for each of some times, with the values of the signals at some places, which
     full names select; only those at which a condition holds, if there is one."""
     if only:
@@ -67,7 +69,7 @@ def at_times(source: Source, columns: Collection[int], times: List[int], names: 
         raise faults[0]
 
 
-def _holding(source: Source, condition: Conditions, times: Iterable[int]) -> Set[int]:
+def _holding(source: Source, condition: "Conditions", times: Iterable[int]) -> Set[int]:
     """Returns those of some times at whose end a condition holds."""
     waiting, found = sorted(set(times), reverse=True), set()
     holds = condition.compiled()
@@ -94,6 +96,7 @@ def clock_of(source: Source, name: str) -> Clock:
     try:
         clock = source[name]
     except UnknownName:
+        from .condition import names_in
         its = names_in(source, [name], [])[name] if field_of(name) else None
         if its and its.end - its.begin == 1:
             return its.signal, its.signal.size - its.end
@@ -135,7 +138,7 @@ class Cells:
 
 
 def as_they_come(source: Source, names: List[str], columns: Sequence[Signal],
-                 edges: Collection[body.Edge], only: Optional[Conditions]) -> Iterator[Row]:
+                 edges: Collection[body.Edge], only: Optional["Conditions"]) -> Iterator[Row]:
     """Returns a row for each time that has one of some edges, with the values just before it; if
     there is no edge, for each time at whose end a value of a column is another one than before it,
     with the values at its end. With a condition, it returns only the rows at which that holds. The
@@ -154,7 +157,7 @@ def as_they_come(source: Source, names: List[str], columns: Sequence[Signal],
 
 
 def _rows(pairs: Iterable[Tuple[int, body.Changes]], columns: Sequence[Signal], is_every: bool,
-          only: Optional[Conditions], holds: Optional[Callable[..., int]]) -> Iterator[Pair]:
+          only: Optional["Conditions"], holds: Optional[Callable[..., int]]) -> Iterator[Pair]:
     """Returns a row for each time with its changes, unless no value of a column is another one, if
     not every one is asked for."""
     cells = Cells(columns)

@@ -10,7 +10,7 @@ from ..reading.source import Source
 # What only a save file has: a line of flags, or a setting.
 SAVED = re.compile(r"(?m)^(?:@[0-9a-f]+|\[\w+\].*)\r?$")
 # A line with a signal: an alias or the place of a bit may stand before it.
-SIGNAL = re.compile(r"(?m)^(?:\+\{.*?\} |\(\d+\))?([A-Za-z_\\$\x80-\U0010ffff][^\s]*)\s*$")
+SIGNAL = re.compile(r"(?m)^(?:\+\{.*?\} |\(\d+\))?((?:[A-Za-z_\\$]|[^\0-\x7f])[^\s]*)\s*$")
 GROUP = re.compile(r"(?m)^#\{.*?\} (.+)$")  # a vector that was put together of bits
 
 

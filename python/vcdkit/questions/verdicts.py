@@ -1,7 +1,6 @@
 """Verdicts on many dumps, which are checked side by side."""
 import collections
 import os
-from concurrent.futures import ThreadPoolExecutor
 from typing import Any, Callable, Dict, Iterator, List, NamedTuple, Optional, Sequence
 
 from ..errors import DumpFault, UsageError, VcdkitError
@@ -60,6 +59,7 @@ def verdict_on(dump: Source, file: str, reach: Optional[str],
 
 def verdicts(files: Sequence[str], one: Callable[[str], Verdict], jobs: int) -> Iterator[Verdict]:
     """Returns the verdicts on files, in their order, so many of them at a time."""
+    from concurrent.futures import ThreadPoolExecutor  # the import takes time
     ended: List[bool] = []
 
     def of(file: str) -> Optional[Verdict]:

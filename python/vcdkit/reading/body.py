@@ -6,12 +6,14 @@ end."""
 import contextlib
 import io
 import re
-from typing import (BinaryIO, Callable, Collection, Dict, FrozenSet, Iterable, Iterator, List,
-                    Optional, Set, Tuple, cast)
+from typing import (TYPE_CHECKING, BinaryIO, Callable, Collection, Dict, FrozenSet, Iterable,
+                    Iterator, List, Optional, Set, Tuple, cast)
 
 from ..errors import DumpFault
-from .source import Source
 from .texts import Made
+
+if TYPE_CHECKING:
+    from .source import Source
 
 MAX_SEEN = 1 << 14  # texts of which the changes are kept
 MAX_KEPT = 64  # bytes of a text that is kept
@@ -39,7 +41,7 @@ def blocks(text: BinaryIO) -> Iterator[bytes]:
         yield block if block.endswith(b"\n") else block + text.readline()
 
 
-def timed(part: Source, some: Optional[Blocks] = None) -> Iterator[Tuple[int, bytes]]:
+def timed(part: "Source", some: Optional[Blocks] = None) -> Iterator[Tuple[int, bytes]]:
     """Returns each timestamp of a part of a dump with the lines up to the next one, as soon as that
     comes: a text that does not end with a line feed. What comes before the first timestamp has time
     0. A timestamp that is there twice is one, and one without lines is left out, as is a time that
@@ -69,7 +71,7 @@ def timed(part: Source, some: Optional[Blocks] = None) -> Iterator[Tuple[int, by
         raise fault
 
 
-def steps(part: Source, codes: Collection[bytes], lead: Collection[bytes] = (),
+def steps(part: "Source", codes: Collection[bytes], lead: Collection[bytes] = (),
           is_cut: bool = False, some: Optional[Blocks] = None) -> Iterator[Step]:
     """Returns of each timestamp of a part of a dump the changes of some codes: those that are
     values from before it, and the others. What comes before the first timestamp has time 0. No two
@@ -142,7 +144,7 @@ class _First:
         return self._is_begin or code in self._lead
 
 
-def at_once(part: Source, code: bytes) -> Iterator[Tuple[int, bytes]]:
+def at_once(part: "Source", code: bytes) -> Iterator[Tuple[int, bytes]]:
     """Returns the times and the values of a code, each as soon as its line comes."""
     known, now = Known([code]), 0
     with part.body() as out:
@@ -154,7 +156,7 @@ def at_once(part: Source, code: bytes) -> Iterator[Tuple[int, bytes]]:
                     yield now, value
 
 
-def at_clocks(source: Source, names: List[str], codes: Collection[bytes], edges: Dict[Edge, int]
+def at_clocks(source: "Source", names: List[str], codes: Collection[bytes], edges: Dict[Edge, int]
               ) -> Iterator[Tuple[int, Changes, int]]:
     """Returns each time that has one of some edges, with the changes of some codes, and of the
     clocks, since the last such time, up to just before this one: those at the last one are among
@@ -186,7 +188,7 @@ def _digit(text: bytes, place: int) -> bytes:
     return text[~place:][:1] if place < len(text) else text[:1] if text[:1] in b"xz" else b"0"
 
 
-def _led(source: Source, codes: Collection[bytes]) -> Set[bytes]:
+def _led(source: "Source", codes: Collection[bytes]) -> Set[bytes]:
     """Returns those of some codes of a merge whose values begin with a `$dumpvars`, as a merge
     writes no sections; its codes are those of its dumps, anew, in the order of declaration."""
     text, found = source.whole("pick", "cut"), set()
@@ -203,7 +205,7 @@ def _led(source: Source, codes: Collection[bytes]) -> Set[bytes]:
     return found
 
 
-def _begun(part: Source, codes: Collection[bytes]) -> Set[bytes]:
+def _begun(part: "Source", codes: Collection[bytes]) -> Set[bytes]:
     """Returns those of some codes whose first value is in a `$dumpvars`, up to a fault."""
     left = set(codes)
     found: Set[bytes] = set()
@@ -230,7 +232,7 @@ def last_command(text: bytes) -> Optional[bytes]:
     return text[at + 1:] if at >= 0 else None
 
 
-def first_time(dump: Source) -> Optional[int]:
+def first_time(dump: "Source") -> Optional[int]:
     """Returns the first timestamp of any dump, also if no change follows, which vcdkit leaves out;
     `None` if there is none before the end or a fault."""
     section = b""

@@ -6,6 +6,7 @@ import functools
 from typing import Dict, Iterable, Iterator, List, Optional, Sequence, Tuple
 
 from ..errors import RunFailed
+from ..model.signals import each
 from . import header, program
 from .source import Source, merge
 from .texts import Headed, Made, Text
@@ -52,8 +53,8 @@ def _header(pairs: Sequence[Sequence[Key]], text: bytes) -> bytes:
     names = {("%s.%s" % (scope, path), nth): (scope, number) for number, pair in enumerate(pairs)
              for scope, (path, nth) in zip(("in1", "in2"), pair)}
     rows: Dict[str, List[str]] = {"in1": [], "in2": [], "other": []}
-    signals = list(header.variables(text))
-    for key, one in zip(keys_in(one.path for one in signals), signals):
+    columns = header.columns(text)
+    for key, one in zip(keys_in(columns[0]), each(columns)):
         scope, number = names.get(key, ("other", 0))
         rows[scope].append("$var %s %d %s p%d $end\n" % (
             "real" if one.is_real else one.type, one.size, one.code, number))

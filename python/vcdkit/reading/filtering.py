@@ -5,8 +5,6 @@ from typing import Iterator
 from ..errors import UsageError, failing
 from . import body, progress
 from .formats import FRONT, format_of
-from .source import Source
-from .texts import File
 
 
 def blocks_of(path: str) -> Iterator[bytes]:
@@ -25,5 +23,7 @@ def blocks_of(path: str) -> Iterator[bytes]:
                 return
         if path == "-":
             raise UsageError("the input is compressed: unpack it first, for example with gzip -dc")
+        from .source import Source
+        from .texts import File
         with Source(File(path)).open() as text:
             yield from body.blocks(text)

@@ -1,11 +1,12 @@
 """The header of a dump: its commands, one after the other, and what they declare. Filters read
 headers here too, so that a command may be on several lines, and several commands on one."""
+import functools
 import itertools
 import re
 from typing import Collection, Dict, Iterable, Iterator, List, NamedTuple, Optional, Tuple
 
 from ..model.names import RANGE, field_of
-from ..model.signals import Declaration, Header, Scope, Signal
+from ..model.signals import Columns, Declaration, Header, Scope, Signal, Signals
 from ..model.times import Timescale, amount_in
 
 # A command, from its keyword to its $end.
@@ -97,17 +98,45 @@ def declarations(text: bytes) -> Tuple[Scope, List[Declaration]]:
     return top, found
 
 
-def variables(text: bytes) -> Iterator[Signal]:
-    """Returns the variables of a header that vcdkit writes, with a command on each line."""
+def columns(text: bytes) -> Columns:
+    """Returns the paths, types, sizes and codes of the variables of a header that vcdkit writes,
+    with a command on each line."""
+    paths, types, sizes, codes = found = [], [], [], []  # type: Columns
     fronts = [""]
     for line in text.decode("utf-8", "surrogateescape").split("\n"):
-        if line.startswith("$var "):
-            _, kind, size, code, name, *_ = line.split(" ")
-            yield Signal(fronts[-1] + name, kind, int(size), code)
-        elif line.startswith("$scope "):
+        if line[:5] == "$var ":
+            _, kind, size, code, name, _ = line.split(" ", 5)
+            paths.append(fronts[-1] + name)
+            types.append(kind)
+            sizes.append(int(size))
+            codes.append(code)
+        elif line[:7] == "$scope ":
             fronts.append(fronts[-1] + line.split(" ")[2] + ".")
-        elif line.startswith("$upscope "):
+        elif line[:9] == "$upscope ":
             fronts.pop()
+    return found
+
+
+class Head:
+    """A header that vcdkit writes: each of its facts is read once, if it is asked for."""
+
+    def __init__(self, text: bytes):
+        self.text = text
+
+    @functools.cached_property
+    def signals(self) -> Signals:
+        """Its variables."""
+        return Signals(columns(self.text))
+
+    @functools.cached_property
+    def facts(self) -> Header:
+        """What it says of the dump as a whole."""
+        return facts(self.text)
+
+    @functools.cached_property
+    def declared(self) -> Tuple[Scope, List[Declaration]]:
+        """Its scopes, and how its variables are declared."""
+        return declarations(self.text)
 
 
 def with_variables(text: bytes, places: Collection[int]) -> Iterator[bytes]:

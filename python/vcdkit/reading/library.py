@@ -12,7 +12,7 @@ from typing import BinaryIO, Dict, Iterator, Optional, Sequence, Tuple, Union
 
 from ..errors import RunFailed, UnknownName, VcdkitError, error_of
 from . import header, program
-from .texts import PACKAGE, Bytes, File, Headed, Made, Text
+from .texts import Bytes, File, Headed, Made, Text, library_path
 
 Data = Union[bytes, mmap.mmap]
 OUT_OF_MEMORY = 4  # of vcdkit_run
@@ -30,16 +30,6 @@ class _File(ctypes.Structure):
 class _Place(ctypes.Structure):
     _fields_ = [("place", ctypes.c_uint64 * 8), ("count", ctypes.c_uint64),
                 ("fault", ctypes.c_uint64), ("line", ctypes.c_uint64)]
-
-
-def path() -> Optional[str]:
-    """Returns the library that VCDKIT_LIBRARY names (none where it is empty), else the one beside
-    the package; None where there is none."""
-    named = os.environ.get("VCDKIT_LIBRARY")
-    if named is not None:
-        return os.path.abspath(named) if named else None
-    beside = os.path.join(PACKAGE, "libvcdkit.so")
-    return beside if os.path.exists(beside) else None
 
 
 @functools.lru_cache(maxsize=None)
@@ -85,7 +75,7 @@ def run(words: Sequence[str], given: Data = b"", files: Sequence[Tuple[bytes, Da
     while True:
         out = mmap.mmap(-1, max(room, 1))  # a page is taken once it is written
         said = ctypes.create_string_buffer(said_room)
-        status = _library(path()).vcdkit_run(
+        status = _library(library_path()).vcdkit_run(
             *asked, _lent(out)[0], room, ctypes.byref(used), ctypes.addressof(said), said_room,
             ctypes.byref(said_used))
         if status == OUT_OF_MEMORY:
@@ -98,7 +88,7 @@ def run(words: Sequence[str], given: Data = b"", files: Sequence[Tuple[bytes, Da
 def changes(text: Text, code: bytes, room: int = 1 << 18) -> Optional["array[int]"]:
     """Returns the changes of a code, three uint64 each: a time, a value, and ones where its digits
     are 0 or 1. None where the dump has a fault or no such code, or the library cannot say."""
-    if not hasattr(_library(path()), "vcdkit_changes"):
+    if not hasattr(_library(library_path()), "vcdkit_changes"):
         return None
     found, reading, seed = array("Q"), _Place(), int.from_bytes(os.urandom(8), "little")
     data, error = _read(text)
@@ -108,7 +98,7 @@ def changes(text: Text, code: bytes, room: int = 1 << 18) -> Optional["array[int
     name_at, name_length, _ = _lent(code)
     some, status = array("Q", bytes(3 * 8 * room)), FULL
     while status == FULL:
-        status = _library(path()).vcdkit_changes(
+        status = _library(library_path()).vcdkit_changes(
             at, length, name_at, name_length, seed, ctypes.byref(reading), some.buffer_info()[0],
             room)
         found += some if reading.count == room else some[:3 * reading.count]

@@ -6,26 +6,20 @@ import os
 import shutil
 import signal
 import subprocess
-import tempfile
 import threading
 from typing import IO, BinaryIO, Dict, Iterator, List, Optional, Sequence, cast
 
 from ..errors import RunFailed, UnknownName, VcdkitError, error_of
 from . import header, progress
-from .texts import Bytes, File, Headed, Text, installed
+from .texts import Bytes, File, Headed, Text, program_path, unnamed_file
 
-
-def path() -> Optional[str]:
-    """Returns the program that VCDKIT names, else the vcdkit that comes with the running command
-    or is on the PATH; `None` if there is none."""
-    named = os.environ.get("VCDKIT")
-    return shutil.which(named) if named else installed("vcdkit")
+NAMES = ("vcdkit", "vcdkit-static", "vcdkit-unproved")  # of the program
 
 
 def comparer() -> str:
     """Returns the vcdkit-compare that comes with vcdkit: the one beside it, or beside the file to
     which it is a link."""
-    its = path() or ""
+    its = program_path() or ""
     for one in its, os.path.realpath(its):
         found = shutil.which(os.path.join(os.path.dirname(one), "vcdkit-compare"))
         if found:
@@ -51,7 +45,9 @@ def not_started(program: str, error: OSError) -> RunFailed:
 
 @functools.lru_cache(maxsize=None)
 def is_vcdkit(program: str) -> bool:
-    """Whether a program says that it is vcdkit; it is asked once."""
+    """Whether a program has the name of vcdkit, or says that it is vcdkit; it is asked once."""
+    if os.path.basename(program) in NAMES:
+        return True
     try:
         said = subprocess.run([program, "--version"], stdin=subprocess.DEVNULL,
                               stdout=subprocess.PIPE, stderr=subprocess.DEVNULL).stdout
@@ -75,7 +71,8 @@ class _Part:
                  of: Optional[Text], pass_fds: Sequence[int] = (), is_merged: bool = False):
         self.words, self.names, self.of = words, names, of
         # A file, as a pipe holds only some of a message that nobody reads before the output.
-        self.messages = tempfile.TemporaryFile()
+        self.messages: IO[bytes] = (open(os.memfd_create("messages"), "w+b")
+                                    if hasattr(os, "memfd_create") else unnamed_file())
         reader, writer = os.pipe()
         try:
             self.process = subprocess.Popen(words, stdin=stdin, stdout=writer,
@@ -154,16 +151,16 @@ class _Pipe:
                 file = self.start(words, file, {"(stdin)": text.name}, None, (), is_merged)
             return file
         if isinstance(text, Bytes):
-            kept = cast(BinaryIO, tempfile.TemporaryFile())
+            kept = unnamed_file()
             kept.write(text.data)
             kept.seek(0)
             return kept
         if isinstance(text, Headed):
             return self.head(text, is_merged)
-        program = path()
+        program = program_path()
         if not program:
             raise RunFailed(refusal())
-        if os.environ.get("VCDKIT") and not is_vcdkit(program):
+        if not is_vcdkit(program):
             raise RunFailed("%s, which VCDKIT names, is not vcdkit" % program)
         if text.command == "compare":
             words, file = [comparer(), *text.words], self.feed(text.of[0], True)
@@ -189,6 +186,7 @@ class _Pipe:
         name = "/dev/fd/%d" % file.fileno()
         if os.path.exists(name):
             return name
+        import tempfile
         self.copies.append(tempfile.NamedTemporaryFile())
         shutil.copyfileobj(file, self.copies[-1])
         self.copies[-1].flush()

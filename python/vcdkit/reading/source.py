@@ -11,8 +11,8 @@ from ..model.names import full_names, hint, places_of, utf8_names
 from ..model.signals import Declaration, Header, Scope, Signal, Signals, words_of
 from ..model.times import LAST_TICK, Amount, Time, Timescale, Window, amount_of
 from ..model.values import Report
-from . import header, library, program
-from .texts import Bytes, File, Made, Text
+from . import header, program
+from .texts import Bytes, File, Made, Text, library_path
 
 Names = Union[str, Iterable[str]]
 Its = TypeVar("Its", bound="Source")
@@ -24,7 +24,8 @@ def way() -> ModuleType:
     asked = os.environ.get("VCDKIT_WAY", "")
     if asked not in ("", "library", "program"):
         raise UsageError("VCDKIT_WAY is %s: it may be library or program" % asked)
-    if asked != "program" and library.path():
+    if asked != "program" and library_path():
+        from . import library
         return library
     if asked == "library":
         raise RunFailed("there is no libvcdkit.so beside the package: name it by "
@@ -35,19 +36,17 @@ def way() -> ModuleType:
 class Source:
     """What can be read of a dump, and of parts of it."""
 
-    def __init__(self, text: Text, options: Tuple[str, ...] = ()):
-        """`options` are those of the program with which it is read."""
-        self.text, self.options = text, options
-        self._signals: Optional[Signals] = None
-        self._header: Optional[Header] = None
-        self._header_text = b""
-        self._declared: Optional[Tuple[Scope, List[Declaration]]] = None
+    def __init__(self, text: Text, options: Tuple[str, ...] = (),
+                 heads: Optional[Dict[Text, header.Head]] = None):
+        """`options` are those of the program with which it is read. `heads` are the headers that
+        were read, of texts without cuts, which have the same header."""
+        self.text, self.options, self._heads = text, options, {} if heads is None else heads
         self._last: Tuple[List[str], Dict[int, Signal]] = [], {}  # names, and what they select
 
     def like(self: Its, text: Text) -> Its:
         """Returns what can be read of another text, with the same options."""
         made = self.__class__.__new__(self.__class__)
-        Source.__init__(made, text, self.options)
+        Source.__init__(made, text, self.options, self._heads)
         return made
 
     def made(self: Its, command: str, words: Sequence[str], of: Tuple[Text, ...] = ()) -> Its:
@@ -112,57 +111,50 @@ class Source:
     # The header.
 
     @property
-    def signals(self) -> Signals:
-        """The variables of the header, in the order of declaration: a sequence. Its columns() are
-        lists of the paths, types, sizes and codes."""
-        if self._signals is None:
-            self._signals = Signals(self.like(self._front(self.text)).answer("list"))
-        return self._signals
-
-    def _front(self, text: Text) -> Text:
-        """Returns a text with the header of another one. If that is a part, no fault of a body is
-        in it, so that the variables of a part of a faulty dump are known."""
-        while isinstance(text, Made) and text.command == "cut":
-            text = text.of[0]
-        return text if not isinstance(text, Made) else text._replace(of=tuple(
-            Bytes(self.like(self._front(one)).header_text(), one.name) for one in text.of))
+    def _head(self) -> header.Head:
+        """The header, which is read once. That of a part is made of the header of its dump: so no
+        fault of a body is in it, and the variables of a part of a faulty dump are known."""
+        text = self.whole("cut")
+        if text not in self._heads:
+            of = text if not isinstance(text, Made) else text._replace(of=tuple(
+                Bytes(self.like(one).header_text(), one.name) for one in text.of))
+            with self.like(of).made("cut", ["--from", "0", "--to", "0"]).open() as out:
+                its = header.Head(header.front(out))
+                if its.text:
+                    out.close()  # a fault of the body comes after it
+            self._heads[text] = its
+        return self._heads[text]
 
     def header_text(self) -> bytes:
         """Returns the text of the header, as vcdkit writes it, to the end of its last line."""
-        if not self._header_text:
-            with self.made("cut", ["--from", "0", "--to", "0"]).open() as out:
-                self._header_text = header.front(out)
-                if self._header_text:
-                    out.close()  # a fault of the body comes after it
-        return self._header_text
+        return self._head.text
+
+    @property
+    def signals(self) -> Signals:
+        """The variables of the header, in the order of declaration: a sequence. Its columns() are
+        lists of the paths, types, sizes and codes."""
+        return self._head.signals
 
     @property
     def header(self) -> Header:
         """The header's date, version and time scale."""
-        if self._header is None:
-            self._header = header.facts(self.header_text())
-        return self._header
+        return self._head.facts
 
     @property
     def timescale(self) -> Optional[Timescale]:
         """How long a tick is, as str() shows it: `100ps`. `None` if the header does not say."""
         return self.header.timescale
 
-    def _declarations(self) -> Tuple[Scope, List[Declaration]]:
-        if self._declared is None:
-            self._declared = header.declarations(self.header_text())
-        return self._declared
-
     @property
     def tree(self) -> Scope:
         """The scopes of the header, in a scope without a name: dump.tree.scopes[0].signals, or
         [scope.path for scope in dump.tree.walk()], for example."""
-        return self._declarations()[0]
+        return self._head.declared[0]
 
     @property
     def declarations(self) -> List[Declaration]:
         """How each of the signals is declared."""
-        return self._declarations()[1]
+        return self._head.declared[1]
 
     # Names.
 
@@ -262,7 +254,7 @@ class Source:
         """Returns a dump that has all that some names select, all without names. It has more if a
         name is not UTF-8."""
         words = utf8_names(self.full(names))
-        return self.pick(words) if words else self.cut()
+        return self.pick(words) if words else self if isinstance(self.text, Made) else self.cut()
 
     def cut(self: Its, begin: Time = 0, end: Time = LAST_TICK) -> Its:
         """Returns the dump from one time to another: the values just before `begin`, and what

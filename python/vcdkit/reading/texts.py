@@ -3,9 +3,8 @@ import os
 import shutil
 import stat
 import sys
-import tempfile
 import threading
-from typing import BinaryIO, Callable, List, NamedTuple, Optional, Tuple, Union
+from typing import BinaryIO, Callable, List, NamedTuple, Optional, Tuple, Union, cast
 
 from ..errors import RunFailed
 from .formats import FRONT, FST, format_of
@@ -30,13 +29,36 @@ def installed(name: str) -> Optional[str]:
     return next(filter(None, map(shutil.which, [*near, name])), None)
 
 
+def program_path() -> Optional[str]:
+    """Returns the program that VCDKIT names, else the vcdkit that comes with the running command
+    or is on the PATH; `None` if there is none."""
+    named = os.environ.get("VCDKIT")
+    return shutil.which(named) if named else installed("vcdkit")
+
+
+def library_path() -> Optional[str]:
+    """Returns the library that VCDKIT_LIBRARY names (none if it is empty), else the one beside the
+    package; `None` if there is none."""
+    named = os.environ.get("VCDKIT_LIBRARY")
+    if named is not None:
+        return os.path.abspath(named) if named else None
+    beside = os.path.join(PACKAGE, "libvcdkit.so")
+    return beside if os.path.exists(beside) else None
+
+
+def unnamed_file() -> BinaryIO:
+    """Returns a file that nobody else can open."""
+    import tempfile  # the import takes as long as a run of vcdkit on a small dump
+    return cast(BinaryIO, tempfile.TemporaryFile())
+
+
 class _Kept:
     """What comes through a pipe, which can be read only once: a temporary file has it as it is
     read, so that each reader gets it from its begin, and what has not come yet when it comes."""
 
     def __init__(self, path: bytes):
         self._pipe = open(path, "rb", buffering=0)
-        self._file = tempfile.TemporaryFile()
+        self._file = unnamed_file()
         self._news = threading.Condition()
         self._length, self._is_whole, self._is_reading = 0, False, False
         self.error: Optional[OSError] = None
