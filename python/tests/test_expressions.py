@@ -6,7 +6,8 @@ random values. Icarus Verilog evaluates each one in a wire of a test bench, of t
 expression has by itself, and dumps it. In each dump, `$unsigned(expression) === wire` has to hold
 at all times, and second_reader/expressions.py has to find the digits of the wire. As Icarus has no
 $past, registers stand for it there, which keep what an expression was at earlier edges; before the
-first one, what it is of variables that are x.
+first one, what it is of variables that are x. A test bench at which Icarus crashes is left out, and
+the next seed stands for it. More than one crash, and more than one in a hundred, are an error.
 
 Verilator has $past, $rose, $fell, $stable and $changed, and no x. There each expression has one of
 them, a register takes it at the edges of a clock, and the first edges, whose past is before all
@@ -33,6 +34,10 @@ from vcdkit.questions.when import Questions
 TIMES = 10  # of a test bench
 EARLY = 14  # edges after which Verilator's past() is of values
 WIDTHS = [1, 1, 2, 3, 4, 5, 8, 8, 13, 31, 32, 33, 64]
+
+
+class Crash(Exception):
+    """A signal ended a simulator."""
 
 
 class Look(NamedTuple):
@@ -176,9 +181,13 @@ class Bench(expressions.Random):
 
     def run(self, folder: str) -> None:
         """Simulates the test bench."""
-        subprocess.run(["iverilog", "-g2005", "-gstrict-expr-width", "-o", "bench", "bench.v"],
-                       cwd=folder, check=True, stderr=subprocess.DEVNULL)
-        subprocess.run(["vvp", "-n", "bench"], cwd=folder, check=True, stdout=subprocess.DEVNULL)
+        for words in (["iverilog", "-g2005", "-gstrict-expr-width", "-o", "bench", "bench.v"],
+                      ["vvp", "-n", "bench"]):
+            done = subprocess.run(words, cwd=folder, stdout=subprocess.DEVNULL,
+                                  stderr=subprocess.DEVNULL)
+            if done.returncode < 0 or done.returncode > 128:  # iverilog shows its own as a shell
+                raise Crash("%s: status %d" % (words[0], done.returncode))
+            done.check_returncode()
 
     def is_asked(self, one: Expression) -> bool:
         """Whether an expression is compared."""
@@ -295,18 +304,23 @@ def main() -> int:
         print("expressions are not compared: there is no %s" % program)
         return 0
     seen: Dict[str, int] = {"vcdkit": 0, "the definition": 0}
-    done = 0
+    done = crashes = 0
+    seeds, most = itertools.count(asked.seed), max(asked.count // kind.each // 100, 1)
     with tempfile.TemporaryDirectory() as folder:
-        for seed in range(asked.seed, asked.seed + -(-asked.count // kind.each)):
-            count = min(kind.each, asked.count - done)
-            for who, what in wrong_of(kind(seed), folder, count):
-                seen[who] += 1
-                if seen[who] <= 5:
-                    print("seed %d, %s: %s" % (seed, who, what))
-            done += count
-    print("%d expressions; %d values of vcdkit differ, and %d of the definition" % (
-        done, *seen.values()))
-    return int(any(seen.values()))
+        while done < asked.count and crashes <= most:
+            seed, count = next(seeds), min(kind.each, asked.count - done)
+            try:
+                for who, what in wrong_of(kind(seed), folder, count):
+                    seen[who] += 1
+                    if seen[who] <= 5:
+                        print("seed %d, %s: %s" % (seed, who, what))
+                done += count
+            except Crash as error:
+                print("seed %d: %s" % (seed, error))
+                crashes += 1
+    print("%d expressions; %d values of vcdkit differ, and %d of the definition; %s crashed at %d "
+          "test benches" % (done, *seen.values(), program, crashes))
+    return int(any(seen.values()) or crashes > most)
 
 
 if __name__ == "__main__":
