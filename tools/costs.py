@@ -1,7 +1,8 @@
 #!/usr/bin/env python3
 """costs.py COMMAND..: runs a command, such as `rt ci` or .ci/run, and then writes to standard error
 how much CPU time (user and system) its proofs took, as rows of a table for CONTRIBUTING: for each
-crate its proof (with what builds the program), its tests, and its must-fail edits together.
+crate how many lines of code and must-fail edits it has, and the time of its proof (with what builds
+the program), of its tests, and of its edits together, to which a second proof of the crate belongs.
 
 It looks at the processes of the prover ten times a second, so a row can lack a tenth of a second
 for each of its processes. What other runs on the machine prove meanwhile counts too. The exit
@@ -11,9 +12,10 @@ import os
 import subprocess
 import sys
 import time
+from pathlib import Path
 
 TICKS = os.sysconf("SC_CLK_TCK")
-KINDS = "proof", "tests", "edits"
+KINDS = "proof", "proof of tests", "proofs with edits"
 
 
 def words_of(process):
@@ -29,8 +31,16 @@ def seconds_of(process):
 
 def kind_of(process, words):
     if "--test" in words:
-        return "tests"
-    return "edits" if "/rt-edit-" in os.readlink("/proc/%s/cwd" % process) else "proof"
+        return KINDS[1]
+    return KINDS[2 if "/rt-edit-" in os.readlink("/proc/%s/cwd" % process) else 0]
+
+
+def size_of(crate):
+    """Returns how many lines of code and how many must-fail edits a crate has."""
+    folder = Path(__file__).resolve().parent.parent / "crates" / crate
+    texts = [file.read_text(encoding="utf-8") for file in folder.glob("src/**/*.rt")]
+    lines = sum(bool(line.strip()) for text in texts for line in text.splitlines())
+    return lines, len(list(folder.glob("must-fail/*.edit")))
 
 
 def sample(found):
@@ -55,11 +65,13 @@ def main():
     for (_, crate, kind), seconds in found.items():
         costs[crate][kind] += seconds
         costs["all"][kind] += seconds
-    rows = sorted(costs.items(), key=lambda row: -sum(row[1].values()))
-    print("| crate | proof | tests | edits |\n|---|---|---|---|", file=sys.stderr)
-    for crate, row in rows:
-        print("| %s | %s |" % (crate, " | ".join("%.0f s" % row[kind] for kind in KINDS)),
-              file=sys.stderr)
+    sizes = {crate: size_of(crate) for crate in costs}
+    sizes["all"] = tuple(map(sum, zip(*sizes.values())))
+    print("| crate | lines | edits | %s |\n%s" % (" | ".join(KINDS), "|---" * 6 + "|"),
+          file=sys.stderr)
+    for crate, row in sorted(costs.items(), key=lambda row: -sum(row[1].values())):
+        cells = [crate, *sizes[crate], *("%.0f s" % row[kind] for kind in KINDS)]
+        print("| %s |" % " | ".join(map(str, cells)), file=sys.stderr)
     return command.returncode
 
 
