@@ -3,8 +3,8 @@
 //! `list` writes a line for each variable of a view. Each other command over one dump is a `Task`.
 //! `run_task` runs it over the items of the body, in a `Room` of the lengths that `Task::need`
 //! returns; `check`, `pick`, `cut`, `sample` and `edges` are one call of it each. An `Engine` is
-//! the same run in parts, for callers that have more to do between items: `Engine::start` begins its
-//! task, and each `step` takes one item. None of them takes memory.
+//! the same run in parts, for callers that have more to do between items: `Engine::start` begins
+//! its task, and each `step` takes one item. None of them takes memory.
 //!
 //! # The relations
 //!

@@ -15,8 +15,8 @@
 //! - `lent_output`: an output that is bytes that were lent
 //! - `gone`: what found no room there, which only contracts read
 //!
-//! In `specs/`: `Asked`; `Opens`, which inputs were opened; `Prefetched`; `Buffer`, `Buffered`, `LentOutput`,
-//! what an output has taken; `Fills`, what is at the front of bytes that were lent.
+//! In `specs/`: `Asked`; `Opens`, which inputs were opened; `Prefetched`; `Buffer`, `Buffered`,
+//! `LentOutput`, what an output has taken; `Fills`, what is at the front of bytes that were lent.
 #![tactic(auto)]
 
 mod asked;

@@ -2,7 +2,8 @@
 //! what is written.
 //!
 //! `check`, `list`, `pick`, `cut`, `sample`, `edges` and `merge` are one command each. An `Engine`
-//! and a `Merge` are the same runs in parts: `step` and `merge_step` take one item each. `Done`, `More` and `Stop` say how they end. None of them takes memory.
+//! and a `Merge` are the same runs in parts: `step` and `merge_step` take one item each. `Done`,
+//! `More` and `Stop` say how they end. None of them takes memory.
 //!
 //! All code is in crates below this one, so that no crate of the program waits for it: the commands
 //! over one dump are in `vcd_engine`, the merge in `vcd_merge`, and how a run ends in `vcd_body`.

@@ -172,7 +172,8 @@ impl Inputs {
 
 /// Reads the headers of all inputs in order, and returns them with the parked feeds. Each of the
 /// slices in `windows` has one equal part for each reader. All headers together may have 16,777,216
-/// declarations. What they keep is within the bound, together with the windows. Fails at the first header with a fault, at a failed read, or if memory runs out.
+/// declarations. What they keep is within the bound, together with the windows. Fails at the first
+/// header with a fault, at a failed read, or if memory runs out.
 pub(crate) fn read_heads<S: Source, B: BuildHasher>(
     alloc: Global,
     readers: &mut [S],

@@ -119,7 +119,8 @@ fn compare_body<'a, S: Source, W: Sink>(
 
 /// Compares the parts of the dump with this name, and returns whether there was a difference.
 /// If nothing was compared, that counts as one. Fails at a name that selects nothing, at the first
-/// fault of the dump, if the dump ends too early, if a read or a write fails, and if memory runs out.
+/// fault of the dump, if the dump ends too early, if a read or a write fails, and if memory runs
+/// out.
 pub(crate) fn compared<'a, S: Source, W: Sink, B: BuildHasher>(
     alloc: Global,
     request: &Request,
