@@ -272,6 +272,9 @@ fn narrowed(job: Job, longest: Option<usize>) -> Job
 /// bytes if it is less, so that a run over small inputs takes and clears less memory. What is
 /// written is the same. The other arguments, the output and the status are those of
 /// `run_with_hasher`.
+///
+/// With `None` there is nothing to prove. A length that is too low is excluded by `within`, since a
+/// token of a good dump that is longer would be refused.
 pub fn run_within<S: Source, W: Sink, E: Sink, B: BuildHasher>(
     alloc: Global,
     job: Job,
