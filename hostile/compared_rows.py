@@ -42,8 +42,8 @@ KNOWN = {
     "codes": (1, str.encode), "written": (1, written),
     "clean": (1, lambda text: {"bytes": written(text)}),
     "dump": (2, lambda front, body: {"bytes": written(front) + written(body)}),
-    "gives": (3, lambda output, message, status:
-              record_of(written(output), written(message), status)),
+    "gives": (3, lambda output, message, status: record_of(
+        written(output), b"vcdkit: %s\n" % message.encode() if message else b"", status)),
     "compared": (4, lambda q, limit, names, inputs: record_of(
         *comparison.compared(asked_of(q), names, texts_of(inputs), limit))),
     "within": (5, lambda q, limit, names, name, one: record_of(

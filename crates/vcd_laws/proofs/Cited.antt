@@ -102,7 +102,7 @@ pub use Rattle.vcd_model.specs.Keywords.{Keyword, is_end, is_unknown_command, ke
 pub use Rattle.vcd_model.specs.Laws.{IsPrefixOf, IsValid, changes_kept, merged_codes, merged_entry, read_text, renamed_code, stream_over}
 pub use Rattle.vcd_model.specs.Merge.{Dump, Key, Keyed, KeyedFault, by_key, dump_of, earlier_fault, factor, first_fault, greatest_mark, headers_of, insert_by_key, is_change, is_too_large, items_before, key_after, key_lt, keyed_after, keyed_fault, keyed_items, merge_close, merge_kept, merge_open, merged_items, placed_is_too_large, scaled_fault, scaled_item}
 pub use Rattle.vcd_model.specs.MergeByInput.{due_with, entry_for, keyed_own, keyed_rest, with_item, written_with}
-pub use Rattle.vcd_model.specs.Outcome.{Opened, Outcome, Request, allowed_after, at_end, body_of, clean_outcome, close_text, declarations_allowed, dumps_of, ends_early, fault_in, fault_outcome, fault_text, items_in, merge_outcome, name_at, names_of, open_from, open_text, over_body, over_dumps, program_line, unmatched_outcome, with_opened}
+pub use Rattle.vcd_model.specs.Outcome.{Opened, Outcome, Request, allowed_after, at_end, body_of, clean_outcome, close_text, declarations_allowed, dumps_of, ends_early, fault_in, fault_outcome, fault_text, items_in, merge_outcome, name_at, names_of, open_from, open_text, over_body, over_dumps, unmatched_outcome, with_opened}
 pub use Rattle.vcd_model.specs.Pick.{is_picked, pick_kept}
 pub use Rattle.vcd_model.specs.Reading.{AreGood, Ending, Ends, Fault, Grammar, IsGood, IsReading, PassChecks, Placed, Reading, missing, phrases_of, read_from, reading_of, texts_of}
 pub use Rattle.vcd_model.specs.Reading.Ending.{AtEnd, AtFault, AtLast}

@@ -86,22 +86,22 @@ late_window = refl
 -- ---- faults
 
 -- a fault in the second dump: what differs up to the time before it is due, and no ends
-fault_in_other : over all "#0;1\";#5;0\";#9;b1 !;#12;" "#0;0\";#5;0\";#9;b0 !;?" ≡ gives "differs 0 t.c 1 0;" "vcdkit: b.vcd:8: unknown command;" 2
+fault_in_other : over all "#0;1\";#5;0\";#9;b1 !;#12;" "#0;0\";#5;0\";#9;b0 !;?" ≡ gives "differs 0 t.c 1 0;" "b.vcd:8: unknown command" 2
 unfolding model
 fault_in_other = refl
 
 -- of two faults the one of the lesser time, of equal times that in the first dump
-two_faults : over all "#0;1\";#5;?" "#0;1\";#4;0$;" ≡ gives "" "vcdkit: b.vcd:5: unknown code;" 2
+two_faults : over all "#0;1\";#5;?" "#0;1\";#4;0$;" ≡ gives "" "b.vcd:5: unknown code" 2
 unfolding model
 two_faults = refl
 
 -- a fault after the end of the other dump: all is due but the ends
-fault_after_end : over all "#0;1\";#5;0\";" "#0;1\";#5;1\";#7;1\";#6;" ≡ gives "differs 5 t.c 0 1;" "vcdkit: b.vcd:8: time goes back;" 2
+fault_after_end : over all "#0;1\";#5;0\";" "#0;1\";#5;1\";#7;1\";#6;" ≡ gives "differs 5 t.c 0 1;" "b.vcd:8: time goes back" 2
 unfolding model
 fault_after_end = refl
 
 -- no headers, no lines
-fault_in_header : both all (clean "$var wire 1 ! a $end $enddefinitions $end") (clean "$var wire ") ≡ gives "" "vcdkit: b.vcd:1: unexpected end of input;" 2
+fault_in_header : both all (clean "$var wire 1 ! a $end $enddefinitions $end") (clean "$var wire ") ≡ gives "" "b.vcd:1: unexpected end of input" 2
 unfolding model
 fault_in_header = refl
 

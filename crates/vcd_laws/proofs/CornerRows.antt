@@ -17,23 +17,23 @@ event_by_type_alone : on Want.Listing "$var Event 1 ! a $end;$var event 4 \" b $
 unfolding model
 event_by_type_alone = refl
 
-reference_ends_at_first_end : on Want.Check "$var wire 1 ! a $end b $end;$enddefinitions $end;" ≡ gives "" "vcdkit: (stdin):1: command out of place;" 1
+reference_ends_at_first_end : on Want.Check "$var wire 1 ! a $end b $end;$enddefinitions $end;" ≡ gives "" "(stdin):1: command out of place" 1
 unfolding model
 reference_ends_at_first_end = refl
 
-third_scope_token : on Want.Check "$scope module t;u $end;$enddefinitions $end;" ≡ gives "" "vcdkit: (stdin):2: bad scope;" 1
+third_scope_token : on Want.Check "$scope module t;u $end;$enddefinitions $end;" ≡ gives "" "(stdin):2: bad scope" 1
 unfolding model
 third_scope_token = refl
 
-number_then_end : on Want.Check "$timescale 10;$end;$enddefinitions $end;" ≡ gives "" "vcdkit: (stdin):2: bad timescale;" 1
+number_then_end : on Want.Check "$timescale 10;$end;$enddefinitions $end;" ≡ gives "" "(stdin):2: bad timescale" 1
 unfolding model
 number_then_end = refl
 
-scale_then_unit : on Want.Check "$timescale 10ns;ns $end;$enddefinitions $end;" ≡ gives "" "vcdkit: (stdin):2: bad timescale;" 1
+scale_then_unit : on Want.Check "$timescale 10ns;ns $end;$enddefinitions $end;" ≡ gives "" "(stdin):2: bad timescale" 1
 unfolding model
 scale_then_unit = refl
 
-unit_behind_number : on Want.Check "$timescale 10 0ns $end;$enddefinitions $end;" ≡ gives "" "vcdkit: (stdin):1: bad timescale;" 1
+unit_behind_number : on Want.Check "$timescale 10 0ns $end;$enddefinitions $end;" ≡ gives "" "(stdin):1: bad timescale" 1
 unfolding model
 unit_behind_number = refl
 
@@ -53,7 +53,7 @@ last_code_byte : on Want.Listing "$var wire 1 ~ a $end;$enddefinitions $end;" �
 unfolding model
 last_code_byte = refl
 
-code_with_a_bad_byte : outcome Want.Check limit (codes "(stdin)" ∷ []) (record { bytes = written "$var wire 1;!" ++ (127 ∷ []) ++ written " a $end;$enddefinitions $end;"; mark = Mark.Clean } ∷ []) ≡ gives "" "vcdkit: (stdin):2: bad variable;" 1
+code_with_a_bad_byte : outcome Want.Check limit (codes "(stdin)" ∷ []) (record { bytes = written "$var wire 1;!" ++ (127 ∷ []) ++ written " a $end;$enddefinitions $end;"; mark = Mark.Clean } ∷ []) ≡ gives "" "(stdin):2: bad variable" 1
 unfolding model
 code_with_a_bad_byte = refl
 
@@ -69,11 +69,11 @@ two_scopes_left_open : on (Want.Pick (codes "t" ∷ [])) "$scope module t $end;$
 unfolding model
 two_scopes_left_open = refl
 
-size_with_a_letter : asked Command.Check "$var wire 1x ! a $end;" ≡ gives "" "vcdkit: (stdin):1: bad variable;" 1
+size_with_a_letter : asked Command.Check "$var wire 1x ! a $end;" ≡ gives "" "(stdin):1: bad variable" 1
 unfolding model
 size_with_a_letter = refl
 
-event_of_another_size : asked Command.Check "$var event 1 ! a $end;$var event 2 ! b $end;" ≡ gives "" "vcdkit: (stdin):2: code declared with another size or kind;" 1
+event_of_another_size : asked Command.Check "$var event 1 ! a $end;$var event 2 ! b $end;" ≡ gives "" "(stdin):2: code declared with another size or kind" 1
 unfolding model
 event_of_another_size = refl
 
@@ -86,7 +86,7 @@ real_and_wire_of_one_code : asked Command.Check "$var real 1 ! a $end;$var wire 
 unfolding model
 real_and_wire_of_one_code = refl
 
-code_of_two_before : asked Command.Check "$var wire 1 ! a $end;$var wire 1 \" b $end;$var wire 2 ! c $end;" ≡ gives "" "vcdkit: (stdin):3: code declared with another size or kind;" 1
+code_of_two_before : asked Command.Check "$var wire 1 ! a $end;$var wire 1 \" b $end;$var wire 2 ! c $end;" ≡ gives "" "(stdin):3: code declared with another size or kind" 1
 unfolding model
 code_of_two_before = refl
 
@@ -94,23 +94,23 @@ keywords_in_a_reference : asked Command.Listing "$var wire 1 ! a $var $dumpoff $
 unfolding model
 keywords_in_a_reference = refl
 
-token_after_a_scale : asked Command.Check "$timescale 1 ns;ns $end;" ≡ gives "" "vcdkit: (stdin):2: bad timescale;" 1
+token_after_a_scale : asked Command.Check "$timescale 1 ns;ns $end;" ≡ gives "" "(stdin):2: bad timescale" 1
 unfolding model
 token_after_a_scale = refl
 
-unit_alone : asked Command.Check "$timescale ns $end;" ≡ gives "" "vcdkit: (stdin):1: bad timescale;" 1
+unit_alone : asked Command.Check "$timescale ns $end;" ≡ gives "" "(stdin):1: bad timescale" 1
 unfolding model
 unit_alone = refl
 
-number_1000 : asked Command.Check "$timescale 1000;ns;$end;" ≡ gives "" "vcdkit: (stdin):1: bad timescale;" 1
+number_1000 : asked Command.Check "$timescale 1000;ns;$end;" ≡ gives "" "(stdin):1: bad timescale" 1
 unfolding model
 number_1000 = refl
 
-unit_of_no_scale : asked Command.Check "$timescale 1 as;$end;" ≡ gives "" "vcdkit: (stdin):1: bad timescale;" 1
+unit_of_no_scale : asked Command.Check "$timescale 1 as;$end;" ≡ gives "" "(stdin):1: bad timescale" 1
 unfolding model
 unit_of_no_scale = refl
 
-unit_in_upper_case : asked Command.Check "$timescale 1 NS;$end;" ≡ gives "" "vcdkit: (stdin):1: bad timescale;" 1
+unit_in_upper_case : asked Command.Check "$timescale 1 NS;$end;" ≡ gives "" "(stdin):1: bad timescale" 1
 unfolding model
 unit_in_upper_case = refl
 
@@ -124,7 +124,7 @@ list_of_aliases = refl
 
 -- ---- names
 
-name_with_point : on (Want.Pick (codes "t." ∷ [])) "$scope module t $end;$var wire 1 ! a $end;$upscope $end;$enddefinitions $end;" ≡ gives "" "vcdkit: t.: selects nothing;" 1
+name_with_point : on (Want.Pick (codes "t." ∷ [])) "$scope module t $end;$var wire 1 ! a $end;$upscope $end;$enddefinitions $end;" ≡ gives "" "t.: selects nothing" 1
 unfolding model
 name_with_point = refl
 
@@ -136,16 +136,16 @@ alias_by_other_reference : on (Want.Edges (codes "b" ∷ [])) "$var wire 2 ! a $
 unfolding model
 alias_by_other_reference = refl
 
-sample_selects_nothing : on (sample (1 ∷ []) (codes "a" ∷ codes "zz" ∷ [])) "$var wire 1 ! a $end;$enddefinitions $end;#1;1!;" ≡ gives "" "vcdkit: zz: selects nothing;" 1
+sample_selects_nothing : on (sample (1 ∷ []) (codes "a" ∷ codes "zz" ∷ [])) "$var wire 1 ! a $end;$enddefinitions $end;#1;1!;" ≡ gives "" "zz: selects nothing" 1
 unfolding model
 sample_selects_nothing = refl
 
-edges_select_nothing : on (Want.Edges (codes "zz" ∷ [])) "$var wire 1 ! a $end;$enddefinitions $end;#1;1!;" ≡ gives "" "vcdkit: zz: selects nothing;" 1
+edges_select_nothing : on (Want.Edges (codes "zz" ∷ [])) "$var wire 1 ! a $end;$enddefinitions $end;#1;1!;" ≡ gives "" "zz: selects nothing" 1
 unfolding model
 edges_select_nothing = refl
 
 -- a name counts before a fault of the body, and `list` reads no body
-name_before_body : on (Want.Pick (codes "zz" ∷ [])) "$var wire 1 ! a $end;$enddefinitions $end;?;" ≡ gives "" "vcdkit: zz: selects nothing;" 1
+name_before_body : on (Want.Pick (codes "zz" ∷ [])) "$var wire 1 ! a $end;$enddefinitions $end;?;" ≡ gives "" "zz: selects nothing" 1
 unfolding model
 name_before_body = refl
 
@@ -162,19 +162,19 @@ edges_in_order_of_declaration : on (Want.Edges (codes "u" ∷ codes "a" ∷ []))
 unfolding model
 edges_in_order_of_declaration = refl
 
-name_in_another_case : asked (Command.Pick (codes "A" ∷ [])) "$var wire 1 ! a $end;$enddefinitions $end;1!;" ≡ gives "" "vcdkit: A: selects nothing;" 1
+name_in_another_case : asked (Command.Pick (codes "A" ∷ [])) "$var wire 1 ! a $end;$enddefinitions $end;1!;" ≡ gives "" "A: selects nothing" 1
 unfolding model
 name_in_another_case = refl
 
-first_of_two_unmatched : asked (Command.Pick (codes "zz" ∷ codes "yy" ∷ [])) "$var wire 1 ! a $end;$enddefinitions $end;" ≡ gives "" "vcdkit: zz: selects nothing;" 1
+first_of_two_unmatched : asked (Command.Pick (codes "zz" ∷ codes "yy" ∷ [])) "$var wire 1 ! a $end;$enddefinitions $end;" ≡ gives "" "zz: selects nothing" 1
 unfolding model
 first_of_two_unmatched = refl
 
-scope_without_variables : asked (Command.Pick (codes "s.e" ∷ [])) "$scope m s $end;$scope m e $end;$upscope $end;$var wire 1 ! a $end;$upscope $end;$enddefinitions $end;" ≡ gives "" "vcdkit: s.e: selects nothing;" 1
+scope_without_variables : asked (Command.Pick (codes "s.e" ∷ [])) "$scope m s $end;$scope m e $end;$upscope $end;$var wire 1 ! a $end;$upscope $end;$enddefinitions $end;" ≡ gives "" "s.e: selects nothing" 1
 unfolding model
 scope_without_variables = refl
 
-name_of_the_last_parts : asked (Command.Pick (codes "u.b" ∷ [])) "$scope m t $end;$scope m u $end;$var wire 1 ! b $end;$upscope $end;$upscope $end;$enddefinitions $end;" ≡ gives "" "vcdkit: u.b: selects nothing;" 1
+name_of_the_last_parts : asked (Command.Pick (codes "u.b" ∷ [])) "$scope m t $end;$scope m u $end;$var wire 1 ! b $end;$upscope $end;$upscope $end;$enddefinitions $end;" ≡ gives "" "u.b: selects nothing" 1
 unfolding model
 name_of_the_last_parts = refl
 
@@ -200,11 +200,11 @@ edges_of_aliases = refl
 
 -- ---- cut
 
-fault_with_start_at_zero : on (cut "0" "9") "$var wire 1 ! a $end;$var real 1 \" r $end;$var event 1 # e $end;$var wire 2 % u $end;$enddefinitions $end;?;" ≡ gives "$var wire 1 ! a $end;$var real 1 \" r $end;$var event 1 # e $end;$var wire 2 % u $end;$enddefinitions $end;#0;$dumpvars;$end;" "vcdkit: (stdin):6: unknown command;" 1
+fault_with_start_at_zero : on (cut "0" "9") "$var wire 1 ! a $end;$var real 1 \" r $end;$var event 1 # e $end;$var wire 2 % u $end;$enddefinitions $end;?;" ≡ gives "$var wire 1 ! a $end;$var real 1 \" r $end;$var event 1 # e $end;$var wire 2 % u $end;$enddefinitions $end;#0;$dumpvars;$end;" "(stdin):6: unknown command" 1
 unfolding model
 fault_with_start_at_zero = refl
 
-fault_behind_start : on (cut "3" "9") "$var wire 1 ! a $end;$var real 1 \" r $end;$var event 1 # e $end;$var wire 2 % u $end;$enddefinitions $end;1!;#2;bx0 %;#5;1#;b1 %;#4;" ≡ gives "$var wire 1 ! a $end;$var real 1 \" r $end;$var event 1 # e $end;$var wire 2 % u $end;$enddefinitions $end;#3;$dumpvars;1!;bx0 %;$end;#5;1#;b1 %;" "vcdkit: (stdin):12: time goes back;" 1
+fault_behind_start : on (cut "3" "9") "$var wire 1 ! a $end;$var real 1 \" r $end;$var event 1 # e $end;$var wire 2 % u $end;$enddefinitions $end;1!;#2;bx0 %;#5;1#;b1 %;#4;" ≡ gives "$var wire 1 ! a $end;$var real 1 \" r $end;$var event 1 # e $end;$var wire 2 % u $end;$enddefinitions $end;#3;$dumpvars;1!;bx0 %;$end;#5;1#;b1 %;" "(stdin):12: time goes back" 1
 unfolding model
 fault_behind_start = refl
 
@@ -220,7 +220,7 @@ fault_behind_end : on (cut "1" "2") "$var wire 1 ! a $end;$var real 1 \" r $end;
 unfolding model
 fault_behind_end = refl
 
-mark_inside_section : on (sample (1 ∷ []) []) "$var wire 1 ! a $end;$var real 1 \" r $end;$var event 1 # e $end;$var wire 2 % u $end;$enddefinitions $end;#1;$dumpvars;1!;#2;$end;" ≡ gives "" "vcdkit: (stdin):9: time inside a section;" 1
+mark_inside_section : on (sample (1 ∷ []) []) "$var wire 1 ! a $end;$var real 1 \" r $end;$var event 1 # e $end;$var wire 2 % u $end;$enddefinitions $end;#1;$dumpvars;1!;#2;$end;" ≡ gives "" "(stdin):9: time inside a section" 1
 unfolding model
 mark_inside_section = refl
 
@@ -278,11 +278,11 @@ input_without_variables : outcome Want.Merge limit (codes "a.vcd" ∷ codes "b.v
 unfolding model
 input_without_variables = refl
 
-own_fault_before_too_large : outcome Want.Merge limit (codes "a.vcd" ∷ codes "b.vcd" ∷ []) (clean "$timescale 10s $end;$var wire 1 ! a $end;$enddefinitions $end;#3;1!;#1844674407370955162;" ∷ clean "$var wire 1 ! a $end;$enddefinitions $end;#29;?;" ∷ []) ≡ gives "$timescale;^1s;$end;$scope module in1 $end;$var wire 1 ! a $end;$upscope $end;$scope module in2 $end;$var wire 1 \" a $end;$upscope $end;$enddefinitions $end;" "vcdkit: b.vcd:4: unknown command;" 1
+own_fault_before_too_large : outcome Want.Merge limit (codes "a.vcd" ∷ codes "b.vcd" ∷ []) (clean "$timescale 10s $end;$var wire 1 ! a $end;$enddefinitions $end;#3;1!;#1844674407370955162;" ∷ clean "$var wire 1 ! a $end;$enddefinitions $end;#29;?;" ∷ []) ≡ gives "$timescale;^1s;$end;$scope module in1 $end;$var wire 1 ! a $end;$upscope $end;$scope module in2 $end;$var wire 1 \" a $end;$upscope $end;$enddefinitions $end;" "b.vcd:4: unknown command" 1
 unfolding model
 own_fault_before_too_large = refl
 
-too_large_before_fault : outcome Want.Merge limit (codes "a.vcd" ∷ codes "b.vcd" ∷ []) (clean "$timescale 10s $end;$var wire 1 ! a $end;$enddefinitions $end;#3;1!;#1844674407370955162;" ∷ clean "$var wire 1 ! a $end;$enddefinitions $end;#31;?;" ∷ []) ≡ gives "$timescale;^1s;$end;$scope module in1 $end;$var wire 1 ! a $end;$upscope $end;$scope module in2 $end;$var wire 1 \" a $end;$upscope $end;$enddefinitions $end;#30;1!;" "vcdkit: a.vcd:6: time too large;" 1
+too_large_before_fault : outcome Want.Merge limit (codes "a.vcd" ∷ codes "b.vcd" ∷ []) (clean "$timescale 10s $end;$var wire 1 ! a $end;$enddefinitions $end;#3;1!;#1844674407370955162;" ∷ clean "$var wire 1 ! a $end;$enddefinitions $end;#31;?;" ∷ []) ≡ gives "$timescale;^1s;$end;$scope module in1 $end;$var wire 1 ! a $end;$upscope $end;$scope module in2 $end;$var wire 1 \" a $end;$upscope $end;$enddefinitions $end;#30;1!;" "a.vcd:6: time too large" 1
 unfolding model
 too_large_before_fault = refl
 
@@ -306,7 +306,7 @@ greatest_mark_is_not_the_last : outcome Want.Merge limit (codes "a.vcd" ∷ code
 unfolding model
 greatest_mark_is_not_the_last = refl
 
-too_large_before_its_own_fault : outcome Want.Merge limit (codes "a.vcd" ∷ codes "b.vcd" ∷ []) (clean "$timescale 10s $end;$var wire 1 ! a $end;$enddefinitions $end;#1844674407370955162;1!;?;" ∷ clean "$var wire 1 ! a $end;$enddefinitions $end;" ∷ []) ≡ gives "$timescale;^1s;$end;$scope module in1 $end;$var wire 1 ! a $end;$upscope $end;$scope module in2 $end;$var wire 1 \" a $end;$upscope $end;$enddefinitions $end;" "vcdkit: a.vcd:4: time too large;" 1
+too_large_before_its_own_fault : outcome Want.Merge limit (codes "a.vcd" ∷ codes "b.vcd" ∷ []) (clean "$timescale 10s $end;$var wire 1 ! a $end;$enddefinitions $end;#1844674407370955162;1!;?;" ∷ clean "$var wire 1 ! a $end;$enddefinitions $end;" ∷ []) ≡ gives "$timescale;^1s;$end;$scope module in1 $end;$var wire 1 ! a $end;$upscope $end;$scope module in2 $end;$var wire 1 \" a $end;$upscope $end;$enddefinitions $end;" "a.vcd:4: time too large" 1
 unfolding model
 too_large_before_its_own_fault = refl
 
@@ -327,15 +327,15 @@ unfolding model
 all_of_an_input_before_the_next = refl
 
 -- a change of an earlier input is kept, at the very time of the fault
-earlier_input_at_the_time_of_a_fault : merged ("$var wire 1 ! a $end;$enddefinitions $end;#5;1!;#9;" ∷ "$var wire 1 ! a $end;$enddefinitions $end;#5;?;" ∷ []) ≡ gives "$timescale;^1s;$end;$scope module in1 $end;$var wire 1 ! a $end;$upscope $end;$scope module in2 $end;$var wire 1 \" a $end;$upscope $end;$enddefinitions $end;#5;1!;" "vcdkit: b.vcd:4: unknown command;" 1
+earlier_input_at_the_time_of_a_fault : merged ("$var wire 1 ! a $end;$enddefinitions $end;#5;1!;#9;" ∷ "$var wire 1 ! a $end;$enddefinitions $end;#5;?;" ∷ []) ≡ gives "$timescale;^1s;$end;$scope module in1 $end;$var wire 1 ! a $end;$upscope $end;$scope module in2 $end;$var wire 1 \" a $end;$upscope $end;$enddefinitions $end;#5;1!;" "b.vcd:4: unknown command" 1
 unfolding model
 earlier_input_at_the_time_of_a_fault = refl
 
-second_file_has_a_fault : merged ("$var wire 1 ! a $end;$enddefinitions $end;" ∷ "$var wire 1 ! a $end;$enddefinitions $end;?;" ∷ []) ≡ gives "$timescale;^1s;$end;$scope module in1 $end;$var wire 1 ! a $end;$upscope $end;$scope module in2 $end;$var wire 1 \" a $end;$upscope $end;$enddefinitions $end;" "vcdkit: b.vcd:3: unknown command;" 1
+second_file_has_a_fault : merged ("$var wire 1 ! a $end;$enddefinitions $end;" ∷ "$var wire 1 ! a $end;$enddefinitions $end;?;" ∷ []) ≡ gives "$timescale;^1s;$end;$scope module in1 $end;$var wire 1 ! a $end;$upscope $end;$scope module in2 $end;$var wire 1 \" a $end;$upscope $end;$enddefinitions $end;" "b.vcd:3: unknown command" 1
 unfolding model
 second_file_has_a_fault = refl
 
-first_of_two_bad_headers : merged ("$upscope $end;" ∷ "#0;" ∷ []) ≡ gives "" "vcdkit: a.vcd:1: upscope without scope;" 1
+first_of_two_bad_headers : merged ("$upscope $end;" ∷ "#0;" ∷ []) ≡ gives "" "a.vcd:1: upscope without scope" 1
 unfolding model
 first_of_two_bad_headers = refl
 
@@ -345,7 +345,7 @@ unfolding model
 three_inputs = refl
 
 -- the fault of the second of three ends the run before what the third has at its time
-fault_of_the_second_of_three : merged ("$var wire 1 ! a $end;$enddefinitions $end;#5;1!;" ∷ "$var wire 1 ! a $end;$enddefinitions $end;#5;0!;?;" ∷ "$var wire 1 ! a $end;$enddefinitions $end;#4;x!;#5;z!;" ∷ []) ≡ gives "$timescale;^1s;$end;$scope module in1 $end;$var wire 1 ! a $end;$upscope $end;$scope module in2 $end;$var wire 1 \" a $end;$upscope $end;$scope module in3 $end;$var wire 1 # a $end;$upscope $end;$enddefinitions $end;#4;x#;#5;1!;0\";" "vcdkit: b.vcd:5: unknown command;" 1
+fault_of_the_second_of_three : merged ("$var wire 1 ! a $end;$enddefinitions $end;#5;1!;" ∷ "$var wire 1 ! a $end;$enddefinitions $end;#5;0!;?;" ∷ "$var wire 1 ! a $end;$enddefinitions $end;#4;x!;#5;z!;" ∷ []) ≡ gives "$timescale;^1s;$end;$scope module in1 $end;$var wire 1 ! a $end;$upscope $end;$scope module in2 $end;$var wire 1 \" a $end;$upscope $end;$scope module in3 $end;$var wire 1 # a $end;$upscope $end;$enddefinitions $end;#4;x#;#5;1!;0\";" "b.vcd:5: unknown command" 1
 unfolding model
 fault_of_the_second_of_three = refl
 
@@ -357,35 +357,35 @@ second_declaration = refl
 
 -- ---- short bodies
 
-mark_behind_mark : on Want.Check "$timescale 1ns $end;$var wire 1 ! clk $end;$enddefinitions $end;#5;#4;" ≡ gives "" "vcdkit: (stdin):5: time goes back;" 1
+mark_behind_mark : on Want.Check "$timescale 1ns $end;$var wire 1 ! clk $end;$enddefinitions $end;#5;#4;" ≡ gives "" "(stdin):5: time goes back" 1
 unfolding model
 mark_behind_mark = refl
 
-digit_alone : on Want.Check "$timescale 1ns $end;$var wire 1 ! clk $end;$enddefinitions $end;1;" ≡ gives "" "vcdkit: (stdin):4: bad value;" 1
+digit_alone : on Want.Check "$timescale 1ns $end;$var wire 1 ! clk $end;$enddefinitions $end;1;" ≡ gives "" "(stdin):4: bad value" 1
 unfolding model
 digit_alone = refl
 
-digit_of_unknown_code : on Want.Check "$timescale 1ns $end;$var wire 1 ! clk $end;$enddefinitions $end;1?;" ≡ gives "" "vcdkit: (stdin):4: unknown code;" 1
+digit_of_unknown_code : on Want.Check "$timescale 1ns $end;$var wire 1 ! clk $end;$enddefinitions $end;1?;" ≡ gives "" "(stdin):4: unknown code" 1
 unfolding model
 digit_of_unknown_code = refl
 
-mark_without_digits : on Want.Check "$timescale 1ns $end;$var wire 1 ! clk $end;$enddefinitions $end;#x;" ≡ gives "" "vcdkit: (stdin):4: bad time;" 1
+mark_without_digits : on Want.Check "$timescale 1ns $end;$var wire 1 ! clk $end;$enddefinitions $end;#x;" ≡ gives "" "(stdin):4: bad time" 1
 unfolding model
 mark_without_digits = refl
 
-mark_of_no_digits : on Want.Check "$var wire 1 ! a $end;$enddefinitions $end;#;" ≡ gives "" "vcdkit: (stdin):3: bad time;" 1
+mark_of_no_digits : on Want.Check "$var wire 1 ! a $end;$enddefinitions $end;#;" ≡ gives "" "(stdin):3: bad time" 1
 unfolding model
 mark_of_no_digits = refl
 
-vector_without_digits : on Want.Check "$var wire 1 ! a $end;$enddefinitions $end;b !;" ≡ gives "" "vcdkit: (stdin):3: bad value;" 1
+vector_without_digits : on Want.Check "$var wire 1 ! a $end;$enddefinitions $end;b !;" ≡ gives "" "(stdin):3: bad value" 1
 unfolding model
 vector_without_digits = refl
 
-other_digits_are_none : on Want.Check "$var wire 1 ! a $end;$enddefinitions $end;b1- !;" ≡ gives "" "vcdkit: (stdin):3: bad value;" 1
+other_digits_are_none : on Want.Check "$var wire 1 ! a $end;$enddefinitions $end;b1- !;" ≡ gives "" "(stdin):3: bad value" 1
 unfolding model
 other_digits_are_none = refl
 
-other_bytes_begin_nothing : on Want.Check "$var wire 1 ! a $end;$enddefinitions $end;-!;" ≡ gives "" "vcdkit: (stdin):3: unknown command;" 1
+other_bytes_begin_nothing : on Want.Check "$var wire 1 ! a $end;$enddefinitions $end;-!;" ≡ gives "" "(stdin):3: unknown command" 1
 unfolding model
 other_bytes_begin_nothing = refl
 
@@ -409,15 +409,15 @@ largest_size : on Want.Check "$var wire 16777215 ! a $end;$enddefinitions $end;#
 unfolding model
 largest_size = refl
 
-time_with_a_letter : asked Command.Check "$var wire 1 ! a $end;$enddefinitions $end;#1x;" ≡ gives "" "vcdkit: (stdin):3: bad time;" 1
+time_with_a_letter : asked Command.Check "$var wire 1 ! a $end;$enddefinitions $end;#1x;" ≡ gives "" "(stdin):3: bad time" 1
 unfolding model
 time_with_a_letter = refl
 
-digits_of_nine_states : asked Command.Check "$var wire 1 ! a $end;$enddefinitions $end;u!;" ≡ gives "" "vcdkit: (stdin):3: unknown command;" 1
+digits_of_nine_states : asked Command.Check "$var wire 1 ! a $end;$enddefinitions $end;u!;" ≡ gives "" "(stdin):3: unknown command" 1
 unfolding model
 digits_of_nine_states = refl
 
-unknown_code_on_a_line_of_its_own : asked Command.Check "$var wire 1 ! a $end;$enddefinitions $end;b1;h;" ≡ gives "" "vcdkit: (stdin):4: unknown code;" 1
+unknown_code_on_a_line_of_its_own : asked Command.Check "$var wire 1 ! a $end;$enddefinitions $end;b1;h;" ≡ gives "" "(stdin):4: unknown code" 1
 unfolding model
 unknown_code_on_a_line_of_its_own = refl
 
@@ -430,7 +430,7 @@ unfolding model
 dumpvars_twice = refl
 
 -- zeros in front count too
-zeros_before_too_many_digits : asked Command.Check "$var wire 1 ! a $end;$enddefinitions $end;b01 !;" ≡ gives "" "vcdkit: (stdin):3: value too wide;" 1
+zeros_before_too_many_digits : asked Command.Check "$var wire 1 ! a $end;$enddefinitions $end;b01 !;" ≡ gives "" "(stdin):3: value too wide" 1
 unfolding model
 zeros_before_too_many_digits = refl
 

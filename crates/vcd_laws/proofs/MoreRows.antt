@@ -7,23 +7,23 @@ odd_code : on Want.Listing "$timescale 1 ns $end;$var wire 1 $end a [0] $end;$en
 unfolding model
 odd_code = refl
 
-two_units : on Want.Check "$timescale 1ns ps $end;" ≡ gives "" "vcdkit: (stdin):1: bad timescale;" 1
+two_units : on Want.Check "$timescale 1ns ps $end;" ≡ gives "" "(stdin):1: bad timescale" 1
 unfolding model
 two_units = refl
 
-event_then_wire : on Want.Check "$var event 1 ! a $end;$var wire 1 ! b $end;" ≡ gives "" "vcdkit: (stdin):2: code declared with another size or kind;" 1
+event_then_wire : on Want.Check "$var event 1 ! a $end;$var wire 1 ! b $end;" ≡ gives "" "(stdin):2: code declared with another size or kind" 1
 unfolding model
 event_then_wire = refl
 
-wire_then_event : on Want.Check "$var wire 1 ! a $end;$var event 1 ! b $end;" ≡ gives "" "vcdkit: (stdin):2: code declared with another size or kind;" 1
+wire_then_event : on Want.Check "$var wire 1 ! a $end;$var event 1 ! b $end;" ≡ gives "" "(stdin):2: code declared with another size or kind" 1
 unfolding model
 wire_then_event = refl
 
-no_reference : on Want.Check "$var wire 1 ! $end;" ≡ gives "" "vcdkit: (stdin):1: bad variable;" 1
+no_reference : on Want.Check "$var wire 1 ! $end;" ≡ gives "" "(stdin):1: bad variable" 1
 unfolding model
 no_reference = refl
 
-second_name_unmatched : on (Want.Pick (codes "tb.clk" ∷ codes "tb.zz" ∷ [])) "$timescale 1ns $end;$scope module tb $end;$var wire 1 ! clk $end;$var reg 4 \" q [3:0] $end;$upscope $end;$enddefinitions $end;" ≡ gives "" "vcdkit: tb.zz: selects nothing;" 1
+second_name_unmatched : on (Want.Pick (codes "tb.clk" ∷ codes "tb.zz" ∷ [])) "$timescale 1ns $end;$scope module tb $end;$var wire 1 ! clk $end;$var reg 4 \" q [3:0] $end;$upscope $end;$enddefinitions $end;" ≡ gives "" "tb.zz: selects nothing" 1
 unfolding model
 second_name_unmatched = refl
 
@@ -35,7 +35,7 @@ cut_at_one_time : on (cut "10" "10") "$var wire 1 ! a $end;$var real 1 \" r $end
 unfolding model
 cut_at_one_time = refl
 
-cut_fault_before_start : on (cut "30" "40") "$var wire 1 ! a $end;$var real 1 \" r $end;$var event 1 # e $end;$var wire 2 % u $end;$enddefinitions $end;#9;0!;?;" ≡ gives "$var wire 1 ! a $end;$var real 1 \" r $end;$var event 1 # e $end;$var wire 2 % u $end;$enddefinitions $end;" "vcdkit: (stdin):8: unknown command;" 1
+cut_fault_before_start : on (cut "30" "40") "$var wire 1 ! a $end;$var real 1 \" r $end;$var event 1 # e $end;$var wire 2 % u $end;$enddefinitions $end;#9;0!;?;" ≡ gives "$var wire 1 ! a $end;$var real 1 \" r $end;$var event 1 # e $end;$var wire 2 % u $end;$enddefinitions $end;" "(stdin):8: unknown command" 1
 unfolding model
 cut_fault_before_start = refl
 
@@ -47,7 +47,7 @@ sample_unset : on (sample (7 ∷ []) []) "$timescale 1ns $end;$scope module tb $
 unfolding model
 sample_unset = refl
 
-edges_at_fault : on (Want.Edges []) "$timescale 1ns $end;$scope module tb $end;$var wire 1 ! clk $end;$var reg 4 \" q [3:0] $end;$upscope $end;$enddefinitions $end;#0;0!;?;" ≡ gives "" "vcdkit: (stdin):9: unknown command;" 1
+edges_at_fault : on (Want.Edges []) "$timescale 1ns $end;$scope module tb $end;$var wire 1 ! clk $end;$var reg 4 \" q [3:0] $end;$upscope $end;$enddefinitions $end;#0;0!;?;" ≡ gives "" "(stdin):9: unknown command" 1
 unfolding model
 edges_at_fault = refl
 
@@ -55,7 +55,7 @@ edges_of_event : on (Want.Edges (codes "e" ∷ [])) "$var wire 1 ! a $end;$var r
 unfolding model
 edges_of_event = refl
 
-time_out_of_range : on Want.Check "$var wire 1 ! a $end;$enddefinitions $end;#18446744073709551616;" ≡ gives "" "vcdkit: (stdin):3: bad time;" 1
+time_out_of_range : on Want.Check "$var wire 1 ! a $end;$enddefinitions $end;#18446744073709551616;" ≡ gives "" "(stdin):3: bad time" 1
 unfolding model
 time_out_of_range = refl
 
@@ -63,11 +63,11 @@ time_with_zeros : on Want.Check "$var wire 1 ! a $end;$enddefinitions $end;#0000
 unfolding model
 time_with_zeros = refl
 
-glued_end : on Want.Check "$comment x$end;$enddefinitions $end;" ≡ gives "" "vcdkit: (stdin):3: unexpected end of input;" 1
+glued_end : on Want.Check "$comment x$end;$enddefinitions $end;" ≡ gives "" "(stdin):3: unexpected end of input" 1
 unfolding model
 glued_end = refl
 
-size_too_large : on Want.Check "$var wire 16777216 ! a $end;" ≡ gives "" "vcdkit: (stdin):1: bad variable;" 1
+size_too_large : on Want.Check "$var wire 16777216 ! a $end;" ≡ gives "" "(stdin):1: bad variable" 1
 unfolding model
 size_too_large = refl
 
@@ -83,15 +83,15 @@ repeated_scope : on (Want.Pick (codes "tb" ∷ [])) "$scope module tb $end;$var 
 unfolding model
 repeated_scope = refl
 
-failed_after_line : outcome (Want.Pick (codes "tb" ∷ [])) limit (codes "(stdin)" ∷ []) (record { bytes = written "$timescale 1ns $end;$scope module tb $end;$var wire 1 ! clk $end;$var reg 4 \" q [3:0] $end;$upscope $end;$enddefinitions $end;#0;0!;"; mark = Mark.Failed } ∷ []) ≡ gives "$timescale;^1ns;$end;$scope module tb $end;$var wire 1 ! clk $end;$var reg 4 \" q [3:0] $end;$upscope $end;$enddefinitions $end;#0;0!;" "vcdkit: (stdin): read failed;" 3
+failed_after_line : outcome (Want.Pick (codes "tb" ∷ [])) limit (codes "(stdin)" ∷ []) (record { bytes = written "$timescale 1ns $end;$scope module tb $end;$var wire 1 ! clk $end;$var reg 4 \" q [3:0] $end;$upscope $end;$enddefinitions $end;#0;0!;"; mark = Mark.Failed } ∷ []) ≡ gives "$timescale;^1ns;$end;$scope module tb $end;$var wire 1 ! clk $end;$var reg 4 \" q [3:0] $end;$upscope $end;$enddefinitions $end;#0;0!;" "(stdin): read failed" 3
 unfolding model
 failed_after_line = refl
 
-failed_in_token : outcome (Want.Pick (codes "tb" ∷ [])) limit (codes "(stdin)" ∷ []) (record { bytes = written "$timescale 1ns $end;$scope module tb $end;$var wire 1 ! clk $end;$var reg 4 \" q [3:0] $end;$upscope $end;$enddefinitions $end;#0;0!"; mark = Mark.Failed } ∷ []) ≡ gives "$timescale;^1ns;$end;$scope module tb $end;$var wire 1 ! clk $end;$var reg 4 \" q [3:0] $end;$upscope $end;$enddefinitions $end;" "vcdkit: (stdin): read failed;" 3
+failed_in_token : outcome (Want.Pick (codes "tb" ∷ [])) limit (codes "(stdin)" ∷ []) (record { bytes = written "$timescale 1ns $end;$scope module tb $end;$var wire 1 ! clk $end;$var reg 4 \" q [3:0] $end;$upscope $end;$enddefinitions $end;#0;0!"; mark = Mark.Failed } ∷ []) ≡ gives "$timescale;^1ns;$end;$scope module tb $end;$var wire 1 ! clk $end;$var reg 4 \" q [3:0] $end;$upscope $end;$enddefinitions $end;" "(stdin): read failed" 3
 unfolding model
 failed_in_token = refl
 
-failed_in_a_header : outcome Want.Check limit (codes "(stdin)" ∷ []) (record { bytes = written "$var wire 1 ! a"; mark = Mark.Failed } ∷ []) ≡ gives "" "vcdkit: (stdin): read failed;" 3
+failed_in_a_header : outcome Want.Check limit (codes "(stdin)" ∷ []) (record { bytes = written "$var wire 1 ! a"; mark = Mark.Failed } ∷ []) ≡ gives "" "(stdin): read failed" 3
 unfolding model
 failed_in_a_header = refl
 

@@ -6,28 +6,28 @@ use Rattle.vcd_laws.proofs.RowText.{written, clean, limit, on, gives, cut, sampl
 
 -- ---- of two checks that fail the first counts
 
-bad_time_in_section : on Want.Check "$var wire 1 ! a $end;$enddefinitions $end;#1;$dumpall;#x;" ≡ gives "" "vcdkit: (stdin):5: bad time;" 1
+bad_time_in_section : on Want.Check "$var wire 1 ! a $end;$enddefinitions $end;#1;$dumpall;#x;" ≡ gives "" "(stdin):5: bad time" 1
 unfolding model
 bad_time_in_section = refl
 
-earlier_time_in_section : on Want.Check "$var wire 1 ! a $end;$enddefinitions $end;#5;$dumpall;#4;" ≡ gives "" "vcdkit: (stdin):5: time inside a section;" 1
+earlier_time_in_section : on Want.Check "$var wire 1 ! a $end;$enddefinitions $end;#5;$dumpall;#4;" ≡ gives "" "(stdin):5: time inside a section" 1
 unfolding model
 earlier_time_in_section = refl
 
-earlier_time_out_of_range : on Want.Check "$var wire 1 ! a $end;$enddefinitions $end;#5;#18446744073709551616;" ≡ gives "" "vcdkit: (stdin):4: bad time;" 1
+earlier_time_out_of_range : on Want.Check "$var wire 1 ! a $end;$enddefinitions $end;#5;#18446744073709551616;" ≡ gives "" "(stdin):4: bad time" 1
 unfolding model
 earlier_time_out_of_range = refl
 
-bad_digits_of_unknown_code : on Want.Check "$var wire 1 ! a $end;$enddefinitions $end;b12 ?;" ≡ gives "" "vcdkit: (stdin):3: bad value;" 1
+bad_digits_of_unknown_code : on Want.Check "$var wire 1 ! a $end;$enddefinitions $end;b12 ?;" ≡ gives "" "(stdin):3: bad value" 1
 unfolding model
 bad_digits_of_unknown_code = refl
 
 -- the code is asked for on its own line
-too_many_digits_of_unknown_code : on Want.Check "$var wire 1 ! a $end;$enddefinitions $end;b10;?;" ≡ gives "" "vcdkit: (stdin):4: unknown code;" 1
+too_many_digits_of_unknown_code : on Want.Check "$var wire 1 ! a $end;$enddefinitions $end;b10;?;" ≡ gives "" "(stdin):4: unknown code" 1
 unfolding model
 too_many_digits_of_unknown_code = refl
 
-too_many_digits : on Want.Check "$var wire 1 ! a $end;$enddefinitions $end;b10;!;" ≡ gives "" "vcdkit: (stdin):4: value too wide;" 1
+too_many_digits : on Want.Check "$var wire 1 ! a $end;$enddefinitions $end;b10;!;" ≡ gives "" "(stdin):4: value too wide" 1
 unfolding model
 too_many_digits = refl
 
@@ -36,24 +36,24 @@ too_many_digits_of_event : on Want.Check "$var wire 1 ! a $end;$var real 1 \" r 
 unfolding model
 too_many_digits_of_event = refl
 
-long_real_of_unknown_code : on Want.Check "$var wire 1 ! a $end;$enddefinitions $end;r11111111111111111111111111111111111111111111111111111111111111111 ?;" ≡ gives "" "vcdkit: (stdin):3: real text too long;" 1
+long_real_of_unknown_code : on Want.Check "$var wire 1 ! a $end;$enddefinitions $end;r11111111111111111111111111111111111111111111111111111111111111111 ?;" ≡ gives "" "(stdin):3: real text too long" 1
 unfolding model
 long_real_of_unknown_code = refl
 
-longest_real_of_unknown_code : on Want.Check "$var wire 1 ! a $end;$enddefinitions $end;r1111111111111111111111111111111111111111111111111111111111111111;?;" ≡ gives "" "vcdkit: (stdin):4: unknown code;" 1
+longest_real_of_unknown_code : on Want.Check "$var wire 1 ! a $end;$enddefinitions $end;r1111111111111111111111111111111111111111111111111111111111111111;?;" ≡ gives "" "(stdin):4: unknown code" 1
 unfolding model
 longest_real_of_unknown_code = refl
 
-bad_size_before_code : on Want.Check "$var wire 1;!;a $end;$var reg 0;!;a $end;" ≡ gives "" "vcdkit: (stdin):4: bad variable;" 1
+bad_size_before_code : on Want.Check "$var wire 1;!;a $end;$var reg 0;!;a $end;" ≡ gives "" "(stdin):4: bad variable" 1
 unfolding model
 bad_size_before_code = refl
 
 -- at the code, before the missing reference
-size_differs_at_code : on Want.Check "$var wire 1;!;a $end;$var reg 2;!;$end;" ≡ gives "" "vcdkit: (stdin):5: code declared with another size or kind;" 1
+size_differs_at_code : on Want.Check "$var wire 1;!;a $end;$var reg 2;!;$end;" ≡ gives "" "(stdin):5: code declared with another size or kind" 1
 unfolding model
 size_differs_at_code = refl
 
-missing_reference : on Want.Check "$var wire 1;!;a $end;$var reg 1;!;$end;" ≡ gives "" "vcdkit: (stdin):6: bad variable;" 1
+missing_reference : on Want.Check "$var wire 1;!;a $end;$var reg 1;!;$end;" ≡ gives "" "(stdin):6: bad variable" 1
 unfolding model
 missing_reference = refl
 
@@ -61,37 +61,37 @@ same_code_again : on Want.Check "$var wire 4 ! a $end;$var reg 04 ! b $end;$endd
 unfolding model
 same_code_again = refl
 
-type_that_is_end : on Want.Check "$var $end;" ≡ gives "" "vcdkit: (stdin):1: bad variable;" 1
+type_that_is_end : on Want.Check "$var $end;" ≡ gives "" "(stdin):1: bad variable" 1
 unfolding model
 type_that_is_end = refl
 
-scope_type_that_is_end : on Want.Check "$scope $end;" ≡ gives "" "vcdkit: (stdin):1: bad scope;" 1
+scope_type_that_is_end : on Want.Check "$scope $end;" ≡ gives "" "(stdin):1: bad scope" 1
 unfolding model
 scope_type_that_is_end = refl
 
-upscope_with_name : on Want.Check "$scope module s $end;$upscope s $end;" ≡ gives "" "vcdkit: (stdin):2: bad scope;" 1
+upscope_with_name : on Want.Check "$scope module s $end;$upscope s $end;" ≡ gives "" "(stdin):2: bad scope" 1
 unfolding model
 upscope_with_name = refl
 
-definitions_with_name : on Want.Check "$enddefinitions now $end;" ≡ gives "" "vcdkit: (stdin):1: command out of place;" 1
+definitions_with_name : on Want.Check "$enddefinitions now $end;" ≡ gives "" "(stdin):1: command out of place" 1
 unfolding model
 definitions_with_name = refl
 
 -- ---- where an input ends
 
-end_in_section : on Want.Check "$var wire 1 ! a $end;$enddefinitions $end;#0;$dumpvars;0!;" ≡ gives "" "vcdkit: (stdin):6: unexpected end of input;" 1
+end_in_section : on Want.Check "$var wire 1 ! a $end;$enddefinitions $end;#0;$dumpvars;0!;" ≡ gives "" "(stdin):6: unexpected end of input" 1
 unfolding model
 end_in_section = refl
 
-end_in_comment : on Want.Check "$var wire 1 ! a $end;$enddefinitions $end;$comment;;;" ≡ gives "" "vcdkit: (stdin):6: unexpected end of input;" 1
+end_in_comment : on Want.Check "$var wire 1 ! a $end;$enddefinitions $end;$comment;;;" ≡ gives "" "(stdin):6: unexpected end of input" 1
 unfolding model
 end_in_comment = refl
 
-end_behind_value : on Want.Check "$var wire 1 ! a $end;$enddefinitions $end;b1" ≡ gives "" "vcdkit: (stdin):3: unexpected end of input;" 1
+end_behind_value : on Want.Check "$var wire 1 ! a $end;$enddefinitions $end;b1" ≡ gives "" "(stdin):3: unexpected end of input" 1
 unfolding model
 end_behind_value = refl
 
-end_in_header : on Want.Check "$var wire 1 ! a $end;" ≡ gives "" "vcdkit: (stdin):2: unexpected end of input;" 1
+end_in_header : on Want.Check "$var wire 1 ! a $end;" ≡ gives "" "(stdin):2: unexpected end of input" 1
 unfolding model
 end_in_header = refl
 
@@ -103,41 +103,41 @@ comment_in_section : on Want.Check "$var wire 1 ! a $end;$enddefinitions $end;$d
 unfolding model
 comment_in_section = refl
 
-section_in_section : on Want.Check "$var wire 1 ! a $end;$enddefinitions $end;$dumpoff;$dumpon;" ≡ gives "" "vcdkit: (stdin):4: command out of place;" 1
+section_in_section : on Want.Check "$var wire 1 ! a $end;$enddefinitions $end;$dumpoff;$dumpon;" ≡ gives "" "(stdin):4: command out of place" 1
 unfolding model
 section_in_section = refl
 
-dumpall_in_a_section : on Want.Check "$var wire 1 ! a $end;$enddefinitions $end;$dumpon;$dumpall;" ≡ gives "" "vcdkit: (stdin):4: command out of place;" 1
+dumpall_in_a_section : on Want.Check "$var wire 1 ! a $end;$enddefinitions $end;$dumpon;$dumpall;" ≡ gives "" "(stdin):4: command out of place" 1
 unfolding model
 dumpall_in_a_section = refl
 
-dumpoff_in_a_section : on Want.Check "$var wire 1 ! a $end;$enddefinitions $end;$dumpon;$dumpoff;" ≡ gives "" "vcdkit: (stdin):4: command out of place;" 1
+dumpoff_in_a_section : on Want.Check "$var wire 1 ! a $end;$enddefinitions $end;$dumpon;$dumpoff;" ≡ gives "" "(stdin):4: command out of place" 1
 unfolding model
 dumpoff_in_a_section = refl
 
-dumpvars_in_a_section : on Want.Check "$var wire 1 ! a $end;$enddefinitions $end;$dumpon;$dumpvars;" ≡ gives "" "vcdkit: (stdin):4: command out of place;" 1
+dumpvars_in_a_section : on Want.Check "$var wire 1 ! a $end;$enddefinitions $end;$dumpon;$dumpvars;" ≡ gives "" "(stdin):4: command out of place" 1
 unfolding model
 dumpvars_in_a_section = refl
 
-dumpon_in_a_section : on Want.Check "$var wire 1 ! a $end;$enddefinitions $end;$dumpon;$dumpon;" ≡ gives "" "vcdkit: (stdin):4: command out of place;" 1
+dumpon_in_a_section : on Want.Check "$var wire 1 ! a $end;$enddefinitions $end;$dumpon;$dumpon;" ≡ gives "" "(stdin):4: command out of place" 1
 unfolding model
 dumpon_in_a_section = refl
 
 -- ---- tokens where a phrase begins
 
-real_in_header : on Want.Check "r1;" ≡ gives "" "vcdkit: (stdin):1: command out of place;" 1
+real_in_header : on Want.Check "r1;" ≡ gives "" "(stdin):1: command out of place" 1
 unfolding model
 real_in_header = refl
 
-section_in_header : on Want.Check "$dumpvars;" ≡ gives "" "vcdkit: (stdin):1: command out of place;" 1
+section_in_header : on Want.Check "$dumpvars;" ≡ gives "" "(stdin):1: command out of place" 1
 unfolding model
 section_in_header = refl
 
-upper_case_in_a_header : on Want.Check "X!;" ≡ gives "" "vcdkit: (stdin):1: command out of place;" 1
+upper_case_in_a_header : on Want.Check "X!;" ≡ gives "" "(stdin):1: command out of place" 1
 unfolding model
 upper_case_in_a_header = refl
 
-end_in_place_of_a_command : on Want.Check "$end;" ≡ gives "" "vcdkit: (stdin):1: command out of place;" 1
+end_in_place_of_a_command : on Want.Check "$end;" ≡ gives "" "(stdin):1: command out of place" 1
 unfolding model
 end_in_place_of_a_command = refl
 
@@ -145,39 +145,39 @@ dumpports_in_header : on Want.Check "$dumpports $comment ! $enddefinitions;$end;
 unfolding model
 dumpports_in_header = refl
 
-upper_case_end : on Want.Check "$comment $End;$enddefinitions $end;" ≡ gives "" "vcdkit: (stdin):3: unexpected end of input;" 1
+upper_case_end : on Want.Check "$comment $End;$enddefinitions $end;" ≡ gives "" "(stdin):3: unexpected end of input" 1
 unfolding model
 upper_case_end = refl
 
-comment_in_body_of_nothing : on Want.Check "$enddefinitions $end;$comment $end;$date;" ≡ gives "" "vcdkit: (stdin):3: command out of place;" 1
+comment_in_body_of_nothing : on Want.Check "$enddefinitions $end;$comment $end;$date;" ≡ gives "" "(stdin):3: command out of place" 1
 unfolding model
 comment_in_body_of_nothing = refl
 
-dumpports_in_body : on Want.Check "$var wire 1 ! a $end;$enddefinitions $end;$dumpports;" ≡ gives "" "vcdkit: (stdin):3: unknown command;" 1
+dumpports_in_body : on Want.Check "$var wire 1 ! a $end;$enddefinitions $end;$dumpports;" ≡ gives "" "(stdin):3: unknown command" 1
 unfolding model
 dumpports_in_body = refl
 
-date_in_body : on Want.Check "$var wire 1 ! a $end;$enddefinitions $end;$date $end;" ≡ gives "" "vcdkit: (stdin):3: command out of place;" 1
+date_in_body : on Want.Check "$var wire 1 ! a $end;$enddefinitions $end;$date $end;" ≡ gives "" "(stdin):3: command out of place" 1
 unfolding model
 date_in_body = refl
 
-enddefinitions_in_body : on Want.Check "$var wire 1 ! a $end;$enddefinitions $end;$enddefinitions $end;" ≡ gives "" "vcdkit: (stdin):3: command out of place;" 1
+enddefinitions_in_body : on Want.Check "$var wire 1 ! a $end;$enddefinitions $end;$enddefinitions $end;" ≡ gives "" "(stdin):3: command out of place" 1
 unfolding model
 enddefinitions_in_body = refl
 
-scope_in_body : on Want.Check "$var wire 1 ! a $end;$enddefinitions $end;$scope $end;" ≡ gives "" "vcdkit: (stdin):3: command out of place;" 1
+scope_in_body : on Want.Check "$var wire 1 ! a $end;$enddefinitions $end;$scope $end;" ≡ gives "" "(stdin):3: command out of place" 1
 unfolding model
 scope_in_body = refl
 
-timescale_in_body : on Want.Check "$var wire 1 ! a $end;$enddefinitions $end;$timescale $end;" ≡ gives "" "vcdkit: (stdin):3: command out of place;" 1
+timescale_in_body : on Want.Check "$var wire 1 ! a $end;$enddefinitions $end;$timescale $end;" ≡ gives "" "(stdin):3: command out of place" 1
 unfolding model
 timescale_in_body = refl
 
-upscope_in_body : on Want.Check "$var wire 1 ! a $end;$enddefinitions $end;$upscope $end;" ≡ gives "" "vcdkit: (stdin):3: command out of place;" 1
+upscope_in_body : on Want.Check "$var wire 1 ! a $end;$enddefinitions $end;$upscope $end;" ≡ gives "" "(stdin):3: command out of place" 1
 unfolding model
 upscope_in_body = refl
 
-version_in_body : on Want.Check "$var wire 1 ! a $end;$enddefinitions $end;$version $end;" ≡ gives "" "vcdkit: (stdin):3: command out of place;" 1
+version_in_body : on Want.Check "$var wire 1 ! a $end;$enddefinitions $end;$version $end;" ≡ gives "" "(stdin):3: command out of place" 1
 unfolding model
 version_in_body = refl
 
@@ -250,7 +250,7 @@ cut_of_early_items = refl
 -- ---- several inputs
 
 -- headers are read first: a fault in a later one counts before a fault in an earlier body
-later_header : outcome Want.Merge limit (codes "a.vcd" ∷ codes "b.vcd" ∷ []) (clean "$var wire 1 ! a $end;$enddefinitions $end;?;" ∷ clean "$upscope $end;" ∷ []) ≡ gives "" "vcdkit: b.vcd:1: upscope without scope;" 1
+later_header : outcome Want.Merge limit (codes "a.vcd" ∷ codes "b.vcd" ∷ []) (clean "$var wire 1 ! a $end;$enddefinitions $end;?;" ∷ clean "$upscope $end;" ∷ []) ≡ gives "" "b.vcd:1: upscope without scope" 1
 unfolding model
 later_header = refl
 
@@ -260,16 +260,16 @@ unfolding model
 greatest_mark_closes = refl
 
 -- a time that is too large ends an input that is alone
-too_large_alone : outcome Want.Merge limit (codes "a.vcd" ∷ codes "b.vcd" ∷ []) (clean "$timescale 100s $end;$var wire 1 ! a $end;$enddefinitions $end;1!;#184467440737095516;0!;#184467440737095517;" ∷ clean "$var wire 1 ! a $end;$enddefinitions $end;#18446744073709551615;1!;" ∷ []) ≡ gives "$timescale;^1s;$end;$scope module in1 $end;$var wire 1 ! a $end;$upscope $end;$scope module in2 $end;$var wire 1 \" a $end;$upscope $end;$enddefinitions $end;#0;1!;#18446744073709551600;0!;" "vcdkit: a.vcd:7: time too large;" 1
+too_large_alone : outcome Want.Merge limit (codes "a.vcd" ∷ codes "b.vcd" ∷ []) (clean "$timescale 100s $end;$var wire 1 ! a $end;$enddefinitions $end;1!;#184467440737095516;0!;#184467440737095517;" ∷ clean "$var wire 1 ! a $end;$enddefinitions $end;#18446744073709551615;1!;" ∷ []) ≡ gives "$timescale;^1s;$end;$scope module in1 $end;$var wire 1 ! a $end;$upscope $end;$scope module in2 $end;$var wire 1 \" a $end;$upscope $end;$enddefinitions $end;#0;1!;#18446744073709551600;0!;" "a.vcd:7: time too large" 1
 unfolding model
 too_large_alone = refl
 
 -- a fault ends a merge at its position; items of a later input at the same time come after it
-failed_read_waits_in_a_merge : outcome Want.Merge limit (codes "a.vcd" ∷ codes "b.vcd" ∷ []) (clean "$var wire 1 ! a $end;$enddefinitions $end;#1;1!;#3;0!;#9;1!;" ∷ record { bytes = written "$var wire 1 ! a $end;$enddefinitions $end;#2;0!;#5;"; mark = Mark.Failed } ∷ []) ≡ gives "$timescale;^1s;$end;$scope module in1 $end;$var wire 1 ! a $end;$upscope $end;$scope module in2 $end;$var wire 1 \" a $end;$upscope $end;$enddefinitions $end;#1;1!;#2;0\";#3;0!;" "vcdkit: b.vcd: read failed;" 3
+failed_read_waits_in_a_merge : outcome Want.Merge limit (codes "a.vcd" ∷ codes "b.vcd" ∷ []) (clean "$var wire 1 ! a $end;$enddefinitions $end;#1;1!;#3;0!;#9;1!;" ∷ record { bytes = written "$var wire 1 ! a $end;$enddefinitions $end;#2;0!;#5;"; mark = Mark.Failed } ∷ []) ≡ gives "$timescale;^1s;$end;$scope module in1 $end;$var wire 1 ! a $end;$upscope $end;$scope module in2 $end;$var wire 1 \" a $end;$upscope $end;$enddefinitions $end;#1;1!;#2;0\";#3;0!;" "b.vcd: read failed" 3
 unfolding model
 failed_read_waits_in_a_merge = refl
 
-fault_before_a_later_input : outcome Want.Merge limit (codes "a.vcd" ∷ codes "b.vcd" ∷ []) (clean "$var wire 1 ! a $end;$enddefinitions $end;#5;?;" ∷ clean "$var wire 1 ! a $end;$enddefinitions $end;#4;0!;#5;1!;" ∷ []) ≡ gives "$timescale;^1s;$end;$scope module in1 $end;$var wire 1 ! a $end;$upscope $end;$scope module in2 $end;$var wire 1 \" a $end;$upscope $end;$enddefinitions $end;#4;0\";" "vcdkit: a.vcd:4: unknown command;" 1
+fault_before_a_later_input : outcome Want.Merge limit (codes "a.vcd" ∷ codes "b.vcd" ∷ []) (clean "$var wire 1 ! a $end;$enddefinitions $end;#5;?;" ∷ clean "$var wire 1 ! a $end;$enddefinitions $end;#4;0!;#5;1!;" ∷ []) ≡ gives "$timescale;^1s;$end;$scope module in1 $end;$var wire 1 ! a $end;$upscope $end;$scope module in2 $end;$var wire 1 \" a $end;$upscope $end;$enddefinitions $end;#4;0\";" "a.vcd:4: unknown command" 1
 unfolding model
 fault_before_a_later_input = refl
 

@@ -3,7 +3,7 @@ use Rattle.vcd_laws.proofs.Cited.{◌≡◌, [], ◌∷◌, codes, refl, Want, o
 use Rattle.vcd_laws.proofs.Computing.{model}
 use Rattle.vcd_laws.proofs.RowText.{clean, limit, on, gives, cut, sample}
 
-empty_input : on Want.Check "" ≡ gives "" "vcdkit: (stdin):1: unexpected end of input;" 1
+empty_input : on Want.Check "" ≡ gives "" "(stdin):1: unexpected end of input" 1
 unfolding model
 empty_input = refl
 
@@ -31,7 +31,7 @@ pick_by_alias : on (Want.Pick (codes "tb.u.b" ∷ [])) "$scope module tb $end;$v
 unfolding model
 pick_by_alias = refl
 
-name_selects_nothing : on (Want.Pick (codes "tc" ∷ [])) "$scope module tb $end;$var wire 1 ! a $end;$scope module u $end;$var wire 1 ! b $end;$upscope $end;$upscope $end;$enddefinitions $end;#0;0!;#5;1!;#5;1!;#7;" ≡ gives "" "vcdkit: tc: selects nothing;" 1
+name_selects_nothing : on (Want.Pick (codes "tc" ∷ [])) "$scope module tb $end;$var wire 1 ! a $end;$scope module u $end;$var wire 1 ! b $end;$upscope $end;$upscope $end;$enddefinitions $end;#0;0!;#5;1!;#5;1!;#7;" ≡ gives "" "tc: selects nothing" 1
 unfolding model
 name_selects_nothing = refl
 
@@ -63,83 +63,83 @@ edges_of_real_and_event : on (Want.Edges []) "$var wire 1 ! a $end;$var real 1 \
 unfolding model
 edges_of_real_and_event = refl
 
-pick_up_to_fault : on (Want.Pick (codes "tb" ∷ [])) "$timescale 1ns $end;$scope module tb $end;$var wire 1 ! clk $end;$var reg 4 \" q [3:0] $end;$upscope $end;$enddefinitions $end;#0;0!;#5;b10" ≡ gives "$timescale;^1ns;$end;$scope module tb $end;$var wire 1 ! clk $end;$var reg 4 \" q [3:0] $end;$upscope $end;$enddefinitions $end;#0;0!;" "vcdkit: (stdin):10: unexpected end of input;" 1
+pick_up_to_fault : on (Want.Pick (codes "tb" ∷ [])) "$timescale 1ns $end;$scope module tb $end;$var wire 1 ! clk $end;$var reg 4 \" q [3:0] $end;$upscope $end;$enddefinitions $end;#0;0!;#5;b10" ≡ gives "$timescale;^1ns;$end;$scope module tb $end;$var wire 1 ! clk $end;$var reg 4 \" q [3:0] $end;$upscope $end;$enddefinitions $end;#0;0!;" "(stdin):10: unexpected end of input" 1
 unfolding model
 pick_up_to_fault = refl
 
-time_goes_back : on Want.Check "$timescale 1ns $end;$scope module tb $end;$var wire 1 ! clk $end;$var reg 4 \" q [3:0] $end;$upscope $end;$enddefinitions $end;#5;#5;1!;#4;" ≡ gives "" "vcdkit: (stdin):10: time goes back;" 1
+time_goes_back : on Want.Check "$timescale 1ns $end;$scope module tb $end;$var wire 1 ! clk $end;$var reg 4 \" q [3:0] $end;$upscope $end;$enddefinitions $end;#5;#5;1!;#4;" ≡ gives "" "(stdin):10: time goes back" 1
 unfolding model
 time_goes_back = refl
 
-time_in_section : on Want.Check "$timescale 1ns $end;$scope module tb $end;$var wire 1 ! clk $end;$var reg 4 \" q [3:0] $end;$upscope $end;$enddefinitions $end;#5;$dumpvars;#4;" ≡ gives "" "vcdkit: (stdin):9: time inside a section;" 1
+time_in_section : on Want.Check "$timescale 1ns $end;$scope module tb $end;$var wire 1 ! clk $end;$var reg 4 \" q [3:0] $end;$upscope $end;$enddefinitions $end;#5;$dumpvars;#4;" ≡ gives "" "(stdin):9: time inside a section" 1
 unfolding model
 time_in_section = refl
 
-code_by_place : on Want.Check "$timescale 1ns $end;$scope module tb $end;$var wire 1 ! clk $end;$var reg 4 \" q [3:0] $end;$upscope $end;$enddefinitions $end;b101 $end;" ≡ gives "" "vcdkit: (stdin):7: unknown code;" 1
+code_by_place : on Want.Check "$timescale 1ns $end;$scope module tb $end;$var wire 1 ! clk $end;$var reg 4 \" q [3:0] $end;$upscope $end;$enddefinitions $end;b101 $end;" ≡ gives "" "(stdin):7: unknown code" 1
 unfolding model
 code_by_place = refl
 
-value_too_wide : on Want.Check "$timescale 1ns $end;$scope module tb $end;$var wire 1 ! clk $end;$var reg 4 \" q [3:0] $end;$upscope $end;$enddefinitions $end;b10110 \";" ≡ gives "" "vcdkit: (stdin):7: value too wide;" 1
+value_too_wide : on Want.Check "$timescale 1ns $end;$scope module tb $end;$var wire 1 ! clk $end;$var reg 4 \" q [3:0] $end;$upscope $end;$enddefinitions $end;b10110 \";" ≡ gives "" "(stdin):7: value too wide" 1
 unfolding model
 value_too_wide = refl
 
-bad_time : on Want.Check "$timescale 1ns $end;$scope module tb $end;$var wire 1 ! clk $end;$var reg 4 \" q [3:0] $end;$upscope $end;$enddefinitions $end;#x;" ≡ gives "" "vcdkit: (stdin):7: bad time;" 1
+bad_time : on Want.Check "$timescale 1ns $end;$scope module tb $end;$var wire 1 ! clk $end;$var reg 4 \" q [3:0] $end;$upscope $end;$enddefinitions $end;#x;" ≡ gives "" "(stdin):7: bad time" 1
 unfolding model
 bad_time = refl
 
-digit_without_code : on Want.Check "$timescale 1ns $end;$scope module tb $end;$var wire 1 ! clk $end;$var reg 4 \" q [3:0] $end;$upscope $end;$enddefinitions $end;1;" ≡ gives "" "vcdkit: (stdin):7: bad value;" 1
+digit_without_code : on Want.Check "$timescale 1ns $end;$scope module tb $end;$var wire 1 ! clk $end;$var reg 4 \" q [3:0] $end;$upscope $end;$enddefinitions $end;1;" ≡ gives "" "(stdin):7: bad value" 1
 unfolding model
 digit_without_code = refl
 
-bad_digit : on Want.Check "$timescale 1ns $end;$scope module tb $end;$var wire 1 ! clk $end;$var reg 4 \" q [3:0] $end;$upscope $end;$enddefinitions $end;b12 \";" ≡ gives "" "vcdkit: (stdin):7: bad value;" 1
+bad_digit : on Want.Check "$timescale 1ns $end;$scope module tb $end;$var wire 1 ! clk $end;$var reg 4 \" q [3:0] $end;$upscope $end;$enddefinitions $end;b12 \";" ≡ gives "" "(stdin):7: bad value" 1
 unfolding model
 bad_digit = refl
 
-number_missing : on Want.Check "$timescale 1ns $end;$scope module tb $end;$var wire 1 ! clk $end;$var reg 4 \" q [3:0] $end;$upscope $end;$enddefinitions $end;r \";" ≡ gives "" "vcdkit: (stdin):7: bad value;" 1
+number_missing : on Want.Check "$timescale 1ns $end;$scope module tb $end;$var wire 1 ! clk $end;$var reg 4 \" q [3:0] $end;$upscope $end;$enddefinitions $end;r \";" ≡ gives "" "(stdin):7: bad value" 1
 unfolding model
 number_missing = refl
 
-end_outside_section : on Want.Check "$timescale 1ns $end;$scope module tb $end;$var wire 1 ! clk $end;$var reg 4 \" q [3:0] $end;$upscope $end;$enddefinitions $end;$end;" ≡ gives "" "vcdkit: (stdin):7: command out of place;" 1
+end_outside_section : on Want.Check "$timescale 1ns $end;$scope module tb $end;$var wire 1 ! clk $end;$var reg 4 \" q [3:0] $end;$upscope $end;$enddefinitions $end;$end;" ≡ gives "" "(stdin):7: command out of place" 1
 unfolding model
 end_outside_section = refl
 
-header_command_in_body : on Want.Check "$timescale 1ns $end;$scope module tb $end;$var wire 1 ! clk $end;$var reg 4 \" q [3:0] $end;$upscope $end;$enddefinitions $end;$var" ≡ gives "" "vcdkit: (stdin):7: command out of place;" 1
+header_command_in_body : on Want.Check "$timescale 1ns $end;$scope module tb $end;$var wire 1 ! clk $end;$var reg 4 \" q [3:0] $end;$upscope $end;$enddefinitions $end;$var" ≡ gives "" "(stdin):7: command out of place" 1
 unfolding model
 header_command_in_body = refl
 
-unknown_in_phrase_start : on Want.Check "$timescale 1ns $end;$scope module tb $end;$var wire 1 ! clk $end;$var reg 4 \" q [3:0] $end;$upscope $end;$enddefinitions $end;?;" ≡ gives "" "vcdkit: (stdin):7: unknown command;" 1
+unknown_in_phrase_start : on Want.Check "$timescale 1ns $end;$scope module tb $end;$var wire 1 ! clk $end;$var reg 4 \" q [3:0] $end;$upscope $end;$enddefinitions $end;?;" ≡ gives "" "(stdin):7: unknown command" 1
 unfolding model
 unknown_in_phrase_start = refl
 
-real_too_long : on Want.Check "$timescale 1ns $end;$scope module tb $end;$var wire 1 ! clk $end;$var reg 4 \" q [3:0] $end;$upscope $end;$enddefinitions $end;r11111111111111111111111111111111111111111111111111111111111111111 \";" ≡ gives "" "vcdkit: (stdin):7: real text too long;" 1
+real_too_long : on Want.Check "$timescale 1ns $end;$scope module tb $end;$var wire 1 ! clk $end;$var reg 4 \" q [3:0] $end;$upscope $end;$enddefinitions $end;r11111111111111111111111111111111111111111111111111111111111111111 \";" ≡ gives "" "(stdin):7: real text too long" 1
 unfolding model
 real_too_long = refl
 
-unfinished_command : on Want.Check "$foo $end;" ≡ gives "" "vcdkit: (stdin):2: unexpected end of input;" 1
+unfinished_command : on Want.Check "$foo $end;" ≡ gives "" "(stdin):2: unexpected end of input" 1
 unfolding model
 unfinished_command = refl
 
-mark_in_header : on Want.Check "#0;" ≡ gives "" "vcdkit: (stdin):1: command out of place;" 1
+mark_in_header : on Want.Check "#0;" ≡ gives "" "(stdin):1: command out of place" 1
 unfolding model
 mark_in_header = refl
 
-bad_scale : on Want.Check "$timescale 2ns $end;" ≡ gives "" "vcdkit: (stdin):1: bad timescale;" 1
+bad_scale : on Want.Check "$timescale 2ns $end;" ≡ gives "" "(stdin):1: bad timescale" 1
 unfolding model
 bad_scale = refl
 
-scope_without_name : on Want.Check "$scope module $end;" ≡ gives "" "vcdkit: (stdin):1: bad scope;" 1
+scope_without_name : on Want.Check "$scope module $end;" ≡ gives "" "(stdin):1: bad scope" 1
 unfolding model
 scope_without_name = refl
 
-size_zero : on Want.Check "$var wire 0 ! a $end;" ≡ gives "" "vcdkit: (stdin):1: bad variable;" 1
+size_zero : on Want.Check "$var wire 0 ! a $end;" ≡ gives "" "(stdin):1: bad variable" 1
 unfolding model
 size_zero = refl
 
-size_differs : on Want.Check "$var wire 1 ! a $end;$var wire 2 ! b $end;" ≡ gives "" "vcdkit: (stdin):2: code declared with another size or kind;" 1
+size_differs : on Want.Check "$var wire 1 ! a $end;$var wire 2 ! b $end;" ≡ gives "" "(stdin):2: code declared with another size or kind" 1
 unfolding model
 size_differs = refl
 
-no_scope_to_close : on Want.Check "$upscope $end;" ≡ gives "" "vcdkit: (stdin):1: upscope without scope;" 1
+no_scope_to_close : on Want.Check "$upscope $end;" ≡ gives "" "(stdin):1: upscope without scope" 1
 unfolding model
 no_scope_to_close = refl
 
@@ -147,7 +147,7 @@ sample_ends_early : on (sample (1 ∷ []) []) "$var wire 4 ! v $end;$var wire 8 
 unfolding model
 sample_ends_early = refl
 
-sample_up_to_fault : on (sample (1 ∷ 2 ∷ []) []) "$var wire 4 ! v $end;$var wire 8 \" w $end;$enddefinitions $end;#1;b1 !;#2;?;" ≡ gives "1 v 0001;1 w -;" "vcdkit: (stdin):7: unknown command;" 1
+sample_up_to_fault : on (sample (1 ∷ 2 ∷ []) []) "$var wire 4 ! v $end;$var wire 8 \" w $end;$enddefinitions $end;#1;b1 !;#2;?;" ≡ gives "1 v 0001;1 w -;" "(stdin):7: unknown command" 1
 unfolding model
 sample_up_to_fault = refl
 
@@ -163,15 +163,15 @@ merge_same_twice : outcome Want.Merge limit (codes "d.vcd" ∷ codes "d.vcd" ∷
 unfolding model
 merge_same_twice = refl
 
-merge_scales_times : outcome Want.Merge limit (codes "a.vcd" ∷ codes "b.vcd" ∷ []) (clean "$timescale 1ns $end;$var wire 1 ! a $end;$enddefinitions $end;#1;1!;#18446744073709551615;0!;" ∷ clean "$timescale 100ps $end;$var wire 1 ! b $end;$enddefinitions $end;#5;1!;#20;0!;" ∷ []) ≡ gives "$timescale;^100ps;$end;$scope module in1 $end;$var wire 1 ! a $end;$upscope $end;$scope module in2 $end;$var wire 1 \" b $end;$upscope $end;$enddefinitions $end;#5;1\";#10;1!;" "vcdkit: a.vcd:6: time too large;" 1
+merge_scales_times : outcome Want.Merge limit (codes "a.vcd" ∷ codes "b.vcd" ∷ []) (clean "$timescale 1ns $end;$var wire 1 ! a $end;$enddefinitions $end;#1;1!;#18446744073709551615;0!;" ∷ clean "$timescale 100ps $end;$var wire 1 ! b $end;$enddefinitions $end;#5;1!;#20;0!;" ∷ []) ≡ gives "$timescale;^100ps;$end;$scope module in1 $end;$var wire 1 ! a $end;$upscope $end;$scope module in2 $end;$var wire 1 \" b $end;$upscope $end;$enddefinitions $end;#5;1\";#10;1!;" "a.vcd:6: time too large" 1
 unfolding model
 merge_scales_times = refl
 
-merge_waits : outcome Want.Merge limit (codes "a.vcd" ∷ codes "b.vcd" ∷ []) (clean "$var wire 1 ! a $end;$enddefinitions $end;#1;1!;#9;0!;" ∷ clean "$var wire 1 ! a $end;$enddefinitions $end;#5;?;" ∷ []) ≡ gives "$timescale;^1s;$end;$scope module in1 $end;$var wire 1 ! a $end;$upscope $end;$scope module in2 $end;$var wire 1 \" a $end;$upscope $end;$enddefinitions $end;#1;1!;" "vcdkit: b.vcd:4: unknown command;" 1
+merge_waits : outcome Want.Merge limit (codes "a.vcd" ∷ codes "b.vcd" ∷ []) (clean "$var wire 1 ! a $end;$enddefinitions $end;#1;1!;#9;0!;" ∷ clean "$var wire 1 ! a $end;$enddefinitions $end;#5;?;" ∷ []) ≡ gives "$timescale;^1s;$end;$scope module in1 $end;$var wire 1 ! a $end;$upscope $end;$scope module in2 $end;$var wire 1 \" a $end;$upscope $end;$enddefinitions $end;#1;1!;" "b.vcd:4: unknown command" 1
 unfolding model
 merge_waits = refl
 
-merge_tie : outcome Want.Merge limit (codes "a.vcd" ∷ codes "b.vcd" ∷ []) (clean "$var wire 1 ! a $end;$enddefinitions $end;#5;?;" ∷ clean "$var wire 1 ! a $end;$enddefinitions $end;#5;?;" ∷ []) ≡ gives "$timescale;^1s;$end;$scope module in1 $end;$var wire 1 ! a $end;$upscope $end;$scope module in2 $end;$var wire 1 \" a $end;$upscope $end;$enddefinitions $end;" "vcdkit: a.vcd:4: unknown command;" 1
+merge_tie : outcome Want.Merge limit (codes "a.vcd" ∷ codes "b.vcd" ∷ []) (clean "$var wire 1 ! a $end;$enddefinitions $end;#5;?;" ∷ clean "$var wire 1 ! a $end;$enddefinitions $end;#5;?;" ∷ []) ≡ gives "$timescale;^1s;$end;$scope module in1 $end;$var wire 1 ! a $end;$upscope $end;$scope module in2 $end;$var wire 1 \" a $end;$upscope $end;$enddefinitions $end;" "a.vcd:4: unknown command" 1
 unfolding model
 merge_tie = refl
 
@@ -179,6 +179,6 @@ longest_token : outcome Want.Check 64 (codes "(stdin)" ∷ []) (clean "$comment 
 unfolding model
 longest_token = refl
 
-token_too_long : outcome Want.Check 64 (codes "(stdin)" ∷ []) (clean "$comment xxxxxxxxxxxxxxxxxxxxxxxxxxxxxxxxxxxxxxxxxxxxxxxxxxxxxxxxxxxxxxxxx $end;$enddefinitions $end;" ∷ []) ≡ gives "" "vcdkit: (stdin):1: token too long;" 1
+token_too_long : outcome Want.Check 64 (codes "(stdin)" ∷ []) (clean "$comment xxxxxxxxxxxxxxxxxxxxxxxxxxxxxxxxxxxxxxxxxxxxxxxxxxxxxxxxxxxxxxxxx $end;$enddefinitions $end;" ∷ []) ≡ gives "" "(stdin):1: token too long" 1
 unfolding model
 token_too_long = refl

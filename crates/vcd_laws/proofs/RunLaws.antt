@@ -1,5 +1,5 @@
 -- What runs with status 0 have written keeps values.
-use Rattle.vcd_laws.proofs.Cited.{◌≡◌, ◌≢◌, ℕ, ◌^◌, ◌<◌, ◌≤◌, ◌==◌, ℤ, Bool, true, false, cond, ◌&&◌, nat_lt, List, [], ◌∷◌, ◌++◌, filter, decimal, codes, Option, Some, None, Result, Ok, Err, IsTrue, ◌⊎◌, inl, inr, refl, sym, ap, ◌∙◌, subst, list_any, ltb-true, Input, stream_of, Header, header_of, read_header, header_fault_of, BodyItem, Fault, phrases_of, head_for, merged_head, selected, selects_code, first_unmatched, ends_cut, Dump, KeyedFault, headers_of, merged_items, first_fault, items_before, merge_open, merge_close, Moment, in_range, unit_ticks, number_ticks, ticks, Request, Outcome, Opened, fault_text, program_line, fault_outcome, clean_outcome, allowed_after, items_in, fault_in, name_at, ends_early, open_text, close_text, at_end, unmatched_outcome, dumps_of, over_dumps, Want, IsJob, IsTime, Refusal, cut_request, first_refusal, has_unit, refusal_outcome, over_opened, IsBehind, KeepsValues, Opens, cut_text, PickRunKeeps, CutRunKeeps, MergeRunKeeps, MergeKeepsValues, requests_are_valid}
+use Rattle.vcd_laws.proofs.Cited.{◌≡◌, ◌≢◌, ℕ, ◌^◌, ◌<◌, ◌≤◌, ◌==◌, ℤ, Bool, true, false, cond, ◌&&◌, nat_lt, List, [], ◌∷◌, ◌++◌, filter, decimal, codes, Option, Some, None, Result, Ok, Err, IsTrue, ◌⊎◌, inl, inr, refl, sym, ap, ◌∙◌, subst, list_any, ltb-true, Input, stream_of, Header, header_of, read_header, header_fault_of, BodyItem, Fault, phrases_of, head_for, merged_head, selected, selects_code, first_unmatched, ends_cut, Dump, KeyedFault, headers_of, merged_items, first_fault, items_before, merge_open, merge_close, Moment, in_range, unit_ticks, number_ticks, ticks, Request, Outcome, Opened, fault_text, fault_outcome, clean_outcome, allowed_after, items_in, fault_in, name_at, ends_early, open_text, close_text, at_end, unmatched_outcome, dumps_of, over_dumps, Want, IsJob, IsTime, Refusal, cut_request, first_refusal, has_unit, refusal_outcome, over_opened, IsBehind, KeepsValues, Opens, cut_text, PickRunKeeps, CutRunKeeps, MergeRunKeeps, MergeKeepsValues, requests_are_valid}
 use Rattle.vcd_model.specs.Ticks.{moment_ticks}
 use Rattle.vcd_model.specs.Outcome.{open_from, over_body, over_dump, merge_outcome}
 use Rattle.vcd_model.specs.Job.{request_of, outcome}
@@ -12,8 +12,8 @@ pub fault_status : (output name : List ℕ) (f : Fault) → (fault_outcome outpu
 fault_status output name f e = by_number (f.number == 31) e
   where
     by_number : (b : Bool) → (elim b as (λ _. Outcome) [
-      | true ↦ record { output = output; message = program_line (name ++ codes ": read failed"); status = 3 }
-      | false ↦ record { output = output; message = program_line (name ++ codes ":" ++ decimal f.line ++ codes ": " ++ fault_text f.number); status = 1 }
+      | true ↦ record { output = output; message = name ++ codes ": read failed"; status = 3 }
+      | false ↦ record { output = output; message = name ++ codes ":" ++ decimal f.line ++ codes ": " ++ fault_text f.number; status = 1 }
     ]).status ≡ 0 → ⊥
     by_number true e = cc
     by_number false e = cc

@@ -69,11 +69,11 @@ safe_merge : EndsWell (on Want.Merge good)
 safe_merge = safe Want.Merge tt
 
 -- without the premises: a name that selects nothing, and times in the wrong order
-unmatched : on (Want.Pick (codes "b" ∷ [])) good ≡ gives "" "vcdkit: b: selects nothing;" 1
+unmatched : on (Want.Pick (codes "b" ∷ [])) good ≡ gives "" "b: selects nothing" 1
 unfolding model
 unmatched = refl
 
-falling : on (cut "9ns" "5ns") good ≡ gives "" "vcdkit: --from is above --to;" 2
+falling : on (cut "9ns" "5ns") good ≡ gives "" "--from is above --to" 2
 unfolding model
 falling = refl
 
@@ -82,20 +82,20 @@ falling = refl
 abbrev faulty : String
 faulty = "$var wire 1 ! a $end $enddefinitions $end;#5 1!;#4 0!"
 
-check_named : on Want.Check faulty ≡ gives "" "vcdkit: (stdin):3: time goes back;" 1
+check_named : on Want.Check faulty ≡ gives "" "(stdin):3: time goes back" 1
 unfolding model
 check_named = refl
 
-pick_named : on (Want.Pick (codes "a" ∷ [])) faulty ≡ gives "$var wire 1 ! a $end;$enddefinitions $end;#5;1!;" "vcdkit: (stdin):3: time goes back;" 1
+pick_named : on (Want.Pick (codes "a" ∷ [])) faulty ≡ gives "$var wire 1 ! a $end;$enddefinitions $end;#5;1!;" "(stdin):3: time goes back" 1
 unfolding model
 pick_named = refl
 
-edges_named : on (Want.Edges []) faulty ≡ gives "" "vcdkit: (stdin):3: time goes back;" 1
+edges_named : on (Want.Edges []) faulty ≡ gives "" "(stdin):3: time goes back" 1
 unfolding model
 edges_named = refl
 
 -- a cut and a sample name it if no timestamp is above their last time
-cut_named : on (cut "0" "5") faulty ≡ gives "$var wire 1 ! a $end;$enddefinitions $end;#0;$dumpvars;$end;#5;1!;" "vcdkit: (stdin):3: time goes back;" 1
+cut_named : on (cut "0" "5") faulty ≡ gives "$var wire 1 ! a $end;$enddefinitions $end;#0;$dumpvars;$end;#5;1!;" "(stdin):3: time goes back" 1
 unfolding model
 cut_named = refl
 
@@ -103,7 +103,7 @@ cut_before : on (cut "0" "4") faulty ≡ gives "$var wire 1 ! a $end;$enddefinit
 unfolding model
 cut_before = refl
 
-sample_named : on (sample (4 ∷ 5 ∷ []) []) faulty ≡ gives "4 a -;" "vcdkit: (stdin):3: time goes back;" 1
+sample_named : on (sample (4 ∷ 5 ∷ []) []) faulty ≡ gives "4 a -;" "(stdin):3: time goes back" 1
 unfolding model
 sample_named = refl
 
@@ -111,7 +111,7 @@ sample_before : on (sample (4 ∷ []) []) faulty ≡ gives "4 a -;" "" 0
 unfolding model
 sample_before = refl
 
-merge_named : on Want.Merge faulty ≡ gives "$timescale;^1s;$end;$scope module in1 $end;$var wire 1 ! a $end;$upscope $end;$enddefinitions $end;#5;1!;" "vcdkit: (stdin):3: time goes back;" 1
+merge_named : on Want.Merge faulty ≡ gives "$timescale;^1s;$end;$scope module in1 $end;$var wire 1 ! a $end;$upscope $end;$enddefinitions $end;#5;1!;" "(stdin):3: time goes back" 1
 unfolding model
 merge_named = refl
 
@@ -122,7 +122,7 @@ list_before = refl
 
 -- a fault of the header is that of all
 header_named : map (λ want. on want "$upscope $end") (Want.Check ∷ Want.Listing ∷ Want.Pick (codes "zz" ∷ []) ∷ cut "9" "5" ∷ Want.Merge ∷ [])
-    ≡ replicate 5 (gives "" "vcdkit: (stdin):1: upscope without scope;" 1)
+    ≡ replicate 5 (gives "" "(stdin):1: upscope without scope" 1)
 unfolding model
 header_named = refl
 
@@ -143,7 +143,7 @@ abbrev merge_of : String → String → Outcome
 merge_of a b = outcome Want.Merge limit (codes "a.vcd" ∷ codes "b.vcd" ∷ []) (clean a ∷ clean b ∷ [])
 
 -- at the finer scale of the other it is too large
-too_large : merge_of late fine ≡ gives "$timescale;^100ps;$end;$scope module in1 $end;$var wire 1 ! a $end;$upscope $end;$scope module in2 $end;$var wire 1 \" b $end;$upscope $end;$enddefinitions $end;#40;1\";#50;1!;" "vcdkit: a.vcd:2: time too large;" 1
+too_large : merge_of late fine ≡ gives "$timescale;^100ps;$end;$scope module in1 $end;$var wire 1 ! a $end;$upscope $end;$scope module in2 $end;$var wire 1 \" b $end;$upscope $end;$enddefinitions $end;#40;1\";#50;1!;" "a.vcd:2: time too large" 1
 unfolding model
 too_large = refl
 
@@ -160,7 +160,7 @@ unfolding model
 both_fine = refl
 
 -- a merge names the fault that `check` names of one of its inputs
-faulty_merged : merge_of good faulty ≡ gives "$timescale;^1ns;$end;$scope module in1 $end;$scope module m $end;$var wire 1 ! a $end;$upscope $end;$upscope $end;$scope module in2 $end;$var wire 1 \" a $end;$upscope $end;$enddefinitions $end;#5;1!;#9;0!;#5000000000;1\";" "vcdkit: b.vcd:3: time goes back;" 1
+faulty_merged : merge_of good faulty ≡ gives "$timescale;^1ns;$end;$scope module in1 $end;$scope module m $end;$var wire 1 ! a $end;$upscope $end;$upscope $end;$scope module in2 $end;$var wire 1 \" a $end;$upscope $end;$enddefinitions $end;#5;1!;#9;0!;#5000000000;1\";" "b.vcd:3: time goes back" 1
 unfolding model
 faulty_merged = refl
 

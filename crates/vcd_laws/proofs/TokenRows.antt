@@ -11,7 +11,7 @@ all_white_space : outcome Want.Check limit (codes "(stdin)" ∷ []) (record { by
 unfolding model
 all_white_space = refl
 
-lines_of_carriage_returns : outcome Want.Check limit (codes "(stdin)" ∷ []) (record { bytes = written "$var wire 1 ! a $end" ++ (13 ∷ []) ++ written ";$enddefinitions $end" ++ (13 ∷ []) ++ written ";" ++ (13 ∷ []) ++ (13 ∷ []) ++ written "?;"; mark = Mark.Clean } ∷ []) ≡ gives "" "vcdkit: (stdin):3: unknown command;" 1
+lines_of_carriage_returns : outcome Want.Check limit (codes "(stdin)" ∷ []) (record { bytes = written "$var wire 1 ! a $end" ++ (13 ∷ []) ++ written ";$enddefinitions $end" ++ (13 ∷ []) ++ written ";" ++ (13 ∷ []) ++ (13 ∷ []) ++ written "?;"; mark = Mark.Clean } ∷ []) ≡ gives "" "(stdin):3: unknown command" 1
 unfolding model
 lines_of_carriage_returns = refl
 
@@ -69,11 +69,11 @@ long_before_failed : map (λ s. halt_place 2 (failed s)) ("abc" ∷ "abc d" ∷ 
 unfolding model
 long_before_failed = refl
 
-long_token_before_a_failed_read : outcome Want.Check 64 (codes "(stdin)" ∷ []) (record { bytes = written "$comment;xxxxxxxxxxxxxxxxxxxxxxxxxxxxxxxxxxxxxxxxxxxxxxxxxxxxxxxxxxxxxxxxx;$end;"; mark = Mark.Failed } ∷ []) ≡ gives "" "vcdkit: (stdin):2: token too long;" 1
+long_token_before_a_failed_read : outcome Want.Check 64 (codes "(stdin)" ∷ []) (record { bytes = written "$comment;xxxxxxxxxxxxxxxxxxxxxxxxxxxxxxxxxxxxxxxxxxxxxxxxxxxxxxxxxxxxxxxxx;$end;"; mark = Mark.Failed } ∷ []) ≡ gives "" "(stdin):2: token too long" 1
 unfolding model
 long_token_before_a_failed_read = refl
 
-first_of_long_tokens : outcome Want.Check 64 (codes "(stdin)" ∷ []) (clean "$comment;xxxxxxxxxxxxxxxxxxxxxxxxxxxxxxxxxxxxxxxxxxxxxxxxxxxxxxxxxxxxxxxxx;;yyyyyyyyyyyyyyyyyyyyyyyyyyyyyyyyyyyyyyyyyyyyyyyyyyyyyyyyyyyyyyyyyy $end;" ∷ []) ≡ gives "" "vcdkit: (stdin):2: token too long;" 1
+first_of_long_tokens : outcome Want.Check 64 (codes "(stdin)" ∷ []) (clean "$comment;xxxxxxxxxxxxxxxxxxxxxxxxxxxxxxxxxxxxxxxxxxxxxxxxxxxxxxxxxxxxxxxxx;;yyyyyyyyyyyyyyyyyyyyyyyyyyyyyyyyyyyyyyyyyyyyyyyyyyyyyyyyyyyyyyyyyy $end;" ∷ []) ≡ gives "" "(stdin):2: token too long" 1
 unfolding model
 first_of_long_tokens = refl
 

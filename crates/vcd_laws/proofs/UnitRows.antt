@@ -14,15 +14,15 @@ unknown_is_not_kept : on (Want.Pick (codes "c" ∷ [])) "$foo a #0 $var $end;$va
 unfolding model
 unknown_is_not_kept = refl
 
-unknown_in_body : on Want.Check "$timescale 1ns $end;$scope module tb $end;$var wire 1 ! clk $end;$var reg 4 \" q [3:0] $end;$upscope $end;$enddefinitions $end;$foo $end;" ≡ gives "" "vcdkit: (stdin):7: unknown command;" 1
+unknown_in_body : on Want.Check "$timescale 1ns $end;$scope module tb $end;$var wire 1 ! clk $end;$var reg 4 \" q [3:0] $end;$upscope $end;$enddefinitions $end;$foo $end;" ≡ gives "" "(stdin):7: unknown command" 1
 unfolding model
 unknown_in_body = refl
 
-no_command : on Want.Check "foo $end;" ≡ gives "" "vcdkit: (stdin):1: unknown command;" 1
+no_command : on Want.Check "foo $end;" ≡ gives "" "(stdin):1: unknown command" 1
 unfolding model
 no_command = refl
 
-dollar_alone : on Want.Check "$ $end;" ≡ gives "" "vcdkit: (stdin):1: unknown command;" 1
+dollar_alone : on Want.Check "$ $end;" ≡ gives "" "(stdin):1: unknown command" 1
 unfolding model
 dollar_alone = refl
 
@@ -40,19 +40,19 @@ cut_with_one_unit : on (cut "1" "29ns") "$timescale 10ns $end;$var wire 1 ! a $e
 unfolding model
 cut_with_one_unit = refl
 
-from_above_to : on (cut "11ns" "14ns") "$timescale 10ns $end;$var wire 1 ! a $end;$enddefinitions $end;#0;0!;#1;1!;#2;0!;#3;1!;" ≡ gives "" "vcdkit: --from is above --to;" 2
+from_above_to : on (cut "11ns" "14ns") "$timescale 10ns $end;$var wire 1 ! a $end;$enddefinitions $end;#0;0!;#1;1!;#2;0!;#3;1!;" ≡ gives "" "--from is above --to" 2
 unfolding model
 from_above_to = refl
 
-same_tick : on (Want.Sample (map time ("11ns" ∷ "12ns" ∷ [])) []) "$timescale 10ns $end;$var wire 1 ! a $end;$enddefinitions $end;#0;0!;#1;1!;#2;0!;#3;1!;" ≡ gives "" "vcdkit: times must rise;" 2
+same_tick : on (Want.Sample (map time ("11ns" ∷ "12ns" ∷ [])) []) "$timescale 10ns $end;$var wire 1 ! a $end;$enddefinitions $end;#0;0!;#1;1!;#2;0!;#3;1!;" ≡ gives "" "times must rise" 2
 unfolding model
 same_tick = refl
 
-no_scale : on (cut "10ns" "20ns") "$var wire 1 ! a $end;$var real 1 \" r $end;$var event 1 # e $end;$var wire 2 % u $end;$enddefinitions $end;#9;0!;r1.5 \";1#;#10;1!;1#;#20;r2 \";#21;0!;" ≡ gives "" "vcdkit: (stdin): no timescale;" 1
+no_scale : on (cut "10ns" "20ns") "$var wire 1 ! a $end;$var real 1 \" r $end;$var event 1 # e $end;$var wire 2 % u $end;$enddefinitions $end;#9;0!;r1.5 \";1#;#10;1!;1#;#20;r2 \";#21;0!;" ≡ gives "" "(stdin): no timescale" 1
 unfolding model
 no_scale = refl
 
-too_many_ticks : on (Want.Sample (time "18446744073709551615s" ∷ []) []) "$timescale 10ns $end;$var wire 1 ! a $end;$enddefinitions $end;#0;0!;#1;1!;#2;0!;#3;1!;" ≡ gives "" "vcdkit: time out of range;" 2
+too_many_ticks : on (Want.Sample (time "18446744073709551615s" ∷ []) []) "$timescale 10ns $end;$var wire 1 ! a $end;$enddefinitions $end;#0;0!;#1;1!;#2;0!;#3;1!;" ≡ gives "" "time out of range" 2
 unfolding model
 too_many_ticks = refl
 
@@ -60,20 +60,20 @@ cut_in_one_tick : on (cut "5ns" "15ns") "$timescale 10ns $end;$var wire 1 ! a $e
 unfolding model
 cut_in_one_tick = refl
 
-ticks_that_fall : on (Want.Sample (map time ("10ns" ∷ "30ns" ∷ "20ns" ∷ [])) []) "$timescale 10ns $end;$var wire 1 ! a $end;$enddefinitions $end;" ≡ gives "" "vcdkit: times must rise;" 2
+ticks_that_fall : on (Want.Sample (map time ("10ns" ∷ "30ns" ∷ "20ns" ∷ [])) []) "$timescale 10ns $end;$var wire 1 ! a $end;$enddefinitions $end;" ≡ gives "" "times must rise" 2
 unfolding model
 ticks_that_fall = refl
 
-unit_on_the_end_alone : on (cut "2" "10ns") "$timescale 10ns $end;$var wire 1 ! a $end;$enddefinitions $end;" ≡ gives "" "vcdkit: --from is above --to;" 2
+unit_on_the_end_alone : on (cut "2" "10ns") "$timescale 10ns $end;$var wire 1 ! a $end;$enddefinitions $end;" ≡ gives "" "--from is above --to" 2
 unfolding model
 unit_on_the_end_alone = refl
 
 -- a fault of the header comes first, and then times come before names
-units_before_names : on (Want.Sample (time "5ns" ∷ []) (codes "b" ∷ [])) "$var wire 1 ! a $end;$enddefinitions $end;" ≡ gives "" "vcdkit: (stdin): no timescale;" 1
+units_before_names : on (Want.Sample (time "5ns" ∷ []) (codes "b" ∷ [])) "$var wire 1 ! a $end;$enddefinitions $end;" ≡ gives "" "(stdin): no timescale" 1
 unfolding model
 units_before_names = refl
 
-header_before_units : on (Want.Sample (time "5ns" ∷ []) []) "$upscope $end;" ≡ gives "" "vcdkit: (stdin):1: upscope without scope;" 1
+header_before_units : on (Want.Sample (time "5ns" ∷ []) []) "$upscope $end;" ≡ gives "" "(stdin):1: upscope without scope" 1
 unfolding model
 header_before_units = refl
 

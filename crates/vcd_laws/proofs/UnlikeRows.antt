@@ -104,7 +104,7 @@ unfolding model
 long_code_read = refl
 
 long_code_halts : over_written Want.Check (Want.Pick (codes "a" ∷ [])) 64 stdin (clean long_code)
-    ≡ gives "" "vcdkit: (stdin):4: token too long;" 1
+    ≡ gives "" "(stdin):4: token too long" 1
 unfolding model
 long_code_halts = refl
 

@@ -41,7 +41,7 @@ unfolding model
 early = refl
 
 -- a fault: what is settled before it is due
-fault : on_two all "#0;1\";0%;#3;b1 !;?" ≡ gives "alone A t.a.n;differs 0 t.a.c 1 0;" "vcdkit: (stdin):7: unknown command;" 2
+fault : on_two all "#0;1\";0%;#3;b1 !;?" ≡ gives "alone A t.a.n;differs 0 t.a.c 1 0;" "(stdin):7: unknown command" 2
 unfolding model
 fault = refl
 

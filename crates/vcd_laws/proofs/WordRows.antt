@@ -7,28 +7,28 @@ use Rattle.vcd_laws.proofs.RowText.{clean, gives, at, asked}
 abbrev said : Option (List ℕ) → Command → Outcome
 said limit command = command_outcome (Some (record { command = command; limit = limit })) (codes "(stdin)" ∷ []) (clean "" ∷ [])
 
-no_words : command_outcome None [] [] ≡ gives "" "vcdkit: bad words;" 2
+no_words : command_outcome None [] [] ≡ gives "" "bad words" 2
 unfolding model
 no_words = refl
 
-pick_without_names : said None (Command.Pick []) ≡ gives "" "vcdkit: bad words;" 2
+pick_without_names : said None (Command.Pick []) ≡ gives "" "bad words" 2
 unfolding model
 pick_without_names = refl
 
-merge_without_files : said None (Command.Merge []) ≡ gives "" "vcdkit: bad words;" 2
+merge_without_files : said None (Command.Merge []) ≡ gives "" "bad words" 2
 unfolding model
 merge_without_files = refl
 
-small_limit : said (Some (codes "63")) Command.Check ≡ gives "" "vcdkit: bad token limit: 63;" 2
+small_limit : said (Some (codes "63")) Command.Check ≡ gives "" "bad token limit: 63" 2
 unfolding model
 small_limit = refl
 
 -- missing words count before a bad limit
-words_before_limit : said (Some (codes "63")) (Command.Pick []) ≡ gives "" "vcdkit: bad words;" 2
+words_before_limit : said (Some (codes "63")) (Command.Pick []) ≡ gives "" "bad words" 2
 unfolding model
 words_before_limit = refl
 
-from_above_to : said None (Command.Cut (codes "5") (codes "4")) ≡ gives "" "vcdkit: --from is above --to;" 2
+from_above_to : said None (Command.Cut (codes "5") (codes "4")) ≡ gives "" "--from is above --to" 2
 unfolding model
 from_above_to = refl
 
@@ -36,19 +36,19 @@ cut_at_equal_words : job_of (Some (record { command = Command.Cut (codes "5") (c
 unfolding model
 cut_at_equal_words = refl
 
-same_times : said None (Command.Sample (codes "5,5") []) ≡ gives "" "vcdkit: times must rise;" 2
+same_times : said None (Command.Sample (codes "5,5") []) ≡ gives "" "times must rise" 2
 unfolding model
 same_times = refl
 
-empty_time : said None (Command.Sample (codes "5,") []) ≡ gives "" "vcdkit: bad time: ;" 2
+empty_time : said None (Command.Sample (codes "5,") []) ≡ gives "" "bad time: " 2
 unfolding model
 empty_time = refl
 
-upper_case_unit : said None (Command.Sample (codes "15NS") []) ≡ gives "" "vcdkit: bad time: 15NS;" 2
+upper_case_unit : said None (Command.Sample (codes "15NS") []) ≡ gives "" "bad time: 15NS" 2
 unfolding model
 upper_case_unit = refl
 
-too_many_files : said None (Command.Merge (replicate 65 (codes "f.vcd"))) ≡ gives "" "vcdkit: too many files;" 2
+too_many_files : said None (Command.Merge (replicate 65 (codes "f.vcd"))) ≡ gives "" "too many files" 2
 unfolding model
 too_many_files = refl
 
@@ -60,11 +60,11 @@ as_many_files_as_can_be = refl
 abbrev merge_said : List String → Outcome
 merge_said files = said None (Command.Merge (map codes files))
 
-input_twice : merge_said ("-" ∷ "-" ∷ []) ≡ gives "" "vcdkit: standard input twice;" 2
+input_twice : merge_said ("-" ∷ "-" ∷ []) ≡ gives "" "standard input twice" 2
 unfolding model
 input_twice = refl
 
-input_twice_among_files : merge_said ("a.vcd" ∷ "-" ∷ "b.vcd" ∷ "-" ∷ []) ≡ gives "" "vcdkit: standard input twice;" 2
+input_twice_among_files : merge_said ("a.vcd" ∷ "-" ∷ "b.vcd" ∷ "-" ∷ []) ≡ gives "" "standard input twice" 2
 unfolding model
 input_twice_among_files = refl
 
@@ -74,49 +74,49 @@ unfolding model
 input_once = refl
 
 -- too many files count before standard input twice
-too_many_inputs : said None (Command.Merge (replicate 65 (codes "-"))) ≡ gives "" "vcdkit: too many files;" 2
+too_many_inputs : said None (Command.Merge (replicate 65 (codes "-"))) ≡ gives "" "too many files" 2
 unfolding model
 too_many_inputs = refl
 
-as_many_inputs_as_can_be : said None (Command.Merge (replicate 64 (codes "-"))) ≡ gives "" "vcdkit: standard input twice;" 2
+as_many_inputs_as_can_be : said None (Command.Merge (replicate 64 (codes "-"))) ≡ gives "" "standard input twice" 2
 unfolding model
 as_many_inputs_as_can_be = refl
 
 -- a bad limit counts before a bad time, and the first bad time before the second
-limit_before_time : said (Some (codes "1k")) (Command.Cut (codes "x") (codes "y")) ≡ gives "" "vcdkit: bad token limit: 1k;" 2
+limit_before_time : said (Some (codes "1k")) (Command.Cut (codes "x") (codes "y")) ≡ gives "" "bad token limit: 1k" 2
 unfolding model
 limit_before_time = refl
 
-first_time : said None (Command.Cut (codes "x") (codes "y")) ≡ gives "" "vcdkit: bad time: x;" 2
+first_time : said None (Command.Cut (codes "x") (codes "y")) ≡ gives "" "bad time: x" 2
 unfolding model
 first_time = refl
 
-first_bad_time_of_two : said None (Command.Sample (codes "1,x,y") []) ≡ gives "" "vcdkit: bad time: x;" 2
+first_bad_time_of_two : said None (Command.Sample (codes "1,x,y") []) ≡ gives "" "bad time: x" 2
 unfolding model
 first_bad_time_of_two = refl
 
 -- .. and before files and times that are refused
-limit_before_files : said (Some (codes "63")) (Command.Merge (replicate 65 (codes "f.vcd"))) ≡ gives "" "vcdkit: bad token limit: 63;" 2
+limit_before_files : said (Some (codes "63")) (Command.Merge (replicate 65 (codes "f.vcd"))) ≡ gives "" "bad token limit: 63" 2
 unfolding model
 limit_before_files = refl
 
-limit_before_inputs : said (Some (codes "63")) (Command.Merge (codes "-" ∷ codes "-" ∷ [])) ≡ gives "" "vcdkit: bad token limit: 63;" 2
+limit_before_inputs : said (Some (codes "63")) (Command.Merge (codes "-" ∷ codes "-" ∷ [])) ≡ gives "" "bad token limit: 63" 2
 unfolding model
 limit_before_inputs = refl
 
-limit_before_order : said (Some (codes "63")) (Command.Cut (codes "5") (codes "4")) ≡ gives "" "vcdkit: bad token limit: 63;" 2
+limit_before_order : said (Some (codes "63")) (Command.Cut (codes "5") (codes "4")) ≡ gives "" "bad token limit: 63" 2
 unfolding model
 limit_before_order = refl
 
-limit_of_no_digits : said (Some (codes "")) Command.Check ≡ gives "" "vcdkit: bad token limit: ;" 2
+limit_of_no_digits : said (Some (codes "")) Command.Check ≡ gives "" "bad token limit: " 2
 unfolding model
 limit_of_no_digits = refl
 
-no_times : said None (Command.Sample (codes "") []) ≡ gives "" "vcdkit: bad time: ;" 2
+no_times : said None (Command.Sample (codes "") []) ≡ gives "" "bad time: " 2
 unfolding model
 no_times = refl
 
-time_before_order : said None (Command.Sample (codes "5,5,5x") []) ≡ gives "" "vcdkit: bad time: 5x;" 2
+time_before_order : said None (Command.Sample (codes "5,5,5x") []) ≡ gives "" "bad time: 5x" 2
 unfolding model
 time_before_order = refl
 
@@ -167,7 +167,7 @@ edges_without_names_are_run : asked (Command.Edges []) "$var wire 1 ! a $end;$en
 unfolding model
 edges_without_names_are_run = refl
 
-token_limit_is_used : command_outcome (Some (record { command = Command.Check; limit = Some (codes "64") })) (codes "(stdin)" ∷ []) (clean "$comment xxxxxxxxxxxxxxxxxxxxxxxxxxxxxxxxxxxxxxxxxxxxxxxxxxxxxxxxxxxxxxxxx $end;$enddefinitions $end;" ∷ []) ≡ gives "" "vcdkit: (stdin):1: token too long;" 1
+token_limit_is_used : command_outcome (Some (record { command = Command.Check; limit = Some (codes "64") })) (codes "(stdin)" ∷ []) (clean "$comment xxxxxxxxxxxxxxxxxxxxxxxxxxxxxxxxxxxxxxxxxxxxxxxxxxxxxxxxxxxxxxxxx $end;$enddefinitions $end;" ∷ []) ≡ gives "" "(stdin):1: token too long" 1
 unfolding model
 token_limit_is_used = refl
 

@@ -5,7 +5,7 @@ use Rattle.std.specs.Str.{byte, bytes_eq}
 use Rattle.vcd_model.specs.Bytes.{decimal_value, is_empty}
 use Rattle.vcd_model.specs.Input.{Input}
 use Rattle.vcd_model.specs.Ticks.{Moment}
-use Rattle.vcd_model.specs.Outcome.{Outcome, program_line}
+use Rattle.vcd_model.specs.Outcome.{Outcome}
 use Rattle.vcd_model.specs.Job.{Want, is_number, moment_of, has_unit, do_rise, outcome}
 
 -- a command with its words: names, the times after `--from`, `--to` and `--at`, files
@@ -50,7 +50,7 @@ use_text InputTwice = codes "standard input twice"
 
 -- no output, and status 2
 abbrev pub use_outcome : UseFault → Outcome
-use_outcome f = record { output = []; message = program_line (use_text f); status = 2 }
+use_outcome f = record { output = []; message = use_text f; status = 2 }
 
 -- `pick` has a name, and `merge` a file
 abbrev pub has_words : Command → Bool

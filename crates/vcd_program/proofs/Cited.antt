@@ -20,14 +20,14 @@ pub use Rattle.vcd_host.specs.declared.opened.OpenStop.{OpenStop}
 pub use Rattle.vcd_model.specs.Header.{Header}
 pub use Rattle.vcd_model.specs.Input.{Input}
 pub use Rattle.vcd_model.specs.Job.{Want, outcome}
-pub use Rattle.vcd_model.specs.Outcome.{Outcome, clean_outcome, program_line}
+pub use Rattle.vcd_model.specs.Outcome.{Outcome, clean_outcome, shown_message}
 pub use Rattle.vcd_model.specs.Settled.{is_settled}
 pub use Rattle.vcd_model.specs.Tokens.{Token}
 pub use Rattle.vcd_model.specs.Words.{Job, Words, command_outcome, job_of}
-pub use Rattle.vcd_program.specs.Memory.{End, HaveTexts, IsLeft, IsLeftAs, IsLeftBy, IsLeftIn, IsLeftOf, IsOutOfMemory, OpensIn, bytes_among, bytes_named, noted}
+pub use Rattle.vcd_program.specs.Memory.{End, HaveTexts, IsAnswered, IsLeft, IsLeftAs, IsLeftBy, IsLeftIn, IsLeftOf, IsOutOfMemory, OpensIn, bytes_among, bytes_named, noted}
 pub use Rattle.vcd_program.specs.Process.{IsHostOf, OpensInput, OpensOn, bytes_left}
 pub use Rattle.vcd_program.specs.ProcessRun.{RunsAs, RunsOver}
-pub use Rattle.vcd_program.specs.Runs.{Answers, EndsSo, Fails, Finishes, KeepsNoneBack, Leaves, Runs, RunsOn, answer_outcome, names_wanted}
+pub use Rattle.vcd_program.specs.Runs.{Answers, EndsSo, Fails, Finishes, IsAnswer, KeepsNoneBack, Leaves, Runs, RunsOn, names_wanted}
 pub use Rattle.vcd_program.specs.declared.memory.Memory.{Memory}
 pub use Rattle.vcd_program.specs.declared.memory.MemoryFile.{MemoryFile}
 pub use Rattle.vcd_program.specs.declared.process.Process.{Ghosts}
@@ -46,6 +46,6 @@ pub use Rattle.vcdkit.proofs.Statuses.{end-low}
 pub use Rattle.vcdkit.proofs.TurnLemmas.{turns_over}
 pub use Rattle.vcdkit.specs.Calls.{AreWithin}
 pub use Rattle.vcdkit.specs.Failure.{writes_failed}
-pub use Rattle.vcdkit.specs.Message.{Shows, unopened_outcome, use_outcome}
+pub use Rattle.vcdkit.specs.Message.{Shows, Tells, program_name, unopened_outcome, use_outcome}
 pub use Rattle.vcdkit.specs.Run.{AreInTurn, AreRead, HasRun, IsOutcome, header_behind}
 pub use Rattle.vcdkit.specs.Run.IsOutcome.{Part, Whole}

@@ -1,5 +1,5 @@
 -- What a program leaves in bytes that were lent.
-use Rattle.vcd_program.proofs.Cited.{◌≡◌, ◌∷◌, [], ℕ, List, Bool, true, false, ap, sym, refl, subst, inl, inr, drop, get_or, zero, suc, map, codes, Option, Text, Input, Want, Outcome, Words, Device, Supply, Writes, WritesSome, failures_then, Bytes, writes_failed, Shows, AreInTurn, IsOutcome, turns_over, Whole, Part, IsLeftAs, IsLeftIn, OpensIn, noted, Fills, held, written, Fails, Finishes, KeepsNoneBack, Leaves, Runs, RunsOn, Memory, MemoryFile, LentOutput}
+use Rattle.vcd_program.proofs.Cited.{◌≡◌, ◌∷◌, [], ℕ, List, Bool, true, false, ap, sym, refl, subst, inl, inr, drop, get_or, zero, suc, map, codes, Option, Text, ErrorKind, Input, Want, Outcome, clean_outcome, program_name, Words, Device, Supply, Writes, WritesSome, failures_then, Bytes, writes_failed, Shows, AreInTurn, IsOutcome, turns_over, Whole, Part, IsLeftAs, IsLeftIn, OpensIn, noted, Fills, held, written, Fails, Finishes, IsAnswer, KeepsNoneBack, Leaves, Runs, RunsOn, Memory, MemoryFile, LentOutput}
 use Rattle.vcd_program.proofs.MemoryLemmas.{bytes_of, holding, left-by, no_failures, none_failed, texts-of}
 
 -- what such an output says of itself
@@ -45,15 +45,22 @@ module _ (n n' m m' status : ℕ) (ws vs : List ℕ) where
   abbrev After : ((out out' err err' : Device) → ℕ → Type 0) → Type 0
   After Left = Left (holding false (n ∷ [])) (holding false (n' ∷ ws)) (holding false (m ∷ [])) (holding false (m' ∷ vs)) status → (n' ≡ n) × (m' ≡ m) × Left (holding false []) (holding false ws) (holding false []) (holding false vs) status
 
-  outcome-after : (o : Outcome) → After (IsOutcome o)
+  outcome-after : (o : Outcome) → After (IsOutcome program_name o)
   outcome-after o (Whole written shown is) =
       let w = writes-after n n' ws o.output written in
-      let s = shows-after m m' vs o.message shown in
+      let s = shows-after m m' vs _ shown in
       (w.0, s.0, Whole w.1 s.1 is)
   outcome-after o (Part written shown is) =
       let w = some-after n n' ws o.output written in
       let s = shows-after m m' vs _ shown in
       (w.0, s.0, Part w.1 s.1 is)
+
+  answer-after : (why : ErrorKind) (text : Text) → After (IsAnswer why text)
+  answer-after why text (inl answered) = let o = outcome-after (clean_outcome text) answered.1 in (o.0, o.1, inl (answered.0, o.2))
+  answer-after why text (inr shown) =
+      let w = writes-after n n' ws [] shown.1 in
+      let s = shows-after m m' vs text shown.2 in
+      (w.0, s.0, inr (shown.0, w.1, s.1, shown.3))
 
   fails-after : (text : Text) → After (Fails text)
   fails-after text fails =
@@ -84,7 +91,7 @@ module _ (n n' m m' status : ℕ) (ws vs : List ℕ) where
 
   words-after : (words : List Text) (host after : Memory) (NoneKept : Type 0) → After (λ out out' err err' n. RunsOn words OpensIn bytes_of no_failures none_failed host after out out' err err' n NoneKept)
   words-after words host after NoneKept (RunsOn.Parsed matches is runs) = let o = runs-after _ _ host after NoneKept runs in (o.0, o.1, RunsOn.Parsed matches is o.2)
-  words-after words host after NoneKept (RunsOn.NoMatches why is only same (inl some)) = let o = outcome-after _ some.2 in (o.0, o.1, RunsOn.NoMatches why is only same (inl (some.0, some.1, o.2)))
+  words-after words host after NoneKept (RunsOn.NoMatches why is only same (inl some)) = let o = answer-after why some.1 some.2 in (o.0, o.1, RunsOn.NoMatches why is only same (inl (some.0, some.1, o.2)))
   words-after words host after NoneKept (RunsOn.NoMatches why is only same (inr fails)) = let o = fails-after (codes "out of memory") fails in (o.0, o.1, RunsOn.NoMatches why is only same (inr o.2))
 
 -- what is left in the end: the same loans, and in them what the program leaves

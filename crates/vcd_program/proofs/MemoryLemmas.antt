@@ -1,5 +1,6 @@
 -- What a program leaves over a host in memory.
-use Rattle.vcd_program.proofs.Cited.{◌≡◌, ◌+◌, ◌⊎◌, ℕ, Bool, true, false, cond, List, [], ◌∷◌, ◌++◌, map, refl, sym, subst, ap, ◌∙◌, inl, inr, arith, codes, append_assoc, append-nil, ⊤, All, Option, Some, None, Err, Text, Input, Token, Header, Outcome, program_line, Words, command_outcome, whole, Device, supply, is_settled, Shows, unopened_outcome, AreRead, IsOutcome, header_behind, Whole, Part, End, HaveTexts, IsLeft, IsLeftBy, IsLeftOf, IsOutOfMemory, OpensIn, bytes_among, noted, Opens, called, inputs_asked, Fails, Finishes, Leaves, Runs, RunsOn, answer_outcome, words_used, Unopened, Bytes, Memory, MemoryFile}
+use Rattle.vcd_program.proofs.Cited.{◌≡◌, ◌+◌, ◌⊎◌, ℕ, Bool, true, false, cond, List, [], ◌∷◌, ◌++◌, map, refl, sym, subst, ap, ◌∙◌, inl, inr, arith, codes, append_assoc, append-nil, parse_status_of, program_name, ErrorKind, clean_outcome, ⊤, All, Option, Some, None, Err, Text, Input, Token, Header, Outcome, shown_message, Words, command_outcome, whole, Device, supply, is_settled, Shows, unopened_outcome, AreRead, IsOutcome, header_behind, Whole, Part, End, HaveTexts, IsAnswered, IsLeft, IsLeftBy, IsLeftOf, IsOutOfMemory, OpensIn, bytes_among, noted, Opens, called, inputs_asked, Fails, Finishes, IsAnswer, Leaves, Runs, RunsOn, words_used, Unopened, Bytes, Memory, MemoryFile}
+use Rattle.vcd_program.proofs.RunsLemmas.{statuses}
 
 -- ---- streams that begin empty, of which no write failed
 
@@ -74,15 +75,15 @@ all-read settled limit chunk earlier (t ∷ texts) (b ∷ old) (c ∷ new) (i �
 -- over streams of which no write failed, whatever they say of the last one
 module _ (a b : Bool) where
   -- all of the outcome was left
-  all-left : (o : Outcome) (out err : List ℕ) (status : ℕ) → IsOutcome o (holding false []) (holding a out) (holding false []) (holding b err) status → (out ≡ o.output) × (err ≡ o.message) × (status ≡ o.status)
-  all-left o out err status (Whole written shown is) = (written.0, none-shown b [] err o.message shown, is)
+  all-left : (o : Outcome) (out err : List ℕ) (status : ℕ) → IsOutcome program_name o (holding false []) (holding a out) (holding false []) (holding b err) status → (out ≡ o.output) × (err ≡ shown_message program_name o.message) × (status ≡ o.status)
+  all-left o out err status (Whole written shown is) = (written.0, none-shown b [] err (shown_message program_name o.message) shown, is)
   all-left o out err status (Part written shown is) = absurd (none-failed a written.1)
 
   -- what the program left in memory
   abbrev LeftAs : End → (after : Memory) → (out err : List ℕ) → ℕ → Type 0
   LeftAs left after out err status = (left.opened ≡ noted after) × (left.output ≡ out) × (left.message ≡ err) × (left.status ≡ status)
 
-  is-left : (left : End) (after : Memory) (out err : List ℕ) (status : ℕ) (names : List (Option Text)) (o : Outcome) → LeftAs left after out err status → noted after ≡ names → IsOutcome o (holding false []) (holding a out) (holding false []) (holding b err) status → IsLeft left names o
+  is-left : (left : End) (after : Memory) (out err : List ℕ) (status : ℕ) (names : List (Option Text)) (o : Outcome) → LeftAs left after out err status → noted after ≡ names → IsOutcome program_name o (holding false []) (holding a out) (holding false []) (holding b err) status → IsLeft left names o
   is-left left after out err status names o holds n leaves =
       let all = all-left o out err status leaves in
       record {
@@ -93,7 +94,34 @@ module _ (a b : Bool) where
       }
 
   out-of-memory : (left : End) (after : Memory) (out err : List ℕ) (status : ℕ) → LeftAs left after out err status → Fails (codes "out of memory") (holding false []) (holding a out) (holding false []) (holding b err) status → IsOutOfMemory left
-  out-of-memory left after out err status holds fails = record { output = holds.1 ∙ fails.0.0; message = holds.2 ∙ none-shown b [] err (program_line (codes "out of memory")) fails.1; status = holds.3 ∙ fails.2 }
+  out-of-memory left after out err status holds fails = record { output = holds.1 ∙ fails.0.0; message = holds.2 ∙ none-shown b [] err (shown_message program_name (codes "out of memory")) fails.1; status = holds.3 ∙ fails.2 }
+
+  -- the text of a parse
+  is-answered : (left : End) (after : Memory) (out err : List ℕ) (status : ℕ) (why : ErrorKind) (text : Text) → LeftAs left after out err status → noted after ≡ [] → IsAnswer why text (holding false []) (holding a out) (holding false []) (holding b err) status → IsAnswered left why text
+  is-answered left after out err status why text holds n (inl answered) =
+      let all = all-left (clean_outcome text) out err status answered.1 in
+      record {
+        opened = holds.0 ∙ n;
+        output = rw answered.0 (holds.1 ∙ all.0);
+        message = rw answered.0 (holds.2 ∙ all.1);
+        status = rw answered.0 (holds.3 ∙ all.2);
+      }
+  is-answered left after out err status why text holds n (inr shown) = by_status (statuses why)
+    where
+      by_status : (parse_status_of why ≡ 0) ⊎ ((parse_status_of why ≡ 2) ⊎ (parse_status_of why ≡ 3)) → IsAnswered left why text
+      by_status (inl zero) = absurd (shown.0 zero)
+      by_status (inr (inl two)) = record {
+        opened = holds.0 ∙ n;
+        output = rw two (holds.1 ∙ shown.1.0);
+        message = rw two (holds.2 ∙ none-shown b [] err text shown.2);
+        status = holds.3 ∙ shown.3;
+      }
+      by_status (inr (inr three)) = record {
+        opened = holds.0 ∙ n;
+        output = rw three (holds.1 ∙ shown.1.0);
+        message = rw three (holds.2 ∙ none-shown b [] err text shown.2);
+        status = holds.3 ∙ shown.3;
+      }
 
   -- a step that found no file
   missed : (files : List MemoryFile) (input : Text) (names : List (Option Text)) (inputs : List Bytes) (host next after : Memory) (name : Option Text) → HasOpened files input names inputs host next → OpensIn next name (Err Unopened) after
@@ -118,7 +146,7 @@ module _ (a b : Bool) where
       by_end o texts have (Leaves.WithOutcome inputs read needed turns leaves) =
           let all = all-read (is_settled want) limit 65536 [] texts readers done inputs read in
           inl (IsLeftOf.Ran (record { want = want; limit = limit }) is texts have (is-left left after out err status asked (command_outcome words (map called asked) (map whole texts)) holds (o.notes ∙ ap (λ l. l ++ asked) n)
-          (subst (λ l. IsOutcome (command_outcome words (map called asked) l) (holding false []) (holding a out) (holding false []) (holding b err) status) all leaves)))
+          (subst (λ l. IsOutcome program_name (command_outcome words (map called asked) l) (holding false []) (holding a out) (holding false []) (holding b err) status) all leaves)))
       by_end o texts have (Leaves.NoMemory inputs read needed turns same fails) = inr (out-of-memory left after out err status holds fails)
   left-parsed words asked files input host after left out err status NoneKept f i n holds (Runs.Stopped job is name opened leaves) =
       let before = opened.0 in
@@ -134,7 +162,7 @@ module _ (a b : Bool) where
   pub left-by : (words : List Text) (files : List MemoryFile) (input : Text) (host after : Memory) (left : End) (out err : List ℕ) (status : ℕ) (NoneKept : Type 0) → host.files.now ≡ files → host.input.now ≡ input → noted host ≡ [] → LeftAs left after out err status
       → RunsOn words OpensIn bytes_of no_failures none_failed host after (holding false []) (holding a out) (holding false []) (holding b err) status NoneKept → IsLeftBy words files input left
   left-by words files input host after left out err status NoneKept f i n holds (RunsOn.NoMatches why is only same (inl some)) =
-      IsLeftBy.NoMatches why is only some.0 some.1 (is-left left after out err status [] (answer_outcome why some.1) holds (ap noted same ∙ n) some.2)
+      IsLeftBy.NoMatches why is only some.0 some.1 (is-answered left after out err status why some.1 holds (ap noted same ∙ n) some.2)
   left-by words files input host after left out err status NoneKept f i n holds (RunsOn.NoMatches why is only same (inr fails)) = IsLeftBy.NoMemory (out-of-memory left after out err status holds fails)
   left-by words files input host after left out err status NoneKept f i n holds (RunsOn.Parsed matches is run) =
       elim (left-parsed (words_used matches) (inputs_asked matches) files input host after left out err status NoneKept f i n holds run) [ inl parsed ↦ IsLeftBy.Parsed matches is parsed | inr none ↦ IsLeftBy.NoMemory none ]

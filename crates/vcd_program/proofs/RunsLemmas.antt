@@ -1,5 +1,5 @@
 -- What a program leaves, from what its calls do.
-use Rattle.vcd_program.proofs.Cited.{◌≡◌, ◌≢◌, ◌≤◌, ◌+◌, ◌⊎◌, ℕ, Bool, true, false, List, [], length, map, refl, sym, subst, ap, ◌∙◌, inl, inr, arith, codes, cond, ◌==◌, Option, None, Some, Result, Ok, Err, Text, is_simple_and_free, ErrorKind, Input, Want, outcome, Outcome, clean_outcome, program_line, Job, Words, job_of, Keeps, Device, Puts, Supply, Writes, WritesSome, supply, appends-none, is_merge, model_want, names_asked, IsFaultOf, parse_status_of, program_app, UseFault, Shows, unopened_outcome, use_outcome, HasRun, IsOutcome, Whole, Part, Opens, OpensSome, OpensUpTo, StopsAmong, called, text_of, Answers, EndsSo, Finishes, Leaves, Runs, names_wanted, OpenFault, OpenStop, Bor, length-map, wants_merge}
+use Rattle.vcd_program.proofs.Cited.{◌≡◌, ◌≢◌, ◌≤◌, ◌+◌, ◌⊎◌, ℕ, Bool, true, false, List, [], length, map, refl, sym, subst, ap, ◌∙◌, inl, inr, arith, codes, cond, Option, None, Some, Result, Ok, Err, Text, is_simple_and_free, ErrorKind, Input, Want, outcome, Outcome, Job, Words, job_of, Keeps, Device, Puts, Supply, Writes, WritesSome, supply, appends-none, is_merge, model_want, names_asked, IsFaultOf, parse_status_of, program_app, UseFault, Shows, Tells, program_name, unopened_outcome, use_outcome, HasRun, IsOutcome, Whole, Part, Opens, OpensSome, OpensUpTo, StopsAmong, called, text_of, Answers, EndsSo, Finishes, Leaves, Runs, names_wanted, OpenFault, OpenStop, Bor, length-map, wants_merge}
 use Rattle.clap.specs.declared.error.kind.ErrorKind.TheVariants as kind
 use Rattle.vcd_model.specs.Outcome.{fault_text}
 use Rattle.vcd_model.specs.Words as model
@@ -67,37 +67,37 @@ command-is words want limit names inputs e = rw (e, command_outcome) refl
 pub leaves-of : (due : List Input → Outcome) (want : Want) (limit : ℕ) (names texts : List Text) (old new : List Supply) (out out' err err' : Device) (status : ℕ) → ((inputs : List Input) → due inputs ≡ outcome want limit names inputs)
     → HasRun want limit 65536 names texts old new out out' err err' status → Leaves due want limit texts old new out out' err err' status
 leaves-of due want limit names texts old new out out' err err' status is (HasRun.WithOutcome inputs read needed turns left) =
-    Leaves.WithOutcome inputs read needed turns (subst (λ o. IsOutcome o out out' err err' status) (sym (is inputs)) left)
+    Leaves.WithOutcome inputs read needed turns (subst (λ o. IsOutcome program_name o out out' err err' status) (sym (is inputs)) left)
 leaves-of due want limit names texts old new out out' err err' status is (HasRun.NoMemory inputs read needed turns same written shown status_is) = Leaves.NoMemory inputs read needed turns same (written, shown, status_is)
 
 -- ---- before a job is run
 
-memory-line : (use_outcome use_fault.OutOfMemory).message ≡ program_line (codes "out of memory")
+memory-line : (use_outcome use_fault.OutOfMemory).message ≡ codes "out of memory"
 unfolding fault_text
 memory-line = refl
 
--- the line that memory ran out
-pub memory-shown : (err err' : Device) → Shows err err' (use_outcome use_fault.OutOfMemory).message → Shows err err' (program_line (codes "out of memory"))
-memory-shown err err' shown = subst (λ l. Shows err err' l) memory-line shown
+-- the message that memory ran out
+pub memory-shown : (err err' : Device) → Tells program_name err err' (use_outcome use_fault.OutOfMemory).message → Tells program_name err err' (codes "out of memory")
+memory-shown err err' shown = subst (λ l. Tells program_name err err' l) memory-line shown
 
 -- no outcome has output where none was written
-pub without-output : (o : Outcome) (out err err' : Device) (status : ℕ) → o.output ≡ [] → Shows err err' o.message → status ≡ o.status → IsOutcome o out out err err' status
+pub without-output : (o : Outcome) (out err err' : Device) (status : ℕ) → o.output ≡ [] → Tells program_name err err' o.message → status ≡ o.status → IsOutcome program_name o out out err err' status
 without-output o out err err' status none shown is = Whole (subst (λ l. Writes out out l) (sym none) (writes-none out)) shown is
 
 -- memory ran out before an input was opened
 pub no-memory : {H I : Type 0} (opens : H → Option Text → Result I OpenFault → H → Type 0) (rest : I → Option (List ℕ)) (failures : I → ℕ) (last_failed : I → Bool) (words : Option Words) (names : List (Option Text)) (host : H) (out err err' : Device) (status : ℕ) (NoneKept : Type 0) (j : Job)
-    → job_of words ≡ Ok j → Shows err err' (program_line (codes "out of memory")) → status ≡ 3 → Runs opens rest failures last_failed words names host host out out err err' status NoneKept
+    → job_of words ≡ Ok j → Tells program_name err err' (codes "out of memory") → status ≡ 3 → Runs opens rest failures last_failed words names host host out out err err' status NoneKept
 no-memory opens rest failures last_failed words names host out err err' status NoneKept j e shown is = Runs.NoMemory j e ([], names, refl, [], host, refl, inl refl) (writes-none out, shown, is)
 
 -- words that ask for no job
 pub refused : {H I : Type 0} (opens : H → Option Text → Result I OpenFault → H → Type 0) (rest : I → Option (List ℕ)) (failures : I → ℕ) (last_failed : I → Bool) (words : Option Words) (names : List (Option Text)) (host : H) (out err err' : Device) (status : ℕ) (NoneKept : Type 0) (f : UseFault)
-    → IsFaultOf f (job_of words) → Shows err err' (use_outcome f).message → status ≡ (use_outcome f).status → Runs opens rest failures last_failed words names host host out out err err' status NoneKept
+    → IsFaultOf f (job_of words) → Tells program_name err err' (use_outcome f).message → status ≡ (use_outcome f).status → Runs opens rest failures last_failed words names host host out out err err' status NoneKept
 refused {H} {I} opens rest failures last_failed words names host out err err' status NoneKept f e shown is = by_fault f e shown is
   where
-    said : (g : model.UseFault) → job_of words ≡ Err g → Shows err err' (model.use_outcome g).message → status ≡ 2 → Runs opens rest failures last_failed words names host host out out err err' status NoneKept
-    said g e shown is = Runs.Refused g e refl (subst (λ o. IsOutcome o out out err err' status) (sym (command-refused words g e)) (Whole (writes-none out) shown is))
+    said : (g : model.UseFault) → job_of words ≡ Err g → Tells program_name err err' (model.use_outcome g).message → status ≡ 2 → Runs opens rest failures last_failed words names host host out out err err' status NoneKept
+    said g e shown is = Runs.Refused g e refl (subst (λ o. IsOutcome program_name o out out err err' status) (sym (command-refused words g e)) (Whole (writes-none out) shown is))
 
-    by_fault : (f : UseFault) → IsFaultOf f (job_of words) → Shows err err' (use_outcome f).message → status ≡ (use_outcome f).status → Runs opens rest failures last_failed words names host host out out err err' status NoneKept
+    by_fault : (f : UseFault) → IsFaultOf f (job_of words) → Tells program_name err err' (use_outcome f).message → status ≡ (use_outcome f).status → Runs opens rest failures last_failed words names host host out out err err' status NoneKept
     by_fault use_fault.BadWords e shown is = said model.UseFault.BadWords e shown is
     by_fault (use_fault.BadLimit word) e shown is = said (model.UseFault.BadLimit word.now) e shown is
     by_fault (use_fault.BadTime word) e shown is = said (model.UseFault.BadTime word.now) e shown is
@@ -109,7 +109,7 @@ refused {H} {I} opens rest failures last_failed words names host out err err' st
 
 -- an input that cannot be opened
 pub stopped : {H I : Type 0} (opens : H → Option Text → Result I OpenFault → H → Type 0) (rest : I → Option (List ℕ)) (failures : I → ℕ) (last_failed : I → Bool) (words : Option Words) (asked names : List (Option Text)) (host host' : H) (out err err' : Device) (status : ℕ) (NoneKept : Type 0)
-    (j : Job) (why : OpenStop) (said : Option (Bor Text)) → job_of words ≡ Ok j → names ≡ asked → why ≡ stop.Unopened said → StopsAmong opens names host host' why → Shows err err' (unopened_outcome (called (text_of said))).message → status ≡ 3
+    (j : Job) (why : OpenStop) (said : Option (Bor Text)) → job_of words ≡ Ok j → names ≡ asked → why ≡ stop.Unopened said → StopsAmong opens names host host' why → Tells program_name err err' (unopened_outcome (called (text_of said))).message → status ≡ 3
     → Runs opens rest failures last_failed words asked host host' out out err err' status NoneKept
 stopped opens rest failures last_failed words asked names host host' out err err' status NoneKept j why said e named is at shown three =
     Runs.Stopped j e (text_of said) (subst (λ l. OpensUpTo opens l (text_of said) host host') named (subst (λ w. StopsAmong opens names host host' w) is at))
@@ -117,7 +117,7 @@ stopped opens rest failures last_failed words asked names host host' out err err
 
 -- memory ran out while inputs were opened
 pub memory-stopped : {H I : Type 0} (opens : H → Option Text → Result I OpenFault → H → Type 0) (rest : I → Option (List ℕ)) (failures : I → ℕ) (last_failed : I → Bool) (words : Option Words) (asked names : List (Option Text)) (host host' : H) (out err err' : Device) (status : ℕ) (NoneKept : Type 0)
-    (j : Job) (why : OpenStop) → job_of words ≡ Ok j → names ≡ asked → why ≡ stop.OutOfMemory → StopsAmong opens names host host' why → Shows err err' (program_line (codes "out of memory")) → status ≡ 3
+    (j : Job) (why : OpenStop) → job_of words ≡ Ok j → names ≡ asked → why ≡ stop.OutOfMemory → StopsAmong opens names host host' why → Tells program_name err err' (codes "out of memory") → status ≡ 3
     → Runs opens rest failures last_failed words asked host host' out out err err' status NoneKept
 memory-stopped opens rest failures last_failed words asked names host host' out err err' status NoneKept j why e named is at shown three =
     Runs.NoMemory j e (subst (λ l. OpensSome opens l host host') named (subst (λ w. StopsAmong opens names host host' w) is at)) (writes-none out, shown, three)
@@ -152,24 +152,22 @@ statuses kind.OutOfMemory = inr (inr refl)
 pub status-zero : (why : ErrorKind) (n : ℕ) → n ≡ parse_status_of why → (n ≡ 3 → ⊥) → (n ≡ 2 → ⊥) → parse_status_of why ≡ 0
 status-zero why n e no3 no2 = elim (statuses why) [ inl zero ↦ zero | inr more ↦ elim more [ inl two ↦ absurd (no2 (e ∙ two)) | inr three ↦ absurd (no3 (e ∙ three)) ] ]
 
-abbrev answer-of : ℕ → Text → Outcome
-answer-of n text = cond (n == 0) (clean_outcome text) (record { output = []; message = text; status = n })
-
-answered : (why : ErrorKind) (n : ℕ) (text : Text) (out out' err err' : Device) (status : ℕ) → parse_status_of why ≡ n → (3 ≡ n → ⊥) → IsOutcome (answer-of n text) out out' err err' status → Answers why out out' err err' status
-answered why n text out out' err err' status e no3 left =
-    inl ((λ memory. no3 (ap parse_status_of (sym memory) ∙ e)), text, subst (λ m. IsOutcome (answer-of m text) out out' err err' status) (sym e) left)
+-- where it is not 3, there was memory
+no-memory-fault : (why : ErrorKind) (n : ℕ) → parse_status_of why ≡ n → (3 ≡ n → ⊥) → why ≢ kind.OutOfMemory
+no-memory-fault why n e no3 = λ memory. no3 (ap parse_status_of (sym memory) ∙ e)
 
 -- the text was put on the error stream
 pub answer-shown : (why : ErrorKind) (text : Text) (out err err' : Device) → parse_status_of why ≡ 2 → Shows err err' text → Answers why out out err err' 2
-answer-shown why text out err err' e shown = answered why 2 text out out err err' 2 e (λ bad. absurd (omega (arith, bad))) (Whole (writes-none out) shown refl)
+answer-shown why text out err err' e shown =
+    inl (no-memory-fault why 2 e (λ bad. absurd (omega (arith, bad))), text, inr ((λ zero. absurd (omega (arith, e, zero))), writes-none out, shown, sym e))
 
 -- it was written on the output
 pub answer-written : (why : ErrorKind) (text : Text) (out out' err : Device) → parse_status_of why ≡ 0 → Writes out out' text → Answers why out out' err err 0
-answer-written why text out out' err e written = answered why 0 text out out' err err 0 e (λ bad. absurd (omega (arith, bad))) (Whole written (shows-none err) refl)
+answer-written why text out out' err e written = inl (no-memory-fault why 0 e (λ bad. absurd (omega (arith, bad))), text, inl (e, Whole written (shows-none err) refl))
 
 -- a write of it failed
-pub answer-failed : (why : ErrorKind) (text : Text) (out out' err err' : Device) → parse_status_of why ≡ 0 → WritesSome out out' text → Shows err err' (program_line (codes "write failed")) → Answers why out out' err err' 3
-answer-failed why text out out' err err' e written shown = answered why 0 text out out' err err' 3 e (λ bad. absurd (omega (arith, bad))) (Part written shown refl)
+pub answer-failed : (why : ErrorKind) (text : Text) (out out' err err' : Device) → parse_status_of why ≡ 0 → WritesSome out out' text → Tells program_name err err' (codes "write failed") → Answers why out out' err err' 3
+answer-failed why text out out' err err' e written shown = inl (no-memory-fault why 0 e (λ bad. absurd (omega (arith, bad))), text, inl (e, Part written shown refl))
 
 -- ---- a job
 

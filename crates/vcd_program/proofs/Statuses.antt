@@ -1,21 +1,20 @@
 -- No program leaves a status above 3.
-use Rattle.vcd_program.proofs.Cited.{◌≡◌, ◌≤◌, ℕ, Bool, true, false, List, [], cond, ◌==◌, ap, inl, inr, arith, Option, Result, Text, ErrorKind, Outcome, clean_outcome, Words, command_outcome, Device, parse_status_of, UseFault, unopened_outcome, use_outcome, end-low, IsOutcome, Whole, Part, called, Answers, Finishes, Runs, RunsOn, answer_outcome, OpenFault}
+use Rattle.vcd_program.proofs.Cited.{◌≡◌, ◌≤◌, ℕ, Bool, List, [], ap, inl, inr, arith, Option, Result, Text, ErrorKind, Outcome, clean_outcome, Words, command_outcome, Device, parse_status_of, UseFault, unopened_outcome, use_outcome, program_name, end-low, IsOutcome, Whole, Part, called, Answers, Finishes, Runs, RunsOn, OpenFault}
 use Rattle.vcd_words.specs.declared.job.UseFault.TheVariants as use_fault
 use Rattle.vcd_program.proofs.RunsLemmas.{command-refused, statuses}
 
-outcome-low : (o : Outcome) (out out' err err' : Device) (status : ℕ) → o.status ≤ 3 → IsOutcome o out out' err err' status → status ≤ 3
+outcome-low : (o : Outcome) (out out' err err' : Device) (status : ℕ) → o.status ≤ 3 → IsOutcome program_name o out out' err err' status → status ≤ 3
 outcome-low o out out' err err' status low (Whole written shown is) = omega arith
 outcome-low o out out' err err' status low (Part written shown is) = omega arith
-
-answer-low : (n : ℕ) (text : Text) (b : Bool) → n ≤ 3 → (cond b (clean_outcome text) (record { output = []; message = text; status = n })).status ≤ 3
-answer-low n text true low = omega arith
-answer-low n text false low = low
 
 kind-low : (why : ErrorKind) → parse_status_of why ≤ 3
 kind-low why = elim (statuses why) [ inl e ↦ omega arith | inr more ↦ elim more [ inl e ↦ omega arith | inr e ↦ omega arith ] ]
 
 answers-low : (why : ErrorKind) (out out' err err' : Device) (status : ℕ) → Answers why out out' err err' status → status ≤ 3
-answers-low why out out' err err' status (inl said) = outcome-low (answer_outcome why said.1) out out' err err' status (answer-low (parse_status_of why) said.1 (parse_status_of why == 0) (kind-low why)) said.2
+answers-low why out out' err err' status (inl said) = elim said.2 [
+  | inl answered ↦ outcome-low (clean_outcome said.1) out out' err err' status (omega arith) answered.1
+  | inr shown ↦ omega (arith, shown.3, kind-low why)
+]
 answers-low why out out' err err' status (inr fails) = omega (arith, fails.2)
 
 runs-low : {H I : Type 0} (opens : H → Option Text → Result I OpenFault → H → Type 0) (rest : I → Option (List ℕ)) (failures : I → ℕ) (last_failed : I → Bool) (words : Option Words) (asked : List (Option Text)) (host host' : H) (out out' err err' : Device) (status : ℕ) (NoneKept : Type 0)

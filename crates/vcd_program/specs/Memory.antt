@@ -1,20 +1,19 @@
 -- A host in memory: what a call of `open` leaves, and what a program leaves over it, which is the
 -- whole of the definitions.
-use Rattle.std.specs.Prelude.{◌≡◌, ◌≢◌, ◌⊎◌, ℕ, true, cond, List, [], ◌∷◌, ◌++◌, codes, map, Option, Some, None, option_map, string_bytes, Result, Ok, Err}
+use Rattle.std.specs.Prelude.{◌≡◌, ◌≢◌, ◌⊎◌, ◌==◌, ℕ, true, cond, List, [], ◌∷◌, ◌++◌, codes, map, Option, Some, None, option_map, string_bytes, Result, Ok, Err}
 use Rattle.std.specs.Str.{bytes_eq}
 use Rattle.clap.specs.Words.{HasMatchesOf, IsAmong, Text, fault_of, takes}
 use Rattle.clap.specs.declared.error.kind.ErrorKind.{ErrorKind}
 use Rattle.clap.specs.declared.error.kind.ErrorKind.TheVariants as kind
 use Rattle.clap.specs.declared.parser.matches.ArgMatches.{ArgMatches}
-use Rattle.vcd_model.specs.Outcome.{Outcome, program_line}
+use Rattle.vcd_model.specs.Outcome.{Outcome, shown_message}
 use Rattle.vcd_model.specs.Words.{Words, UseFault, Job, command_outcome, job_of}
 use Rattle.vcd_text.specs.Answer.{whole}
-use Rattle.vcd_words.specs.Words.{program_app, words_used}
-use Rattle.vcdkit.specs.Message.{unopened_outcome}
+use Rattle.vcd_words.specs.Words.{parse_status_of, program_app, words_used}
+use Rattle.vcdkit.specs.Message.{program_name, unopened_outcome}
 use Rattle.vcd_host.specs.Opens.{called}
 use Rattle.vcd_host.specs.Asked.{inputs_asked}
 pub use Rattle.vcd_host.specs.Fills.{Fills}
-use Rattle.vcd_program.specs.Runs.{answer_outcome}
 use Rattle.vcd_host.specs.declared.host.OpenFault.{OpenFault}
 use Rattle.vcd_host.specs.declared.host.OpenFault.TheVariants.{Unopened, OutOfMemory}
 use Rattle.vcd_text.specs.declared.device.Bytes.{Bytes}
@@ -76,8 +75,16 @@ end_of left = record {
 pub record IsLeft (left : End) (names : List (Option Text)) (o : Outcome) : Type 0 where
   pub opened : left.opened ≡ names
   pub output : left.output ≡ o.output
-  pub message : left.message ≡ o.message
+  pub message : left.message ≡ shown_message program_name o.message
   pub status : left.status ≡ o.status
+
+-- nothing was opened, and this text of a parse of this kind was left: help and the version as the
+-- output, all else as the message
+pub record IsAnswered (left : End) (why : ErrorKind) (text : Text) : Type 0 where
+  pub opened : left.opened ≡ []
+  pub output : left.output ≡ cond (parse_status_of why == 0) text []
+  pub message : left.message ≡ cond (parse_status_of why == 0) [] text
+  pub status : left.status ≡ parse_status_of why
 
 -- the texts of these inputs are these
 abbrev pub HaveTexts : List MemoryFile → (input : Text) → List (Option Text) → List Text → Type 0
@@ -95,14 +102,14 @@ pub data IsLeftOf (words : Option Words) (asked : List (Option Text)) (files : L
 -- memory ran out: no output, and a line
 pub record IsOutOfMemory (left : End) : Type 0 where
   pub output : left.output ≡ []
-  pub message : left.message ≡ program_line (codes "out of memory")
+  pub message : left.message ≡ shown_message program_name (codes "out of memory")
   pub status : left.status ≡ 3
 
 -- what is left of any words, the program's name first
 pub data IsLeftBy (words : List Text) (files : List MemoryFile) (input : Text) (left : End) : Type 0 where
   Parsed : (matches : ArgMatches) (is : HasMatchesOf program_app words matches) (leaves : IsLeftOf (words_used matches) (inputs_asked matches) files input left) → IsLeftBy words files input left
   NoMatches : (why : ErrorKind) (is : (why ≡ kind.OutOfMemory) ⊎ IsAmong why (fault_of program_app words)) (only : takes program_app words ≡ true → why ≡ kind.OutOfMemory) (other : why ≢ kind.OutOfMemory) (text : Text)
-      (leaves : IsLeft left [] (answer_outcome why text)) → IsLeftBy words files input left
+      (leaves : IsAnswered left why text) → IsLeftBy words files input left
   NoMemory : (fails : IsOutOfMemory left) → IsLeftBy words files input left
 
 -- this output, this message and this status are left

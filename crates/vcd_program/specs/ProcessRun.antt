@@ -8,7 +8,7 @@ use Rattle.vcd_text.specs.Watch.{failed_calls, has_just_failed}
 use Rattle.vcd_text.specs.declared.device.Sink.{Ghosts as Sinks}
 use Rattle.vcd_text.specs.declared.device.Watch.{Watch}
 use Rattle.vcd_words.specs.declared.job.UseFault.{UseFault}
-use Rattle.vcdkit.specs.Message.{Shows, use_outcome}
+use Rattle.vcdkit.specs.Message.{Tells, program_name, use_outcome}
 use Rattle.vcd_program.specs.Process.{OpensInput, bytes_left}
 use Rattle.vcd_program.specs.Runs.{Finishes, KeepsNoneBack, RunsOn}
 use Rattle.vcd_program.specs.declared.process.Process.{Ghosts}
@@ -29,7 +29,7 @@ RunsGiven {B = B} p f i w flushes process process' words out out' err err' statu
 -- if it gives none, the line and the status for that, and nothing else.
 pub data RunsAs {P F I B K W : Type 0} (p : Ghosts P F I B K) (f : Reads F) (i : Reads I) (w : Sinks W) (flushes : W → Bool → W → Type 0) (process process' : P) (out out' : W) (err err' : Device) (status : ℕ) : Type 0 where
   Ran : (words : List Text) (given : p.words process words) (runs : RunsGiven p f i w flushes process process' words out out' err err' status) → RunsAs p f i w flushes process process' out out' err err' status
-  NoWords : (fault : UseFault) (refused : p.refuses process fault) (same : process' ≡ process) (unwritten : out' ≡ out) (shown : Shows err err' (use_outcome fault).message) (status_is : status ≡ (use_outcome fault).status)
+  NoWords : (fault : UseFault) (refused : p.refuses process fault) (same : process' ≡ process) (unwritten : out' ≡ out) (shown : Tells program_name err err' (use_outcome fault).message) (status_is : status ≡ (use_outcome fault).status)
       → RunsAs p f i w flushes process process' out out' err err' status
 
 -- What is left once the error stream `before`, with this left on it, was flushed: all of that is

@@ -8,7 +8,7 @@ use std::hash::BuildHasher;
 use vcd_host::{Host, OpenStop, Output, called, inputs_of, max_bytes_of_all, open_inputs};
 use vcd_text::{Sink, put};
 use vcd_words::{Job, UseFault, command_of, job_of, parse_status};
-use vcdkit::{open_fault, run_within, use_fault, write_fault};
+use vcdkit::{PROGRAM, open_fault, run_within, use_fault, write_fault};
 
 /// Runs a job, which the parsed command line `matches` asks for: has `host` open its inputs, runs
 /// it over them, and returns the exit status, as `run_program` does. Output goes to `out`, which is
@@ -31,7 +31,7 @@ fn run_job<H: Host, W: Sink, E: Sink, B: BuildHasher>(
     ensures failures { (E.device err.new).failures ≤ (E.device err.old).failures + 1 }
 {
     let Ok(asked) = inputs_of(alloc, job.task.is_merge(), matches) else {
-        return use_fault(UseFault::OutOfMemory, err);
+        return use_fault(PROGRAM, UseFault::OutOfMemory, err);
     };
     match open_inputs(alloc, asked.as_slice(), host) {
         Ok(mut inputs) => {
@@ -47,8 +47,8 @@ fn run_job<H: Host, W: Sink, E: Sink, B: BuildHasher>(
                 hasher,
             )
         }
-        Err(OpenStop::Unopened(name)) => open_fault(called(name), err),
-        Err(OpenStop::OutOfMemory) => use_fault(UseFault::OutOfMemory, err),
+        Err(OpenStop::Unopened(name)) => open_fault(PROGRAM, called(name), err),
+        Err(OpenStop::OutOfMemory) => use_fault(PROGRAM, UseFault::OutOfMemory, err),
     }
 }
 
@@ -71,7 +71,7 @@ fn run_matches<H: Host, W: Sink, E: Sink, B: BuildHasher>(
 {
     match job_of(alloc, matches) {
         Ok(job) => run_job(alloc, job, matches, host, out, err, hasher),
-        Err(fault) => use_fault(fault, err),
+        Err(fault) => use_fault(PROGRAM, fault, err),
     }
 }
 
@@ -87,17 +87,17 @@ fn answer<W: Sink, E: Sink>(alloc: Global, error: &Error, out: &mut W, err: &mut
 {
     let status = parse_status(error);
     if status == 3 {
-        return use_fault(UseFault::OutOfMemory, err);
+        return use_fault(PROGRAM, UseFault::OutOfMemory, err);
     }
     let Ok(text) = error.to_string(alloc) else {
-        return use_fault(UseFault::OutOfMemory, err);
+        return use_fault(PROGRAM, UseFault::OutOfMemory, err);
     };
     if status == 2 {
         let _ = put(err, text.as_bytes());
         return status;
     }
     if put(out, text.as_bytes()).is_err() {
-        return write_fault(err);
+        return write_fault(PROGRAM, err);
     }
     status
 }
@@ -119,7 +119,7 @@ fn parse_and_run<H: Host, W: Sink, E: Sink, B: BuildHasher>(
     ensures failures { (E.device err.new).failures ≤ (E.device err.old).failures + 1 }
 {
     let Ok(command) = command_of(alloc) else {
-        return use_fault(UseFault::OutOfMemory, err);
+        return use_fault(PROGRAM, UseFault::OutOfMemory, err);
     };
     match command.try_get_matches_from(words) {
         Ok(matches) => run_matches(alloc, &matches, host, out, err, hasher),
@@ -156,7 +156,7 @@ pub fn run_program<H: Host, W: Output, E: Sink, B: BuildHasher>(
     let status = parse_and_run(alloc, words, host, out, err, hasher);
     let flushed = out.flush();
     if status < 3 && flushed.is_err() {
-        return write_fault(err);
+        return write_fault(PROGRAM, err);
     }
     status
 }

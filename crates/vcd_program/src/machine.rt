@@ -12,7 +12,7 @@ use std::{env, fs, io};
 use vcd_host::{Buffered, Prefetched};
 use vcd_text::{Sink, Watch};
 use vcd_words::UseFault;
-use vcdkit::{Again, use_fault};
+use vcdkit::{Again, PROGRAM, use_fault};
 
 /// The longest file that is read when it is opened, so that the windows need not be longer than it.
 const MAX_SHORT_FILE: u64 = 65_535;
@@ -120,7 +120,7 @@ pub fn run_words_on_machine<E: Sink>(rt: &HostRuntime, words: &[String], err: &m
     let mut process = OwnProcess { rt };
     match Buffered::new(rt.alloc(), Again::new(rt.stdout())) {
         Ok(mut out) => run_words(rt.alloc(), &mut process, words, &mut out, err),
-        Err(_) => use_fault(UseFault::OutOfMemory, err),
+        Err(_) => use_fault(PROGRAM, UseFault::OutOfMemory, err),
     }
 }
 
@@ -157,6 +157,7 @@ pub fn run_on_machine(rt: &HostRuntime) -> u8
         Buffered::new(rt.alloc(), Again::new(rt.stderr())),
     ) else {
         return use_fault(
+            PROGRAM,
             UseFault::OutOfMemory,
             &mut Watch::new(Again::new(rt.stderr())),
         );

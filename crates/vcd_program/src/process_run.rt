@@ -8,7 +8,7 @@ use std::alloc::Global;
 use std::hash::{BuildHasher, BuildHasherDefault, FoldHasher};
 use vcd_host::Output;
 use vcd_text::Sink;
-use vcdkit::use_fault;
+use vcdkit::{PROGRAM, use_fault};
 
 /// Runs the program with these arguments over the inputs of the process behind `host`, and returns
 /// the exit status, as `run_program` does. Output goes to `out`, and messages go to `err`.
@@ -98,7 +98,7 @@ fn run_unflushed<P: Process, W: Output, E: Sink>(
 {
     match process.words(alloc) {
         Ok(words) => run_words(alloc, process, words.as_slice(), out, err),
-        Err(fault) => use_fault(fault, err),
+        Err(fault) => use_fault(PROGRAM, fault, err),
     }
 }
 

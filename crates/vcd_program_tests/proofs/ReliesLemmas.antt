@@ -19,6 +19,7 @@ use Rattle.vcd_body.specs.Pace.{KeepsUp}
 use Rattle.vcd_merge.specs.MergeRun.{AreReadOnTurn}
 use Rattle.vcd_merge.specs.Seat.{Lane}
 use Rattle.vcdkit.specs.Inputs.{headers_in}
+use Rattle.vcdkit.specs.Message.{program_name}
 use Rattle.vcdkit.specs.Run.{AreInTurn, AreMergedInTurn, AreRead, IsOutcome}
 use Rattle.vcd_host.specs.declared.host.OpenFault.{OpenFault}
 use Rattle.vcd_host.specs.declared.host.OpenFault.TheVariants.{Unopened, OutOfMemory}
@@ -31,7 +32,7 @@ use Rattle.vcd_program.specs.declared.process.Stream.{Stream}
 use Rattle.vcd_program.specs.declared.process.Stream.TheVariants.{File, Input as Standard, Refused as Failing}
 use Rattle.vcd_program_tests.specs.Relies.{AreOnTurn, EndsFlushed, EndsWith, OpensOne, Over, OverMany, OverOne, Relies, ReliesOnProcess, bytes_of, is_merge, stream_bytes}
 
-ends-with : (o : Outcome) (out out' err err' : Device) (status : ℕ) → IsOutcome o out out' err err' status → EndsWith o out out' err err' status
+ends-with : (o : Outcome) (out out' err err' : Device) (status : ℕ) → IsOutcome program_name o out out' err err' status → EndsWith o out out' err err' status
 ends-with o out out' err err' status (IsOutcome.Whole written shown is) = inl (written, shown, is)
 ends-with o out out' err err' status (IsOutcome.Part written shown is) = inr (written, shown, is)
 
@@ -67,7 +68,7 @@ module _ (limit : ℕ) (due_of : List Input → Outcome) (out out' err err' : De
         written = kept.0;
         is_written = kept.1;
         keeps_up = kept.2;
-        ends = inl (ends-with _ out out' err err' status (subst (λ l. IsOutcome (due_of l) out out' err err' status) one.1 leaves), one.3);
+        ends = inl (ends-with _ out out' err err' status (subst (λ l. IsOutcome program_name (due_of l) out out' err err' status) one.1 leaves), one.3);
       }
   over-one want text s t single (Leaves.NoMemory inputs read needed turns same fails) =
       let one = one-input is_header_over limit text s t inputs read in

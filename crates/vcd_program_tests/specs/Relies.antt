@@ -13,7 +13,7 @@ use Rattle.vcd_model.specs.Input.{Input}
 use Rattle.vcd_model.specs.Items.{BodyItem}
 use Rattle.vcd_model.specs.Job.{Want, outcome}
 use Rattle.vcd_model.specs.Merge.{Dump, factor, headers_of, key_after, merge_open, merged_items}
-use Rattle.vcd_model.specs.Outcome.{Outcome, allowed_after, declarations_allowed, program_line}
+use Rattle.vcd_model.specs.Outcome.{Outcome, allowed_after, declarations_allowed, shown_message}
 use Rattle.vcd_model.specs.Settled.{is_header_over, is_settled}
 use Rattle.vcd_model.specs.SettledMerge.{Seen, is_settled_merge}
 use Rattle.vcd_model.specs.Tokens.{stream_of}
@@ -49,17 +49,21 @@ is_merge want = false
 
 -- ---- how a run ends
 
--- the error stream took this line, or failed after a prefix of it
-abbrev pub Says : (err err' : Device) → Text → Type 0
-Says err err' line = Writes err err' line ⊎ WritesSome err err' line
+-- the line of a message, which begins with the name of the program; nothing for no message
+abbrev pub line_of : (message : Text) → Text
+line_of message = shown_message (codes "vcdkit") message
+
+-- the error stream took the line of this message, or failed after a prefix of it
+abbrev pub Says : (err err' : Device) → (message : Text) → Type 0
+Says err err' message = Writes err err' (line_of message) ⊎ WritesSome err err' (line_of message)
 
 -- with this outcome, or with a prefix of its output, if a write of the output failed
 abbrev pub EndsWith : Outcome → (out out' err err' : Device) → (status : ℕ) → Type 0
-EndsWith o out out' err err' status = (Writes out out' o.output × Says err err' o.message × (status ≡ o.status)) ⊎ (WritesSome out out' o.output × Says err err' (program_line (codes "write failed")) × (status ≡ 3))
+EndsWith o out out' err err' status = (Writes out out' o.output × Says err err' o.message × (status ≡ o.status)) ⊎ (WritesSome out out' o.output × Says err err' (codes "write failed") × (status ≡ 3))
 
 -- without output, because memory ran out
 abbrev pub EndsWithout : (out out' err err' : Device) → (status : ℕ) → Type 0
-EndsWithout out out' err err' status = Writes out out' [] × Says err err' (program_line (codes "out of memory")) × (status ≡ 3)
+EndsWithout out out' err err' status = Writes out out' [] × Says err err' (codes "out of memory") × (status ≡ 3)
 
 -- ---- a job over inputs whose texts are known
 
@@ -160,7 +164,7 @@ pub record EndsFlushed {W : Type 0} (device : W → Device) (flushes : W → Boo
   pub left : Left before shown was
   pub done : Bool
   pub flushed : IsFlushed device flushes done before out'
-  pub answer : ((err' ≡ shown) × (status ≡ was) × (done ≡ false → 3 ≤ status)) ⊎ ((done ≡ false) × (was < 3) × Says shown err' (program_line (codes "write failed")) × (status ≡ 3))
+  pub answer : ((err' ≡ shown) × (status ≡ was) × (done ≡ false → 3 ≤ status)) ⊎ ((done ≡ false) × (was < 3) × Says shown err' (codes "write failed") × (status ≡ 3))
 
 -- The program ran on the arguments of the process, with random numbers if the process gives some;
 -- nothing but its inputs was opened; and output and messages were flushed. Or the process gives no

@@ -55,7 +55,7 @@ pub use Rattle.vcd_model.specs.Items.{BodyItem}
 pub use Rattle.vcd_model.specs.Job.{Want, outcome, over_opened, refusal_outcome, request_of}
 pub use Rattle.vcd_model.specs.Laws.{IsPrefixOf}
 pub use Rattle.vcd_model.specs.Merge.{dump_of, factor}
-pub use Rattle.vcd_model.specs.Outcome.{Opened, Outcome, Request, allowed_after, declarations_allowed, dumps_of, ends_early, fault_outcome, merge_outcome, name_at, names_of, open_from, over_dump, over_dumps, program_line, unmatched_outcome, with_opened}
+pub use Rattle.vcd_model.specs.Outcome.{Opened, Outcome, Request, allowed_after, declarations_allowed, dumps_of, ends_early, fault_outcome, merge_outcome, name_at, names_of, open_from, over_dump, over_dumps, program_line, shown_message, unmatched_outcome, with_opened}
 pub use Rattle.vcd_model.specs.Reading.{Ending, Fault, Placed, Reading, phrases_of, reading_of}
 pub use Rattle.vcd_model.specs.Reading.Ending.{AtEnd, AtFault, AtLast}
 pub use Rattle.vcd_model.specs.Settled.{is_header_over, is_over, is_settled, is_settled_at, is_settled_behind, is_settled_by}
@@ -92,7 +92,7 @@ pub use Rattle.vcdkit.specs.Calls.{AreWithin, IsLimitFor, Narrows, supplies}
 pub use Rattle.vcdkit.specs.Failure.{CountsRead, CountsReads, CountsReadsOf, EndsAtRead, EndsAtReadOf, HasPassedOn, end_of, failure_of, head_failure, merge_end}
 pub use Rattle.vcdkit.specs.Inputs.{AreBegun, AreParked, AreShown, Begins, BeginsAt, HasFailed, HaveBegun, IsBegun, IsNew, IsWhy, SameParts, Stops, headers_in, place_of}
 pub use Rattle.vcdkit.specs.Lent.{AreLentWithin}
-pub use Rattle.vcdkit.specs.Message.{Shows, end_message, end_status, refusal_status}
+pub use Rattle.vcdkit.specs.Message.{Shows, Tells, end_message, end_status, program_name, refusal_status}
 pub use Rattle.vcdkit.specs.Run.{AreInTurn, AreMergedInTurn, AreNeeded, AreRead, Ends, EndsAll, HasRun, IsAfter, IsOfJob, IsOutcome, Leaves, LeavesAll, OneKeepsUp, header_behind, known, settled_for, settles_among}
 pub use Rattle.vcdkit.specs.Run.AreMergedInTurn.{InBodies, InHeaders}
 pub use Rattle.vcdkit.specs.Run.HasRun.{NoMemory, WithOutcome}

@@ -1,5 +1,5 @@
 -- How a run over its inputs ends, and what it leaves then.
-use Rattle.vcdkit.proofs.Cited.{◌≡◌, ◌==◌, ℕ, ◌+◌, ◌*◌, ◌/◌, ◌<◌, ◌≤◌, Bool, true, false, inl, List, [], length, map, Option, Some, Result, Ok, Err, refl, sym, ap, subst, ◌∙◌, arith, add-zero, get_or, slice_set, set-get_or, mul-div_cancel_left, mul-le, map_map, Head, AreParts, part_len, Seat, Input, Want, refusal_outcome, is_header_over, is_settled, Opened, Outcome, dumps_of, fault_outcome, merge_outcome, name_at, open_from, Fault, Token, Device, Supply, Writes, supply, appends-none, NamesInput, MergeIsWithinBound, windows_size, AreLentWithin, failures_with, Lane, Done, Stop, Dump, Read, Write, Unmatched, Windows, Failure, Stopped, Refused, OutOfMemory, Refusal, failure_of, merge_end, CountsReads, CountsReadsOf, model_refusal, AreBegun, AreParked, AreShown, HaveBegun, Stops, end_message, end_status, refusal_status, Shows, AreNeeded, EndsAll, HasRun, LeavesAll, InBodies, InHeaders, WithOutcome, NoMemory, Whole, Part}
+use Rattle.vcdkit.proofs.Cited.{◌≡◌, ◌==◌, ℕ, ◌+◌, ◌*◌, ◌/◌, ◌<◌, ◌≤◌, Bool, true, false, inl, List, [], length, map, Option, Some, Result, Ok, Err, refl, sym, ap, subst, ◌∙◌, arith, add-zero, get_or, slice_set, set-get_or, mul-div_cancel_left, mul-le, map_map, Head, AreParts, part_len, Seat, Input, Want, refusal_outcome, is_header_over, is_settled, Opened, Outcome, dumps_of, fault_outcome, merge_outcome, name_at, open_from, Fault, Token, Device, Supply, Writes, supply, appends-none, NamesInput, MergeIsWithinBound, windows_size, AreLentWithin, failures_with, Lane, Done, Stop, Dump, Read, Write, Unmatched, Windows, Failure, Stopped, Refused, OutOfMemory, Refusal, failure_of, merge_end, CountsReads, CountsReadsOf, model_refusal, AreBegun, AreParked, AreShown, HaveBegun, Stops, end_message, end_status, refusal_status, program_name, Shows, Tells, AreNeeded, EndsAll, HasRun, LeavesAll, InBodies, InHeaders, WithOutcome, NoMemory, Whole, Part}
 use Rattle.vcd_model.specs.Job.{outcome, request_of}
 use Rattle.vcd_merge.specs.MergeRun.{Belongs, Follows}
 use Rattle.vcd_body.specs.declared.answer.Done.TheVariants as done
@@ -32,7 +32,7 @@ module _ (want : Want) (asked : List (List ℕ)) (limit chunk : ℕ) (names text
   Ends end = EndsAll want asked limit chunk names texts old new out out' end
 
   abbrev Says : Result Done Failure → Type 0
-  Says end = Shows err err' (end_message names asked (failure_of end))
+  Says end = Tells program_name err err' (end_message names asked (failure_of end))
 
   abbrev Runs : Type 0
   Runs = HasRun want limit chunk names texts old new out out' err err' status
@@ -46,23 +46,23 @@ module _ (want : Want) (asked : List (List ℕ)) (limit chunk : ℕ) (names text
   pub has_run : (end : Result Done Failure) → Ends end → Counts end → status ≡ end_status (failure_of end) → Says end → Runs
   has_run (Ok d) e n k s =
       let o = due (Ok d) e in
-      WithOutcome e.lefts e.read e.needed e.in_turn (Whole e.leaves.1 (subst (λ (l : List ℕ). Shows err err' l) (sym (ap (λ (o : Outcome). o.message) e.leaves.0)) s) (k ∙ sym (ap (λ (o : Outcome). o.status) e.leaves.0)))
+      WithOutcome e.lefts e.read e.needed e.in_turn (Whole e.leaves.1 (subst (λ (l : List ℕ). Tells program_name err err' l) (sym (ap (λ (o : Outcome). o.message) e.leaves.0)) s) (k ∙ sym (ap (λ (o : Outcome). o.status) e.leaves.0)))
   has_run (Err (Stopped (Dump input line fault))) e n k s =
       let o = due (Err (Stopped (Dump input line fault))) e in
       let message : o.message ≡ end_message names asked (Some (Stopped (Dump input line fault))) = ap (λ (o : Outcome). o.message) e.leaves.0 ∙ rw (e.leaves.1, fault_outcome) refl in
       let is : o.status ≡ 1 = ap (λ (o : Outcome). o.status) e.leaves.0 ∙ rw (e.leaves.1, fault_outcome) refl in
-      WithOutcome e.lefts e.read e.needed e.in_turn (Whole e.leaves.2 (subst (λ (l : List ℕ). Shows err err' l) (sym message) s) (k ∙ sym is))
+      WithOutcome e.lefts e.read e.needed e.in_turn (Whole e.leaves.2 (subst (λ (l : List ℕ). Tells program_name err err' l) (sym message) s) (k ∙ sym is))
   has_run (Err (Stopped (Read input))) e n k s =
       let o = due (Err (Stopped (Read input))) e in
       let message : o.message ≡ end_message names asked (Some (Stopped (Read input))) = ap (λ (o : Outcome). o.message) e.leaves.0.1 in
-      WithOutcome e.lefts e.read e.needed e.in_turn (Whole e.leaves.1 (subst (λ (l : List ℕ). Shows err err' l) (sym message) s) (k ∙ sym (ap (λ (o : Outcome). o.status) e.leaves.0.1)))
+      WithOutcome e.lefts e.read e.needed e.in_turn (Whole e.leaves.1 (subst (λ (l : List ℕ). Tells program_name err err' l) (sym message) s) (k ∙ sym (ap (λ (o : Outcome). o.status) e.leaves.0.1)))
   has_run (Err (Stopped Write)) e n k s = WithOutcome e.lefts e.read e.needed e.in_turn (Part e.leaves s k)
   has_run (Err (Stopped (Unmatched place))) e n k s =
-      WithOutcome e.lefts e.read e.needed e.in_turn (Whole e.leaves.1 (subst (λ (l : List ℕ). Shows err err' l) (sym (ap (λ (o : Outcome). o.message) e.leaves.0)) s) (k ∙ sym (ap (λ (o : Outcome). o.status) e.leaves.0)))
+      WithOutcome e.lefts e.read e.needed e.in_turn (Whole e.leaves.1 (subst (λ (l : List ℕ). Tells program_name err err' l) (sym (ap (λ (o : Outcome). o.message) e.leaves.0)) s) (k ∙ sym (ap (λ (o : Outcome). o.status) e.leaves.0)))
   has_run (Err (Refused why)) e n k s =
       let o = due (Err (Refused why)) e in
       let output : o.output ≡ [] = ap (λ (o : Outcome). o.output) e.leaves.0 ∙ refused_output (name_at names 0) why in
-      WithOutcome e.lefts e.read e.needed e.in_turn (Whole (subst (λ (l : List ℕ). Writes out out' l) (sym output) e.leaves.1) (subst (λ (l : List ℕ). Shows err err' l) (sym (ap (λ (o : Outcome). o.message) e.leaves.0)) s)
+      WithOutcome e.lefts e.read e.needed e.in_turn (Whole (subst (λ (l : List ℕ). Writes out out' l) (sym output) e.leaves.1) (subst (λ (l : List ℕ). Tells program_name err err' l) (sym (ap (λ (o : Outcome). o.message) e.leaves.0)) s)
       (k ∙ sym (ap (λ (o : Outcome). o.status) e.leaves.0 ∙ refused_status (name_at names 0) why)))
   has_run (Err OutOfMemory) e n k s = NoMemory e.lefts e.read e.needed e.in_turn n e.leaves s k
 

@@ -1,5 +1,5 @@
 -- A run is the same under two token limits, where no input is longer than either.
-use Rattle.vcdkit.proofs.Cited.{◌≡◌, ℕ, ◌≤◌, Bool, false, inl, inr, zero, suc, ◌⊎◌, List, [], ◌∷◌, ◌++◌, filter, length, drop, map, slice_get, take, Option, Some, None, Result, Ok, Err, refl, sym, ap, subst, ◌∙◌, arith, IfSome, nat_lt, option_map, slice_set, AllByRecursion, position_or_len, reduce, nat_tests, length-drop, length-take, is_white_space, body_fault_of, read_body, due, Header, header_of, header_fault_of, read_header, Input, BodyItem, Want, over_opened, dump_of, factor, Opened, Outcome, allowed_after, declarations_allowed, fault_outcome, name_at, with_opened, Fault, phrases_of, Seen, is_settled_merge, HaltPlace, Stream, Token, comes_before, earlier_halt, end_at, failed_read, halt_place, run_at, stream_until, token_places, too_long_tokens, too_much_input, IsPrefixOf, is_header_over, is_settled, whole, Device, Supply, Near, ReadsAsNeeded, Nothing, ToToken, ToEnd, from_all, all_weaker, HasFault, IsLeft, is_more_due, Read, Write, Unmatched, AreReadOnTurn, HasEnded, ReadOnTurn, OnTurn, Unread, HasDump, Lane, Job, AreWithin, IsLimitFor, Narrows, AreBegun, IsBegun, IsWhy, Stops, headers_in, AreInTurn, AreMergedInTurn, AreNeeded, AreRead, HasRun, IsOutcome, OneKeepsUp, header_behind, known, settles_among, InBodies, InHeaders, Failure, Stopped, Refused, OutOfMemory, WithOutcome, NoMemory}
+use Rattle.vcdkit.proofs.Cited.{◌≡◌, ℕ, ◌≤◌, Bool, false, inl, inr, zero, suc, ◌⊎◌, List, [], ◌∷◌, ◌++◌, filter, length, drop, map, slice_get, take, Option, Some, None, Result, Ok, Err, refl, sym, ap, subst, ◌∙◌, arith, IfSome, nat_lt, option_map, slice_set, AllByRecursion, position_or_len, reduce, nat_tests, length-drop, length-take, is_white_space, body_fault_of, read_body, due, Header, header_of, header_fault_of, read_header, Input, BodyItem, Want, over_opened, dump_of, factor, Opened, Outcome, allowed_after, declarations_allowed, fault_outcome, name_at, with_opened, Fault, phrases_of, Seen, is_settled_merge, HaltPlace, Stream, Token, comes_before, earlier_halt, end_at, failed_read, halt_place, run_at, stream_until, token_places, too_long_tokens, too_much_input, IsPrefixOf, is_header_over, is_settled, whole, Device, Supply, Near, ReadsAsNeeded, Nothing, ToToken, ToEnd, from_all, all_weaker, HasFault, IsLeft, is_more_due, Read, Write, Unmatched, AreReadOnTurn, HasEnded, ReadOnTurn, OnTurn, Unread, HasDump, Lane, Job, AreWithin, IsLimitFor, Narrows, AreBegun, IsBegun, IsWhy, Stops, headers_in, AreInTurn, AreMergedInTurn, AreNeeded, AreRead, HasRun, IsOutcome, program_name, OneKeepsUp, header_behind, known, settles_among, InBodies, InHeaders, Failure, Stopped, Refused, OutOfMemory, WithOutcome, NoMemory}
 use Rattle.vcd_model.specs.Job.{outcome}
 use Rattle.vcd_model.specs.Merge.{Dump}
 use Rattle.vcd_model.specs.Outcome.{open_from}
@@ -259,7 +259,7 @@ run_within a b c d le want names texts old new out out' err err' status short (W
     let all = lefts_short a b c d le (is_settled want) [] texts old new inputs short read in
     WithOutcome inputs (read_within a b c d le (is_settled want) [] texts old new inputs short read) (all_within a b c d le old new inputs all want needed)
     (turns_within a b c d le texts old new inputs out out' short all want turns)
-    (subst (λ (o : Outcome). IsOutcome o out out' err err' status) (same_outcome a b want names inputs all) leaves)
+    (subst (λ (o : Outcome). IsOutcome program_name o out out' err err' status) (same_outcome a b want names inputs all) leaves)
 run_within a b c d le want names texts old new out out' err err' status short (NoMemory inputs read needed turns same written shown status_is) =
     let all = lefts_short a b c d le is_header_over [] texts old new inputs short read in
     NoMemory inputs (read_within a b c d le is_header_over [] texts old new inputs short read) (all_within a b c d le old new inputs all want needed) (turns_within a b c d le texts old new inputs out out' short all want turns) same written shown status_is

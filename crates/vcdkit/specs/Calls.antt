@@ -20,7 +20,7 @@ use Rattle.vcd_words.specs.Job.{model_want, names_asked}
 use Rattle.vcd_words.specs.declared.job.Job.{Job}
 use Rattle.vcd_words.specs.declared.job.Want.{Want}
 use Rattle.vcdkit.specs.Failure.{CountsReadsOf, CountsWrites, EndsAtReadOf, writes_failed}
-use Rattle.vcdkit.specs.Message.{Shows, end_message, end_status}
+use Rattle.vcdkit.specs.Message.{Tells, end_message, end_status, program_name}
 use Rattle.vcdkit.specs.Run.{Ends, EndsAll, HasRun, IsAfter, IsOfJob, settled_for}
 use Rattle.vcdkit.specs.declared.failure.Failure.{Failure}
 
@@ -93,7 +93,7 @@ FailOnce w e out out' err err' = ((w.device out').failures ≤ (w.device out).fa
 abbrev pub EndsSo : {X W E : Type 0} → Ghosts X → Sinks W → Sinks E → Job → List (List ℕ) → (old new : List X) → (out out' : W) → (err err' : E) → ℕ → Type 0
 EndsSo g w e job names old new out out' err err' status = (why : Option Failure)
     × CountsReadsOf g.failures old new why × CountsWrites w.device out out' (writes_failed why)
-    × (status ≡ end_status why) × Shows (e.device err) (e.device err') (end_message names (names_asked job.task) why)
+    × (status ≡ end_status why) × Tells program_name (e.device err) (e.device err') (end_message names (names_asked job.task) why)
     × EndsAtReadOf (map g.last_failed new) why
 
 -- if the bytes of the readers are known, it ended as the definitions say

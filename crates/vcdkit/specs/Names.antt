@@ -2,7 +2,7 @@
 pub use Rattle.vcd_model.specs.Header.{Header}
 pub use Rattle.vcd_model.specs.Job.{request_of, Want as ModelWant}
 pub use Rattle.vcd_model.specs.Laws.{IsValid}
-pub use Rattle.vcd_model.specs.Outcome.{name_at, program_line}
+pub use Rattle.vcd_model.specs.Outcome.{name_at, program_line, shown_message}
 pub use Rattle.vcd_text.specs.Advances.{HasNotFailed}
 pub use Rattle.vcd_text.specs.Calls.{MayLend}
 pub use Rattle.vcd_text.specs.Device.{failures_after, Puts, PutsTo, Takes}

@@ -5,7 +5,7 @@ use Rattle.vcd_model.specs.Job as model
 use Rattle.vcd_model.specs.Header.{Header, header_of}
 use Rattle.vcd_model.specs.HeaderReading.{read_header}
 use Rattle.vcd_model.specs.Due.{due}
-use Rattle.vcd_model.specs.Outcome.{Outcome, Request, allowed_after, clean_outcome, declarations_allowed, fault_outcome, name_at, names_of, program_line, unmatched_outcome}
+use Rattle.vcd_model.specs.Outcome.{Outcome, Request, allowed_after, clean_outcome, declarations_allowed, fault_outcome, name_at, names_of, unmatched_outcome}
 use Rattle.vcd_model.specs.Reading.{phrases_of}
 use Rattle.vcd_model.specs.Settled.{is_header_over, is_settled}
 use Rattle.vcd_model.specs.Tokens.{Token, stream_of}
@@ -24,7 +24,7 @@ use Rattle.vcdkit.specs.Inputs.{AreBegun, Stops, headers_in}
 use Rattle.vcdkit.specs.declared.failure.Failure.{Failure}
 use Rattle.vcdkit.specs.declared.failure.Failure.TheVariants.{Stopped, Refused, OutOfMemory}
 use Rattle.vcd_words.specs.Refusal.{model_refusal}
-use Rattle.vcdkit.specs.Message.{Shows}
+use Rattle.vcdkit.specs.Message.{Tells, program_name}
 
 -- ---- one input
 
@@ -135,12 +135,12 @@ pub record EndsAll (want : model.Want) (asked : List (List ℕ)) (limit chunk : 
   pub leaves : LeavesAll names asked (model.outcome want limit names lefts) out out' result
 
 -- a run leaves this outcome on its output, on the error stream and in its status, as far as its
--- devices allow
-pub data IsOutcome (o : Outcome) (out out' err err' : Device) (status : ℕ) : Type 0 where
+-- devices allow; the program has this name
+pub data IsOutcome (program : List ℕ) (o : Outcome) (out out' err err' : Device) (status : ℕ) : Type 0 where
   -- all of the outcome
-  Whole : (written : Writes out out' o.output) (shown : Shows err err' o.message) (status_is : status ≡ o.status) → IsOutcome o out out' err err' status
+  Whole : (written : Writes out out' o.output) (shown : Tells program err err' o.message) (status_is : status ≡ o.status) → IsOutcome program o out out' err err' status
   -- a prefix of the output, if a write of it failed
-  Part : (written : WritesSome out out' o.output) (shown : Shows err err' (program_line (codes "write failed"))) (status_is : status ≡ 3) → IsOutcome o out out' err err' status
+  Part : (written : WritesSome out out' o.output) (shown : Tells program err err' (codes "write failed")) (status_is : status ≡ 3) → IsOutcome program o out out' err err' status
 
 -- no read of these readers failed
 abbrev pub NoneFailed : (old new : List Supply) → Type 0
@@ -149,8 +149,8 @@ NoneFailed old new = map (λ (s : Supply). s.failures) new ≡ map (λ (s : Supp
 -- how a job ends over readers with these texts
 pub data HasRun (want : model.Want) (limit chunk : ℕ) (names texts : List (List ℕ)) (old new : List Supply) (out out' err err' : Device) (status : ℕ) : Type 0 where
   -- with the outcome of its inputs
-  WithOutcome : (inputs : List Input) (read : AreRead (is_settled want) limit chunk [] texts old new inputs) (needed : AreNeeded want limit chunk old new inputs) (in_turn : AreInTurn want limit chunk texts old new inputs out out') (leaves : IsOutcome (model.outcome want limit names inputs) out out' err err' status)
+  WithOutcome : (inputs : List Input) (read : AreRead (is_settled want) limit chunk [] texts old new inputs) (needed : AreNeeded want limit chunk old new inputs) (in_turn : AreInTurn want limit chunk texts old new inputs out out') (leaves : IsOutcome program_name (model.outcome want limit names inputs) out out' err err' status)
       → HasRun want limit chunk names texts old new out out' err err' status
   -- without output, if memory ran out and no read failed; no more was read than the headers
-  NoMemory : (inputs : List Input) (read : AreRead is_header_over limit chunk [] texts old new inputs) (needed : AreNeeded want limit chunk old new inputs) (in_turn : AreInTurn want limit chunk texts old new inputs out out') (same : NoneFailed old new) (written : Writes out out' []) (shown : Shows err err' (program_line (codes "out of memory"))) (status_is : status ≡ 3)
+  NoMemory : (inputs : List Input) (read : AreRead is_header_over limit chunk [] texts old new inputs) (needed : AreNeeded want limit chunk old new inputs) (in_turn : AreInTurn want limit chunk texts old new inputs out out') (same : NoneFailed old new) (written : Writes out out' []) (shown : Tells program_name err err' (codes "out of memory")) (status_is : status ≡ 3)
       → HasRun want limit chunk names texts old new out out' err err' status

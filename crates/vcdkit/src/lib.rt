@@ -37,7 +37,7 @@ mod tasks;
 mod whole_run;
 
 pub use again::Again;
-pub use message::{open_fault, use_fault, write_fault};
+pub use message::{PROGRAM, open_fault, use_fault, write_fault};
 pub use vcd_words::{
     Job, MAX_FILES, UseFault, Want, command_of, files_of, input_of, job_of, parse_status,
 };

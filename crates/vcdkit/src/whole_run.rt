@@ -4,7 +4,7 @@ ghost use Rattle.vcdkit.specs.Names.{AreReaders, AreWithin, AreWithinBound, chun
 
 use crate::failure::Failure;
 use crate::inputs::{MAX_DECLARATIONS, Reading, read_head_of, read_heads, windows_for};
-use crate::message::report;
+use crate::message::{PROGRAM, report};
 use crate::tasks::{need_of, room_for, task_of};
 use std::alloc::Global;
 use std::hash::{BuildHasher, BuildHasherDefault, FoldHasher};
@@ -244,7 +244,7 @@ pub fn run_with_hasher<S: Source, W: Sink, E: Sink, B: BuildHasher>(
 {
     match run_readers(alloc, &mut job, readers, out, hasher) {
         Ok(_) => 0,
-        Err(failure) => report(failure, names, job.task.names(), err),
+        Err(failure) => report(PROGRAM, failure, names, job.task.names(), err),
     }
 }
 

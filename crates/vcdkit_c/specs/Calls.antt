@@ -14,7 +14,7 @@ bytes_of lent = lent.bytes.now
 
 -- the message if an argument is not UTF-8
 abbrev pub bad_words : Text
-bad_words = program_line (codes "bad words")
+bad_words = program_line (codes "vcdkit") (codes "bad words")
 
 -- one of these arguments is not UTF-8
 abbrev pub NoText : (words : List Text) → Type 0

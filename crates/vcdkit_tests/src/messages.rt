@@ -3,7 +3,7 @@ ghost use Rattle.std.specs.Prelude.{◌≤◌};
 
 use vcd_text::doubles::Narrow;
 use vcd_text::{Sink, Watch};
-use vcdkit::{UseFault, open_fault, use_fault, write_fault};
+use vcdkit::{PROGRAM, UseFault, open_fault, use_fault, write_fault};
 
 // Whether the error stream has this text, after this many failed writes.
 fn is_held(err: &Watch<Narrow>, text: &[u8], failures: u64) -> bool {
@@ -32,7 +32,7 @@ fn is_said(fault: UseFault<'_>, room: usize, line: &[u8], failures: u64, status:
     requires { room ≤ 1024 }
 {
     let mut err = Watch::new(Narrow::new(room));
-    let answer = use_fault(fault, &mut err);
+    let answer = use_fault(PROGRAM, fault, &mut err);
     answer == status && is_held(&err, line, failures)
 }
 
@@ -53,7 +53,7 @@ fn is_unopened(room: usize, left: &[u8], failures: u64) -> bool
     requires { room ≤ 1024 }
 {
     let mut err = Watch::new(Narrow::new(room));
-    let answer = open_fault("none.vcd", &mut err);
+    let answer = open_fault(PROGRAM, "none.vcd", &mut err);
     answer == 3 && is_held(&err, left, failures)
 }
 
@@ -70,6 +70,6 @@ fn an_unopened_file_has_its_line(rt: HostRuntime) {
 #[test]
 fn a_failed_write_has_its_line(rt: HostRuntime) {
     let mut err = Watch::new(Narrow::new(80));
-    let status = write_fault(&mut err);
+    let status = write_fault(PROGRAM, &mut err);
     assert!(rt; status == 3 && is_held(&err, b"vcdkit: write failed\n", 0));
 }
