@@ -1,11 +1,18 @@
 #!/usr/bin/env python3
 """Tests how the package is built: imports go down, no module uses a private name of another one,
-and no two classes have one name."""
+no two classes have one name, and the page of the scripts has what the tables of the package have."""
 import ast
 import collections
 import glob
 import os
+import re
+import sys
 import unittest
+
+sys.path.insert(0, os.path.dirname(os.path.dirname(os.path.abspath(__file__))))
+from vcdkit.forms.text import FORMS
+from vcdkit.questions.expression import FUNCTIONS, LEVELS, UNARY
+from vcdkit.reading.formats import FORMATS
 
 PACKAGE = os.path.join(os.path.dirname(os.path.dirname(os.path.abspath(__file__))), "vcdkit")
 LAYERS = ["errors", "model", "reading", "questions", "forms", "commands"]  # the lowest first
@@ -39,6 +46,33 @@ class Layers(unittest.TestCase):
         names = collections.Counter(one.name for nodes in self.trees.values() for one in nodes
                                     if isinstance(one, ast.ClassDef))
         self.assertEqual([name for name, count in names.items() if count > 1], [])
+
+
+class Page(unittest.TestCase):
+    """The page of the scripts, whose words are those of its code spans."""
+
+    def setUp(self):
+        above = os.path.dirname(os.path.dirname(PACKAGE))
+        with open(os.path.join(above, "extras", "README.md"), encoding="utf-8") as file:
+            self.text = file.read()
+
+    def words(self, begin, end):
+        part = self.text[self.text.index(begin):self.text.index(end)]
+        return {word for code in re.findall("`([^`]+)`", part)
+                for word in code.replace("\\|", "|").split()}
+
+    def test_operators(self):
+        words = self.words("### Conditions", "### More questions")
+        functions = {word.partition("(")[0] for word in words if "(" in word}
+        self.assertEqual(set(LEVELS) - words, set())
+        self.assertEqual({sign for sign in UNARY if not words & {sign, sign + "a"}}, set())
+        self.assertEqual(set(FUNCTIONS) - functions, set())
+
+    def test_forms_and_formats(self):
+        words = self.words("### What they share", "### JSON keys")
+        self.assertEqual({"--" + name for name in FORMS} - words, set())
+        self.assertEqual([one.unpacker[0] for one in FORMATS
+                          if one.unpacker and one.unpacker[0] not in self.text], [])
 
 
 if __name__ == "__main__":

@@ -33,6 +33,7 @@ from ..questions.dump import Dump
 from ..questions.salvage import Good, has_header
 from ..questions.verdicts import Verdict, files_of, summary, verdict_on, verdicts
 from ..reading.files import check_outputs, write
+from ..reading.formats import PACKED
 from . import command, dump_of, natural, parser, times_of
 
 OUTPUT = ("-", "/dev/stdout")
@@ -48,7 +49,8 @@ def with_file(remedy: str, name: str, unpacker: Unpacker) -> str:
         source.append(" ".join(unpacker) if source else
                       " ".join([word for word in unpacker if word[0] != "/"] + [file]))
     if source and re.match(r"\w+2vcd FILE", remedy):  # they need a plain file
-        ending = None if is_pipe else re.search(r"\.(gz|xz|bz2|zst)\Z", name)
+        ending = None if is_pipe else re.search(
+            r"\.(%s)\Z" % "|".join(one.ending for one in PACKED), name)
         plain = shlex.quote(name[:ending.start()]) if ending else "OUT"
         return "%s > %s && %s" % (" | ".join(source), plain, remedy.replace("FILE", plain))
     if source:

@@ -10,7 +10,7 @@ from ..model.values import Value
 from ..questions.lanes import Lanes, Pixels, Point, Several
 from ..reading.source import Source
 from .junit import clean
-from .text import shown
+from .text import FORMS, shown
 
 ROW, HIGH, PAD, TOP, CHAR = 26, 16, 10, 34, 6.7  # pixels
 Shapes = Dict[str, List[str]]  # the parts of the path of each class
@@ -44,9 +44,11 @@ def unit_of(scale: Optional[Timescale], ticks: int) -> Tuple[str, float]:
 def value_text(value: object, form: Optional[str], room: int) -> str:
     """Returns a value as a lane has it: its last digits if it has no room for all, without zeros
     in front."""
+    form = form or "hex"
     text = ("%g" % value if isinstance(value, float)
-            else shown(value if isinstance(value, str) else None, form or "hex"))
-    if len(text) > room and form != "ascii" and isinstance(value, Value) and value.is_known:
+            else shown(value if isinstance(value, str) else None, form))
+    is_number = isinstance(value, Value) and value.is_known and not FORMS[form].is_letters
+    if len(text) > room and is_number:
         text = text.lstrip("0") or "0"
     if len(text) > room:
         text = "+" + text[1 - room:] if room >= LEAST_ROOM else ""

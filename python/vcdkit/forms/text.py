@@ -11,13 +11,15 @@ if TYPE_CHECKING:
 
 
 class Form(NamedTuple):
-    """A form of values: what the help says of it, and the text of a value. Else digits that have an
-    x or a z, and a single one, are written as they are. Digits that differ may have one text."""
+    """A form of values: what the help says of it, and the text of a value. Unless the form is also
+    of digits that have an x or a z, these, and a single one, are written as they are. The text may
+    be a decimal number, or letters. Digits that differ may have one text."""
 
     what: str
     text: Callable[[Value], str]
     has_x: bool = False
     is_number: bool = False
+    is_letters: bool = False
     is_alike: bool = False
 
 
@@ -42,12 +44,12 @@ def _letters_of(value: Value) -> str:
                    for one in text)
 
 
-FORMS = {  # page.html has them too
+FORMS = {  # RADICES and textOf of page.html, and extras/README.md, have them too
     "hex": Form("in hexadecimal", Value.hex, has_x=True, is_alike=True),
     "decimal": Form("in decimal, without a sign", lambda value: str(int(value)), is_number=True),
     "signed": Form("in decimal, as two's complement", lambda value: str(value.signed()),
                    is_number=True),
-    "ascii": Form("as text, one character for 8 bits", _letters_of),
+    "ascii": Form("as text, one character for 8 bits", _letters_of, is_letters=True),
     "binary": Form("in binary, with all digits", str, has_x=True)}
 
 

@@ -1,8 +1,8 @@
 """What the operators of Verilog make of values: clause 5 of IEEE Std 1364-2005.
 
 A value of some bits is an int if all its digits are 0 or 1, else its digits, a str. A real number
-is a float, with the arithmetic of IEEE Std 754. A signal that has no value yet has the digit -, which counts as x, except
-where digits themselves are asked for. Each operator takes the kind in which it works first."""
+is a float, with the arithmetic of IEEE Std 754. A signal that has no value yet has the digit -,
+which counts as x, except where digits themselves are asked for. Each operator takes the kind in which it works first."""
 import functools
 import math
 import operator
@@ -199,17 +199,23 @@ _and, _or, _xor, _xnor = (
         (operator.and_, "0"), (operator.or_, "1"), (operator.xor, ""), (lambda a, b: ~(a ^ b), "")))
 
 
+# Which operands of an operator take on the kind in which the whole is asked for.
+TAKES = {"context": slice(None), "choice": slice(1, None), "power": slice(1), "shift": slice(1)}
+
+
 class Operator(NamedTuple):
     """What is known of an operator: its function; how tightly it binds its two operands, 0 if it is
-    not between them; whether these take on a kind: that which they have in `common`, that in which
-    the whole is asked for (`context`), or none; whether it takes only bits; and what it is in
-    Python if all values are numbers."""
+    not between them; whether these take on a kind: that which they have in `common`, that of the
+    whole as TAKES has it, or none; whether it takes only bits; what it is in Python if all values
+    are numbers; and whether its last operand is what the first was at the edge before. A name that
+    is a word is that of a function."""
 
     function: Operate
     level: int = 0
     kind: str = ""
     has_bits: bool = False
     of_numbers: str = ""
+    has_past: bool = False
 
 
 def _arithmetical(function: Operate, level: int = 0, has_bits: bool = False) -> Operator:
@@ -224,7 +230,6 @@ def _ordering(sign: str, function: Operate) -> Operator:
                     "common", False, "1 if {0} %s {1} else 0" % sign)
 
 
-SHIFTS = ("<<", "<<<", ">>", ">>>")
 # All that is known of them: what reads conditions, and what makes functions of them, asks here.
 OPERATORS: Dict[str, Operator] = {
     "||": Operator(lambda _, one, other: _or(BIT, truth(one), truth(other)), 1,
@@ -239,13 +244,13 @@ OPERATORS: Dict[str, Operator] = {
     **{sign: _ordering(sign, function) for sign, function in (
         ("==", operator.eq), ("!=", operator.eq), ("<", operator.lt), ("<=", operator.le),
         (">", operator.gt), (">=", operator.ge))},
-    **{sign: Operator(functools.partial(_shift, sign[0] == "<", len(sign) == 3), 8, "context", True)
-       for sign in SHIFTS},
+    **{sign: Operator(functools.partial(_shift, sign[0] == "<", len(sign) == 3), 8, "shift", True)
+       for sign in ("<<", "<<<", ">>", ">>>")},
     "+": _arithmetical(operator.add, 9), "-": _arithmetical(operator.sub, 9),
     "*": _arithmetical(operator.mul, 10), "/": _arithmetical(_quotient, 10),
     "real /": _arithmetical(_real_quotient),
     "%": _arithmetical(lambda a, b: a - b * _quotient(a, b), 10, True),
-    "**": Operator(_power, 11, "context"), "?:": Operator(_chosen, kind="context"),
+    "**": Operator(_power, 11, "power"), "?:": Operator(_chosen, kind="choice"),
     "unary +": Operator(lambda _, one: one, kind="context"),
     "unary -": _arithmetical(operator.neg),
     "unary ~": Operator(_inverted, 0, "context", True),
@@ -256,9 +261,11 @@ OPERATORS: Dict[str, Operator] = {
        for sign, decides in (("~&", "0"), ("~|", "1"), ("~^", ""), ("^~", ""))},
     **{"is " + letter: Operator(functools.partial(_has, letter)) for letter in "xz"},
     **{"is not " + letter: Operator(_not(functools.partial(_has, letter))) for letter in "xz"},
-    "stable": Operator(_same, kind="common"), "changed": Operator(_not(_same), kind="common"),
-    "rose": Operator(functools.partial(_became, "1"), has_bits=True),
-    "fell": Operator(functools.partial(_became, "0"), has_bits=True),
     **dict.fromkeys(("signed", "unsigned"), Operator(
         lambda kind, one: one if isinstance(one, str) else kind.of(one), has_bits=True)),
+    "past": Operator(tuple),  # what it was is kept where conditions are evaluated
+    "rose": Operator(functools.partial(_became, "1"), has_bits=True, has_past=True),
+    "fell": Operator(functools.partial(_became, "0"), has_bits=True, has_past=True),
+    "stable": Operator(_same, kind="common", has_past=True),
+    "changed": Operator(_not(_same), kind="common", has_past=True),
     "{": Operator(_joined, has_bits=True)}

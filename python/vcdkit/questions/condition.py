@@ -11,7 +11,7 @@ from typing import (Any, Callable, Deque, Dict, Iterable, List, NamedTuple, Opti
 
 from ..errors import UnknownName, UsageError
 from ..model.names import FIELD, bare, field_of, full_names
-from ..model.operators import (BIT, OPERATORS, REAL, SHIFTS, Kind, Operator, Value, converted,
+from ..model.operators import (BIT, OPERATORS, REAL, TAKES, Kind, Operator, Value, converted,
                                kind_of, value_of_digits)
 from ..model.signals import Signal
 from ..model.values import extension, real_of
@@ -19,7 +19,8 @@ from ..reading import body
 from ..reading.source import Source
 from .expression import BITS, Node, ConditionText, Span, bad
 
-MIRRORED = {"<": ">", "<=": ">=", ">": "<", ">=": "<="}
+MIRRORED = {sign: sign.translate({60: ">", 62: "<"}) for sign, one in OPERATORS.items()
+            if one.level == OPERATORS["<"].level}  # < and >
 NAME_A_CLOCK = "name a clock with --rise or --fall (in Python: rise or fall)"
 GROUP = 30  # bits of which Python is fast
 Read = Callable[[bytes], Value]
@@ -129,12 +130,13 @@ def _type(node: Node) -> None:
         if any(one.sign == "number" for one in parts):
             raise bad("a number between { and } needs a size, as 4'd3")
         node.kind = kind_of(node.value * sum(one.kind.width for one in parts))
-    elif its.kind == "context" or sign == "past":
-        if sign in SHIFTS:  # the number of bits is unsigned
+    elif sign == "past":
+        node.kind = first
+    elif its.kind in TAKES:
+        if its.kind == "shift":  # the number of bits is unsigned
             node.parts[1] = Node("unsigned", parts[1:], None, kind_of(parts[1].kind.width))
-        is_common = len(parts) > 1 and sign not in ("?:", *SHIFTS) and (
-            sign != "**" or REAL in (first, parts[1].kind))
-        node.kind = _common(parts if is_common else parts[1:] if sign == "?:" else parts[:1])
+        is_real = its.kind == "power" and REAL in [one.kind for one in parts]
+        node.kind = REAL if is_real else _common(parts[TAKES[its.kind]])
     elif parts:
         node.kind = BIT
         if its.kind == "common":
@@ -176,9 +178,9 @@ def _place(node: Node) -> Any:
     kind = OPERATORS.get(sign, LEAF).kind
     for one in parts:
         one.to = one.kind
-    if kind == "context":
+    if kind in TAKES:
         works = node.to if node.to.width or not works.width else works
-        for one in parts[sign == "?:":1 if sign == "**" or sign in SHIFTS else None]:
+        for one in parts[TAKES[kind]]:
             one.to = works
     elif kind == "common":
         works = _common(parts)
@@ -387,7 +389,7 @@ class Conditions:
                                            if not isinstance(self._known.get(one), (int, float)))
                 found = "(%s) if %s else %s" % (its.of_numbers.format(*operands),
                                                 are_numbers or "True", found)
-        own = works if OPERATORS.get(sign, LEAF).kind == "context" else node.kind
+        own = works if OPERATORS.get(sign, LEAF).kind in TAKES else node.kind
         return found if own == node.to else "converted(%s, %s, %s)" % (
             found, named(own), named(node.to))
 

@@ -21,7 +21,7 @@ TOKEN = re.compile(
     r'|((?:[^\s"&|!=<>()+\-*/%^~?:,{}\'\[\]]|\[[^\s\]]*\])+)')
 SPAN = re.compile(r"%s\Z" % AMOUNT)
 BASED = re.compile(r"([\d_]*)\s*'\s*([sS]?)([bodhBODH])\s*(.+)")
-FUNCTIONS = ("signed", "unsigned", "past", "rose", "fell", "stable", "changed")
+FUNCTIONS = [sign for sign in OPERATORS if sign.isalpha()]
 # What to write instead of words and signs of other languages.
 EDGE = "for an edge of a signal, use rose(..) or fell(..); for a clock, --rise or --fall"
 LATER = "for a later edge, use req -> ack within N"
@@ -246,10 +246,8 @@ class ConditionText:
             self._take()
             count = self._count(MAX_PAST)
         self._take(")")
-        if name in ("signed", "unsigned"):
-            return Node(name, [one])
         past = Node("past", [one], count)
-        return past if name == "past" else Node(name, [one, past])
+        return past if name == "past" else Node(name, [one, past][:1 + OPERATORS[name].has_past])
 
     def _join(self) -> Node:
         """Reads the rest of a concatenation, which may be repeated."""
