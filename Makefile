@@ -9,8 +9,8 @@
 #     compilers build them; then, with these programs, docs-check, completions-check, extras-check
 #     and hostile-check: 50 to 90 minutes
 # make hostile runs the programs while memory, reads and writes fail, with closed streams, and on
-#     dumps that are truncated, crafted or random, and asks the package and the scripts about every
-#     small dump, and what a second reader knows: some minutes
+#     dumps that are truncated, crafted or random, and asks the package and the scripts about an
+#     eighth of all small dumps, and what a second reader knows: 30 to 60 minutes
 # make hostile-check    is the part of it that takes ten CPU minutes, always with the same seeds
 # make docs-check runs the commands on the pages with ./vcdkit, and compares what they print with
 #     the pages. It also looks for links that lead nowhere: seconds

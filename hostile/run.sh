@@ -1,8 +1,12 @@
 #!/usr/bin/env bash
 # run.sh all|check: runs the scripts of this directory, and those of python/tests that ask about
 # many dumps, with ./vcdkit and ./vcdkit-compare. `check` takes some ten CPU minutes: it runs fewer
-# random dumps, and leaves out what takes minutes by itself. All seeds are fixed, but for those of
-# the second reader in `all`. Each script runs, even if one before it fails; then the status is 1.
+# random dumps, and leaves out what takes minutes by itself. Each script runs, even if one before it
+# fails; then the status is 1.
+#
+# All small dumps take two hours of CPU time, so a run of `all` asks about an eighth of them, another
+# one each time: FIRST=0 to FIRST=7 say which one, and STRIDE=1 asks about all. The second reader
+# takes new seeds each time too. All other seeds are fixed.
 set -u
 cd "$(dirname "$0")/.."
 export VCDKIT=./vcdkit
@@ -28,7 +32,9 @@ case $1 in
         run hostile/random_runs.py ./vcdkit --devices "$devices" --runs 50000
         run hostile/crafted.py ./vcdkit
         run hostile/compare.py ./vcdkit ./vcdkit-compare "$devices"
-        run python/tests/test_every_small_dump.py
+        stride=${STRIDE:-8}
+        run env STRIDE="$stride" FIRST="${FIRST:-$((RANDOM % stride))}" \
+            python/tests/test_every_small_dump.py
         run python/tests/second_reader/ask.py --seconds 120
         run python/tests/test_expressions.py --count 100000
         run python/tests/test_expressions.py --verilator --count 2000
