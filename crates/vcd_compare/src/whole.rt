@@ -1,5 +1,5 @@
 //! The whole comparison of two parts of a dump.
-ghost use Rattle.std.specs.Prelude.{◌≡◌, ◌-◌, ◌^◌, ◌<◌, ◌≤◌, ℕ, List, length, [], None, replicate, IfOk, false};
+ghost use Rattle.std.specs.Prelude.{◌≡◌, ◌-◌, ◌^◌, ◌<◌, ◌≤◌, ℕ, List, length, [], None, replicate, IfOk, false, true};
 ghost use Rattle.vcd_body.specs.Answer.{EndsAtRead};
 ghost use Rattle.vcd_body.specs.Current.{table_bytes};
 ghost use Rattle.vcd_body.specs.Prompt.{HasPassedOn};
@@ -221,6 +221,10 @@ impl Task for Run<'_, '_> {
     ghost tells = { λ run items text. Tells run.differs run.last items text };
 
     ghost is_ready = { λ run. IsCounted run.watched run.comparison };
+
+    ghost fixed = { λ _. tt };
+
+    ghost may_end = { λ _. true };
 
     /// Handles the items that lie completely in the chunk, up to a timestamp that `take` has to
     /// handle. It writes nothing, and never fails.

@@ -7,59 +7,54 @@ use Rattle.vcd_model.specs.Input.{Input}
 use Rattle.vcd_model.specs.Items.{BodyItem}
 use Rattle.vcd_model.specs.Laws.{IsPrefixOf}
 use Rattle.vcd_model.specs.Tokens.{Token}
-use Rattle.vcd_text.proofs.Writes.{AppendsSome}
 use Rattle.vcd_text.specs.Advances.{Advances, HasNotFailed}
 use Rattle.vcd_text.specs.Answer.{failed_after}
 use Rattle.vcd_text.specs.Device.{Device, Supply, Writes}
-use Rattle.vcd_text.specs.Feed.{chunk_len_of, limit_of, seen, source_of, supply_of}
+use Rattle.vcd_text.specs.Feed.{GaveOnlySeen, chunk_len_of, limit_of, seen, source_of, supply_of}
 use Rattle.vcd_text.specs.declared.device.Source.{Ghosts}
 use Rattle.vcd_text.specs.declared.feed.Feed.{Feed}
 use Rattle.vcd_body.proofs.CallerLemmas.{last_given}
 use Rattle.vcd_body.proofs.PaceLemmas.{HasReadFor, keeping_up, past_end, past_item, past_stop, read_past, read_still}
-use Rattle.vcd_body.specs.Answer.{EndsAtRead, IsLeft, reads_failed, stop_of_body}
+use Rattle.vcd_body.specs.Answer.{EndsAtRead, IsLeft, reads_failed}
 use Rattle.vcd_body.specs.Asked.{HaveJust}
-use Rattle.vcd_body.specs.Given.{GivesItem, text_of}
-use Rattle.vcd_body.specs.Items.{model_form, model_section}
 use Rattle.vcd_body.specs.Pace.{ReadsPast}
-use Rattle.vcd_body.specs.Reads.{Fails}
+use Rattle.vcd_body.specs.Reads.{GaveItem}
+use Rattle.vcd_body.specs.declared.answer.Done.TheVariants.{Early, Whole}
 use Rattle.vcd_body.specs.declared.answer.More.{More}
 use Rattle.vcd_body.specs.declared.answer.More.TheVariants.{Again, Ended}
 use Rattle.vcd_body.specs.declared.answer.Stop.{Stop}
 use Rattle.vcd_body.specs.declared.answer.Stop.TheVariants.{Dump, Read, Unmatched, Write}
-use Rattle.vcd_body.specs.declared.fault.BodyFault.{BodyFault}
-use Rattle.vcd_body.specs.declared.fault.BodyFault.TheVariants.{ReadFailed}
-use Rattle.vcd_body.specs.declared.item.Item.{Item}
-use Rattle.vcd_body.specs.declared.item.Item.TheVariants as item
 use Rattle.vcd_body.specs.declared.item.Regs.{Regs}
 use Rattle.vcd_run.specs.Plan.{Plan, due_with, is_settled_with}
-use Rattle.vcd_run.specs.Run.{KeepsRest, ReadsNeeded, StepReads, left_of, step_end}
+use Rattle.vcd_run.specs.Run.{ReadsNeeded, StepGives, left_of, step_end}
 
 -- ---- one step
 
-module _ {X : Type 0} {g : Ghosts X} (codes : List IdCode) (i : Input) (front : List Token) (items : List BodyItem) (f : Feed X g) where
-  -- up to an item, or to the end
-  pub given_past : (r : Regs) (x : Item) → GivesItem codes i front items f r x → ReadsPast codes i front items f
-  given_past r (item.Time t) gives = past_item codes i front items f (BodyItem.Time t) r (last_given codes i front items (BodyItem.Time t) f r gives)
-  given_past r (item.Begin s) gives = past_item codes i front items f (BodyItem.Begin (model_section s)) r (last_given codes i front items (BodyItem.Begin (model_section s)) f r gives)
-  given_past r item.End gives = past_item codes i front items f BodyItem.End r (last_given codes i front items BodyItem.End f r gives)
-  given_past r (item.Change code form) gives =
-      let x = BodyItem.Changes (record { code = gives.0; form = model_form form; text = text_of form f }) in
-      past_item codes i front items f x r (last_given codes i front items x f r gives.2)
-  given_past r item.Finish gives = past_end codes i front items f r gives
+-- if a read failed, the source still has all that it had not given
+abbrev pub KeepsRest : {X : Type 0} {g : Ghosts X} → Input → Feed X g → Result More Stop → Type 0
+KeepsRest i f (Err (Read input)) = GaveOnlySeen i f
+KeepsRest i f result = Unit {0}
 
-  module _ (out out' : Device) where
-    -- a step that did not fail
-    pub step_goes : (m : More) (bytes : List ℕ) → ReadsPast codes i front items f → Appends out.held out'.held bytes → StepReads codes i front items f out out' (Ok m)
-    step_goes m bytes past all = record { past = past; rest = tt; more = bytes; appends = all }
+-- after these items a step read no more than needed, and it may have written more
+pub record StepReads {X : Type 0} {g : Ghosts X} (codes : List IdCode) (i : Input) (front : List Token) (items : List BodyItem) (f' : Feed X g) (out out' : Device) (result : Result More Stop) : Type 0 where
+  pub past : ReadsPast codes (left_of i (seen f') result) front items f'
+  pub rest : KeepsRest i f' result
+  pub more : List ℕ
+  pub appends : Appends out.held out'.held more
 
-    -- a write in it failed
-    pub step_unwritten : (bytes : List ℕ) → ReadsPast codes i front items f → AppendsSome out.held out'.held bytes → StepReads codes i front items f out out' (Err Write)
-    step_unwritten bytes past some = record { past = past; rest = tt; more = take some.0 bytes; appends = some.1 }
+module _ {T X : Type 0} {g : Ghosts X} (keeps : T → Plan → Header → List BodyItem → Type 0) (told : List BodyItem → List ℕ → Type 0) (p : Plan) (h : Header) (i : Input) (front : List Token) (items : List BodyItem) (task : T) (r : Regs) (f : Feed X g) (out out' : Device) where
+  to_item : (x : BodyItem) → GaveItem h.codes i front items x f r → ReadsPast h.codes i front items f
+  to_item x gave = past_item h.codes i front items f x r (last_given h.codes i front items x f r gave)
 
-    -- it came to a fault
-    pub step_refused : (fault : BodyFault) (line : ℕ) → Fails codes i front items fault f → Appends out.held out'.held [] → StepReads codes i front items f out out' (Err (stop_of_body fault 0 line))
-    step_refused ReadFailed line fails none = record { past = past_stop codes (failed_after (seen f) i) front items f fails.0.1; rest = fails.1; more = []; appends = none }
-    step_refused fault line fails none = record { past = past_stop codes i front items f fails.1; rest = tt; more = []; appends = none }
+  pub reads_past : (result : Result More Stop) → StepGives keeps p h i front told items task r f out out' result → StepReads h.codes i front items f out out' result
+  reads_past (Ok Again) (x, gave, taken, grows) = record { past = to_item x gave; rest = tt; more = grows.0; appends = grows.2.0 }
+  reads_past (Ok (Ended Whole)) (all, close, is) = record { past = past_end h.codes i front items f r all; rest = tt; more = p.closes items; appends = close.0 }
+  reads_past (Ok (Ended Early)) (x, gave, ends, grows, is) = record { past = to_item x gave; rest = tt; more = grows.0; appends = grows.2.0 }
+  reads_past (Err (Dump input line fault)) (first, other, is, fails, none) = record { past = past_stop h.codes i front items f fails.1; rest = tt; more = []; appends = none.0 }
+  reads_past (Err (Read input)) (first, fails, rest, none) = record { past = past_stop h.codes (failed_after (seen f) i) front items f fails.1; rest = rest; more = []; appends = none.0 }
+  reads_past (Err Write) (inl (x, gave, grows)) = record { past = to_item x gave; rest = tt; more = take grows.2.0.0 grows.0; appends = grows.2.0.1 }
+  reads_past (Err Write) (inr (all, some)) = record { past = past_end h.codes i front items f r all; rest = tt; more = take some.0.0 (p.closes items); appends = some.0.1 }
+  reads_past (Err (Unmatched name)) none = absurd none
 
 -- ---- all of them
 

@@ -1,5 +1,5 @@
 -- The outcome of a plan over a body, and that of a run of any task.
-use Rattle.std.specs.Prelude.{◌≡◌, ◌==◌, ℕ, true, false, cond, List, ◌++◌, Option, Some, None, Result, Ok, Err}
+use Rattle.std.specs.Prelude.{◌≡◌, ◌==◌, ℕ, Bool, true, false, cond, List, ◌++◌, Option, Some, None, Result, Ok, Err}
 use Rattle.vcd_model.specs.BodyReading.{body_fault_of, body_items, read_body}
 use Rattle.vcd_model.specs.Declarations.{IdCode}
 use Rattle.vcd_model.specs.Header.{Header}
@@ -11,6 +11,7 @@ use Rattle.vcd_model.specs.Reading.{Fault}
 use Rattle.vcd_model.specs.Tokens.{Token, stream_of}
 use Rattle.vcd_text.specs.Device.{Device, Writes, WritesSome}
 use Rattle.vcd_body.specs.declared.answer.Done.{Done}
+use Rattle.vcd_body.specs.declared.answer.Done.TheVariants.{Early, Whole}
 use Rattle.vcd_body.specs.declared.answer.Stop.{Stop}
 use Rattle.vcd_body.specs.declared.answer.Stop.TheVariants.{Dump, Read, Write, Unmatched}
 use Rattle.vcd_run.specs.Plan.{Plan}
@@ -43,8 +44,15 @@ Belongs told w o out out' (Err (Read input)) = (text : List ℕ) × (line : ℕ)
 Belongs told w o out out' (Err Write) = WritesSome out out' o.output
 Belongs told w o out out' (Err (Unmatched name)) = ⊥
 
+-- the run ended early if and only if this is true
+abbrev pub EndsAs : Bool → Result Done Stop → Type 0
+EndsAs ends (Ok Whole) = ends ≡ false
+EndsAs ends (Ok Early) = ends ≡ true
+EndsAs ends (Err stop) = Unit {0}
+
 -- the outcome of this input, if these first tokens are its header
 pub record GivesOutcome (told : List BodyItem → List ℕ → Type 0) (p : Plan) (w : Ways) (h : Header) (left : Input) (front : List Token) (limit : ℕ) (out out' : Device) (result : Result Done Stop) : Type 0 where
   pub rest : List Token
   pub tokens : (stream_of limit left).tokens ≡ front ++ rest
   pub belongs : Belongs told w (over_plan p w (body_items (read_body h.codes rest)) (body_fault_of (stream_of limit left) (read_body h.codes rest))) out out' result
+  pub early : EndsAs (p.ends (body_items (read_body h.codes rest))) result

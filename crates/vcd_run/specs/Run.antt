@@ -1,8 +1,6 @@
 -- What a run of any task over a body leaves.
-use Rattle.std.specs.Prelude.{◌≡◌, ◌==◌, ◌⊎◌, ◌≤◌, length, ℕ, ◌+◌, ◌<◌, ◌^◌, true, false, List, [], ◌++◌, Some, None, Result, Ok, Err}
-use Rattle.std.specs.Io.KnownBytes.{Appends}
+use Rattle.std.specs.Prelude.{◌≡◌, ◌==◌, ◌⊎◌, ◌≤◌, length, ℕ, ◌+◌, ◌<◌, ◌^◌, Bool, true, false, List, [], ◌∷◌, ◌++◌, Some, None, Result, Ok, Err, IfOk}
 use Rattle.vcd_model.specs.BodyReading.{body_items, read_body}
-use Rattle.vcd_model.specs.Declarations.{IdCode}
 use Rattle.vcd_model.specs.Header.{Header}
 use Rattle.vcd_model.specs.Input.{Input}
 use Rattle.vcd_model.specs.Items.{BodyItem}
@@ -11,15 +9,16 @@ use Rattle.vcd_model.specs.Tokens.{Token, stream_of}
 use Rattle.vcd_text.specs.Advances.{Advances, CallEnd}
 use Rattle.vcd_text.specs.Answer.{failed_after}
 use Rattle.vcd_text.specs.Device.{Device, Supply, Writes, WritesSome, failures_then}
-use Rattle.vcd_text.specs.Feed.{GaveOnlySeen, HasGiven, SameLoans, chunk_len_of, limit_of, seen, source_of, supply_of}
+use Rattle.vcd_text.specs.Feed.{GaveOnlySeen, HasGiven, SameLoans, chunk_len_of, limit_of, seen, source_of, supply_of, token_of}
 use Rattle.vcd_text.specs.ReadAhead.{ReadsAsNeeded}
 use Rattle.vcd_text.specs.declared.device.Source.{Ghosts}
 use Rattle.vcd_text.specs.declared.feed.Feed.{Feed}
 use Rattle.vcd_view.specs.Views.{IsViewOf}
 use Rattle.vcd_view.specs.declared.view.HeadView.{HeadView}
 use Rattle.vcd_body.specs.Answer.{IsLeft, reads_failed, writes_failed}
-use Rattle.vcd_body.specs.Pace.{KeepsUp, ReadsPast}
-use Rattle.vcd_body.specs.Reads.{BodyHas, GaveItems}
+use Rattle.vcd_body.specs.Device.{Grows, GrowsSome}
+use Rattle.vcd_body.specs.Pace.{KeepsUp}
+use Rattle.vcd_body.specs.Reads.{BodyHas, FailsOver, GaveAll, GaveItem, GaveItems}
 use Rattle.vcd_body.specs.declared.answer.Done.{Done}
 use Rattle.vcd_body.specs.declared.answer.Done.TheVariants.{Early, Whole}
 use Rattle.vcd_body.specs.declared.answer.More.{More}
@@ -49,35 +48,43 @@ BodyGives tells p h i front limit read out out' (Err (Unmatched name)) = ⊥
 
 -- ---- the run
 
-module _ {T X : Type 0} {g : Ghosts X} (keeps : T → Plan → Header → List BodyItem → Type 0) (tells : T → List BodyItem → List ℕ → Type 0) (p : Plan) (h : Header) (i : Input) (front : List Token) (begin : Device) where
-  -- a task has come past these items of the body, and has written what is due with them
-  pub record HasCome (items : List BodyItem) (task : T) (regs : Regs) (f : Feed X g) (out : Device) : Type 0 where
+module _ {T X : Type 0} {g : Ghosts X} (keeps : T → Plan → Header → List BodyItem → Type 0) (p : Plan) (h : Header) (i : Input) (front : List Token) where
+  -- a task has come past these items of the body, of which none ends the run
+  pub record HasTaken (items : List BodyItem) (task : T) (regs : Regs) (f : Feed X g) : Type 0 where
     pub gave : GaveItems h.codes i front items f regs
     pub stands : keeps task p h items
     pub on : p.ends items ≡ false
     -- there are no more of them than bytes
     pub few : length items ≤ seen f
-    pub written : Writes begin out (p.opens items)
 
-  -- after one more step it has come further, with more written; or it has ended
-  abbrev pub StepGives : List ℕ → T → Regs → Feed X g → Device → Result More Stop → Type 0
-  StepGives text task regs f out (Ok Again) = (items : List BodyItem) × HasCome items task regs f out × IsPrefixOf text (p.opens items)
-  StepGives text task regs f out (Ok (Ended done)) = BodyGives (tells task) p h i front (limit_of f) (seen f) begin out (Ok done)
-  StepGives text task regs f out (Err stop) = BodyGives (tells task) p h i front (limit_of f) (seen f) begin out (Err stop)
+  -- what a step after these items leaves: one more item and what is due with it; the end of the
+  -- body and what comes there; or a fault, with which nothing is written
+  abbrev pub StepGives : (tells : List BodyItem → List ℕ → Type 0) → List BodyItem → T → Regs → Feed X g → (out out' : Device) → Result More Stop → Type 0
+  StepGives tells items task regs f out out' (Ok Again) = (x : BodyItem) × GaveItem h.codes i front items x f regs × HasTaken (items ++ x ∷ []) task regs f × Grows out out' (p.opens items) (p.opens (items ++ x ∷ []))
+  StepGives tells items task regs f out out' (Ok (Ended Whole)) = GaveAll h.codes i front items f regs × Writes out out' (p.closes items) × tells items (p.opens items ++ p.closes items)
+  StepGives tells items task regs f out out' (Ok (Ended Early)) =
+      (x : BodyItem) × GaveItem h.codes i front items x f regs × (p.ends (items ++ x ∷ []) ≡ true) × Grows out out' (p.opens items) (p.opens (items ++ x ∷ [])) × tells (items ++ x ∷ []) (p.opens (items ++ x ∷ []))
+  StepGives tells items task regs f out out' (Err (Dump input line fault)) =
+      (input ≡ 0) × ((fault == 31) ≡ false) × (line ≡ (token_of f).line) × FailsOver h.codes i front items fault f × Writes out out' []
+  StepGives tells items task regs f out out' (Err (Read input)) = (input ≡ 0) × FailsOver h.codes (failed_after (seen f) i) front items 31 f × GaveOnlySeen i f × Writes out out' []
+  StepGives tells items task regs f out out' (Err Write) =
+      ((x : BodyItem) × GaveItem h.codes i front items x f regs × GrowsSome out out' (p.opens items) (p.opens (items ++ x ∷ [])))
+      ⊎ (GaveAll h.codes i front items f regs × WritesSome out out' (p.closes items))
+  StepGives tells items task regs f out out' (Err (Unmatched name)) = ⊥
 
-  -- after the items ahead it has come further; or a write failed
-  abbrev pub AheadGives : {A E : Type 0} → List ℕ → T → Regs → Feed X g → (out out' : Device) → Result A E → Type 0
-  AheadGives text task regs f out out' (Ok v) = (items : List BodyItem) × HasCome items task regs f out' × IsPrefixOf text (p.opens items)
-  AheadGives text task regs f out out' (Err e) = BodyGives (tells task) p h i front (limit_of f) (seen f) begin out' (Err Write) × ((more : List ℕ) × Appends out.held out'.held more)
+  -- what the items that lie ahead leave: they were taken, or a write of what is due with them failed
+  abbrev pub AheadGives : {A E : Type 0} → List BodyItem → T → Regs → Feed X g → (out out' : Device) → Result A E → List BodyItem → Type 0
+  AheadGives items task regs f out out' (Ok v) more = HasTaken (items ++ more) task regs f × Grows out out' (p.opens items) (p.opens (items ++ more))
+  AheadGives items task regs f out out' (Err e) more = GaveItems h.codes i front (items ++ more) f regs × GrowsSome out out' (p.opens items) (p.opens (items ++ more))
 
 -- the same after any items of any body
 abbrev pub Steps : {T X : Type 0} {g : Ghosts X} → (keeps : T → Plan → Header → List BodyItem → Type 0) → (tells : T → List BodyItem → List ℕ → Type 0) → HeadView → (task task' : T) → (r r' : Regs) → (f f' : Feed X g) → (out out' : Device) → Result More Stop → Type 0
-Steps keeps tells v task task' r r' f f' out out' result = (p : Plan) (h : Header) (i : Input) (front : List Token) (begin : Device) (items : List BodyItem) → IsViewOf v h → HasCome keeps tells p h i front begin items task r f out
-    → StepGives keeps tells p h i front begin (p.opens items) task' r' f' out' result
+Steps keeps tells v task task' r r' f f' out out' result = (p : Plan) (h : Header) (i : Input) (front : List Token) (items : List BodyItem) → IsViewOf v h → HasTaken keeps p h i front items task r f
+    → StepGives keeps p h i front (tells task') items task' r' f' out out' result
 
-abbrev pub StepsAhead : {T X A E : Type 0} {g : Ghosts X} → (keeps : T → Plan → Header → List BodyItem → Type 0) → (tells : T → List BodyItem → List ℕ → Type 0) → HeadView → (task task' : T) → (r r' : Regs) → (f f' : Feed X g) → (out out' : Device) → Result A E → Type 0
-StepsAhead keeps tells v task task' r r' f f' out out' result = (p : Plan) (h : Header) (i : Input) (front : List Token) (begin : Device) (items : List BodyItem) → IsViewOf v h → HasCome keeps tells p h i front begin items task r f out
-    → AheadGives keeps tells p h i front begin (p.opens items) task' r' f' out out' result
+abbrev pub StepsAhead : {T X A E : Type 0} {g : Ghosts X} → (keeps : T → Plan → Header → List BodyItem → Type 0) → HeadView → (task task' : T) → (r r' : Regs) → (f f' : Feed X g) → (out out' : Device) → Result A E → Type 0
+StepsAhead keeps v task task' r r' f f' out out' result = (p : Plan) (h : Header) (i : Input) (front : List Token) (items : List BodyItem) → IsViewOf v h → HasTaken keeps p h i front items task r f
+    → (more : List BodyItem) × AheadGives keeps p h i front items task' r' f' out out' result more
 
 -- it was run to its end, from the first item on
 abbrev pub RunsOn : {T X : Type 0} {g : Ghosts X} → (keeps : T → Plan → Header → List BodyItem → Type 0) → (tells : T → List BodyItem → List ℕ → Type 0) → HeadView → (task task' : T) → (f f' : Feed X g) → (out out' : Device) → Result Done Stop → Type 0
@@ -93,6 +100,13 @@ step_end result = CallEnd.Ends
 -- if the answer is a failed write, one write failed, the last one; otherwise none did
 abbrev pub CountsStop : {A : Type 0} → Device → Device → Result A Stop → Type 0
 CountsStop out out' result = failures_then (writes_failed result) out' ≡ out.failures + writes_failed result
+
+-- an item ends the run only if one may
+abbrev pub StepEndsIf : Bool → Result More Stop → Type 0
+StepEndsIf may result = IfOk result (λ more. more ≡ Ended Early → may ≡ true)
+
+abbrev pub EndsIf : Bool → Result Done Stop → Type 0
+EndsIf may result = IfOk result (λ done. done ≡ Early → may ≡ true)
 
 -- what a step leaves besides items and output
 pub record StepsOver {X : Type 0} {g : Ghosts X} (failures : X → ℕ) (f f' : Feed X g) (out out' : Device) (result : Result More Stop) : Type 0 where
@@ -123,22 +137,6 @@ pub record ReadsNeeded (p : Plan) (h : Header) (limit chunk : ℕ) (i left : Inp
   pub read : ReadsAsNeeded limit chunk old new left front (is_settled_with p h)
   -- nor did a read run ahead of the output, not even after a failed write
   pub keeps_up : KeepsUp (due_with p h) limit chunk left front old new out out'
-
--- if a read failed, the source still has all that it had not given
-abbrev pub KeepsRest : {X : Type 0} {g : Ghosts X} → Input → Feed X g → Result More Stop → Type 0
-KeepsRest i f (Err (Read input)) = GaveOnlySeen i f
-KeepsRest i f result = Unit {0}
-
--- after these items a step read no more than needed, and it may have written more
-pub record StepReads {X : Type 0} {g : Ghosts X} (codes : List IdCode) (i : Input) (front : List Token) (items : List BodyItem) (f' : Feed X g) (out out' : Device) (result : Result More Stop) : Type 0 where
-  pub past : ReadsPast codes (left_of i (seen f') result) front items f'
-  pub rest : KeepsRest i f' result
-  pub more : List ℕ
-  pub appends : Appends out.held out'.held more
-
-abbrev pub ReadsStep : {T X : Type 0} {g : Ghosts X} → (keeps : T → Plan → Header → List BodyItem → Type 0) → (tells : T → List BodyItem → List ℕ → Type 0) → HeadView → T → Regs → (f f' : Feed X g) → (out out' : Device) → Result More Stop → Type 0
-ReadsStep keeps tells v task r f f' out out' result = (p : Plan) (h : Header) (i : Input) (front : List Token) (begin : Device) (items : List BodyItem) → IsViewOf v h → HasCome keeps tells p h i front begin items task r f out
-    → StepReads h.codes i front items f' out out' result
 
 -- a run reads no more than it needs
 abbrev pub ReadsOn : {T X : Type 0} {g : Ghosts X} → (keeps : T → Plan → Header → List BodyItem → Type 0) → HeadView → T → (f f' : Feed X g) → (out out' : Device) → Result Done Stop → Type 0

@@ -6,11 +6,11 @@
 //! # The modules
 //!
 //! - `task`: `Task`, `AheadEnd`
-//! - `run`: `run_to_end`
+//! - `run`: `run_to_end`, and `step`, one item of it
 #![tactic(auto)]
 
 mod run;
 mod task;
 
-pub use run::run_to_end;
+pub use run::{run_to_end, step};
 pub use task::{AheadEnd, Task};

@@ -9,7 +9,7 @@ ghost use Rattle.vcd_text.specs.Advances.{Advances, CallEnd, HasNotFailed};
 ghost use Rattle.vcd_text.specs.Ahead.{ahead_of};
 ghost use Rattle.vcd_text.specs.Device.{Counts};
 ghost use Rattle.vcd_text.specs.Feed.{limit_of, seen, source_of};
-ghost use Rattle.vcd_run.specs.Run.{CountsBoth, ReadsOn, ReadsStep, RunsOn, SameWindows, Steps, StepsAhead, StepsOver};
+ghost use Rattle.vcd_run.specs.Run.{CountsBoth, EndsIf, ReadsOn, RunsOn, SameWindows, StepEndsIf, Steps, StepsAhead, StepsOver};
 
 use crate::task::Task;
 use vcd_body::{
@@ -41,13 +41,14 @@ fn advance_ahead<T: Task, S: Source, W: Sink>(
 ) -> Result<(), WriteFailed>
     requires out_failures { (W.device out.old).failures < 2 ^ 64 - 1 }
     requires ready { T.is_ready task.old }
-    ensures steps { StepsAhead T.keeps T.tells view.entry task.old task.new regs.old regs.new
+    ensures steps { StepsAhead T.keeps view.entry task.old task.new regs.old regs.new
         feed.old feed.new (W.device out.old) (W.device out.new) result }
     ensures advances { Advances S.failures feed.old feed.new CallEnd.GoesOn }
     ensures bounded { seen feed.new < 2 ^ 63 }
     ensures source { source_of feed.new ≡ source_of feed.old }
     ensures counts { Counts (W.device out.old) (W.device out.new) result }
     ensures ready { IfOk result (λ _. T.is_ready task.new) }
+    ensures fixed { T.fixed task.new ≡ T.fixed task.old }
 {
     let taken = task.take_ahead(view, *regs, feed.ahead(), out);
     *regs = taken.regs;
@@ -59,7 +60,7 @@ fn advance_ahead<T: Task, S: Source, W: Sink>(
 /// Returns `Again` if the run goes on, otherwise what ended it. Fails at a fault of the body, at a
 /// failed read, and at a failed write.
 #[inline(always)]
-fn step<T: Task, S: Source, W: Sink>(
+pub fn step<T: Task, S: Source, W: Sink>(
     task: &mut T,
     view: HeadView<'_>,
     regs: &mut Regs,
@@ -71,14 +72,14 @@ fn step<T: Task, S: Source, W: Sink>(
     requires ready { T.is_ready task.old }
     ensures steps { Steps T.keeps T.tells view.entry task.old task.new regs.old regs.new
         feed.old feed.new (W.device out.old) (W.device out.new) result }
-    ensures needed { ReadsStep T.keeps T.tells view.entry task.old regs.old feed.old feed.new
-        (W.device out.old) (W.device out.new) result }
     ensures over { StepsOver S.failures feed.old feed.new
         (W.device out.old) (W.device out.new) result }
     ensures ahead { HoldsItem (limit_of feed.old) (ahead_of feed.old)
         → source_of feed.new ≡ source_of feed.old }
     ensures sink { LeavesSink out.old out.new result }
     ensures ready { result ≡ Ok more.Again → T.is_ready task.new }
+    ensures fixed { T.fixed task.new ≡ T.fixed task.old }
+    ensures early { StepEndsIf (T.may_end (T.fixed task.old)) result }
 {
     let item = match next_item(feed, view, regs) {
         Ok(item) => item,
@@ -118,6 +119,7 @@ pub fn run_to_end<T: Task, S: Source, W: Sink>(
         (W.device out.old) (W.device out.new) result }
     ensures devices { CountsBoth S.failures feed.old feed.new
         (W.device out.old) (W.device out.new) result }
+    ensures early { EndsIf (T.may_end (T.fixed task.old)) result }
     ensures last { EndsAtRead (S.last_failed (source_of feed.new)) result }
     ensures windows { SameWindows feed.old feed.new }
     ensures passed_on { HasPassedOn (W.kept_back out.new) result }

@@ -1,5 +1,5 @@
 //! What is done with the items of a body, as a trait.
-ghost use Rattle.std.specs.Prelude.{◌≡◌, ℕ, ◌-◌, ◌^◌, ◌<◌, ◌≤◌, IfOk, List, false, length};
+ghost use Rattle.std.specs.Prelude.{◌≡◌, ℕ, ◌-◌, ◌^◌, ◌<◌, ◌≤◌, Bool, IfOk, List, false, length, true};
 ghost use Rattle.vcd_body.specs.Given.{HasGoodText};
 ghost use Rattle.vcd_model.specs.Header.{Header};
 ghost use Rattle.vcd_model.specs.Items.{BodyItem};
@@ -34,6 +34,14 @@ pub trait Task: Drop {
     // Whether it can be called: this holds before each call.
     ghost is_ready: { Self → Type 0 };
 
+    // What no call changes.
+    ghost Fixed: { Type 0 } = { Unit {0} };
+
+    ghost fixed: { Self → Fixed };
+
+    // Whether an item may end the run of such a task.
+    ghost may_end: { Fixed → Bool };
+
     /// Handles the items that lie completely in the chunk, from `ahead` on, up to an item that
     /// `take` has to handle, and writes their output to `out`. It reads nothing.
     fn take_ahead<W: Sink>(
@@ -48,7 +56,8 @@ pub trait Task: Drop {
         requires within { passed_of ahead ≤ length (bytes_of ahead) }
         ensures runs { RunsOver keeps view.entry ahead.entry regs self.old self.new
             (W.device out.old) (W.device out.new) result }
-        ensures ready { IfOk result.written (λ _. is_ready self.new) };
+        ensures ready { IfOk result.written (λ _. is_ready self.new) }
+        ensures fixed { fixed self.new ≡ fixed self.old };
 
     /// Handles an item that `next_item` returned, writes its output to `out`, and returns whether
     /// it ends the run. Fails if a write does.
@@ -66,7 +75,9 @@ pub trait Task: Drop {
         ensures takes { TakesEach keeps tells view.entry regs item text.now self.old self.new
             (W.device out.old) (W.device out.new) result }
         ensures counts { Counts (W.device out.old) (W.device out.new) result }
-        ensures ready { IfOk result (λ ended. ended ≡ false → is_ready self.new) };
+        ensures ready { IfOk result (λ ended. ended ≡ false → is_ready self.new) }
+        ensures fixed { fixed self.new ≡ fixed self.old }
+        ensures early { IfOk result (λ ended. ended ≡ true → may_end (fixed self.old) ≡ true) };
 
     /// Writes the output at the end of a body without fault. Fails if a write does.
     fn close<W: Sink>(
@@ -79,5 +90,6 @@ pub trait Task: Drop {
         requires ready { is_ready self.old }
         ensures closes { ClosesOver keeps tells view.entry regs self.old self.new
             (W.device out.old) (W.device out.new) result }
-        ensures counts { Counts (W.device out.old) (W.device out.new) result };
+        ensures counts { Counts (W.device out.old) (W.device out.new) result }
+        ensures fixed { fixed self.new ≡ fixed self.old };
 }

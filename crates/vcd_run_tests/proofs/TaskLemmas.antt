@@ -1,41 +1,16 @@
--- What the two small tasks do with an item, with the items ahead, and at the end.
-use Rattle.std.proofs.Common.{◌≡◌, ℕ, Bool, false, List, [], ◌∷◌, ◌++◌, Result, Ok, Err, IfOk, refl, sym, ap, subst, ◌∙◌, ◌||◌, append-nil, flat_map}
+-- What the two small tasks do with an item.
+use Rattle.std.proofs.Common.{◌≡◌, ℕ, Bool, false, List, [], ◌∷◌, ◌++◌, Result, Ok, Err, IfOk, refl, sym, ap, ◌∙◌, ◌||◌, append-nil, flat_map}
 use Rattle.std.proofs.Math.Bool.{or-false}
 use Rattle.std.proofs.lemmas.List.Concat.{flat_map-append}
 use Rattle.std.proofs.lemmas.List.Folds.{list_any-append}
 use Rattle.std.specs.Prelude.{⊤}
 use Rattle.vcd_model.specs.Cut.{is_mark_above}
-use Rattle.vcd_model.specs.Header.{Header}
 use Rattle.vcd_model.specs.Items.{BodyItem}
 use Rattle.vcd_text.proofs.Writes.{appends-none}
-use Rattle.vcd_text.specs.Ahead.{bytes_of, longest_of}
 use Rattle.vcd_text.specs.Device.{Device, Takes}
-use Rattle.vcd_text.specs.declared.ahead.Ahead.{Ahead}
-use Rattle.vcd_view.specs.declared.view.HeadView.{HeadView}
-use Rattle.vcd_body.proofs.CallerLemmas.{gave_none_ahead}
-use Rattle.vcd_body.specs.Items.{AreRegsAfter}
-use Rattle.vcd_body.specs.declared.item.Regs.{Regs}
 use Rattle.vcd_run_tests.specs.Plans.{tick, ticking_plan, until_plan}
 use Rattle.vcd_run.specs.Plan.{Plan}
-use Rattle.vcd_run.specs.Task.{RunsOver, TakesOne}
-
--- a task that takes nothing ahead
-pub takes_none : {T : Type 0} (keeps : T → Plan → Header → List BodyItem → Type 0) (v : HeadView) (a : Ahead) (r : Regs) (m : T) (out : Device) → RunsOver keeps v a r m m out out (record { passed = 0; regs = r; written = Ok tt })
-takes_none keeps v a r m out = record {
-  gives = λ p h lines before views known few stands on first.
-      let nil = sym (append-nil before) in (
-        [],
-        (
-          gave_none_ahead h.codes (longest_of a) lines (bytes_of a) before,
-          subst (λ (l : List BodyItem). AreRegsAfter l r) nil known,
-          subst (keeps m p h) nil stands,
-          subst (λ (l : List BodyItem). p.ends l ≡ false) nil on,
-          ([], ap p.opens (append-nil before) ∙ sym (append-nil (p.opens before)), (appends-none out.held, refl)),
-        ),
-      );
-  passes = λ lines first. ([], refl);
-  counts = refl;
-}
+use Rattle.vcd_run.specs.Task.{TakesOne}
 
 -- one more item of the first task
 pub until_takes : {E : Type 0} (u : ℕ) (p : Plan) (items : List BodyItem) (x : BodyItem) (out : Device) (b : Bool) → p ≡ until_plan u → b ≡ is_mark_above u x → p.ends items ≡ false

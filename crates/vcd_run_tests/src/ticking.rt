@@ -1,5 +1,5 @@
 //! A task that writes a byte for each timestamp, and one at the end.
-ghost use Rattle.std.specs.Prelude.{◌≡◌, ◌-◌, ◌^◌, ◌<◌, ℕ, List, ⊤};
+ghost use Rattle.std.specs.Prelude.{◌≡◌, ◌-◌, ◌^◌, ◌<◌, ℕ, List, true, ⊤};
 ghost use Rattle.vcd_body.specs.Given.{IsItem};
 ghost use Rattle.vcd_model.specs.Declarations.{IdCode};
 ghost use Rattle.vcd_model.specs.Items.{BodyItem};
@@ -36,6 +36,10 @@ impl Task for Ticking {
     ghost tells = { λ _ _ _. ⊤ };
 
     ghost is_ready = { λ _. ⊤ };
+
+    ghost fixed = { λ _. tt };
+
+    ghost may_end = { λ _. true };
 
     /// Takes nothing ahead.
     fn take_ahead<W: Sink>(

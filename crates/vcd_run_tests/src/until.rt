@@ -1,5 +1,5 @@
 //! A task that ends at the first timestamp above a time, and writes nothing.
-ghost use Rattle.std.specs.Prelude.{◌≡◌, ℕ, List, ⊤};
+ghost use Rattle.std.specs.Prelude.{◌≡◌, ℕ, List, true, ⊤};
 ghost use Rattle.vcd_body.specs.Given.{IsItem};
 ghost use Rattle.vcd_model.specs.Cut.{is_mark_above};
 ghost use Rattle.vcd_model.specs.Declarations.{IdCode};
@@ -35,6 +35,10 @@ impl Task for Until {
     ghost tells = { λ _ _ _. ⊤ };
 
     ghost is_ready = { λ _. ⊤ };
+
+    ghost fixed = { λ _. tt };
+
+    ghost may_end = { λ _. true };
 
     /// Takes nothing ahead.
     fn take_ahead<W: Sink>(

@@ -1,4 +1,4 @@
-use Rattle.vcd_run_tests.proofs.TaskLemmas.{takes_none}
+use Rattle.vcd_run.proofs.AheadSteps.{takes_none}
 use Rattle.vcd_run_tests.specs.Plans.{until_plan}
 use Rattle.std.proofs.Common.{◌≡◌}
 use Rattle.vcd_run_tests.proofs.until.UntilTask.take_ahead.Goals as goal
