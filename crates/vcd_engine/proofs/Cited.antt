@@ -79,10 +79,8 @@ pub use Rattle.vcd_engine.specs.Report.{declares_variable, named_line, opens_sco
 pub use Rattle.vcd_engine.specs.Room.{AreWithinBound, IsWithin, IsWithinEachBound, room_in, view_in}
 pub use Rattle.vcd_engine.specs.Sample.{AreSampled, asked_in, is_due}
 pub use Rattle.vcd_engine.specs.Selection.{IsFirstUnmatched}
-pub use Rattle.vcd_engine.specs.Several.{TakesSeveral}
-pub use Rattle.vcd_engine.specs.Step.{LastGives, StepGives, StepsGive, step_end}
+pub use Rattle.vcd_engine.specs.Step.{StepGives}
 pub use Rattle.vcd_engine.specs.TaskRun.{Belongs, Follows, IsRefused, is_early}
-pub use Rattle.vcd_engine.specs.Waits.{StepsOrStops, StopsOn}
 pub use Rattle.vcd_engine.specs.Walks.{CanTake, HasWalked, TakesByTask, walk_of}
 pub use Rattle.vcd_engine.specs.declared.engine.Engine.{Engine}
 pub use Rattle.vcd_engine.specs.declared.item_text.ItemText.{ItemText}
@@ -92,7 +90,6 @@ pub use Rattle.vcd_engine.specs.declared.task_state.check.Check.{Check}
 pub use Rattle.vcd_engine.specs.declared.task_state.cut.Cut.{Cut}
 pub use Rattle.vcd_engine.specs.declared.task_state.pick.Pick.{Pick}
 pub use Rattle.vcd_engine.specs.declared.task_state.sample.Sample.{Sample}
-pub use Rattle.vcd_engine.specs.declared.task_state.walk.WalkEnd.{WalkEnd}
 pub use Rattle.vcd_engine.specs.declared.task_state.walk.WalkState.{WalkState}
 pub use Rattle.vcd_head.proofs.MarkLemmas.{among-append}
 pub use Rattle.vcd_head.proofs.MarkedHead.{marks_are}

@@ -9,12 +9,9 @@ pub mod PieceLemmas
 pub mod CheckLemmas
 pub mod RoomLemmas
 pub mod BodyOutcomes
-pub mod ReadLemmas
-pub mod RunEnds
-pub mod EarlyEnds
-pub mod StartStops
+pub mod PlanLemmas
 pub mod RunLemmas
-pub mod WaitLemmas
+pub mod StartStops
 pub mod ItemTextLemmas
 pub mod PickLemmas
 pub mod CutLemmas

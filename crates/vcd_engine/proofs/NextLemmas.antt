@@ -61,9 +61,8 @@ module _ {A E : Type 0} (t : Request) (h : Header) (limit lines : ℕ) (bytes : 
     next_fails f told e =
         let put = subst (λ (q : Result A E). PutsOn (pending_in bytes p) (pending_in bytes p') out out' due.0 q) e due.2 in
         let assoc = append_assoc before items (next ∷ []) in
-        let some = but_failed begin out out' (pending_in bytes p) (open_text t h before) (open_text t h (before ++ items)) grown due.0 _ due.1 put in
-        record {
-          more = items ++ next ∷ [];
-          on = subst (λ l. list_any (ends_early t) l ≡ false) assoc (none_at (ends_early t) (before ++ items) next s.on taken.on);
-          last = (one.2, known, subst (λ l. GrowsSome begin out' (open_text t h before) (open_text t h l)) assoc some);
-        }
+        let some = but_failed begin out out' (pending_in bytes p) (open_text t h before) (open_text t h (before ++ items)) grown due.0 _ due.1 put in (
+          items ++ next ∷ [],
+          subst (λ l. list_any (ends_early t) l ≡ false) assoc (none_at (ends_early t) (before ++ items) next s.on taken.on),
+          (one.2, known, subst (λ l. GrowsSome begin out' (open_text t h before) (open_text t h l)) assoc some),
+        )

@@ -1,6 +1,7 @@
 -- The loop over the items ahead, step by step.
-use Rattle.vcd_engine.proofs.Cited.{◌≡◌, ℕ, ◌+◌, ◌≤◌, Bool, true, false, List, [], ◌∷◌, ◌++◌, length, Result, Ok, Err, refl, sym, ap, subst, ◌∙◌, append-nil, IfOk, Token, bytes_of, longest_of, passed_of, Passed, Device, Puts, counts-on, Ahead, WriteFailed, HeadView, PassesNoItem, Begins, Further, Past, Stage, Trail, Walks, Regs, walk_passes, RunsOver, request_in, TakesNext, Walk, walk_at, IsLine, IsPart, pending_in, CanTake, HasWalked, TakesByTask, walk_of, TaskState, WalkState, WalkEnd, PendingCopy}
+use Rattle.vcd_engine.proofs.Cited.{◌≡◌, ℕ, ◌+◌, ◌≤◌, Bool, true, false, List, [], ◌∷◌, ◌++◌, length, Result, Ok, Err, refl, sym, ap, subst, ◌∙◌, append-nil, IfOk, Token, bytes_of, longest_of, passed_of, Passed, Device, Puts, counts-on, Ahead, WriteFailed, HeadView, PassesNoItem, Begins, Further, Past, Stage, Trail, Walks, Regs, walk_passes, RunsOver, request_in, TakesNext, Walk, walk_at, IsLine, IsPart, pending_in, CanTake, HasWalked, TakesByTask, walk_of, TaskState, WalkState, PendingCopy}
 use Rattle.vcd_text.specs.Device.{Counts}
+use Rattle.vcd_run.specs.declared.task.AheadEnd.{AheadEnd}
 use Rattle.vcd_engine.proofs.AheadLemmas.{ends_before}
 use Rattle.vcd_engine.proofs.NextLemmas.{next, next_fails, next_grows, next_stands}
 use Rattle.vcd_engine.proofs.PieceLemmas.{but_none}
@@ -64,7 +65,7 @@ module _ (v : HeadView) (a : Ahead) (r : Regs) (m : TaskState) (begin : Device) 
         }
 
     -- or a write of what is due with it failed
-    pub walk_fails : (t : WalkEnd) (failed : E) → result ≡ Err failed → t.passed ≡ passed_of w'.ahead → t.regs ≡ w'.regs → (told : _) → t.write_result ≡ Err told → PassesTo a (passed_of w'.ahead) → RunsOver v a r m m'' begin out' t
+    pub walk_fails : (t : AheadEnd) (failed : E) → result ≡ Err failed → t.passed ≡ passed_of w'.ahead → t.regs ≡ w'.regs → (told : _) → t.written ≡ Err told → PassesTo a (passed_of w'.ahead) → RunsOver v a r m m'' begin out' t
     walk_fails t failed e passed_is regs_is told written_is passes =
         let task = request_in m in
         let limit = longest_of a in
@@ -79,15 +80,15 @@ module _ (v : HeadView) (a : Ahead) (r : Regs) (m : TaskState) (begin : Device) 
         })
 
   -- it ends, and what is pending is written
-  pub walk_ends : (out' : Device) (t : WalkEnd) → t.passed ≡ passed_of w.ahead → t.regs ≡ w.regs → PassesTo a (passed_of w.ahead) → Puts out out' (pending_in (bytes_of w.ahead) p) t.write_result → RunsOver v a r m m' begin out' t
+  pub walk_ends : (out' : Device) (t : AheadEnd) → t.passed ≡ passed_of w.ahead → t.regs ≡ w.regs → PassesTo a (passed_of w.ahead) → Puts out out' (pending_in (bytes_of w.ahead) p) t.written → RunsOver v a r m m' begin out' t
   walk_ends out' t passed_is regs_is passes puts =
-      let here = subst (λ (bs : List ℕ). Puts out out' (pending_in bs p) t.write_result) walked.over.1 puts in
+      let here = subst (λ (bs : List ℕ). Puts out out' (pending_in bs p) t.written) walked.over.1 puts in
       record {
         gives = λ h lines before views few s.
             let all = walked.stands h lines before views few s in
-            rw (passed_is, regs_is) (ends_before (request_in m) h _ lines (bytes_of a) before p begin out out' t.write_result here _ all.0 _ _ all.1 all.2);
+            rw (passed_is, regs_is) (ends_before (request_in m) h _ lines (bytes_of a) before p begin out out' t.written here _ all.0 _ _ all.1 all.2);
         passes = rw passed_is passes;
-        counts = counts-on begin out out' t.write_result walked.failures puts.1;
+        counts = counts-on begin out out' t.written walked.failures puts.1;
         same = walked.same;
       }
 
@@ -110,5 +111,5 @@ module _ {L C : Type 0} (line : L → ℕ × ℕ) (is_ready : C → Bool) (task_
     walk_over z true on = let e = on.3 in absurd (cc)
 
     -- or a write of what is due with one more failed
-    pub walk_wrong : (z : Stage (WalkState L) C) (e : WriteFailed) → On z (Err e) → (t : WalkEnd) → t.passed ≡ passed_of z.ahead → t.regs ≡ z.regs → t.write_result ≡ Err e → RunsOver v s.ahead r m (task_state z.command) begin z.out t
+    pub walk_wrong : (z : Stage (WalkState L) C) (e : WriteFailed) → On z (Err e) → (t : AheadEnd) → t.passed ≡ passed_of z.ahead → t.regs ≡ z.regs → t.written ≡ Err e → RunsOver v s.ahead r m (task_state z.command) begin z.out t
     walk_wrong z e on t passed_is regs_is written_is = walk_fails v s.ahead r m begin _ _ _ _ (along on.0 on.1.trail) _ _ _ _ _ on.2.did t e refl passed_is regs_is e written_is (passed_to z (Err e) on)

@@ -16,11 +16,10 @@ use Rattle.vcd_body.specs.Ahead.{GaveAhead}
 use Rattle.vcd_body.specs.Items.{AreRegsAfter}
 use Rattle.vcd_body.specs.declared.item.Regs.{Regs}
 use Rattle.vcd_body.specs.Device.{Grows, GrowsSome}
+use Rattle.vcd_run.specs.declared.task.AheadEnd.{AheadEnd}
 use Rattle.vcd_engine.specs.Engine.{Keeps, last_time_of, request_in}
 use Rattle.vcd_engine.specs.Room.{SameTask}
-use Rattle.vcd_engine.specs.Several.{TakesSeveral}
 use Rattle.vcd_engine.specs.declared.task_state.TaskState.{TaskState}
-use Rattle.vcd_engine.specs.declared.task_state.walk.WalkEnd.{WalkEnd}
 
 module _ (task : Request) (h : Header) (limit lines : ℕ) (bytes : List ℕ) (before : List BodyItem) where
   -- after the items before, these lie in the first n bytes ahead; none of them ends the run, and
@@ -38,15 +37,15 @@ module _ (task : Request) (h : Header) (limit lines : ℕ) (bytes : List ℕ) (b
   EndsAhead n m r out out' (Ok v) items = StandsAhead n items m r × Grows out out' (open_text task h before) (open_text task h (before ++ items))
   EndsAhead n m r out out' (Err e) items = GaveAhead h.codes limit lines bytes n before items × AreRegsAfter (before ++ items) r × GrowsSome out out' (open_text task h before) (open_text task h (before ++ items))
 
-  -- some of the items were taken, and what is due with them was written, or a prefix of it if a
-  -- write failed
+  -- some of the items were taken, of which none ends the run, and what is due with them was
+  -- written, or a prefix of it if a write failed
   abbrev pub RunsAhead : {A E : Type 0} → ℕ → TaskState → Regs → Device → Device → Result A E → Type 0
-  RunsAhead n m r out out' result = TakesSeveral task before (EndsAhead n m r out out' result)
+  RunsAhead n m r out out' result = (more : List BodyItem) × (list_any (ends_early task) (before ++ more) ≡ false) × EndsAhead n m r out out' result more
 
 -- what a task leaves that takes the items which lie completely in the chunk, from a position on
-pub record RunsOver (v : HeadView) (a : Ahead) (r : Regs) (m m' : TaskState) (out out' : Device) (t : WalkEnd) : Type 0 where
+pub record RunsOver (v : HeadView) (a : Ahead) (r : Regs) (m m' : TaskState) (out out' : Device) (t : AheadEnd) : Type 0 where
   pub gives : (h : Header) (lines : ℕ) (before : List BodyItem) → IsViewOf v h → length before + length (bytes_of a) < 2 ^ 63 → StandsAhead (request_in m) h (longest_of a) lines (bytes_of a) before (passed_of a) [] m r
-      → RunsAhead (request_in m) h (longest_of a) lines (bytes_of a) before t.passed m' t.regs out out' t.write_result
+      → RunsAhead (request_in m) h (longest_of a) lines (bytes_of a) before t.passed m' t.regs out out' t.written
   pub passes : (lines : ℕ) (ts : List Token) → Passed (longest_of a) lines (bytes_of a) (passed_of a) ts → (more : List Token) × Passed (longest_of a) lines (bytes_of a) t.passed (ts ++ more)
-  pub counts : Counts out out' t.write_result
+  pub counts : Counts out out' t.written
   pub same : SameTask m m'

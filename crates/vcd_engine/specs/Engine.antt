@@ -1,5 +1,5 @@
 -- Which request an engine runs, what it keeps, and what it holds after items.
-use Rattle.std.specs.Prelude.{◌≡◌, ℕ, ◌+◌, ◌^◌, ◌<◌, ◌≤◌, ◌∷◌, ◌++◌, Bool, true, false, cond, List, [], length, map, Option, Some, None, Result, Ok, IfOk, MatchResult, string_bytes}
+use Rattle.std.specs.Prelude.{◌≡◌, ℕ, ◌^◌, ◌<◌, ◌≤◌, ◌∷◌, ◌++◌, Bool, true, false, cond, List, [], length, map, Option, Some, None, Result, Ok, IfOk, MatchResult, string_bytes}
 use Rattle.std.specs.List.{list_any}
 use Rattle.vcd_model.specs.Header.{Header}
 use Rattle.vcd_model.specs.Input.{Input}
@@ -14,14 +14,13 @@ use Rattle.vcd_text.specs.declared.device.Source.{Ghosts}
 use Rattle.vcd_text.specs.declared.feed.Feed.{Feed}
 use Rattle.vcd_view.specs.Views.{IsViewOf}
 use Rattle.vcd_view.specs.declared.view.HeadView.{HeadView}
-use Rattle.vcd_body.specs.Answer.{writes_failed}
 use Rattle.vcd_body.specs.Given.{IsItem}
 use Rattle.vcd_body.specs.Items.{AreRegsAfter, regs_after}
 use Rattle.vcd_body.specs.declared.item.Item.{Item}
 use Rattle.vcd_body.specs.Reads.{GaveItems}
 use Rattle.vcd_body.specs.declared.item.Regs.{Regs}
 use Rattle.vcd_engine.specs.Check.{AreCounted}
-use Rattle.vcd_text.specs.Device.{Device, Takes, Writes, WritesSome, failures_then}
+use Rattle.vcd_text.specs.Device.{Device, Takes, Writes, WritesSome}
 use Rattle.vcd_body.specs.Device.{DueBy}
 use Rattle.vcd_engine.specs.Cut.{AreCut, span_in}
 use Rattle.vcd_engine.specs.Edges.{AreEdges, names_counted}
@@ -29,6 +28,7 @@ use Rattle.vcd_engine.specs.Pick.{ArePicked, names_in}
 use Rattle.vcd_engine.specs.Sample.{AreSampled, asked_in}
 use Rattle.vcd_body.specs.declared.answer.Stop.{Stop}
 use Rattle.vcd_body.specs.declared.answer.Stop.TheVariants.{Write, Unmatched}
+pub use Rattle.vcd_run.specs.Run.{CountsStop}
 use Rattle.vcd_engine.specs.declared.engine.Engine.{Engine}
 use Rattle.vcd_engine.specs.declared.task_state.TaskState.{TaskState}
 use Rattle.vcd_engine.specs.declared.task_state.TaskState.TheVariants as task_state
@@ -97,10 +97,6 @@ abbrev pub StopsAtStart : Request → Header → Device → Device → Stop → 
 StopsAtStart task h out out' Write = CanRun task h × WritesSome out out' (open_text task h [])
 StopsAtStart task h out out' (Unmatched index) = (first_unmatched (names_of task) h.declarations ≡ Some index) × Writes out out' []
 StopsAtStart task h out out' stop = ⊥
-
--- if the answer is a failed write, one write failed, the last one; otherwise none did
-abbrev pub CountsStop : {A : Type 0} → Device → Device → Result A Stop → Type 0
-CountsStop out out' result = failures_then (writes_failed result) out' ≡ out.failures + writes_failed result
 
 -- what comes before all items was written, and this holds of what begins; or why it stops
 abbrev pub Starts : {A : Type 0} → (A → Type 0) → Request → Header → Device → Device → Result A Stop → Type 0

@@ -11,12 +11,11 @@ pub mod Leads
 pub mod Sample
 pub mod Edges
 pub mod Engine
-pub mod Several
+pub mod Plan
 pub mod PendingCopy
 pub mod Ahead
 pub mod Step
 pub mod Next
-pub mod Waits
 pub mod Walks
 pub mod Quiet
 pub mod Names

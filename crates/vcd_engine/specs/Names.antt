@@ -41,12 +41,13 @@ pub use Rattle.vcd_body.specs.declared.answer.Done.TheVariants.{Early, Whole}
 pub use Rattle.vcd_body.specs.declared.answer.More.TheVariants.{Again}
 pub use Rattle.vcd_body.specs.declared.answer.Stop.TheVariants.{Write}
 pub use Rattle.vcd_body.specs.declared.item.Item.TheVariants.{Finish}
+pub use Rattle.vcd_run.specs.Run.{CountsStop}
 pub use Rattle.vcd_engine.specs.Ahead.{RunsOver}
 pub use Rattle.vcd_engine.specs.Check.{AreCounted}
 pub use Rattle.vcd_engine.specs.Choice.{is_chosen}
 pub use Rattle.vcd_engine.specs.Cut.{AreCut, BeginsBy, IsNoTimestamp, lent_to, PutsStart, SameSpan, span_in}
 pub use Rattle.vcd_engine.specs.Edges.{AreEdges, AreTallied, change_to, names_counted, room_in_edges, SameEdges}
-pub use Rattle.vcd_engine.specs.Engine.{AtClose, AtItem, CanRun, ClosesOver, CountsStop, Holds, is_going, Keeps, last_time_of, may_end_early, request_in, request_of, request_of_engine, Starts, StartsOver, StopsUnread, TakesEach, TakesTime}
+pub use Rattle.vcd_engine.specs.Engine.{AtClose, AtItem, CanRun, ClosesOver, Holds, is_going, Keeps, last_time_of, may_end_early, request_in, request_of, request_of_engine, Starts, StartsOver, StopsUnread, TakesEach, TakesTime}
 pub use Rattle.vcd_engine.specs.ItemText.{HasWritten, LastTells, may_be_kept, PutsEntry, times_with}
 pub use Rattle.vcd_engine.specs.Leads.{AnySampled, HaveNoLine, IsSelectedAt, LeadOn, rows_on}
 pub use Rattle.vcd_engine.specs.Pick.{ArePicked, flags_in, is_kept, names_in}
@@ -54,8 +55,8 @@ pub use Rattle.vcd_engine.specs.PendingCopy.{pending_in, IsLine, IsNextItem, IsP
 pub use Rattle.vcd_engine.specs.Report.{declares_variable, named_line, opens_scope}
 pub use Rattle.vcd_engine.specs.Room.{AnyRoom, AreWithinBound, BeginsAs, HasRoomFor, IsWithin, IsWithinEachBound, KeepsBound, marks_for, room_in, room_of, room_size, SameHold, SameTask, slots_for, values_for, view_in}
 pub use Rattle.vcd_engine.specs.Rows.{AtRow}
-pub use Rattle.vcd_engine.specs.TaskRun.{CountsOn, EndsAsAsked, Finishes, MayRun, RunsTask, RunsWhole, SameWindows}
+pub use Rattle.vcd_engine.specs.TaskRun.{EndsAsAsked, MayRun, RunsTask, RunsWhole}
 pub use Rattle.vcd_engine.specs.Sample.{AreSampled, asked_in, is_due, lent_to as lent_to_sample, SameSample}
 pub use Rattle.vcd_engine.specs.Selection.{AreSelected, ChoosesMore, IsFirstUnmatched, IsUnmatched}
-pub use Rattle.vcd_engine.specs.Step.{MayStep, Steps, StepsAhead, StepsOn, StepsOver}
+pub use Rattle.vcd_engine.specs.Step.{MayStep, Steps, StepsOver}
 pub use Rattle.vcd_body.specs.Current.{AreHeld, HasValues}

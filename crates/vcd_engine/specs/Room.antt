@@ -20,8 +20,9 @@ use Rattle.vcd_engine.specs.declared.task.Room.{Room}
 use Rattle.vcd_engine.specs.declared.task.Task.{Task}
 use Rattle.vcd_engine.specs.Cut.{lent_to}
 use Rattle.vcd_engine.specs.Edges.{room_in_edges}
-use Rattle.vcd_engine.specs.Engine.{CountsStop, StopsUnread, request_in}
+use Rattle.vcd_engine.specs.Engine.{StopsUnread, request_in}
 use Rattle.vcd_body.specs.declared.answer.Stop.{Stop}
+use Rattle.vcd_run.specs.Run.{CountsStop}
 use Rattle.vcd_engine.specs.Sample.{lent_to as lent_to_sample}
 use Rattle.vcd_body.specs.Current.{table_bytes}
 use Rattle.vcd_engine.specs.declared.task.Task.TheVariants.{Check, Pick, Cut, Sample, Edges}

@@ -9,9 +9,9 @@ use Rattle.vcd_text.specs.declared.device.Source.{Ghosts}
 use Rattle.vcd_text.specs.declared.feed.Feed.{Feed}
 use Rattle.vcd_text.specs.Answer.{failed_after}
 use Rattle.vcd_text.specs.Feed.{GaveOnlySeen, seen, source_of, token_of}
-use Rattle.vcd_text.specs.Advances.{Advances, CallEnd}
+use Rattle.vcd_text.specs.Advances.{Advances}
 use Rattle.vcd_body.specs.Answer.{goes_on}
-use Rattle.vcd_body.specs.Reads.{FailsOver, GaveAll, GaveItem, GaveItems}
+use Rattle.vcd_body.specs.Reads.{FailsOver, GaveAll, GaveItem}
 use Rattle.vcd_body.specs.declared.answer.Stop.{Stop}
 use Rattle.vcd_body.specs.declared.answer.Stop.TheVariants.{Dump, Read, Write, Unmatched}
 use Rattle.vcd_text.specs.Device.{Device, Writes}
@@ -19,10 +19,11 @@ use Rattle.vcd_body.specs.Device.{Grows, GrowsSome}
 use Rattle.vcd_body.specs.declared.answer.Done.TheVariants.{Whole, Early}
 use Rattle.vcd_body.specs.declared.answer.More.{More}
 use Rattle.vcd_body.specs.declared.answer.More.TheVariants.{Again, Ended}
+use Rattle.vcd_run.specs.Run.{CountsStop}
+pub use Rattle.vcd_run.specs.Run.{step_end}
 use Rattle.vcd_engine.specs.declared.engine.Engine.{Engine}
-use Rattle.vcd_engine.specs.Engine.{CountsStop, Runs, is_going, may_end_early, request_of_engine}
+use Rattle.vcd_engine.specs.Engine.{Runs, is_going, may_end_early, request_of_engine}
 use Rattle.vcd_engine.specs.Room.{FitsBound, SameHold, room_in, view_in}
-use Rattle.vcd_engine.specs.Several.{TakesSeveral}
 
 -- what a step after these items returns, by the engine, the feed and the output that it leaves
 abbrev pub StepGives : {X : Type 0} {g : Ghosts X} → Request → Header → Input → List Token → List BodyItem → Engine → Feed X g → Device → Device → Result More Stop → Type 0
@@ -40,43 +41,13 @@ StepGives task h i front items e f out out' (Err Write) =
     ⊎ (GaveAll h.codes i front items f e.regs × GrowsSome out out' [] (close_text task h items))
 StepGives task h i front items e f out out' (Err (Unmatched name)) = ⊥
 
--- what several steps leave after these items and some more: the last one is a step after those
-abbrev pub LastGives : {X : Type 0} {g : Ghosts X} → Request → Header → Input → List Token → List BodyItem → Engine → Feed X g → Device → Device → Result More Stop → List BodyItem → Type 0
-LastGives task h i front items e f out out' result more = (mid : Device) × Grows out mid (open_text task h items) (open_text task h (items ++ more)) × StepGives task h i front (items ++ more) e f mid out' result
-
--- what several steps leave: items were given and taken, of which none ends the run, and then a last
--- step
-abbrev pub StepsGive : {X : Type 0} {g : Ghosts X} → Request → Header → Input → List Token → List BodyItem → Engine → Feed X g → Device → Device → Result More Stop → Type 0
-StepsGive task h i front items e f out out' result = TakesSeveral task items (LastGives task h i front items e f out out' result)
-
--- what the items that lie ahead leave: they were taken, or a write of what is due with them failed
-abbrev pub AheadGives : {X A E : Type 0} {g : Ghosts X} → Request → Header → Input → List Token → List BodyItem → Engine → Feed X g → Device → Device → Result A E → List BodyItem → Type 0
-AheadGives task h i front items e f out out' (Ok v) more = Runs e h i front (items ++ more) f × Grows out out' (open_text task h items) (open_text task h (items ++ more))
-AheadGives task h i front items e f out out' (Err v) more = GaveItems h.codes i front (items ++ more) f e.regs × GrowsSome out out' (open_text task h items) (open_text task h (items ++ more))
-
--- some items were taken, and then this
-abbrev pub TakesAhead : {X A E : Type 0} {g : Ghosts X} → Request → Header → Input → List Token → List BodyItem → Engine → Feed X g → Device → Device → Result A E → Type 0
-TakesAhead task h i front items e f out out' result = TakesSeveral task items (AheadGives task h i front items e f out out' result)
-
 -- the same after any items of any input
 abbrev pub Steps : {X W : Type 0} {g : Ghosts X} → (W → Device) → Engine → Engine → Feed X g → Feed X g → W → W → Result More Stop → Type 0
 Steps device e e' f f' out out' result = (h : Header) (i : Input) (front : List Token) (items : List BodyItem) → Runs e h i front items f → StepGives (request_of_engine e) h i front items e' f' (device out) (device out') result
 
-abbrev pub StepsOn : {X : Type 0} {g : Ghosts X} → Engine → Engine → Feed X g → Feed X g → Device → Device → Result More Stop → Type 0
-StepsOn e e' f f' out out' result = (h : Header) (i : Input) (front : List Token) (items : List BodyItem) → Runs e h i front items f → StepsGive (request_of_engine e) h i front items e' f' out out' result
-
-abbrev pub StepsAhead : {X A E : Type 0} {g : Ghosts X} → Engine → Engine → Feed X g → Feed X g → Device → Device → Result A E → Type 0
-StepsAhead e e' f f' out out' result = (h : Header) (i : Input) (front : List Token) (items : List BodyItem) → Runs e h i front items f → TakesAhead (request_of_engine e) h i front items e' f' out out' result
-
 -- a step ends the run early only if a timestamp may end it
 abbrev pub MayEnd : Request → Result More Stop → Type 0
 MayEnd task result = IfOk result (λ more. more ≡ Ended Early → may_end_early task ≡ true)
-
--- how a step ends for the feed that it reads
-abbrev pub step_end : Result More Stop → CallEnd
-step_end (Ok Again) = CallEnd.GoesOn
-step_end (Err (Read input)) = CallEnd.Fails
-step_end result = CallEnd.Ends
 
 -- ---- a step over any input
 

@@ -1,6 +1,6 @@
 -- What a run over a body leaves: what is left of the input, how much of it was read, and what is on
 -- the output.
-use Rattle.std.specs.Prelude.{◌≡◌, ℕ, ◌+◌, ◌<◌, ◌-◌, ◌^◌, List, ◌++◌, Result, IfOk, IfErr, ◌==◌, Bool, true, false, Some, Ok, Err, []}
+use Rattle.std.specs.Prelude.{◌≡◌, ℕ, ◌<◌, ◌-◌, ◌^◌, List, ◌++◌, Result, IfOk, IfErr, ◌==◌, Bool, true, false, Some, Ok, Err}
 use Rattle.std.specs.List.{list_any}
 use Rattle.vcd_model.specs.BodyReading.{read_body, body_items}
 use Rattle.vcd_model.specs.Bound.{RoomSize}
@@ -8,26 +8,26 @@ use Rattle.vcd_model.specs.Due.{due_after}
 use Rattle.vcd_model.specs.Input.{Input}
 use Rattle.vcd_model.specs.Tokens.{Token, stream_of}
 use Rattle.vcd_model.specs.Header.{Header}
-use Rattle.vcd_model.specs.Outcome.{Request, names_of, Outcome, clean_outcome, ends_early, fault_outcome, name_at, over_dump, unmatched_outcome, open_text}
+use Rattle.vcd_model.specs.Outcome.{Request, names_of, Outcome, clean_outcome, ends_early, fault_outcome, name_at, over_dump, unmatched_outcome}
 use Rattle.vcd_model.specs.Selection.{first_unmatched}
 use Rattle.vcd_model.specs.Settled.{is_settled_behind}
 use Rattle.vcd_text.specs.Advances.{HasNotFailed}
 use Rattle.vcd_text.specs.Device.{Device, Supply, Writes, WritesSome}
-use Rattle.vcd_text.specs.Feed.{HasGiven, SameLoans, chunk_len_of, limit_of, source_of, supply_of}
+use Rattle.vcd_text.specs.Feed.{HasGiven, chunk_len_of, limit_of, source_of, supply_of}
 use Rattle.vcd_text.specs.ReadAhead.{ReadsAsNeeded}
 use Rattle.vcd_text.specs.declared.device.Source.{Ghosts}
 use Rattle.vcd_text.specs.declared.feed.Feed.{Feed}
 use Rattle.vcd_view.specs.Views.{IsViewOf}
 use Rattle.vcd_view.specs.declared.view.HeadView.{HeadView}
-use Rattle.vcd_body.specs.Answer.{EndsAtRead, IsLeft, reads_failed}
+use Rattle.vcd_body.specs.Answer.{EndsAtRead, IsLeft}
 use Rattle.vcd_body.specs.Pace.{KeepsUp}
 use Rattle.vcd_body.specs.declared.answer.Stop.{Stop}
 use Rattle.vcd_body.specs.declared.answer.Stop.TheVariants.{Dump, Read, Write, Unmatched}
 use Rattle.vcd_body.specs.declared.answer.Done.{Done}
 use Rattle.vcd_body.specs.declared.answer.Done.TheVariants.{Whole, Early}
-use Rattle.vcd_engine.specs.Engine.{CountsStop, Holds, may_end_early, request_of_engine}
+pub use Rattle.vcd_run.specs.Run.{CountsBoth, SameWindows}
+use Rattle.vcd_engine.specs.Engine.{may_end_early}
 use Rattle.vcd_engine.specs.Room.{FitsBound}
-use Rattle.vcd_engine.specs.declared.engine.Engine.{Engine}
 
 -- the answer and the output of a run of this task over the one input, which has this name and this
 -- outcome; a failed write leaves a prefix of the output
@@ -67,26 +67,9 @@ pub record Follows (task : Request) (limit chunk : ℕ) (i : Input) (front : Lis
 abbrev pub Does : {X : Type 0} {g : Ghosts X} → Request → HeadView → (old new : Feed X g) → (out out' : Device) → Result Done Stop → Type 0
 Does task v old new out out' result = (h : Header) (i : Input) (front : List Token) (name : List ℕ) → IsViewOf v h → HasGiven i front old → Follows task (limit_of old) (chunk_len_of old) i front h name (supply_of old) (supply_of new) out out' result
 
--- an engine that was begun over an output which has what comes before all items does its task
-abbrev pub Finishes : {X W : Type 0} {g : Ghosts X} → (W → Device) → Engine → (old new : Feed X g) → (out out' : W) → Result Done Stop → Type 0
-Finishes device e old new out out' result = (h : Header) (i : Input) (front : List Token) (name : List ℕ) (begin : Device) → Holds e h [] → HasGiven i front old → Writes begin (device out) (open_text (request_of_engine e) h [])
-    → Follows (request_of_engine e) (limit_of old) (chunk_len_of old) i front h name (supply_of old) (supply_of new) begin (device out') result
-
 -- it ends early only if a timestamp may end it
 abbrev pub EndsAsAsked : Request → Result Done Stop → Type 0
 EndsAsAsked task result = IfOk result (λ done. done ≡ Early → may_end_early task ≡ true)
-
--- if the answer is a failed read or write, one is counted; otherwise none is
-abbrev pub CountsBoth : {X A : Type 0} {g : Ghosts X} → (X → ℕ) → (old new : Feed X g) → (out out' : Device) → Result A Stop → Type 0
-CountsBoth failures old new out out' result = (failures (source_of new) ≡ failures (source_of old) + reads_failed result) × CountsStop out out' result
-
--- the same, as far as the output describes itself
-abbrev pub CountsOn : {X W A : Type 0} {g : Ghosts X} → (X → ℕ) → (W → Device) → (old new : Feed X g) → (out out' : W) → Result A Stop → Type 0
-CountsOn failures device old new out out' result = CountsBoth failures old new (device out) (device out') result
-
--- the windows and loans of the feed stay
-abbrev pub SameWindows : {X : Type 0} {g : Ghosts X} → (old new : Feed X g) → Type 0
-SameWindows old new = (limit_of new ≡ limit_of old) × (chunk_len_of new ≡ chunk_len_of old) × SameLoans old new
 
 -- a run may begin: no failed read of the feed was returned, devices can count one more failure, and
 -- what is lent is within the bound

@@ -1,20 +1,19 @@
-//! A run of a task over the items of a body. It knows no single command.
-ghost use Rattle.std.specs.Prelude.{◌≡◌, ◌-◌, ◌^◌, ◌<◌, [], List, true, false, Ok, IfOk, MatchResult};
-ghost use Rattle.vcd_engine.specs.Names.{Advances, Again, BeginsAs, BodyItem, CallEnd, close_text, Counts, CountsOn, Early, EndsAsAsked, EndsAtRead, Finishes, HasRoomFor, Header, Holds, is_going, IsValid, IsWithinEachBound, item_text, MayRun, MayStep, parts, request_of, request_of_engine, room_in, room_size, RunsTask, SameHold, SameWindows, seen, StartsOver, Steps, StepsAhead, StepsOver, Takes, view_in};
-ghost use Rattle.vcd_engine.specs.Waits.{StepsOrStops};
+//! A run of a task over the items of a body: the loop of `vcd_run`, begun with a task, and the same
+//! run one item a call. It knows no single command.
+ghost use Rattle.std.specs.Prelude.{◌≡◌, ◌-◌, ◌^◌, ◌<◌, [], true, IfOk};
+ghost use Rattle.vcd_engine.specs.Names.{BeginsAs, EndsAsAsked, HasRoomFor, Holds, is_going, IsValid, IsWithinEachBound, MayRun, MayStep, request_of, request_of_engine, room_in, room_size, RunsTask, StartsOver, Steps, StepsOver, view_in};
+ghost use Rattle.vcd_body.specs.Answer.{goes_on};
 ghost use Rattle.vcd_body.specs.Prompt.{HasPassedOn, LeavesSink};
-ghost use Rattle.vcd_body.specs.Whole.{HoldsItem, IsPrompt};
-ghost use Rattle.vcd_text.specs.Advances.{HasNotFailed};
+ghost use Rattle.vcd_body.specs.Whole.{HoldsItem};
 ghost use Rattle.vcd_text.specs.Ahead.{ahead_of};
 ghost use Rattle.vcd_text.specs.Feed.{limit_of, source_of};
 
 use crate::task::{Room, Task};
 use crate::task_state::TaskState;
 use std::mem::size_of;
-use vcd_body::{
-    Done, Item, More, Regs, Stop, change_text, next_item, pass_items, pass_on_before_read,
-};
-use vcd_text::{Bytes, Feed, Sink, Source, WriteFailed};
+use vcd_body::{Done, More, Regs, Stop};
+use vcd_run::run_to_end;
+use vcd_text::{Bytes, Feed, Sink, Source};
 use vcd_view::HeadView;
 
 /// A task between two items of a body: its header's view, the registers, and what it keeps.
@@ -35,15 +34,14 @@ const _: () = prove!(
         <= 512
 );
 
-/// Returns the text of `item`, which `next_item` returned last: the digits or the real number of a
-/// change, and no bytes for any other item.
+/// Returns whether the run goes on after this result of a step.
 #[inline(always)]
-fn text_of_item<'f, S: Source>(feed: &'f Feed<'_, '_, '_, '_, S>, item: Item) -> &'f [u8]
-    ensures { result.now ≡ item_text feed.now item }
+fn goes_on(stepped: Result<More, Stop>) -> bool
+    ensures { result ≡ goes_on stepped }
 {
-    match item {
-        Item::Change { form, .. } => change_text(feed, form),
-        Item::Time(_) | Item::Begin(_) | Item::End | Item::Finish => &[],
+    match stepped {
+        Ok(More::Again) => true,
+        Ok(More::Ended(_)) | Err(_) => false,
     }
 }
 
@@ -89,191 +87,6 @@ impl<'v, 'n, 'r> Engine<'v, 'n, 'r> {
     {
         self.going
     }
-
-    /// Handles the next item of the feed, and writes its output, or that at the end of the body, to
-    /// `out`. Returns `Again` if the run goes on, otherwise what ended it. `view` is the engine's
-    /// own, passed by the caller so that a loop over steps does not load it again. Fails at a fault
-    /// of the body, at a failed read, and at a failed write.
-    #[inline(always)]
-    fn step_with_view<S: Source, W: Sink>(
-        &mut self,
-        view: HeadView<'_>,
-        feed: &mut Feed<'_, '_, '_, '_, S>,
-        out: &mut W,
-    ) -> Result<More, Stop>
-        requires step { MayStep S.failures self.old feed.old (W.device out.old) }
-        requires view { parts view ≡ parts (view_in self.old) }
-        ensures gives { Steps W.device self.old self.new feed.old feed.new out.old out.new result }
-        ensures over { StepsOver S.failures self.old self.new feed.old feed.new
-            (W.device out.old) (W.device out.new) result }
-        ensures ahead { HoldsItem (limit_of feed.old) (ahead_of feed.old)
-            → source_of feed.new ≡ source_of feed.old }
-        ensures sink { LeavesSink out.old out.new result }
-    {
-        let item = match next_item(feed, view, &mut self.regs) {
-            Ok(item) => item,
-            Err(fault) => {
-                self.going = false;
-                return Err(Stop::of_body(fault, 0, feed.line()));
-            }
-        };
-        if item == Item::Finish {
-            self.going = false;
-            self.close(out)?;
-            return Ok(More::Ended(Done::Whole));
-        }
-        let text = text_of_item(feed, item);
-        match self.task_state.take(view, self.regs, item, text, out) {
-            Ok(false) => Ok(More::Again),
-            Ok(true) => {
-                self.going = false;
-                Ok(More::Ended(Done::Early))
-            }
-            Err(failed) => {
-                self.going = false;
-                Err(failed.into())
-            }
-        }
-    }
-
-    /// Handles the items that lie completely in the feed's chunk, up to a timestamp that
-    /// `step_with_view` has to handle, writes their output to `out`, and moves the feed past them.
-    /// It reads nothing from the source, and `view` is the engine's own. Fails if a write does,
-    /// which ends the run.
-    #[inline(never)]
-    fn advance_ahead<S: Source, W: Sink>(
-        &mut self,
-        view: HeadView<'_>,
-        feed: &mut Feed<'_, '_, '_, '_, S>,
-        out: &mut W,
-    ) -> Result<(), WriteFailed>
-        requires out_failures { (W.device out.old).failures < 2 ^ 64 - 1 }
-        requires going { is_going self.old ≡ true }
-        requires view { parts view ≡ parts (view_in self.old) }
-        ensures gives { StepsAhead self.old self.new feed.old feed.new
-            (W.device out.old) (W.device out.new) result }
-        ensures advances { Advances S.failures feed.old feed.new CallEnd.GoesOn }
-        ensures bounded { seen feed.new < 2 ^ 63 }
-        ensures source { source_of feed.new ≡ source_of feed.old }
-        ensures counts { Counts (W.device out.old) (W.device out.new) result }
-        ensures going { MatchResult result
-            (λ _. is_going self.new ≡ true) (λ _. is_going self.new ≡ false) }
-        ensures request { request_of_engine self.new ≡ request_of_engine self.old }
-        ensures holds { SameHold self.old self.new }
-        ensures view { parts (view_in self.new) ≡ parts (view_in self.old) }
-    {
-        let taken = self
-            .task_state
-            .take_ahead(view, self.regs, feed.ahead(), out);
-        self.regs = taken.regs;
-        pass_items(feed, taken.passed);
-        match taken.write_result {
-            Ok(()) => Ok(()),
-            Err(failed) => {
-                self.going = false;
-                Err(failed)
-            }
-        }
-    }
-
-    /// Handles the next item of the feed, and writes its output, or that at the end of the body, to
-    /// `out`. Returns `Again` if the run goes on, otherwise what ended it. It may wait for input,
-    /// so `out` must keep nothing back. `view` is the engine's own. Fails at a fault of the body,
-    /// at a failed read, and at a failed write.
-    #[inline(always)]
-    fn read_on<S: Source, W: Sink>(
-        &mut self,
-        view: HeadView<'_>,
-        feed: &mut Feed<'_, '_, '_, '_, S>,
-        out: &mut W,
-    ) -> Result<More, Stop>
-        requires step { MayStep S.failures self.old feed.old (W.device out.old) }
-        requires view { parts view ≡ parts (view_in self.old) }
-        requires prompt { IsPrompt (W.kept_back out.old) feed.old }
-        requires open { HasNotFailed feed.old }
-        ensures gives { Steps W.device self.old self.new feed.old feed.new out.old out.new result }
-        ensures over { StepsOver S.failures self.old self.new feed.old feed.new
-            (W.device out.old) (W.device out.new) result }
-        ensures passed_on { HasPassedOn (W.kept_back out.new) result }
-    {
-        self.step_with_view(view, feed, out)
-    }
-
-    /// Handles the items that lie completely in the chunk, and then the next one, and writes their
-    /// output to `out`. The next one may have to wait for input, so `out` first writes all that it
-    /// keeps back to its device. Returns `Again` if the run goes on, otherwise what ended it.
-    /// `view` is the engine's own. Fails at a fault of the body, at a failed read, and at a failed
-    /// write.
-    #[inline(always)]
-    fn advance<S: Source, W: Sink>(
-        &mut self,
-        view: HeadView<'_>,
-        feed: &mut Feed<'_, '_, '_, '_, S>,
-        out: &mut W,
-    ) -> Result<More, Stop>
-        requires step { MayStep S.failures self.old feed.old (W.device out.old) }
-        requires view { parts view ≡ parts (view_in self.old) }
-        requires open { HasNotFailed feed.old }
-        ensures gives { StepsOrStops self.old self.new feed.old feed.new
-            (W.device out.old) (W.device out.new) result }
-        ensures over { StepsOver S.failures self.old self.new feed.old feed.new
-            (W.device out.old) (W.device out.new) result }
-        ensures passed_on { HasPassedOn (W.kept_back out.new) result }
-    {
-        self.advance_ahead(view, feed, out)?;
-        match pass_on_before_read(feed, out) {
-            Ok(()) => {}
-            Err(failed) => {
-                self.going = false;
-                return Err(failed.into());
-            }
-        }
-        self.read_on(view, feed, out)
-    }
-
-    /// Writes what the task still has to write at the end of a body without fault: counts, values,
-    /// or the line of the last time. Fails if a write does.
-    // Not inlined, so that the loop over steps need not keep a borrowed view for this call.
-    #[inline(never)]
-    fn close<W: Sink>(&self, out: &mut W) -> Result<(), WriteFailed>
-        requires { (W.device out.old).failures < 2 ^ 64 - 1 }
-        ensures takes { (h : Header) (items : List BodyItem) → Holds self.now h items
-            → Takes (W.device out.old) (W.device out.new)
-            (close_text (request_of_engine self.now) h items) result }
-        ensures counts { Counts (W.device out.old) (W.device out.new) result }
-    {
-        self.task_state.close(*self.view, self.regs, out)
-    }
-
-    /// Handles all items that are left, writes the output of each and that at the end to `out`, and
-    /// returns what ended the run: `Done::Whole` at the end of the body, or `Done::Early` at a
-    /// timestamp after which the task needs no items. Fails at a fault of the body, at a failed
-    /// read, and at a failed write; then the output of the items before it was written, or a prefix
-    /// of that if a write failed.
-    fn run_to_end<S: Source, W: Sink>(
-        &mut self,
-        feed: &mut Feed<'_, '_, '_, '_, S>,
-        out: &mut W,
-    ) -> Result<Done, Stop>
-        requires run { MayRun S.failures feed.old (view_in self.old) (room_in self.old)
-            (W.device out.old) }
-        requires going { is_going self.old ≡ true }
-
-        ensures gives { Finishes W.device self.old feed.old feed.new out.old out.new result }
-        ensures devices { CountsOn S.failures W.device feed.old feed.new out.old out.new result }
-        ensures last { EndsAtRead (S.last_failed (source_of feed.new)) result }
-        ensures answer { EndsAsAsked (request_of_engine self.old) result }
-        ensures windows { SameWindows feed.old feed.new }
-        ensures passed_on { HasPassedOn (W.kept_back out.new) result }
-    {
-        let view = *self.view;
-        'items: loop {
-            match self.advance(view, feed, out)? {
-                More::Again => {}
-                More::Ended(done) => return Ok(done),
-            }
-        }
-    }
 }
 
 /// Handles the next item of the feed, and writes its output, or that at the end of the body, to
@@ -300,7 +113,10 @@ pub fn step<S: Source, W: Sink>(
         → source_of feed.new ≡ source_of feed.old }
     ensures sink { LeavesSink out.old out.new result }
 {
-    engine.step_with_view(*engine.view, feed, out)
+    let view = *engine.view;
+    let stepped = vcd_run::step(&mut engine.task_state, view, &mut engine.regs, feed, out);
+    engine.going = goes_on(stepped);
+    stepped
 }
 
 /// Runs a task over the body that follows the header of `view`, and returns what ended it:
@@ -329,6 +145,6 @@ pub fn run_task<S: Source, W: Sink>(
     // If a read fails, the sink keeps nothing back of the output that was due before that read.
     ensures passed_on { HasPassedOn (W.kept_back out.new) result }
 {
-    let mut engine = Engine::start(task, &view, room, out)?;
-    engine.run_to_end(feed, out)
+    let mut task_state = TaskState::start(task, view, room, out)?;
+    run_to_end(&mut task_state, view, feed, out)
 }

@@ -22,7 +22,8 @@
 //! # The modules
 //!
 //! - `task`: `Task`, `Room`, `Task::need`
-//! - `engine`: `Engine`, and `run_task`, the one loop over items. It names no command
+//! - `engine`: `run_task`, which begins a task and has `run_to_end` of `vcd_run` run it, and
+//!   `Engine`. It names no command
 //! - `task_state`, and under it `check`, `pick`, `cut`, `sample`, `edges`: what each task keeps
 //!   between items, and what it does at the start, with an item and at the end; `walk`:
 //!   `AheadTask`, what a task does with items that lie completely in the chunk, and the loop over
@@ -38,8 +39,9 @@
 //!   to the next
 //!
 //! In `specs/` callers read `TaskRun` (`MayRun`, `RunsTask`, `Follows`), `Engine`, `Step`
-//! (`MayStep`, `Steps`, `StepsOver`) and `Room` (`BeginsAs`). How a run ends, `Done`, `More` and
-//! `Stop`, is in `vcd_body`. `Names` collects what the contracts cite under one path.
+//! (`MayStep`, `Steps`, `StepsOver`) and `Room` (`BeginsAs`). `Plan` says by which plan of `vcd_run`
+//! a task goes on. How a run ends, `Done`, `More` and `Stop`, is in `vcd_body`. `Names` collects
+//! what the contracts cite under one path.
 //!
 //! # Limits
 //!

@@ -1,6 +1,7 @@
 //! What each task keeps between items, and what it does with an item.
-ghost use Rattle.std.specs.Prelude.{◌≡◌, ◌-◌, ◌^◌, ◌<◌, ◌≤◌, [], length, true, IfOk};
-ghost use Rattle.vcd_engine.specs.Names.{AtClose, BeginsAs, bytes_of, close_text, Counts, HasGoodText, HasRoomFor, IsValid, Keeps, last_time_of, may_end_early, passed_of, request_in, request_of, room_of, room_size, RunsOver, SameTask, StartsOver, Takes, TakesEach};
+ghost use Rattle.std.specs.Prelude.{◌≡◌, ◌-◌, ◌^◌, ◌<◌, [], ⊤};
+ghost use Rattle.vcd_engine.specs.Names.{BeginsAs, HasRoomFor, IsValid, Keeps, last_time_of, may_end_early, Request, request_in, request_of, room_of, room_size, RoomSize, StartsOver};
+ghost use Rattle.vcd_engine.specs.Plan.{KeepsPlan};
 
 pub(crate) mod check;
 pub(crate) mod cut;
@@ -10,8 +11,9 @@ pub(crate) mod sample;
 pub(crate) mod walk;
 
 use crate::task::{Room, Task};
-use crate::task_state::walk::{KnownLine, NoLine, WalkEnd, take_each, take_given};
+use crate::task_state::walk::{KnownLine, NoLine, take_each, take_given};
 use vcd_body::{Item, Regs, Stop};
+use vcd_run::AheadEnd;
 use vcd_text::{Ahead, Sink, WriteFailed};
 use vcd_view::HeadView;
 
@@ -70,28 +72,33 @@ impl<'n, 'r> TaskState<'n, 'r> {
             Task::Edges(names) => Ok(TaskState::Edges(edges::Edges::start(view, room, names)?)),
         }
     }
+}
+
+impl<'n, 'r> vcd_run::Task for TaskState<'n, 'r> {
+    ghost keeps = { λ m p h items. KeepsPlan m p h items };
+
+    ghost tells = { λ _ _ _. ⊤ };
+
+    ghost is_ready = { λ _. ⊤ };
+
+    ghost Fixed = { Request × RoomSize };
+
+    ghost fixed = { λ m. (request_in m, room_of m) };
+
+    ghost may_end = { λ asked. may_end_early asked.0 };
 
     /// Handles an item that `next_item` returned, writes its output to `out`, and returns whether
     /// it ends the run. `text` is a change's text; for other items it may be anything. `regs` are
     /// the registers after the item. Fails if a write does.
     #[inline(always)]
-    pub(crate) fn take<W: Sink>(
+    fn take<W: Sink>(
         &mut self,
         view: HeadView<'_>,
         regs: Regs,
         item: Item,
         text: &[u8],
         out: &mut W,
-    ) -> Result<bool, WriteFailed>
-        requires failures { (W.device out.old).failures < 2 ^ 64 - 1 }
-        requires sound { HasGoodText view.codes.now text.now item }
-        ensures takes { TakesEach view.entry regs item text.now (Keeps self.old) (Keeps self.new)
-            (request_in self.old) (W.device out.old) (W.device out.new) result }
-        ensures counts { Counts (W.device out.old) (W.device out.new) result }
-        ensures same { SameTask self.old self.new }
-        ensures early { IfOk result
-            (λ ended. ended ≡ true → may_end_early (request_in self.old) ≡ true) }
-    {
+    ) -> Result<bool, WriteFailed> {
         match self {
             TaskState::Check(check) => {
                 take_given::<NoLine, _, _>(check, view, regs, item, text, out)
@@ -112,18 +119,13 @@ impl<'n, 'r> TaskState<'n, 'r> {
     /// bytes ahead they take, the registers after them, and whether a write failed; if one did, the
     /// run is over. `regs` are the registers before these items.
     // A loop for each task, so that no loop asks for the task at each item.
-    pub(crate) fn take_ahead<W: Sink>(
+    fn take_ahead<W: Sink>(
         &mut self,
         view: HeadView<'_>,
         regs: Regs,
         ahead: Ahead<'_>,
         out: &mut W,
-    ) -> WalkEnd
-        requires failures { (W.device out.old).failures < 2 ^ 64 - 1 }
-        requires within { passed_of ahead ≤ length (bytes_of ahead) }
-        ensures { RunsOver view.entry ahead.entry regs self.old self.new
-            (W.device out.old) (W.device out.new) result }
-    {
+    ) -> AheadEnd {
         match self {
             TaskState::Check(check) => { take_each::<NoLine, _, _>(check, view, regs, ahead, out) }
             TaskState::Pick(pick) => { take_each::<KnownLine, _, _>(pick, view, regs, ahead, out) }
@@ -143,18 +145,14 @@ impl<'n, 'r> TaskState<'n, 'r> {
 
     /// Writes the output at the end of a body without fault: counts, values, or the line of the
     /// last time. `regs` are the registers there. Fails if a write does.
-    pub(crate) fn close<W: Sink>(
-        &self,
+    // Not inlined, so that the loop over items need not keep what only this call needs.
+    #[inline(never)]
+    fn close<W: Sink>(
+        &mut self,
         view: HeadView<'_>,
         regs: Regs,
         out: &mut W,
-    ) -> Result<(), WriteFailed>
-        requires { (W.device out.old).failures < 2 ^ 64 - 1 }
-        ensures takes { AtClose view.entry regs (λ h items. Keeps self.now h items
-            → Takes (W.device out.old) (W.device out.new)
-            (close_text (request_in self.now) h items) result) }
-        ensures counts { Counts (W.device out.old) (W.device out.new) result }
-    {
+    ) -> Result<(), WriteFailed> {
         match self {
             TaskState::Check(check) => check.close(view, regs, out),
             TaskState::Pick(pick) => pick.close(regs, out),

@@ -18,34 +18,22 @@ ghost use Rattle.vcd_engine.specs.declared.pending.PendingCopy.{PendingCopy};
 
 use crate::pending::PendingCopy;
 use vcd_body::{Item, Regs, ScannedItem, Visit, is_timestamp_line, walk_ahead};
+use vcd_run::AheadEnd;
 use vcd_text::{Ahead, Sink, WriteFailed};
 use vcd_view::HeadView;
 
-/// What a walk over the items in the chunk has left.
-#[derive(Clone, Copy)]
-pub(crate) struct WalkEnd {
-    /// How many bytes ahead the items take that were handled: the feed has to be moved past them.
-    pub(crate) passed: usize,
-    /// The registers after these items.
-    pub(crate) regs: Regs,
-    /// Fails if a write of the output of these items did.
-    pub(crate) write_result: Result<(), WriteFailed>,
-}
-
-impl WalkEnd {
-    /// Returns the result of a walk over the chunk that ended at `ahead`: how many bytes ahead the
-    /// items take that were handled, the registers after these items, and whether a write failed.
-    #[inline(always)]
-    fn ended_at(ahead: Ahead<'_>, regs: Regs, write_result: Result<(), WriteFailed>) -> WalkEnd
-        ensures passed { result.passed ≡ passed_of ahead.entry }
-        ensures regs { result.regs ≡ regs }
-        ensures write_result { result.write_result ≡ write_result }
-    {
-        WalkEnd {
-            passed: ahead.passed(),
-            regs,
-            write_result,
-        }
+/// Returns what a walk over the chunk has left that ended at `ahead`, with these registers and this
+/// result of its writes.
+#[inline(always)]
+fn ended_at(ahead: Ahead<'_>, regs: Regs, written: Result<(), WriteFailed>) -> AheadEnd
+    ensures passed { result.passed ≡ passed_of ahead.entry }
+    ensures regs { result.regs ≡ regs }
+    ensures written { result.written ≡ written }
+{
+    AheadEnd {
+        passed: ahead.passed(),
+        regs,
+        written,
     }
 }
 
@@ -259,7 +247,7 @@ pub(crate) fn take_each<L: LineMemory, C: AheadTask<L>, W: Sink>(
     regs: Regs,
     ahead: Ahead<'_>,
     out: &mut W,
-) -> WalkEnd
+) -> AheadEnd
     requires failures { (W.device out.old).failures < 2 ^ 64 - 1 }
     requires ready { C.is_ready command.old ≡ true }
     requires within { passed_of ahead ≤ length (bytes_of ahead) }
@@ -273,8 +261,8 @@ pub(crate) fn take_each<L: LineMemory, C: AheadTask<L>, W: Sink>(
     let regs = walked.regs;
     let mut state = walked.visit;
     match walked.ended {
-        Ok(_) => WalkEnd::ended_at(ahead, regs, state.pending.flush(ahead.bytes(), out)),
-        Err(failed) => WalkEnd::ended_at(ahead, regs, Err(failed)),
+        Ok(_) => ended_at(ahead, regs, state.pending.flush(ahead.bytes(), out)),
+        Err(failed) => ended_at(ahead, regs, Err(failed)),
     }
 }
 

@@ -21,10 +21,10 @@ returns-in-Ok g c =
     let new = g.W.Sink.device c.flush.new.out in
     let puts = subst (λ bs. Puts mid new (pending_in bs p) c.flush.result) c.bytes.ensures c.flush.ensures.puts in
     let passes = passed_to _ _ _ _ _ _ _ c.walk_ahead-walked.ensures in
-    walk_ends _ _ _ _ _ _ _ _ _ w new _ u.passed u.regs passes (rw u.write_result puts)
+    walk_ends _ _ _ _ _ _ _ _ _ w new _ u.passed u.regs passes (rw u.written puts)
 
 pub returns-in-Err : goal.returns-in-Err
 returns-in-Err g c =
     let walked = walk_begins _ _ _ _ _ _ _ c.requires.within c.new-line.ensures (c.new-pending.ensures.part _) (c.new-pending.ensures.pending _) in
     let u = c.ended_at-in-Err.ensures in
-    walk_wrong _ _ _ _ _ _ _ _ walked _ _ (rw c.in-Err.is at c.walk_ahead-walked.ensures) _ u.passed u.regs u.write_result
+    walk_wrong _ _ _ _ _ _ _ _ walked _ _ (rw c.in-Err.is at c.walk_ahead-walked.ensures) _ u.passed u.regs u.written
