@@ -7,7 +7,7 @@
 use std::alloc::{AllocError, Global};
 use std::io::Write;
 use std::{fs, io};
-use vcd_program::{run_on_machine, run_words_on_machine};
+use vcd_program::{Vcdkit, run_on_machine, run_words_on_machine};
 use vcd_text::Watch;
 
 /// The command lines, without the program's name.
@@ -43,7 +43,7 @@ fn run_line(rt: &HostRuntime, line: &str) -> io::Result<()> {
     println!(rt; "$ {line}")?;
     let words = words_of(rt.alloc(), line)?;
     let mut said = Watch::new(Vec::new(rt.alloc()));
-    let status = run_words_on_machine(rt, words.as_slice(), &mut said);
+    let status = run_words_on_machine::<Vcdkit, _>(rt, words.as_slice(), &mut said);
     println!(rt; "status {status}")?;
     rt.stdout().write_all(said.device.as_slice())
 }
@@ -67,7 +67,7 @@ fn written(rt: &HostRuntime) -> io::Result<(u64, u64)> {
 fn run_arguments(rt: &HostRuntime) -> io::Result<()> {
     println!(rt; "$ (arguments)")?;
     let before = written(rt)?;
-    let status = run_on_machine(rt);
+    let status = run_on_machine::<Vcdkit>(rt);
     let after = written(rt)?;
     let bytes = after.0.saturating_sub(before.0);
     let writes = after.1.saturating_sub(before.1);

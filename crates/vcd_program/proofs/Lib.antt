@@ -3,6 +3,6 @@ mod LentLemmas
 mod HostLemmas
 pub mod UnderLemmas
 mod RunsLemmas
-mod Statuses
+mod VcdkitLemmas
 pub mod Cited
 pub mod Facts

@@ -1,5 +1,10 @@
+pub mod Leaves
+pub mod Parts
 pub mod Runs
 pub mod Memory
 pub mod Process
 pub mod ProcessRun
+pub mod Vcdkit
+pub mod VcdkitNames
+pub mod VcdkitProgram
 pub mod Names

@@ -7,13 +7,14 @@ use Rattle.clap.specs.declared.error.kind.ErrorKind.{ErrorKind}
 use Rattle.clap.specs.declared.error.kind.ErrorKind.TheVariants as kind
 use Rattle.clap.specs.declared.parser.matches.ArgMatches.{ArgMatches}
 use Rattle.vcd_model.specs.Outcome.{Outcome, shown_message}
-use Rattle.vcd_model.specs.Words.{Words, UseFault, Job, command_outcome, job_of}
 use Rattle.vcd_text.specs.Answer.{whole}
-use Rattle.vcd_words.specs.Words.{parse_status_of, program_app, words_used}
-use Rattle.vcdkit.specs.Message.{program_name, unopened_outcome}
+use Rattle.vcd_words.specs.Words.{parse_status_of}
+use Rattle.vcd_words.specs.declared.job.UseFault.{UseFault}
+use Rattle.vcd_words.specs.declared.job.UseFault.TheVariants as use_fault
+use Rattle.vcdkit.specs.Message.{unopened_outcome}
 use Rattle.vcd_host.specs.Opens.{called}
-use Rattle.vcd_host.specs.Asked.{inputs_asked}
 pub use Rattle.vcd_host.specs.Fills.{Fills}
+use Rattle.vcd_program.specs.declared.program.Program.{Ghosts}
 use Rattle.vcd_host.specs.declared.host.OpenFault.{OpenFault}
 use Rattle.vcd_host.specs.declared.host.OpenFault.TheVariants.{Unopened, OutOfMemory}
 use Rattle.vcd_text.specs.declared.device.Bytes.{Bytes}
@@ -71,11 +72,11 @@ end_of left = record {
   status = left.status;
 }
 
--- this was opened or tried, and this outcome was left
-pub record IsLeft (left : End) (names : List (Option Text)) (o : Outcome) : Type 0 where
+-- this was opened or tried, and this outcome of the program of this name was left
+pub record IsLeft (program : Text) (left : End) (names : List (Option Text)) (o : Outcome) : Type 0 where
   pub opened : left.opened ≡ names
   pub output : left.output ≡ o.output
-  pub message : left.message ≡ shown_message program_name o.message
+  pub message : left.message ≡ shown_message program o.message
   pub status : left.status ≡ o.status
 
 -- nothing was opened, and this text of a parse of this kind was left: help and the version as the
@@ -90,39 +91,39 @@ pub record IsAnswered (left : End) (why : ErrorKind) (text : Text) : Type 0 wher
 abbrev pub HaveTexts : List MemoryFile → (input : Text) → List (Option Text) → List Text → Type 0
 HaveTexts files input names texts = map (λ name. bytes_among files input name) names ≡ map (λ text. Some text) texts
 
--- What is left of words that were parsed: over files that are all there the outcome of the words
--- and of their bytes. If the words ask for no job, nothing was opened; if a file is not there,
--- those before it were.
-pub data IsLeftOf (words : Option Words) (asked : List (Option Text)) (files : List MemoryFile) (input : Text) (left : End) : Type 0 where
-  Refused : (fault : UseFault) (is : job_of words ≡ Err fault) (leaves : IsLeft left [] (command_outcome words [] [])) → IsLeftOf words asked files input left
-  Ran : (job : Job) (is : job_of words ≡ Ok job) (texts : List Text) (have : HaveTexts files input asked texts) (leaves : IsLeft left asked (command_outcome words (map called asked) (map whole texts))) → IsLeftOf words asked files input left
-  Stopped : (job : Job) (is : job_of words ≡ Ok job) (before after : List (Option Text)) (name : Option Text) (order : asked ≡ before ++ name ∷ after) (texts : List Text) (have : HaveTexts files input before texts)
-      (missing : bytes_among files input name ≡ None) (leaves : IsLeft left (before ++ name ∷ []) (unopened_outcome (called name))) → IsLeftOf words asked files input left
+-- What is left of words that were parsed, of a program that says this of itself: over files that are
+-- all there the outcome of the words and of their bytes. If the words ask for no job, nothing was
+-- opened; if a file is not there, those before it were.
+pub data IsLeftOf {P J : Type 0} (p : Ghosts P J) (matches : ArgMatches) (files : List MemoryFile) (input : Text) (left : End) : Type 0 where
+  Refused : (fault : UseFault) (is : p.asks matches (Err fault)) (of_words : fault ≢ use_fault.OutOfMemory) (leaves : IsLeft p.name left [] (p.outcome matches [] [])) → IsLeftOf p matches files input left
+  Ran : (job : J) (is : p.asks matches (Ok job)) (texts : List Text) (have : HaveTexts files input (p.inputs matches) texts) (leaves : IsLeft p.name left (p.inputs matches) (p.outcome matches (map called (p.inputs matches)) (map whole texts))) → IsLeftOf p matches files input left
+  Stopped : (job : J) (is : p.asks matches (Ok job)) (before after : List (Option Text)) (name : Option Text) (order : p.inputs matches ≡ before ++ name ∷ after) (texts : List Text) (have : HaveTexts files input before texts)
+      (missing : bytes_among files input name ≡ None) (leaves : IsLeft p.name left (before ++ name ∷ []) (unopened_outcome (called name))) → IsLeftOf p matches files input left
 
 -- memory ran out: no output, and a line
-pub record IsOutOfMemory (left : End) : Type 0 where
+pub record IsOutOfMemory (program : Text) (left : End) : Type 0 where
   pub output : left.output ≡ []
-  pub message : left.message ≡ shown_message program_name (codes "out of memory")
+  pub message : left.message ≡ shown_message program (codes "out of memory")
   pub status : left.status ≡ 3
 
 -- what is left of any words, the program's name first
-pub data IsLeftBy (words : List Text) (files : List MemoryFile) (input : Text) (left : End) : Type 0 where
-  Parsed : (matches : ArgMatches) (is : HasMatchesOf program_app words matches) (leaves : IsLeftOf (words_used matches) (inputs_asked matches) files input left) → IsLeftBy words files input left
-  NoMatches : (why : ErrorKind) (is : (why ≡ kind.OutOfMemory) ⊎ IsAmong why (fault_of program_app words)) (only : takes program_app words ≡ true → why ≡ kind.OutOfMemory) (other : why ≢ kind.OutOfMemory) (text : Text)
-      (leaves : IsAnswered left why text) → IsLeftBy words files input left
-  NoMemory : (fails : IsOutOfMemory left) → IsLeftBy words files input left
+pub data IsLeftBy {P J : Type 0} (p : Ghosts P J) (words : List Text) (files : List MemoryFile) (input : Text) (left : End) : Type 0 where
+  Parsed : (matches : ArgMatches) (is : HasMatchesOf p.app words matches) (leaves : IsLeftOf p matches files input left) → IsLeftBy p words files input left
+  NoMatches : (why : ErrorKind) (is : (why ≡ kind.OutOfMemory) ⊎ IsAmong why (fault_of p.app words)) (only : takes p.app words ≡ true → why ≡ kind.OutOfMemory) (other : why ≢ kind.OutOfMemory) (text : Text)
+      (leaves : IsAnswered left why text) → IsLeftBy p words files input left
+  NoMemory : (fails : IsOutOfMemory p.name left) → IsLeftBy p words files input left
 
 -- this output, this message and this status are left
-abbrev pub IsLeftAs : List Text → List MemoryFile → (input output message : Text) → (status : ℕ) → Type 0
-IsLeftAs words files input output message status = (opened : List (Option Text)) × IsLeftBy words files input (record { opened = opened; output = output; message = message; status = status })
+abbrev pub IsLeftAs : {P J : Type 0} → Ghosts P J → List Text → List MemoryFile → (input output message : Text) → (status : ℕ) → Type 0
+IsLeftAs p words files input output message status = (opened : List (Option Text)) × IsLeftBy p words files input (record { opened = opened; output = output; message = message; status = status })
 
 -- ---- the same in bytes that were lent
 
 -- What is left of any words, the program's name first, if output and message went to bytes that
 -- were lent: each of the two as far as there is room for it, and how long it is.
-pub record IsLeftIn (words : List Text) (files : List MemoryFile) (input out : Text) (output : ℕ) (err : Text) (message : ℕ) (status : ℕ) : Type 0 where
+pub record IsLeftIn {P J : Type 0} (p : Ghosts P J) (words : List Text) (files : List MemoryFile) (input out : Text) (output : ℕ) (err : Text) (message : ℕ) (status : ℕ) : Type 0 where
   pub left : End
-  pub is_left : IsLeftBy words files input left
+  pub is_left : IsLeftBy p words files input left
   pub on_out : Fills out output left.output
   pub on_err : Fills err message left.message
   pub status_is : status ≡ left.status

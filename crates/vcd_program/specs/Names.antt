@@ -1,6 +1,5 @@
 -- What the contracts of this crate cite, under one path.
 pub use Rattle.vcd_text.specs.Watch.{failed_calls}
-pub use Rattle.vcd_words.specs.Words.{AsksFor}
 pub use Rattle.vcdkit.specs.Calls.{MayFailOnce}
 pub use Rattle.vcd_host.specs.Opens.{text_of}
 pub use Rattle.vcd_host.specs.LentOutput.{written}

@@ -3,6 +3,7 @@ ghost use Rattle.std.specs.Prelude.{◌-◌, ◌^◌, ◌<◌, ◌≤◌, ⊤};
 
 use crate::process::Process;
 use crate::process_run::{run_process, run_words};
+use crate::program::Program;
 use std::alloc::Global;
 use std::fs::{File, Metadata};
 use std::hash::RandomState;
@@ -12,7 +13,7 @@ use std::{env, fs, io};
 use vcd_host::{Buffered, Prefetched};
 use vcd_text::{Sink, Watch};
 use vcd_words::UseFault;
-use vcdkit::{Again, PROGRAM, use_fault};
+use vcdkit::Again;
 
 /// The longest file that is read when it is opened, so that the windows need not be longer than it.
 const MAX_SHORT_FILE: u64 = 65_535;
@@ -32,9 +33,6 @@ fn prefetched_len(about: io::Result<Metadata>) -> usize {
     0
 }
 
-/// What the error stream gets if the dump comes from a terminal.
-const WAITS: &[u8] = b"vcdkit: the dump comes from standard input (for a file, write -i FILE)\n";
-
 /// Where the system shows what standard input is.
 const STANDARD_INPUT: &str = "/proc/self/fd/0";
 
@@ -46,6 +44,8 @@ const STANDARD_INPUT: &str = "/proc/self/fd/0";
 #[derive(Drop)]
 struct OwnProcess<'r> {
     rt: &'r HostRuntime,
+    /// What the error stream gets if an input comes from a terminal.
+    waits: &'static [u8],
 }
 
 impl Process for OwnProcess<'_> {
@@ -83,11 +83,11 @@ impl Process for OwnProcess<'_> {
     }
 
     /// Returns standard input. If it is a terminal, a line on the error stream says so, because
-    /// nothing else shows that the program waits for a dump.
+    /// nothing else shows that the program waits for an input.
     fn input(&mut self) -> Prefetched<Stdin> {
         let input = self.rt.stdin();
         if input.is_terminal() {
-            let _ = self.rt.stderr().write(WAITS);
+            let _ = self.rt.stderr().write(self.waits);
         }
         let len = prefetched_len(fs::metadata(self.rt, STANDARD_INPUT));
         Prefetched::new(self.rt.alloc(), input, len)
@@ -110,17 +110,24 @@ impl Process for OwnProcess<'_> {
     }
 }
 
-/// Runs the program with these arguments, its own name first among them, over the files, the
+/// Runs a program with these arguments, its own name first among them, over the files, the
 /// standard input and the standard output of the process, and returns the exit status, as
 /// `run_program` does. Messages go to `err`.
-pub fn run_words_on_machine<E: Sink>(rt: &HostRuntime, words: &[String], err: &mut E) -> u8
+pub fn run_words_on_machine<P: Program, E: Sink>(
+    rt: &HostRuntime,
+    words: &[String],
+    err: &mut E,
+) -> u8
     requires { (E.device err.old).failures < 2 ^ 64 - 2 }
     ensures { result ≤ 3 }
 {
-    let mut process = OwnProcess { rt };
+    let mut process = OwnProcess {
+        rt,
+        waits: P::waiting(),
+    };
     match Buffered::new(rt.alloc(), Again::new(rt.stdout())) {
-        Ok(mut out) => run_words(rt.alloc(), &mut process, words, &mut out, err),
-        Err(_) => use_fault(PROGRAM, UseFault::OutOfMemory, err),
+        Ok(mut out) => run_words::<P, _, _, _>(rt.alloc(), &mut process, words, &mut out, err),
+        Err(_) => P::use_fault(UseFault::OutOfMemory, err),
     }
 }
 
@@ -138,7 +145,7 @@ fn stand_in(rt: &HostRuntime) -> Option<File> {
     None
 }
 
-/// Runs the program with the arguments, the files and the streams of the process, and returns the
+/// Runs a program with the arguments, the files and the streams of the process, and returns the
 /// exit status, as `run_process` does.
 ///
 /// A message waits in a buffer and is written at the end. If it has at most 8,192 bytes, it is one
@@ -147,20 +154,22 @@ fn stand_in(rt: &HostRuntime) -> Option<File> {
 ///
 /// The system gives a file that is opened the lowest free descriptor. If a standard stream is
 /// closed, that is its descriptor, so a directory is open there until the end (`stand_in`).
-pub fn run_on_machine(rt: &HostRuntime) -> u8
+pub fn run_on_machine<P: Program>(rt: &HostRuntime) -> u8
     ensures { result ≤ 3 }
 {
     let _stand_ins = [stand_in(rt), stand_in(rt), stand_in(rt)];
-    let mut process = OwnProcess { rt };
+    let mut process = OwnProcess {
+        rt,
+        waits: P::waiting(),
+    };
     let (Ok(mut out), Ok(mut err)) = (
         Buffered::new(rt.alloc(), Again::new(rt.stdout())),
         Buffered::new(rt.alloc(), Again::new(rt.stderr())),
     ) else {
-        return use_fault(
-            PROGRAM,
+        return P::use_fault(
             UseFault::OutOfMemory,
             &mut Watch::new(Again::new(rt.stderr())),
         );
     };
-    run_process(rt.alloc(), &mut process, &mut out, &mut err)
+    run_process::<P, _, _, _>(rt.alloc(), &mut process, &mut out, &mut err)
 }

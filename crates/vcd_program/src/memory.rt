@@ -3,6 +3,7 @@ ghost use Rattle.std.specs.Prelude.{◌≡◌, IfOk, IfSome, OnOk, map, option_m
 ghost use Rattle.vcd_program.specs.Names.{bytes_in, bytes_named, end_of, IsLeftAs, IsLeftBy, IsLeftIn, noted, OpensIn, text_of, written};
 
 use crate::command_line::run_program;
+use crate::program::Program;
 use std::alloc::{AllocError, Global};
 use std::hash::{BuildHasher, BuildHasherDefault, FoldHasher};
 use vcd_host::{Host, LentOutput, OpenFault};
@@ -111,7 +112,7 @@ pub struct Left {
     pub status: u8,
 }
 
-/// Runs the program with these arguments, its own name first among them, over files in memory, and
+/// Runs a program with these arguments, its own name first among them, over files in memory, and
 /// returns its output, its message, its status, and which inputs it opened or tried to open. Of two
 /// files with one name the first counts; `input` is standard input.
 ///
@@ -120,13 +121,13 @@ pub struct Left {
 ///
 /// Codes are hashed with numbers that everybody may know, so codes can be crafted that take long to
 /// find. Use `run_into_memory` for dumps that are not trusted.
-pub fn run_in_memory(
+pub fn run_in_memory<P: Program>(
     alloc: Global,
     words: &[String],
     files: &[MemoryFile<'_>],
     input: &[u8],
 ) -> Result<Left, AllocError>
-    ensures { IfOk result (λ left. IsLeftBy
+    ensures { IfOk result (λ left. IsLeftBy P.Program
         (map string_bytes words.now) files.now input.now (end_of left)) }
 {
     let hasher: BuildHasherDefault<FoldHasher> = BuildHasherDefault::new();
@@ -137,7 +138,14 @@ pub fn run_in_memory(
     };
     let mut out = Watch::new(Vec::new(alloc));
     let mut err = Watch::new(Vec::new(alloc));
-    let status = run_program(alloc, words, &mut memory, &mut out, &mut err, &hasher);
+    let status = run_program::<P, _, _, _, _>(
+        alloc,
+        words,
+        &mut memory,
+        &mut out,
+        &mut err,
+        &hasher,
+    );
     if out.failures() > 0 || err.failures() > 0 {
         return Err(AllocError);
     }
@@ -164,7 +172,7 @@ pub struct Filled {
 /// standard input in `memory`, and returns its exit status. Output goes to `out`, and messages go
 /// to `err`. Before the call, no input may have been opened from `memory`, and nothing written to
 /// `out` or `err`. Codes are hashed with numbers that `hasher` returns.
-fn run_into_lent<B: BuildHasher>(
+fn run_into_lent<P: Program, B: BuildHasher>(
     alloc: Global,
     words: &[String],
     memory: &mut Memory<'_>,
@@ -177,10 +185,10 @@ fn run_into_lent<B: BuildHasher>(
     requires err { written err.old ≡ [] }
     ensures out_loan { out.new.bytes.ghost_name ≡ out.old.bytes.ghost_name }
     ensures err_loan { err.new.bytes.ghost_name ≡ err.old.bytes.ghost_name }
-    ensures left { IsLeftAs (map string_bytes words.now) memory.old.files.now memory.old.input.now
+    ensures left { IsLeftAs P.Program (map string_bytes words.now) memory.old.files.now memory.old.input.now
         (written out.new) (written err.new) result }
 {
-    run_program(alloc, words, memory, out, err, hasher)
+    run_program::<P, _, _, _, _>(alloc, words, memory, out, err, hasher)
 }
 
 /// Runs the program with these arguments, its own name first among them, over files in memory, and
@@ -190,7 +198,7 @@ fn run_into_lent<B: BuildHasher>(
 ///
 /// `input` is standard input. Identifier codes are hashed with numbers that the hasher returns;
 /// what is written does not depend on them.
-pub fn run_into_memory<B: BuildHasher>(
+pub fn run_into_memory<P: Program, B: BuildHasher>(
     alloc: Global,
     words: &[String],
     files: &[MemoryFile<'_>],
@@ -199,7 +207,7 @@ pub fn run_into_memory<B: BuildHasher>(
     err: &mut [u8],
     hasher: &B,
 ) -> Option<Filled>
-    ensures { IfSome result (λ filled. IsLeftIn (map string_bytes words.now) files.now input.now
+    ensures { IfSome result (λ filled. IsLeftIn P.Program (map string_bytes words.now) files.now input.now
         out.new filled.output err.new filled.message filled.status) }
 {
     let mut memory = Memory {
@@ -209,7 +217,7 @@ pub fn run_into_memory<B: BuildHasher>(
     };
     let mut out = LentOutput::new(out);
     let mut err = LentOutput::new(err);
-    let status = run_into_lent(alloc, words, &mut memory, &mut out, &mut err, hasher);
+    let status = run_into_lent::<P, _>(alloc, words, &mut memory, &mut out, &mut err, hasher);
     let output = out.len()?;
     let message = err.len()?;
     Some(Filled {

@@ -1,1 +1,2 @@
 mod ReliesLemmas
+mod EchoLemmas

@@ -1,14 +1,17 @@
 -- What callers rely on, from the contract of the program.
-use Rattle.std.proofs.Common.{◌≡◌, ℕ, Bool, true, false, List, [], ◌∷◌, map, ap, ◌∙◌, inl, inr, refl, subst}
+use Rattle.std.proofs.Common.{◌≡◌, ℕ, Bool, true, false, ◌⊎◌, ◌≢◌, List, [], ◌∷◌, map, ap, ◌∙◌, inl, inr, refl, subst}
 use Rattle.std.specs.Prelude.{Option, Some, None, Result, Ok, Err, is_some}
 use Rattle.std.specs.declared.io.Read.{Ghosts as Reads}
 use Rattle.clap.specs.Words.{Text}
+use Rattle.clap.specs.declared.parser.matches.ArgMatches.{ArgMatches}
 use Rattle.vcd_model.specs.Input.{Input}
 use Rattle.vcd_model.specs.Job.{Want}
 use Rattle.vcd_model.specs.Outcome.{Outcome, allowed_after, declarations_allowed}
 use Rattle.vcd_model.specs.Due.{due}
 use Rattle.vcd_model.specs.Settled.{is_header_over, is_settled}
 use Rattle.vcd_model.specs.Tokens.{Token}
+use Rattle.vcd_model.specs.Words as model
+use Rattle.vcd_model.specs.Words.{job_of}
 use Rattle.vcd_text.specs.Answer.{whole}
 use Rattle.vcd_text.specs.Device.{Device, Supply, supply}
 use Rattle.vcd_text.specs.ReadAhead.{ReadsAsNeeded}
@@ -18,14 +21,21 @@ use Rattle.vcd_body.specs.Answer.{IsLeft}
 use Rattle.vcd_body.specs.Pace.{KeepsUp}
 use Rattle.vcd_merge.specs.MergeRun.{AreReadOnTurn}
 use Rattle.vcd_merge.specs.Seat.{Lane}
-use Rattle.vcdkit.specs.Inputs.{headers_in}
+use Rattle.vcd_words.specs.Job.{model_want}
+use Rattle.vcd_words.specs.Words.{words_used}
+use Rattle.vcd_words.specs.declared.job.UseFault.{UseFault}
+use Rattle.vcd_words.specs.declared.job.UseFault.TheVariants as use_fault
+use Rattle.vcdkit.specs.Inputs.{AreBegun, Stops, headers_in}
 use Rattle.vcdkit.specs.Message.{program_name}
 use Rattle.vcdkit.specs.Run.{AreInTurn, AreMergedInTurn, AreRead, IsOutcome}
 use Rattle.vcd_host.specs.declared.host.OpenFault.{OpenFault}
 use Rattle.vcd_host.specs.declared.host.OpenFault.TheVariants.{Unopened, OutOfMemory}
+use Rattle.vcd_program.specs.Leaves.{Leaves}
 use Rattle.vcd_program.specs.Process.{OpensInput, bytes_left}
 use Rattle.vcd_program.specs.ProcessRun.{Delivers, RunsAs}
-use Rattle.vcd_program.specs.Runs.{Finishes, KeepsNoneBack, Leaves, Runs, RunsOn}
+use Rattle.vcd_program.specs.Runs.{Finishes, KeepsNoneBack, Runs, RunsOn}
+use Rattle.vcd_program.specs.Vcdkit.{Asks, WereRead}
+use Rattle.vcd_program.specs.VcdkitProgram.{vcdkit_program}
 use Rattle.vcd_program.proofs.UnderLemmas.{program-under}
 use Rattle.vcd_program.specs.declared.process.Process.{Ghosts}
 use Rattle.vcd_program.specs.declared.process.Stream.{Stream}
@@ -57,11 +67,15 @@ on-turn limit lanes old new lefts out out' (AreReadOnTurn.Unread same) = inl sam
 on-turn limit lanes old new lefts out out' (AreReadOnTurn.OnTurn merged headers begins more written each) =
     inr (merged, headers, begins, more, written, λ k l s t i is_l is_s is_t is_i. elim (each k l s t i is_l is_s is_t is_i) [ inl same ↦ inl same | inr r ↦ inr (r.items, r.first, r.no_more) ])
 
+-- what the program leaves of this job over inputs with these texts
+abbrev LeavesOver : (want : Want) (limit : ℕ) → (List Input → Outcome) → (texts : List Text) → (old new : List Supply) → (out out' err err' : Device) → (status : ℕ) → Type 0
+LeavesOver want limit due_of texts old new out out' err err' status = Leaves program_name due_of (λ ended texts old new inputs out out'. WereRead want limit ended texts old new inputs out out') texts old new out out' err err' status
+
 module _ (limit : ℕ) (due_of : List Input → Outcome) (out out' err err' : Device) (status : ℕ) where
-  over-one : (want : Want) (text : Text) (s t : Supply) → is_merge want ≡ false → Leaves due_of want limit (text ∷ []) (s ∷ []) (t ∷ []) out out' err err' status → OverOne want limit due_of out out' err err' status text s t
-  over-one want text s t single (Leaves.WithOutcome inputs read needed turns leaves) =
-      let one = one-input (is_settled want) limit text s t inputs read in
-      let kept = keeps-up limit (text ∷ []) s t one.0 out out' want inputs single one.1 turns in
+  over-one : (want : Want) (text : Text) (s t : Supply) → is_merge want ≡ false → LeavesOver want limit due_of (text ∷ []) (s ∷ []) (t ∷ []) out out' err err' status → OverOne want limit due_of out out' err err' status text s t
+  over-one want text s t single (Leaves.WithOutcome inputs lefts read leaves) =
+      let one = one-input (is_settled want) limit text s t inputs read.read in
+      let kept = keeps-up limit (text ∷ []) s t one.0 out out' want inputs single one.1 read.in_turn in
       record {
         left = one.0;
         is_left = one.2;
@@ -70,9 +84,9 @@ module _ (limit : ℕ) (due_of : List Input → Outcome) (out out' err err' : De
         keeps_up = kept.2;
         ends = inl (ends-with _ out out' err err' status (subst (λ l. IsOutcome program_name (due_of l) out out' err err' status) one.1 leaves), one.3);
       }
-  over-one want text s t single (Leaves.NoMemory inputs read needed turns same fails) =
-      let one = one-input is_header_over limit text s t inputs read in
-      let kept = keeps-up limit (text ∷ []) s t one.0 out out' want inputs single one.1 turns in
+  over-one want text s t single (Leaves.NoMemory inputs lefts read same fails) =
+      let one = one-input is_header_over limit text s t inputs read.read in
+      let kept = keeps-up limit (text ∷ []) s t one.0 out out' want inputs single one.1 read.in_turn in
       record {
         left = one.0;
         is_left = one.2;
@@ -82,12 +96,15 @@ module _ (limit : ℕ) (due_of : List Input → Outcome) (out out' err err' : De
         ends = inr (fails, one.3, same);
       }
 
-  over-many : (want : Want) (texts : List Text) (old new : List Supply) → is_merge want ≡ true → Leaves due_of want limit texts old new out out' err err' status → OverMany limit due_of out out' err err' status texts old new
-  over-many Want.Merge texts old new merges (Leaves.WithOutcome inputs read needed (AreMergedInTurn.InHeaders why stops) leaves) = record { lefts = inputs; needed = needed; on_turn = inl (why, stops); ends = inl (ends-with _ out out' err err' status leaves, read) }
-  over-many Want.Merge texts old new merges (Leaves.WithOutcome inputs read needed (AreMergedInTurn.InBodies lanes mid begun bodies) leaves) =
-      record { lefts = inputs; needed = needed; on_turn = inr (lanes, mid, begun, on-turn limit lanes mid new inputs out out' bodies); ends = inl (ends-with _ out out' err err' status leaves, read) }
-  over-many Want.Merge texts old new merges (Leaves.NoMemory inputs read needed (AreMergedInTurn.InHeaders why stops) same fails) = record { lefts = inputs; needed = needed; on_turn = inl (why, stops); ends = inr (fails, read, same) }
-  over-many Want.Merge texts old new merges (Leaves.NoMemory inputs read needed (AreMergedInTurn.InBodies lanes mid begun bodies) same fails) = record { lefts = inputs; needed = needed; on_turn = inr (lanes, mid, begun, on-turn limit lanes mid new inputs out out' bodies); ends = inr (fails, read, same) }
+  merged-in-turn : (texts : List Text) (old new : List Supply) (inputs : List Input) → AreMergedInTurn limit 65536 texts old new inputs out out'
+      → ((why : _) × Stops limit 65536 0 [] texts old new why) ⊎ ((lanes : List Lane) × (mid : List Supply) × AreBegun limit 65536 [] texts old mid lanes × AreOnTurn limit lanes mid new inputs out out')
+  merged-in-turn texts old new inputs (AreMergedInTurn.InHeaders why stops) = inl (why, stops)
+  merged-in-turn texts old new inputs (AreMergedInTurn.InBodies lanes mid begun bodies) = inr (lanes, mid, begun, on-turn limit lanes mid new inputs out out' bodies)
+
+  over-many : (want : Want) (texts : List Text) (old new : List Supply) → is_merge want ≡ true → LeavesOver want limit due_of texts old new out out' err err' status → OverMany limit due_of out out' err err' status texts old new
+  over-many Want.Merge texts old new merges (Leaves.WithOutcome inputs lefts read leaves) =
+      record { lefts = inputs; needed = read.needed; on_turn = merged-in-turn texts old new inputs read.in_turn; ends = inl (ends-with _ out out' err err' status leaves, read.read) }
+  over-many Want.Merge texts old new merges (Leaves.NoMemory inputs lefts read same fails) = record { lefts = inputs; needed = read.needed; on_turn = merged-in-turn texts old new inputs read.in_turn; ends = inr (fails, read.read, same) }
   over-many Want.Check texts old new merges leaves = absurd cc
   over-many Want.Listing texts old new merges leaves = absurd cc
   over-many (Want.Pick names) texts old new merges leaves = absurd cc
@@ -95,12 +112,23 @@ module _ (limit : ℕ) (due_of : List Input → Outcome) (out out' err err' : De
   over-many (Want.Sample times names) texts old new merges leaves = absurd cc
   over-many (Want.Edges names) texts old new merges leaves = absurd cc
 
-  over-of : (want : Want) (texts : List Text) (old new : List Supply) → Leaves due_of want limit texts old new out out' err err' status → Over want limit due_of out out' err err' status texts old new
+  over-of : (want : Want) (texts : List Text) (old new : List Supply) → LeavesOver want limit due_of texts old new out out' err err' status → Over want limit due_of out out' err err' status texts old new
   over-of want texts old new leaves = record {
     one = λ single text s t is_text is_old is_new.
-        over-one want text s t single (subst (λ l. Leaves due_of want limit (text ∷ []) (s ∷ []) l out out' err err' status) is_new (subst (λ l. Leaves due_of want limit (text ∷ []) l new out out' err err' status) is_old (subst (λ l. Leaves due_of want limit l old new out out' err err' status) is_text leaves)));
+        over-one want text s t single (subst (λ l. LeavesOver want limit due_of (text ∷ []) (s ∷ []) l out out' err err' status) is_new (subst (λ l. LeavesOver want limit due_of (text ∷ []) l new out out' err err' status) is_old (subst (λ l. LeavesOver want limit due_of l old new out out' err err' status) is_text leaves)));
     many = λ merges. over-many want texts old new merges leaves;
   }
+
+-- words that are refused have a fault
+fault-of : (matches : ArgMatches) (f : UseFault) → Asks matches (Err f) → f ≢ use_fault.OutOfMemory → (g : model.UseFault) × (job_of (words_used matches) ≡ Err g)
+fault-of matches use_fault.BadWords e other = (model.UseFault.BadWords, e)
+fault-of matches (use_fault.BadLimit word) e other = (model.UseFault.BadLimit word.now, e)
+fault-of matches (use_fault.BadTime word) e other = (model.UseFault.BadTime word.now, e)
+fault-of matches use_fault.FromAboveTo e other = (model.UseFault.FromAboveTo, e)
+fault-of matches use_fault.NotRising e other = (model.UseFault.NotRising, e)
+fault-of matches use_fault.TooManyFiles e other = (model.UseFault.TooManyFiles, e)
+fault-of matches use_fault.InputTwice e other = (model.UseFault.InputTwice, e)
+fault-of matches use_fault.OutOfMemory e other = absurd (other refl)
 
 -- functions that agree on each element make the same list
 same-map : {A B : Type 0} (f g : A → B) → ((x : A) → f x ≡ g x) → (xs : List A) → map f xs ≡ map g xs
@@ -110,24 +138,26 @@ same-map f g same (x ∷ xs) = ap (λ y. y ∷ map f xs) (same x) ∙ ap (λ l. 
 -- `rest` says the same as `rest_now`
 module _ {H I : Type 0} (words : List Text) (opens : H → Option Text → Result I OpenFault → H → Type 0) (rest rest_now : I → Option (List ℕ)) (same : (x : I) → rest x ≡ rest_now x) (failures : I → ℕ)
     (out out' err err' : Device) (status : ℕ) where
-  over-now : (limit : ℕ) (due_of : List Input → Outcome) (want : Want) (readers after : List I) (texts : List Text) → (map rest readers ≡ map (λ text. Some text) texts → Leaves due_of want limit texts (map (supply rest failures) readers) (map (supply rest failures) after) out out' err err' status)
+  over-now : (limit : ℕ) (due_of : List Input → Outcome) (want : Want) (readers after : List I) (texts : List Text) → (map rest readers ≡ map (λ text. Some text) texts → LeavesOver want limit due_of texts (map (supply rest failures) readers) (map (supply rest failures) after) out out' err err' status)
       → map rest_now readers ≡ map (λ text. Some text) texts → Over want limit due_of out out' err err' status texts (map (supply rest_now failures) readers) (map (supply rest_now failures) after)
   over-now limit due_of want readers after texts leaves have =
       let supplies = same-map (supply rest failures) (supply rest_now failures) (λ x. ap (λ r. record { rest = r; failures = failures x }) (same x)) in
       over-of limit due_of out out' err err' status want texts _ _
-      (subst (λ l. Leaves due_of want limit texts (map (supply rest_now failures) readers) l out out' err err' status) (supplies after)
-      (subst (λ l. Leaves due_of want limit texts l (map (supply rest failures) after) out out' err err' status) (supplies readers) (leaves (same-map rest rest_now same readers ∙ have))))
+      (subst (λ l. LeavesOver want limit due_of texts (map (supply rest_now failures) readers) l out out' err err' status) (supplies after)
+      (subst (λ l. LeavesOver want limit due_of texts l (map (supply rest failures) after) out out' err err' status) (supplies readers) (leaves (same-map rest rest_now same readers ∙ have))))
 
-  relies-of : (last_failed : I → Bool) (host host' : H) (kept kept' : ℕ) → RunsOn words opens rest failures last_failed host host' out out' err err' status (kept ≡ 0 → kept' ≡ 0) → Relies words opens rest_now failures last_failed host host' out out' err err' kept kept' status
-  relies-of last_failed host host' kept kept' (RunsOn.Parsed matches are (Runs.Refused fault is same leaves)) = Relies.Refused matches are fault is same (ends-with _ out out' err err' status leaves)
-  relies-of last_failed host host' kept kept' (RunsOn.Parsed matches are (Runs.Ran want limit is readers after opened ends leaves passed_on)) =
-      Relies.Ran matches are want limit is readers after opened ends (λ texts. over-now limit _ want readers after texts (leaves texts)) passed_on
+  relies-of : (last_failed : I → Bool) (host host' : H) (kept kept' : ℕ) → RunsOn vcdkit_program words opens rest failures last_failed host host' out out' err err' status (kept ≡ 0 → kept' ≡ 0) → Relies words opens rest_now failures last_failed host host' out out' err err' kept kept' status
+  relies-of last_failed host host' kept kept' (RunsOn.Parsed matches are (Runs.Refused fault is of_words same leaves)) =
+      let refused = fault-of matches fault is of_words in
+      Relies.Refused matches are refused.0 refused.1 same (ends-with _ out out' err err' status leaves)
+  relies-of last_failed host host' kept kept' (RunsOn.Parsed matches are (Runs.Ran job is readers after opened ends leaves passed_on)) =
+      Relies.Ran matches are (model_want job.task) job.limit is.0 readers after opened ends (λ texts. over-now job.limit _ (model_want job.task) readers after texts (leaves texts)) passed_on
   relies-of last_failed host host' kept kept' (RunsOn.Parsed matches are (Runs.Stopped job is name opened leaves)) = Relies.Stopped matches are name opened (ends-with _ out out' err err' status leaves)
-  relies-of last_failed host host' kept kept' (RunsOn.Parsed matches are (Runs.NoMemory job is opened fails)) = Relies.NoMemory matches are opened fails
+  relies-of last_failed host host' kept kept' (RunsOn.Parsed matches are (Runs.NoMemory is opened fails)) = Relies.NoMemory matches are opened fails
   relies-of last_failed host host' kept kept' (RunsOn.NoMatches why is only same answers) = Relies.NoMatches why same answers
 
 ends-flushed : {W : Type 0} (device : W → Device) (flushes : W → Bool → W → Type 0) (Left Then : (out : W) → (err : Device) → ℕ → Type 0) (out' : W) (err' : Device) (status : ℕ) → ((out : W) (err : Device) (n : ℕ) → Left out err n → Then out err n)
-    → Finishes device flushes Left out' err' status → EndsFlushed device flushes Then out' err' status
+    → Finishes program_name device flushes Left out' err' status → EndsFlushed device flushes Then out' err' status
 ends-flushed device flushes Left Then out' err' status so (Finishes.Flushed before left flushed held same) =
     record { before = before; shown = err'; was = status; left = so _ _ _ left; done = true; flushed = (flushed, held, same); answer = inl (refl, refl, λ failed. absurd cc) }
 ends-flushed device flushes Left Then out' err' status so (Finishes.Failed before left machine fails held same) = record { before = before; shown = err'; was = status; left = so _ _ _ left; done = false; flushed = (fails, held, same); answer = inl (refl, refl, λ failed. machine) }
@@ -149,13 +179,13 @@ opens-one p seeded process (Some name) (Err Unopened) process' o = o
 opens-one p seeded process (Some name) (Err OutOfMemory) process' o = o
 
 pub process-of : {P F I B K W E : Type 0} (p : Ghosts P F I B K) (f : Reads F) (i : Reads I) (w : Sinks W) (flushes : W → Bool → W → Type 0) (e : Sinks E) (sends : E → Bool → E → Type 0) (process process' : P) (out out' : W) (err err' : E) (status : ℕ)
-    → Delivers e.device sends (λ shown. RunsAs p f i w flushes process process' out out' (e.device err) shown status) err' → ReliesOnProcess p f i w flushes e sends process process' out out' err err' status
+    → Delivers e.device sends (λ shown. RunsAs vcdkit_program p f i w flushes process process' out out' (e.device err) shown status) err' → ReliesOnProcess p f i w flushes e sends process process' out out' err err' status
 process-of p f i w flushes e sends process process' out out' err err' status d = by_run d.left
   where
-    by_run : RunsAs p f i w flushes process process' out out' (e.device err) (e.device d.before) status → ReliesOnProcess p f i w flushes e sends process process' out out' err err' status
+    by_run : RunsAs vcdkit_program p f i w flushes process process' out out' (e.device err) (e.device d.before) status → ReliesOnProcess p f i w flushes e sends process process' out out' err err' status
     by_run (RunsAs.Ran words given r) =
         let seeded = is_some r.0 in
-        let runs = (program-under (OpensInput p.opens p.gives seeded) (OpensOne p seeded) (λ process. process) (λ _. Unit {0}) (λ old new name result _ o. (opens-one p seeded old name result new o, tt)) _ _ _ process process' tt
+        let runs = (program-under vcdkit_program (OpensInput p.opens p.gives seeded) (OpensOne p seeded) (λ process. process) (λ _. Unit {0}) (λ old new name result _ o. (opens-one p seeded old name result new o, tt)) _ _ _ process process' tt
         w.device flushes (λ now. KeepsNoneBack w.kept_back out now) words (w.device out) out' (e.device err) (e.device d.before) status r.2).0 in
         ReliesOnProcess.Ran words given r.0 r.1 d.before
         (ends-flushed w.device flushes _ _ out' (e.device d.before) status

@@ -1,1 +1,3 @@
 pub mod Relies
+pub mod Echo
+pub mod EchoNames

@@ -37,7 +37,8 @@ use Rattle.vcd_host.specs.Asked.{inputs_asked}
 use Rattle.vcd_host.specs.Opens.{Opens, OpensSome, OpensUpTo, called}
 use Rattle.vcd_host.specs.declared.host.OpenFault.{OpenFault}
 use Rattle.vcd_host.specs.declared.host.OpenFault.TheVariants.{Unopened, OutOfMemory}
-use Rattle.vcd_program.specs.Runs.{Answers, names_wanted}
+use Rattle.vcd_program.specs.Runs.{Answers}
+use Rattle.vcd_program.specs.Vcdkit.{names_wanted}
 use Rattle.vcd_program.specs.declared.process.Process.{Ghosts}
 use Rattle.vcd_program.specs.declared.process.Stream.{Stream}
 use Rattle.vcd_program.specs.declared.process.Stream.TheVariants.{File, Input as Standard, Refused as Failing}
@@ -125,7 +126,7 @@ pub data Relies {H I : Type 0} (words : List Text) (opens : H → Option Text �
   NoMemory : (matches : ArgMatches) (are : HasMatchesOf program_app words matches) (opened : OpensSome opens (inputs_asked matches) host host') (ends : EndsWithout out out' err err' status) → Relies words opens rest failures last_failed host host' out out' err err' kept kept' status
   Refused : (matches : ArgMatches) (are : HasMatchesOf program_app words matches) (fault : _) (is : job_of (words_used matches) ≡ Err fault) (same : host' ≡ host) (ends : EndsWith (command_outcome (words_used matches) [] []) out out' err err' status)
       → Relies words opens rest failures last_failed host host' out out' err err' kept kept' status
-  NoMatches : (why : ErrorKind) (same : host' ≡ host) (answers : Answers why out out' err err' status) → Relies words opens rest failures last_failed host host' out out' err err' kept kept' status
+  NoMatches : (why : ErrorKind) (same : host' ≡ host) (answers : Answers (codes "vcdkit") why out out' err err' status) → Relies words opens rest failures last_failed host host' out out' err err' kept kept' status
 
 -- ---- a process
 

@@ -1,7 +1,7 @@
 // What command lines leave over files in memory: which inputs are opened, the bytes on both
 // streams, and the status.
 use std::alloc::{AllocError, Global};
-use vcd_program::{Left, MemoryFile, run_in_memory};
+use vcd_program::{Left, MemoryFile, Vcdkit, run_in_memory};
 
 // Three dumps of a variable, each with its own name; two that stop; and one on standard input.
 static FILES: [MemoryFile<'static>; 5] = [
@@ -310,7 +310,8 @@ pub(crate) fn words_of(alloc: Global, words: &[&str]) -> Result<Vec<String>, All
 fn first_wrong(alloc: Global) -> Result<usize, AllocError> {
     for (place, row) in ROWS.iter().enumerate() {
         let words = words_of(alloc, row.words)?;
-        if !is_as(&run_in_memory(alloc, words.as_slice(), &FILES, INPUT)?, row) {
+        let left = run_in_memory::<Vcdkit>(alloc, words.as_slice(), &FILES, INPUT)?;
+        if !is_as(&left, row) {
             return Ok(place);
         }
     }

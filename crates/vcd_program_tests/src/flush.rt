@@ -3,7 +3,7 @@ use super::command_lines::words_of;
 use std::alloc::{AllocError, Global};
 use std::hash::{BuildHasherDefault, FoldHasher};
 use vcd_host::Buffered;
-use vcd_program::{Memory, run_program};
+use vcd_program::{Memory, Vcdkit, run_program};
 use vcd_text::Watch;
 use vcd_text::doubles::Narrow;
 
@@ -18,7 +18,7 @@ fn run_unflushed(alloc: Global, word: &str, input: &[u8]) -> Result<(u8, Vec<u8>
     let mut out = Buffered::new(alloc, Narrow::new(0))?;
     let mut err = Watch::new(Vec::new(alloc));
     let hasher: BuildHasherDefault<FoldHasher> = BuildHasherDefault::new();
-    let status = run_program(
+    let status = run_program::<Vcdkit, _, _, _, _>(
         alloc,
         words.as_slice(),
         &mut memory,

@@ -2,7 +2,7 @@
 // no other file is opened.
 use super::command_lines::words_of;
 use std::alloc::AllocError;
-use vcd_program::run_words_on_machine;
+use vcd_program::{Vcdkit, run_words_on_machine};
 use vcd_text::Watch;
 
 // A directory, and the memory of the process, of which nothing can be read at its first address.
@@ -17,7 +17,7 @@ static UNREADABLE: [(&str, &[u8]); 3] = [
 fn check(rt: &HostRuntime, name: &str) -> Result<(u8, Vec<u8>), AllocError> {
     let words = words_of(rt.alloc(), &["check", name])?;
     let mut err = Watch::new(Vec::new(rt.alloc()));
-    let status = run_words_on_machine(rt, words.as_slice(), &mut err);
+    let status = run_words_on_machine::<Vcdkit, _>(rt, words.as_slice(), &mut err);
     Ok((status, err.device))
 }
 

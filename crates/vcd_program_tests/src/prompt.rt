@@ -9,7 +9,7 @@ use std::hash::{BuildHasherDefault, FoldHasher};
 use std::io;
 use std::io::{Read, Write};
 use vcd_host::{Buffered, Host, OpenFault};
-use vcd_program::run_program;
+use vcd_program::{Vcdkit, run_program};
 use vcd_text::Watch;
 
 // The bytes of a step, and the text that is due with them.
@@ -112,7 +112,7 @@ fn run_live(alloc: Global, words: &[&str], steps: &[Step], log: &Log) -> Result<
     let mut out = Buffered::new(alloc, Written { log })?;
     let mut err = Watch::new(Vec::new(alloc));
     let hasher: BuildHasherDefault<FoldHasher> = BuildHasherDefault::new();
-    Ok(run_program(
+    Ok(run_program::<Vcdkit, _, _, _, _>(
         alloc,
         words.as_slice(),
         &mut host,

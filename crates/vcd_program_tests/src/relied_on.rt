@@ -5,7 +5,7 @@ ghost use Rattle.vcd_program_tests.specs.Relies.{ReliesOnProcess};
 
 use std::alloc::Global;
 use vcd_host::Output;
-use vcd_program::{Process, run_process};
+use vcd_program::{Process, Vcdkit, run_process};
 
 /// Runs the program over the process, as `run_process` does. The contract says what callers rely
 /// on, in words of its own.
@@ -20,5 +20,5 @@ pub fn run_relied_on<P: Process, W: Output, E: Output>(
     ensures { ReliesOnProcess P.Process P.File.Read P.Input.Read W.Sink W.flushes E.Sink E.flushes
         process.old process.new out.old out.new err.old err.new result }
 {
-    run_process(alloc, process, out, err)
+    run_process::<Vcdkit, _, _, _>(alloc, process, out, err)
 }

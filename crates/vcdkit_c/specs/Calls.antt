@@ -3,6 +3,7 @@ use Rattle.std.specs.Prelude.{◌≡◌, ℕ, ⊤, List, ◌∷◌, ◌++◌, co
 use Rattle.clap.specs.Words.{Text}
 use Rattle.vcd_model.specs.Outcome.{program_line}
 use Rattle.vcd_program.specs.Memory.{Fills, IsLeftIn}
+use Rattle.vcd_program.specs.VcdkitProgram.{vcdkit_program}
 use Rattle.vcd_program.specs.declared.memory.MemoryFile.{MemoryFile}
 use Rattle.vcdkit_c.specs.declared.lent.Lent.{Lent}
 use Rattle.vcdkit_c.specs.declared.words.Refused.{Refused}
@@ -29,7 +30,7 @@ HasNoText words OutOfMemory = ⊤
 -- how long output and message are, and the status.
 pub data RunsInto (words : List Text) (files : List MemoryFile) (input out : Text) (output : ℕ) (err : Text) (message : ℕ) (status : ℕ) : Type 0 where
   -- what the program leaves over a host in memory
-  Ran : (left : IsLeftIn (codes "vcdkit" ∷ words) files input out output err message status) → RunsInto words files input out output err message status
+  Ran : (left : IsLeftIn vcdkit_program (codes "vcdkit" ∷ words) files input out output err message status) → RunsInto words files input out output err message status
   -- an argument is not UTF-8: no output, and a line
   BadWord : (bad : NoText words) (none : output ≡ 0) (line : Fills err message bad_words) (status_is : status ≡ 2) → RunsInto words files input out output err message status
   -- memory ran out before the program began, or 2^63 bytes found no room

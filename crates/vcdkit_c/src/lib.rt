@@ -20,7 +20,7 @@ use crate::words::{Refused, words_of};
 pub use lent::Lent;
 use std::alloc::Global;
 use vcd_changes::{ChangeRow, Reading, changes};
-use vcd_program::{MemoryFile, run_into_memory};
+use vcd_program::{MemoryFile, Vcdkit, run_into_memory};
 
 /// The message if an argument is not UTF-8.
 const BAD_WORDS: &[u8] = b"vcdkit: bad words\n";
@@ -55,7 +55,8 @@ pub extern "C" fn vcdkit_run(
     match words_of(alloc, words) {
         Ok(words) => {
             let hasher = Seed::new(seed);
-            match run_into_memory(alloc, words.as_slice(), files, input, out, err, &hasher) {
+            let words = words.as_slice();
+            match run_into_memory::<Vcdkit, _>(alloc, words, files, input, out, err, &hasher) {
                 Some(filled) => {
                     *out_used = filled.output;
                     *err_used = filled.message;

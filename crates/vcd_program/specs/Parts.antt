@@ -1,0 +1,13 @@
+-- What the trait of a program cites, under one path.
+pub use Rattle.clap.specs.Words.{App, Text, is_simple_and_free}
+pub use Rattle.clap.specs.declared.parser.matches.ArgMatches.{ArgMatches}
+pub use Rattle.vcd_model.specs.Input.{Input}
+pub use Rattle.vcd_model.specs.Outcome.{Outcome, shown_message}
+pub use Rattle.vcd_text.specs.Device.{Device, Supply}
+pub use Rattle.vcd_words.specs.Words.{IsWhole}
+pub use Rattle.vcd_words.specs.declared.job.UseFault.{UseFault}
+pub use Rattle.vcdkit.specs.Calls.{AreWithin, MayFailOnce}
+pub use Rattle.vcdkit.specs.Failure.{PassesOn}
+pub use Rattle.vcdkit.specs.Message.{Reports}
+pub use Rattle.vcd_host.specs.Opens.{text_of}
+pub use Rattle.vcd_program.specs.Leaves.{IsAsked, IsRefusal, LeavesOf, memory_outcome}
