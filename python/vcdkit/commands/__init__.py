@@ -15,7 +15,8 @@ from .. import __version__
 from ..errors import DumpFault, RunFailed, UsageError, VcdkitError
 from ..forms.terminal import Progress
 from ..forms.text import FORMS
-from ..model.times import LAST_TICK, UNITS, Window
+from ..model.times import UNITS
+from ..questions.windows import FIRST, LAST
 from ..reading.formats import ENDINGS
 from ..reading.texts import program_path
 
@@ -43,7 +44,6 @@ TIMES = "A TIME is a number of ticks, or has a unit, such as 115ns or 1.5us.\n"
 MARK = "\0"  # which no argument has
 OF_FILES = ("--names", "--rules")  # options that name a file to read
 REPEATED = ("--map", "--except", "--channel")  # other options may be given once
-FIRST, LAST = "0", str(LAST_TICK)  # of --from and --to
 NEGATIVE = re.compile(r"-(?:[.\d].*[<>=]|[({\"]|[A-Za-z_]\w*\.)")
 BROKEN_PIPE = 128 + 13  # the status that a shell shows of a program that SIGPIPE ended
 JSON = "write one JSON object per line, with times in ticks"
@@ -232,42 +232,6 @@ def times_at(asked: argparse.Namespace) -> Optional[List[str]]:
 def is_part(asked: argparse.Namespace) -> bool:
     """Whether --from or --to asks for a part of the dump."""
     return (asked.begin, asked.end) != (FIRST, LAST)
-
-
-def part_of(dump: "Dump", asked: argparse.Namespace) -> "Dump":
-    """Returns the dump from --from to --to."""
-    check_begin(dump, asked.begin)
-    return dump.cut(asked.begin, asked.end) if is_part(asked) else dump
-
-
-def window_of(dump: "Dump", asked: argparse.Namespace) -> Window:
-    """Returns the window from --from to --to."""
-    check_begin(dump, asked.begin)
-    return Window(dump.ticks(asked.begin, is_up=True), dump.ticks(asked.end) + 1)
-
-
-def check_begin(dump: "Dump", time: str, option: str = "--from", is_up: bool = True) -> None:
-    """Refuses the time of an option if it is after the end of the dump."""
-    is_late = after_end(dump, time, is_up)
-    if is_late:
-        raise UsageError("%s: %s" % (option, is_late))
-
-
-def after_end(dump: "Dump", time: str, is_up: bool = False) -> str:
-    """Returns what to say of a time that is after the last timestamp of a dump; of another one an
-    empty text. A time between two ticks is the one before it, or after it. It reads up to that
-    time, and raises a fault that comes before it."""
-    ticks = dump.ticks(time, is_up)
-    try:
-        if not ticks or dump.cut(ticks - 1, ticks).check().last == ticks:
-            return ""
-    except DumpFault:
-        with dump.cut(ticks, ticks).body() as out:
-            out.read(1)  # `cut` writes nothing if the fault comes before this time
-        return ""
-    last = dump.check().last
-    return "%s is after the end of the dump%s" % (
-        time, "" if last is None else ", " + dump.time(last))
 
 
 def times_of(dump: "Source", asked: argparse.Namespace) -> Callable[[int], str]:

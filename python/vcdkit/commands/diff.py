@@ -15,239 +15,26 @@ examples:
   vcdkit-diff --map TOP.tb=tb --common --rise tb.clk verilator.vcd icarus.vcd
   vcdkit-diff --every --junit diff.xml --except tb.dut.seed golden.vcd sim.vcd"""
 import argparse
-import contextlib
-import os
 import sys
-from concurrent.futures import ThreadPoolExecutor
-from typing import Any, Callable, Dict, Iterable, List, Optional, Sequence, Tuple
+from typing import List, Tuple
 
-from ..errors import UsageError, VcdkitError, failing
-from ..forms.junit import Test, write_tests
-from ..forms.text import FORMS, counted, in_json, write_json
-from ..forms.text import shown as value_text
-from ..model.names import hint
-from ..model.signals import Signal
-from ..model.times import LAST_TICK, Timescale, amount_of
-from ..model.values import Cell, value_in
-from ..questions.compare import (ALWAYS, EACH_PAIR, FIRST, Comparison, Difference, Pair, Side,
-                                 Sides, choose, in_common, kind, originals, same_within)
-from ..questions.dump import Dump
+from ..errors import UsageError, VcdkitError
+from ..forms.differences import Lines, part_in, say_ends, say_headers, say_values, write_parts
+from ..forms.text import counted
+from ..model.times import amount_of
+from ..questions.compare import ALWAYS, EACH_PAIR, FIRST, Comparison, same_within
+from ..questions.sides import in_common, sides_of
+from ..questions.windows import parts_of_both, window_of_both
 from ..reading.files import check_outputs, write
-from . import (FAULT, LAST, check_begin, command, dump_of, is_part, natural, parser, part_of,
-               question, times_of)
-
-MAX_LINES = 20
-
-
-# What the words of a line are, by its first one.
-FIELDS = {"timescale": ("a", "b"), "alone": ("dump", "path", "variables"),
-          "size": ("path", "a", "b"), "differs": ("time", "path", "a", "b"), "ends": ("a", "b"),
-          "edges": ("a", "b"), "window": ("file",), "page": ("file",)}
-Line = Tuple[Any, ...]  # a kind, and its fields; a time is in ticks of A, an end in those of each
-
-
-class Lines:
-    """The lines of each kind, which are written as they come, and go to a JUnit file. Without that,
-    only the first one of each kind is kept."""
-
-    def __init__(self, asked: argparse.Namespace):
-        self._asked = asked
-        self.times: Sequence[Callable[[int], str]] = (str, str)  # what shows ticks of each
-        self.lines: Dict[str, List[str]] = {}
-        self.fault = self.compared = ""
-
-    def _form(self, line: Line) -> Optional[str]:
-        """Returns the form of both values, binary if they have one text in that which is asked for:
-        in hexadecimal, two mixtures of x or z may be the same digit, X."""
-        form: Optional[str] = self._asked.form
-        is_alike = form and FORMS[form].is_alike and len({
-            value_text(one, form) for one in line[3:]}) < 2
-        return "binary" if is_alike else form
-
-    def _text(self, line: Line) -> str:
-        """Returns a line as a reader sees it."""
-        what, *fields = line
-        if what == "differs":
-            fields[0] = self.times[0](fields[0])
-            fields[2:] = [one if isinstance(one, str) and one in ("-", "triggered")
-                          else value_text(one, self._form(line)) for one in fields[2:]]
-        if what == "ends":
-            fields = [None if end is None else text(end) for text, end in zip(self.times, fields)]
-        return " ".join(map(str, [what, *("-" if one is None else one for one in fields)]))
-
-    def say(self, what: str, lines: Iterable[Line]) -> None:
-        """Writes lines of a kind."""
-        kept = self.lines.setdefault(what, [])
-        for line in lines:
-            text = self._text(line)
-            if self._asked.junit is not None or not kept:
-                kept.append(text)
-            if self._asked.json:
-                values = [in_json(one, self._form(line)) if what == "differs" and at > 2 else one
-                          for at, one in enumerate(line)]
-                write_json(dict(zip(("kind", *FIELDS[what]), values)))
-            else:
-                print(text)
-        sys.stdout.flush()
-
-    def say_some(self, what: str, lines: List[Line]) -> None:
-        """Writes lines of a kind, the first ones if they are many and --every is not given."""
-        rest = len(lines) - MAX_LINES if self._asked.extent == FIRST else 0
-        self.say(what, lines if rest <= 0 else lines[:MAX_LINES])
-        if rest > 0:
-            front = " ".join(map(str, lines[0][:1 + (what == "alone")]))
-            self.lines[what].append("%s .. %d more (--every)" % (front, rest))
-            self.put(self.lines[what][-1], kind="more", of=front, lines=rest)
-
-    def put(self, text: str, **row: Any) -> None:
-        """Writes a line, or a row as JSON."""
-        write_json(row) if self._asked.json else print(text)
-
-    def differs(self) -> bool:
-        return any(self.lines.values())
-
-    def write(self) -> None:
-        """Writes the JUnit file: a test for each kind of line that was looked for."""
-        files = "%s %s" % (self._asked.one, self._asked.other)
-        tests = [Test(files, what, "failure" if lines else "", "".join(lines[:1]), "\n".join(lines),
-                      self.compared * (what == "differs")) for what, lines in self.lines.items()]
-        if self.fault:
-            tests.append(Test(files, "fault", "error", self.fault, ""))
-        write_tests(self._asked.junit, "vcdkit-diff", tests)
-
-
-def shown(value: Optional[bytes], signal: Signal) -> Cell:
-    """Returns a value of a line; of an event whether it is triggered."""
-    if signal.type == "event":
-        return "triggered" if value else "-"
-    return None if value is None else value_in(value, signal.size)
-
-
-def lines_of(differences: Iterable[Difference]) -> List[Line]:
-    """Returns the lines of differences of one time, in the order of their names; those of one name
-    in the order of declaration."""
-    return [("differs", one.times[0], one.pair.name,
-             *(shown(value, signal) for value, signal in zip(one.values, one.pair.signals)))
-            for one in sorted(differences, key=lambda one: (one.pair.name, one.pair.places))]
-
-
-def sides_of(asked: argparse.Namespace) -> Sides:
-    """Reads both dumps, and looks for all names that were given."""
-    dumps = [dump_of(asked, file) for file in (asked.one, asked.other)]  # --names of the first
-    dumps = parts_of(dumps, asked) if is_part(asked) else dumps
-    if len(asked.maps) > 1:
-        asked.maps = originals(asked.maps, [dump.signals.columns()[0] for dump in dumps])
-    with ThreadPoolExecutor(2) as pool:
-        one, other = pool.map(lambda dump: Side(dump, asked.maps), dumps)
-    choose((one, other), asked.names, asked.exceptions)
-    for side in one, other:
-        for name in asked.names:
-            if name not in side.found:
-                raise side.unknown(name)
-    for front, _ in asked.maps:
-        if front not in one.mapped | other.mapped:
-            raise neither(front, [*(its.path for side in (one, other) for its in side.signals),
-                                  *one.names, *other.names])
-    for name in asked.exceptions:
-        if name not in one.found | other.found:
-            raise neither(name, [*one.names, *other.names])
-    return one, other
-
-
-def window_of_both(scales: Sequence[Timescale], asked: argparse.Namespace) -> Tuple[int, int]:
-    """Returns the window in the shorter tick of both. A number of ticks counts those of A."""
-    tick = min(scale.femtoseconds for scale in scales)
-    begin, end = -(-scales[0].span(asked.begin) // tick), LAST_TICK
-    if asked.end != LAST:
-        end = min(scales[0].span(asked.end) // tick, LAST_TICK)
-    if begin > end:
-        raise UsageError("--from is above --to")
-    return begin, end
-
-
-def parts_of(dumps: Sequence[Dump], asked: argparse.Namespace) -> List[Dump]:
-    """Returns the window of both dumps. Without a clock, that of the longer tick may begin before
-    the window and end after it."""
-    scales = [dump.timescale for dump in dumps if dump.timescale]
-    if len(set(scales)) < 2:
-        return [part_of(dump, asked) for dump in dumps]
-    (begin, end), shorter = window_of_both(scales, asked), min(
-        scales, key=lambda scale: scale.femtoseconds)
-    parts, has_clock = [], bool(asked.rise or asked.fall)
-    for dump, scale in zip(dumps, scales):
-        check_begin(dump, shorter.text(begin))
-        factor = scale.femtoseconds // shorter.femtoseconds
-        first, last = -(-begin // factor), end // factor
-        if has_clock and first > last:
-            raise UsageError("%s: it has no time in this window: its ticks are %s" % (
-                dump.name, scale))
-        parts.append(dump.cut(first, last) if has_clock else
-                     dump.cut(begin // factor, -(-end // factor)))
-    return parts
-
-
-def neither(name: str, paths: Iterable[str]) -> UsageError:
-    """Returns the exception for a name that is in no dump."""
-    return UsageError("neither dump has %s%s" % (name, hint(name, [*dict.fromkeys(paths)])))
-
-
-def say_headers(report: Lines, sides: Sides, apart: Sequence[Pair], is_common: bool) -> None:
-    """Says what the headers do not have in common."""
-    if not is_common:
-        scales = [side.scale for side in sides]
-        texts = [str(scale) if scale else None for scale in scales]
-        report.say("timescale", [("timescale", *texts)] if scales[0] != scales[1] else [])
-        for letter, side, other in zip("AB", sides, sides[::-1]):
-            report.say_some("alone", [("alone", letter, *one) for one in side.alone(other)])
-    report.say("size", [("size", pair.name, *map(kind, pair.signals)) for pair in apart])
-
-
-def say_ends(report: Lines, sides: Sides, comparison: Comparison, has_clock: bool) -> None:
-    """Says whether one of them is longer. Without a timestamp, a dump ends at 0."""
-    if has_clock:
-        report.say("edges", [("edges", *comparison.counts)]
-                   if len(set(comparison.counts)) > 1 else [])
-        return
-    ends = [side.report.last for side in sides]
-    spans = {min((end or 0) * factor, comparison.window[1])
-             for end, factor in zip(ends, comparison.factors)}
-    report.say("ends", [("ends", *ends)] if len(spans) > 1 else [])
-
-
-def part_in(into: Optional[str], letter: str) -> str:
-    """Returns the path of the cut of a dump."""
-    return os.path.join(into or ".", "diff.%s.vcd" % letter)
-
-
-def write_parts(report: Lines, sides: Sides, times: Sequence[int], spans: Sequence[int],
-                into: str) -> None:
-    """Writes the cuts around a time of both, and says where they are."""
-    with failing(into):
-        os.makedirs(into, exist_ok=True)
-    for letter, side, at, span in zip("ab", sides, times, spans):
-        path = part_in(into, letter)
-        write(path, side.dump.around(at, span).blocks())
-        report.put("window " + path, kind="window", file=path)
-
-
-def say_values(report: Lines, asked: argparse.Namespace, comparison: Comparison
-               ) -> List[Difference]:
-    """Says where values differ, and returns the first difference of each pair."""
-    first: Dict[Tuple[int, int], Difference] = {}
-    with contextlib.closing(comparison.differences()) as differences:
-        for found in differences:
-            for one in found:
-                first.setdefault(one.pair.places, one)
-            report.say_some("differs", lines_of(found))
-            if asked.extent == FIRST:
-                break
-    report.say("differs", [])
-    return [*first.values()]
+from . import FAULT, command, dump_of, is_part, natural, parser, question, times_of
 
 
 def compare(asked: argparse.Namespace, report: Lines) -> None:
     """Says all that differs."""
-    sides = sides_of(asked)
+    dumps = [dump_of(asked, file) for file in (asked.one, asked.other)]  # --names of the first
+    if is_part(asked):
+        dumps = parts_of_both(dumps, asked.begin, asked.end, bool(asked.rise or asked.fall))
+    sides = sides_of(dumps, asked.maps, asked.names, asked.exceptions)
     report.times = [times_of(side.dump, asked) for side in sides]
     spans = [side.dump.ticks(asked.context) for side in sides] if asked.context else []
     name = asked.rise or asked.fall
@@ -265,7 +52,7 @@ def compare(asked: argparse.Namespace, report: Lines) -> None:
                             (b"0", b"1") if asked.rise else (b"1", b"0"))
     scales = [side.scale for side in sides if side.scale]
     if is_part(asked) and len(set(scales)) > 1:
-        comparison.window = window_of_both(scales, asked)
+        comparison.window = window_of_both(scales, asked.begin, asked.end)
     found = say_values(report, asked, comparison)
     if clocks and pairs and not any(comparison.counts):
         raise UsageError("in both dumps, %s never %s%s" % (

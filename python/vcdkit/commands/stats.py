@@ -31,8 +31,9 @@ from ..model.signals import Signal
 from ..model.times import Window
 from ..questions.dump import Dump
 from ..questions.statistics import Statistics, shares_of, statistics_of
+from ..questions.windows import window_of
 from ..reading.files import check_outputs, write
-from . import command, dump_of, natural, parser, times_of, window_of
+from . import command, dump_of, natural, parser, times_of
 
 if TYPE_CHECKING:
     from ..questions.toggles import BitCounts
@@ -121,7 +122,7 @@ def main(words: List[str]) -> int:
     dump = dump_of(asked)
     times_of(dump, asked)  # a unit needs a time scale
     dump.select(asked.names)
-    window = window_of(dump, asked)
+    window = window_of(dump, asked.begin, asked.end)
     if asked.toggle or asked.saif is not None:
         write_bits(dump, window, asked)
         return 0

@@ -27,7 +27,8 @@ from typing import TYPE_CHECKING, Any, Callable, Iterable, Iterator, List, Tuple
 from ..forms.text import in_json, shown, write_json
 from ..model.signals import keys_of
 from ..model.values import Cell, Value
-from . import command, dump_of, is_part, parser, part_of, times_at, warn_of_quotes
+from ..questions.windows import part_of
+from . import command, dump_of, is_part, parser, times_at, warn_of_quotes
 
 if TYPE_CHECKING:
     from ..questions.when import Questions, Transaction
@@ -115,7 +116,7 @@ def main(words: List[str]) -> int:
     unit = asked.unit or (scale.unit if scale else "tick")
     whole.ticks("0" if unit == "tick" else "0" + unit)  # a unit needs a time scale
     # Values at the begin of a cut are a section, and none that changed.
-    dump, form = part_of(whole, asked), asked.form
+    dump, form = part_of(whole, asked.begin, asked.end), asked.form
     decimal = scale.in_unit(unit) if scale and unit != "tick" and not asked.json else (
         lambda ticks: ticks)
     text: Callable[..., Any] = [shown, in_json][asked.json]

@@ -20,7 +20,8 @@ from typing import List, Optional
 from ..errors import UsageError
 from ..model.times import Window
 from ..questions.dump import Dump
-from . import check_begin, command, dump_of, is_part, natural, parser, window_of
+from ..questions.windows import check_begin, window_of
+from . import command, dump_of, is_part, natural, parser
 
 LEAST_WIDTH, MAX_WIDTH = 100, 20000  # pixels: room for a time of the axis; that of lanes
 MAX_SIGNALS = 200  # rows of a picture
@@ -29,7 +30,7 @@ MAX_SIGNALS = 200  # rows of a picture
 def shown_window(dump: Dump, asked: argparse.Namespace) -> Window:
     """Returns the window that the words ask for, which ends with the dump if that is earlier."""
     if asked.around is None:
-        return dump.window_to_end(window_of(dump, asked))
+        return dump.window_to_end(window_of(dump, asked.begin, asked.end))
     if asked.context is None:
         raise UsageError("--around needs --context TIME, how much before and after it")
     begin, last = dump.window(asked.around, asked.context)

@@ -23,8 +23,9 @@ from ..forms.junit import Test, write_tests
 from ..forms.text import counted, mean_text, write_json
 from ..questions.dump import Dump
 from ..questions.when import Asked, Questions, named
+from ..questions.windows import part_of
 from ..reading.files import check_outputs, text_of_file
-from . import FAULT, command, dump_of, parser, part_of, question, times_of, warn_of_quotes
+from . import FAULT, command, dump_of, parser, question, times_of, warn_of_quotes
 
 WORDED = re.compile(r"(never +|always +|each +|)(.*)", re.S)
 
@@ -189,7 +190,7 @@ def answer(asked: argparse.Namespace, tests: List[Test]) -> int:
     if asked.condition is not None:
         warn_of_quotes("vcdkit-when", asked.condition, dump)
     text = times_of(dump, asked)
-    asking = Questions(part_of(dump, asked), [one.asked for one in rules], asked.rise, asked.fall,
+    asking = Questions(part_of(dump, asked.begin, asked.end), [one.asked for one in rules], asked.rise, asked.fall,
                        asked.every)
     if asked.latency and (asking.each[0].is_refusal or not asking.each[0].condition.answer):
         raise UsageError("latencies are those of a condition such as req -> ack within 50")

@@ -18,7 +18,8 @@ from typing import List, Set
 from ..forms.text import in_json, shown, write_json
 from ..model.values import value_in
 from ..questions.unknown import Signals, values_of
-from . import FAULT, check_begin, command, dump_of, parser, question, times_of
+from ..questions.windows import check_begin
+from . import FAULT, command, dump_of, parser, question, times_of
 
 
 @command

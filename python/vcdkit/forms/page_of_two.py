@@ -6,7 +6,8 @@ from typing import List, Optional, Sequence, Tuple
 
 from ..model.signals import Signal
 from ..model.times import Window
-from ..questions.compare import Difference, Same, Sides, kind
+from ..questions.compare import Difference, Same
+from ..questions.sides import Sides, kind
 from ..questions.streams import Reader, TooMuch, differences
 from . import page
 from .page import Page, PageRow

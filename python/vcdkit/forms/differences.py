@@ -1,0 +1,162 @@
+"""The lines of vcdkit-diff, its JUnit file, and its cuts around the first difference."""
+import argparse
+import contextlib
+import os
+import sys
+from typing import Any, Callable, Dict, Iterable, List, Optional, Sequence, Tuple
+
+from ..errors import failing
+from ..model.signals import Signal
+from ..model.values import Cell, value_in
+from ..questions.compare import FIRST, Comparison, Difference
+from ..questions.sides import Pair, Sides, kind
+from ..reading.files import write
+from .junit import Test, write_tests
+from .text import FORMS, in_json, write_json
+from .text import shown as value_text
+
+MAX_LINES = 20
+# What the words of a line are, by its first one.
+FIELDS = {"timescale": ("a", "b"), "alone": ("dump", "path", "variables"),
+          "size": ("path", "a", "b"), "differs": ("time", "path", "a", "b"), "ends": ("a", "b"),
+          "edges": ("a", "b"), "window": ("file",), "page": ("file",)}
+Line = Tuple[Any, ...]  # a kind, and its fields; a time is in ticks of A, an end in those of each
+
+
+class Lines:
+    """The lines of each kind, which are written as they come, and go to a JUnit file. Without that,
+    only the first one of each kind is kept."""
+
+    def __init__(self, asked: argparse.Namespace):
+        self._asked = asked
+        self.times: Sequence[Callable[[int], str]] = (str, str)  # what shows ticks of each
+        self.lines: Dict[str, List[str]] = {}
+        self.fault = self.compared = ""
+
+    def _form(self, line: Line) -> Optional[str]:
+        """Returns the form of both values, binary if they have one text in that which is asked for:
+        in hexadecimal, two mixtures of x or z may be the same digit, X."""
+        form: Optional[str] = self._asked.form
+        is_alike = form and FORMS[form].is_alike and len({
+            value_text(one, form) for one in line[3:]}) < 2
+        return "binary" if is_alike else form
+
+    def _text(self, line: Line) -> str:
+        """Returns a line as a reader sees it."""
+        what, *fields = line
+        if what == "differs":
+            fields[0] = self.times[0](fields[0])
+            fields[2:] = [one if isinstance(one, str) and one in ("-", "triggered")
+                          else value_text(one, self._form(line)) for one in fields[2:]]
+        if what == "ends":
+            fields = [None if end is None else text(end) for text, end in zip(self.times, fields)]
+        return " ".join(map(str, [what, *("-" if one is None else one for one in fields)]))
+
+    def say(self, what: str, lines: Iterable[Line]) -> None:
+        """Writes lines of a kind."""
+        kept = self.lines.setdefault(what, [])
+        for line in lines:
+            text = self._text(line)
+            if self._asked.junit is not None or not kept:
+                kept.append(text)
+            if self._asked.json:
+                values = [in_json(one, self._form(line)) if what == "differs" and at > 2 else one
+                          for at, one in enumerate(line)]
+                write_json(dict(zip(("kind", *FIELDS[what]), values)))
+            else:
+                print(text)
+        sys.stdout.flush()
+
+    def say_some(self, what: str, lines: List[Line]) -> None:
+        """Writes lines of a kind, the first ones if they are many and --every is not given."""
+        rest = len(lines) - MAX_LINES if self._asked.extent == FIRST else 0
+        self.say(what, lines if rest <= 0 else lines[:MAX_LINES])
+        if rest > 0:
+            front = " ".join(map(str, lines[0][:1 + (what == "alone")]))
+            self.lines[what].append("%s .. %d more (--every)" % (front, rest))
+            self.put(self.lines[what][-1], kind="more", of=front, lines=rest)
+
+    def put(self, text: str, **row: Any) -> None:
+        """Writes a line, or a row as JSON."""
+        write_json(row) if self._asked.json else print(text)
+
+    def differs(self) -> bool:
+        return any(self.lines.values())
+
+    def write(self) -> None:
+        """Writes the JUnit file: a test for each kind of line that was looked for."""
+        files = "%s %s" % (self._asked.one, self._asked.other)
+        tests = [Test(files, what, "failure" if lines else "", "".join(lines[:1]), "\n".join(lines),
+                      self.compared * (what == "differs")) for what, lines in self.lines.items()]
+        if self.fault:
+            tests.append(Test(files, "fault", "error", self.fault, ""))
+        write_tests(self._asked.junit, "vcdkit-diff", tests)
+
+
+def shown(value: Optional[bytes], signal: Signal) -> Cell:
+    """Returns a value of a line; of an event whether it is triggered."""
+    if signal.type == "event":
+        return "triggered" if value else "-"
+    return None if value is None else value_in(value, signal.size)
+
+
+def lines_of(differences: Iterable[Difference]) -> List[Line]:
+    """Returns the lines of differences of one time, in the order of their names; those of one name
+    in the order of declaration."""
+    return [("differs", one.times[0], one.pair.name,
+             *(shown(value, signal) for value, signal in zip(one.values, one.pair.signals)))
+            for one in sorted(differences, key=lambda one: (one.pair.name, one.pair.places))]
+
+
+def say_headers(report: Lines, sides: Sides, apart: Sequence[Pair], is_common: bool) -> None:
+    """Says what the headers do not have in common."""
+    if not is_common:
+        scales = [side.scale for side in sides]
+        texts = [str(scale) if scale else None for scale in scales]
+        report.say("timescale", [("timescale", *texts)] if scales[0] != scales[1] else [])
+        for letter, side, other in zip("AB", sides, sides[::-1]):
+            report.say_some("alone", [("alone", letter, *one) for one in side.alone(other)])
+    report.say("size", [("size", pair.name, *map(kind, pair.signals)) for pair in apart])
+
+
+def say_ends(report: Lines, sides: Sides, comparison: Comparison, has_clock: bool) -> None:
+    """Says whether one of them is longer. Without a timestamp, a dump ends at 0."""
+    if has_clock:
+        report.say("edges", [("edges", *comparison.counts)]
+                   if len(set(comparison.counts)) > 1 else [])
+        return
+    ends = [side.report.last for side in sides]
+    spans = {min((end or 0) * factor, comparison.window[1])
+             for end, factor in zip(ends, comparison.factors)}
+    report.say("ends", [("ends", *ends)] if len(spans) > 1 else [])
+
+
+def part_in(into: Optional[str], letter: str) -> str:
+    """Returns the path of the cut of a dump."""
+    return os.path.join(into or ".", "diff.%s.vcd" % letter)
+
+
+def write_parts(report: Lines, sides: Sides, times: Sequence[int], spans: Sequence[int],
+                into: str) -> None:
+    """Writes the cuts around a time of both, and says where they are."""
+    with failing(into):
+        os.makedirs(into, exist_ok=True)
+    for letter, side, at, span in zip("ab", sides, times, spans):
+        path = part_in(into, letter)
+        write(path, side.dump.around(at, span).blocks())
+        report.put("window " + path, kind="window", file=path)
+
+
+def say_values(report: Lines, asked: argparse.Namespace, comparison: Comparison
+               ) -> List[Difference]:
+    """Says where values differ, and returns the first difference of each pair."""
+    first: Dict[Tuple[int, int], Difference] = {}
+    with contextlib.closing(comparison.differences()) as differences:
+        for found in differences:
+            for one in found:
+                first.setdefault(one.pair.places, one)
+            report.say_some("differs", lines_of(found))
+            if asked.extent == FIRST:
+                break
+    report.say("differs", [])
+    return [*first.values()]
