@@ -3,16 +3,9 @@
     from vcdkit import Dump, merge
 
     dump = Dump("sim.vcd.gz")                   # also .xz, .bz2, .zst, .fst, a pipe, or bytes
-    dump.check().last                           # a fault raises DumpFault: .file, .line, .fault
-    [one.path for one in dump.find(r"count$")]  # Signal: path, type, size, code
-    dump.timescale, dump.time(1150)             # 100ps, 115ns
     dump.value("bench.slow.count", "115ns")     # a Value: == 11, .hex(), f"{..:x}"
-    dump.edges("bench.slow")                    # {path: Edges(changes, rises, falls)}
-    for time, value in dump.changes("bench.bus"): ..
     for time, (a, b) in dump.rows(["bench.a", "bench.b"], rise="bench.clock"): ..
-    dump.when("bench.bus == 0xff & bench.valid", rise="bench.clock")
     dump.cut("100ns", "2us").pick("bench.slow").save("window.vcd")
-    merge(dump, Dump("other.vcd")).check()
 
 The library libvcdkit.so answers if it is beside this package, or if VCDKIT_LIBRARY names it.
 Otherwise the program that VCDKIT names answers, or the vcdkit on the PATH. Library and program run

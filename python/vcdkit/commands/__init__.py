@@ -8,15 +8,14 @@ import os
 import re
 import stat
 import sys
-from typing import (TYPE_CHECKING, Any, Callable, Iterator, List, NoReturn, Optional, TextIO,
-                    Tuple)
+from typing import (TYPE_CHECKING, Any, Callable, Iterator, List, NoReturn, Optional, Sequence,
+                    TextIO, Tuple)
 
 from .. import __version__
 from ..errors import DumpFault, RunFailed, UsageError, VcdkitError
 from ..forms.terminal import Progress
 from ..forms.text import FORMS
-from ..model.times import UNITS
-from ..questions.windows import FIRST, LAST
+from ..model.times import LAST_TICK, UNITS, Timescale, Window
 from ..reading.formats import ENDINGS
 from ..reading.texts import program_path
 
@@ -46,9 +45,21 @@ OF_FILES = ("--names", "--rules")  # options that name a file to read
 REPEATED = ("--map", "--except", "--channel")  # other options may be given once
 NEGATIVE = re.compile(r"-(?:[.\d].*[<>=]|[({\"]|[A-Za-z_]\w*\.)")
 BROKEN_PIPE = 128 + 13  # the status that a shell shows of a program that SIGPIPE ended
+FIRST, LAST = "0", str(LAST_TICK)  # of --from and --to
 JSON = "write one JSON object per line, with times in ticks"
 UNIT = "the largest without a fraction"
 Main = Callable[[Optional[List[str]]], int]
+
+
+# The options of several commands, and what argparse takes of them.
+SHARED = {
+    "--names": dict(dest="names_of", metavar="FILE",
+                    help="also use the names in a list or a GTKWave save file"),
+    "--four-state": dict(action="store_true",
+                         help="convert VHDL's nine states, as vcdkit-four-state does"),
+    "--from": dict(dest="begin", default=FIRST, metavar="TIME", help="the first time [default: 0]"),
+    "--to": dict(dest="end", default=LAST, metavar="TIME",
+                 help="the last time [default: the end of the dump]")}  # type: Any
 
 
 class Parser(argparse.ArgumentParser):
@@ -57,30 +68,24 @@ class Parser(argparse.ArgumentParser):
 
     needs_names = False
 
+    def add(self, *options: str) -> "Parser":
+        """Adds options of SHARED."""
+        for option in options:
+            self.add_argument(option, **SHARED[option])
+        return self
+
     def file(self, names: str = "") -> "Parser":
         """Adds FILE, which dump_of opens, and NAMEs: + if there has to be one, else *."""
-        self.four_state().add_argument("file", metavar="FILE", help="the dump")
+        self.add("--four-state").add_argument("file", metavar="FILE", help="the dump")
         return self.names(names) if names else self
 
     def names(self, count: str) -> "Parser":
         """Adds NAMEs, as file() does."""
         self.needs_names = count == "+"
-        self.names_of().add_argument(
+        self.add("--names").add_argument(
             "names", metavar="NAME", nargs="*", default=[],
             help="a path (see vcdkit list), or a scope with everything in it"
             + " (required without --names)" * self.needs_names)
-        return self
-
-    def names_of(self) -> "Parser":
-        """Adds --names."""
-        self.add_argument("--names", dest="names_of", metavar="FILE",
-                          help="also use the names in a list or a GTKWave save file")
-        return self
-
-    def four_state(self) -> "Parser":
-        """Adds --four-state."""
-        self.add_argument("--four-state", action="store_true",
-                          help="convert VHDL's nine states, as vcdkit-four-state does")
         return self
 
     def at(self, what: str) -> "Parser":
@@ -94,14 +99,6 @@ class Parser(argparse.ArgumentParser):
         to = self.add_mutually_exclusive_group() if is_one else self
         for option, edge in ("--rise", "rising"), ("--fall", "falling"):
             to.add_argument(option, metavar="CLOCK", help=what % edge)
-        return self
-
-    def window(self) -> "Parser":
-        """Adds --from and --to."""
-        self.add_argument("--from", dest="begin", default=FIRST, metavar="TIME",
-                          help="the first time [default: 0]")
-        self.add_argument("--to", dest="end", default=LAST, metavar="TIME",
-                          help="the last time [default: the end of the dump]")
         return self
 
     def form(self) -> "Parser":
@@ -193,7 +190,7 @@ def filtering(module: str, usage: str, text: str,
               made: Callable[[Iterator[bytes]], Iterator[bytes]]) -> Main:
     """Makes main() of a filter, which makes blocks of its output of those of its input."""
     def main(words: List[str]) -> int:
-        from ..reading.filtering import blocks_of
+        from ..reading.body import blocks_of
         options = parser(usage, text, failed="")
         options.add_argument("file", metavar="FILE", nargs="?", default="-", help="the dump, which "
                              "may be compressed [default: standard input, uncompressed]")
@@ -206,8 +203,7 @@ def filtering(module: str, usage: str, text: str,
 
 def dump_of(asked: argparse.Namespace, file: Optional[str] = None,
             token_limit: Optional[int] = None) -> "Dump":
-    """Returns the dump of FILE, or of another file that is asked for. Then `names` also has those
-    of --names."""
+    """Returns the dump of FILE, or of another file. `names` then has those of --names."""
     from ..questions.dump import Dump
     dump = Dump(asked.file if file is None else file, None, token_limit, asked.four_state)
     path, asked.names_of = getattr(asked, "names_of", None), None
@@ -234,9 +230,74 @@ def is_part(asked: argparse.Namespace) -> bool:
     return (asked.begin, asked.end) != (FIRST, LAST)
 
 
+def after_end(dump: "Source", time: str, is_up: bool = False) -> str:
+    """Returns what to say of a time that is after the last timestamp of a dump; of another one an
+    empty text. A time between two ticks is the one before it, or after it. It reads up to that
+    time, and raises a fault that comes before it."""
+    ticks = dump.ticks(time, is_up)
+    try:
+        if not ticks or dump.cut(ticks - 1, ticks).check().last == ticks:
+            return ""
+    except DumpFault:
+        with dump.cut(ticks, ticks).body() as out:
+            out.read(1)  # `cut` writes nothing if the fault comes before this time
+        return ""
+    last = dump.check().last
+    return "%s is after the end of the dump%s" % (
+        time, "" if last is None else ", " + dump.time(last))
+
+
+def check_begin(dump: "Source", time: str, option: str = "--from", is_up: bool = True) -> None:
+    """Refuses the time of an option if it is after the end of the dump."""
+    is_late = after_end(dump, time, is_up)
+    if is_late:
+        raise UsageError("%s: %s" % (option, is_late))
+
+
+def part_of(dump: "Dump", begin: str, end: str) -> "Dump":
+    """Returns the dump from one time to another."""
+    check_begin(dump, begin)
+    return dump if (begin, end) == (FIRST, LAST) else dump.cut(begin, end)
+
+
+def window_of(dump: "Source", begin: str, end: str) -> Window:
+    """Returns the window from one time to another."""
+    check_begin(dump, begin)
+    return Window(dump.ticks(begin, is_up=True), dump.ticks(end) + 1)
+
+
+def window_of_both(scales: Sequence[Timescale], begin: str, end: str) -> Tuple[int, int]:
+    """Returns the window in the shorter tick of both. A number of ticks counts those of A."""
+    tick = min(scale.femtoseconds for scale in scales)
+    first = -(-scales[0].span(begin) // tick)
+    last = LAST_TICK if end == LAST else min(scales[0].span(end) // tick, LAST_TICK)
+    if first > last:
+        raise UsageError("--from is above --to")
+    return first, last
+
+
+def parts_of_both(dumps: Sequence["Dump"], begin: str, end: str, has_clock: bool) -> List["Dump"]:
+    """Returns the window of both dumps. Without a clock, that of the longer tick may begin before
+    the window and end after it."""
+    scales = [dump.timescale for dump in dumps if dump.timescale]
+    if len(set(scales)) < 2:
+        return [part_of(dump, begin, end) for dump in dumps]
+    (first, last), shorter = window_of_both(scales, begin, end), min(
+        scales, key=lambda scale: scale.femtoseconds)
+    parts = []
+    for dump, scale in zip(dumps, scales):
+        check_begin(dump, shorter.text(first))
+        factor = scale.femtoseconds // shorter.femtoseconds
+        its = -(-first // factor), last // factor
+        if has_clock and its[0] > its[1]:
+            raise UsageError("%s: it has no time in this window: its ticks are %s" % (
+                dump.name, scale))
+        parts.append(dump.cut(*its if has_clock else (first // factor, -(-last // factor))))
+    return parts
+
+
 def times_of(dump: "Source", asked: argparse.Namespace) -> Callable[[int], str]:
-    """Returns what shows ticks as a time, such as 115ns, or in the unit of --unit. A unit needs a
-    time scale."""
+    """Returns what shows ticks as a time, also in the unit of --unit, which needs a scale."""
     if asked.unit not in (None, "tick"):
         dump.ticks("0" + asked.unit)
     return functools.partial(dump.time, unit=asked.unit or "")

@@ -24,9 +24,9 @@ from ..forms.text import counted
 from ..model.times import amount_of
 from ..questions.compare import ALWAYS, EACH_PAIR, FIRST, Comparison, same_within
 from ..questions.sides import in_common, sides_of
-from ..questions.windows import parts_of_both, window_of_both
 from ..reading.files import check_outputs, write
-from . import FAULT, command, dump_of, is_part, natural, parser, question, times_of
+from . import (FAULT, command, dump_of, is_part, natural, parser, parts_of_both, question, times_of,
+               window_of_both)
 
 
 def compare(asked: argparse.Namespace, report: Lines) -> None:
@@ -98,7 +98,7 @@ def words_of(words: List[str]) -> argparse.Namespace:
                          default=0.0, help="let real numbers differ by T, or T times the larger")
     options.add_argument("--x-matches", action="store_true",
                          help="let a digit that is x or z match any digit")
-    options.window()
+    options.add("--from", "--to")
     options.clock("compare at the %s edges of this signal", is_one=True)
     extent = options.add_mutually_exclusive_group()
     extent.add_argument("--every", dest="extent", action="store_const", const=EACH_PAIR,
@@ -113,7 +113,7 @@ def words_of(words: List[str]) -> argparse.Namespace:
                          help="the directory of these files [default: .]")
     options.add_argument("--html", metavar="FILE",
                          help="if values differ, write a page of the waveforms")
-    options.form().unit().json().four_state()
+    options.form().unit().json().add("--four-state")
     options.add_argument("one", metavar="A", help="the first dump")
     options.add_argument("other", metavar="B", help="the second dump")
     options.names("*")

@@ -63,8 +63,7 @@ def with_file(remedy: str, name: str, unpacker: Unpacker) -> str:
 
 
 def explain(dump: Dump, fault: DumpFault, unpacker: Unpacker) -> bytes:
-    """Shows the lines around a fault, its cause and what helps; returns what is before its
-    line."""
+    """Shows the lines around a fault, its cause and what helps; returns what is before it."""
     before, found = look_at(dump, fault, print)
     if found:
         cause, remedy = found
@@ -107,7 +106,7 @@ def words_of(words: List[str]) -> argparse.Namespace:
                          "processors]")
     options.add_argument("--junit", metavar="FILE",
                          help="write a JUnit report, with a test for each dump")
-    options.unit().json().four_state()
+    options.unit().json().add("--four-state")
     options.add_argument("files", metavar="FILE", nargs="+", help="a dump, or a directory of dumps")
     asked = options.parse_args(words)
     if asked.reach is not None:
@@ -117,13 +116,6 @@ def words_of(words: List[str]) -> argparse.Namespace:
     if asked.is_many and asked.salvage is not None:
         options.error("--salvage is for one dump, without --reach, --json and --junit")
     return asked
-
-
-def test_of(verdict: Verdict) -> Test:
-    """Returns the test of a verdict on a dump."""
-    kind = {"valid": "", "unread": "error"}.get(verdict.kind, "failure")
-    return Test("vcdkit-explain", verdict.file, kind, verdict.text,
-                "\n".join([verdict.text, *verdict.around]))
 
 
 def explain_all(asked: argparse.Namespace) -> int:
@@ -142,7 +134,9 @@ def explain_all(asked: argparse.Namespace) -> int:
         write_json(row) if asked.json else print(one.text, flush=True)
     if not asked.json and len(found) > 1:
         print(summary([one.kind for one in found]))
-    write_tests(asked.junit, "vcdkit-explain", list(map(test_of, found)))
+    write_tests(asked.junit, "vcdkit-explain", [
+        Test("vcdkit-explain", one.file, {"valid": "", "unread": "error"}.get(one.kind, "failure"),
+             one.text, "\n".join([one.text, *one.around])) for one in found])
     return max(one.status for one in found)
 
 

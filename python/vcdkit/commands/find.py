@@ -46,7 +46,7 @@ def main(words: List[str]) -> int:
     form.add_argument("--tree", action="store_true",
                       help="list scopes, with the number of variables in each")
     form.add_argument("--json", action="store_true", help=JSON)
-    options.names_of().file()
+    options.add("--names").file()
     options.add_argument("patterns", metavar="REGEX", nargs="*", default=[],
                          help="a regular expression [default: all variables]")
     asked = options.parse_args(words)

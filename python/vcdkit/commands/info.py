@@ -19,8 +19,7 @@ from . import command, dump_of, parser, times_of
 
 
 def of_header(dump: Dump, count: int) -> Iterator[Tuple[str, Any]]:
-    """Returns what the header says, as pairs, with so many of the largest scopes; without the
-    file's name."""
+    """Returns what the header says, as pairs, with so many of the largest scopes."""
     date, version, scale = dump.header
     types = collections.Counter(one.type for one in dump.signals)
     scopes: Counter[str] = collections.Counter()

@@ -23,7 +23,7 @@ examples:
   vcdkit-stats --saif power.saif --from 1us --to 2us sim.vcd tb.cpu"""
 import argparse
 import sys
-from typing import TYPE_CHECKING, Any, Dict, Iterator, List, Optional, Sequence
+from typing import Any, Dict, Iterator, List, Optional, Sequence
 
 from .. import __version__
 from ..forms.text import counted, in_json, mean_text, shown, write_json
@@ -31,12 +31,8 @@ from ..model.signals import Signal
 from ..model.times import Window
 from ..questions.dump import Dump
 from ..questions.statistics import Statistics, shares_of, statistics_of
-from ..questions.windows import window_of
 from ..reading.files import check_outputs, write
-from . import command, dump_of, natural, parser, times_of
-
-if TYPE_CHECKING:
-    from ..questions.toggles import BitCounts
+from . import command, dump_of, natural, parser, times_of, window_of
 
 
 def facts_of(signal: Signal, counted: Statistics, form: Optional[str], count: Optional[int]
@@ -62,7 +58,7 @@ def lines_of(dump: Dump, facts: Dict[str, Any], rest: int, asked: argparse.Names
     if period:
         yield "  period %s to %s, mean %s, %s" % (
             time(period["shortest"]), time(period["longest"]),
-            mean_text(dump, period["mean"], asked.unit), counted(period["times"], "time"))
+            mean_text(dump.timescale, period["mean"], asked.unit), counted(period["times"], "time"))
     if facts["duty"] is not None:
         yield "  duty %.4g%%" % (100 * facts["duty"])
     if span:
@@ -78,9 +74,9 @@ def lines_of(dump: Dump, facts: Dict[str, Any], rest: int, asked: argparse.Names
         yield "  and " + counted(rest, "other value")
 
 
-def write_toggles(bits: Sequence["BitCounts"], asked: argparse.Namespace) -> None:
+def write_toggles(bits: Sequence[Any], asked: argparse.Namespace) -> None:
     """Writes a line for each bit, those that toggle most first, and how many did."""
-    ordered = sorted(bits, key=lambda bit: -(bit.rises + bit.falls))
+    ordered = sorted(bits, key=lambda bit: -int(bit.rises + bit.falls))
     for bit in ordered if asked.json else ():
         write_json({"path": bit.of.signal.path, "bit": bit.number if bit.of.has_numbers else None,
                     "rises": bit.rises, "falls": bit.falls, "x": bit.unknowns})
@@ -116,7 +112,7 @@ def main(words: List[str]) -> int:
                          "10]")
     options.add_argument("--toggle", action="store_true", help="list how often each bit toggles")
     options.add_argument("--saif", metavar="FILE", help="write a SAIF file (-: standard output)")
-    options.window().form().unit().json().file("+")
+    options.add("--from", "--to").form().unit().json().file("+")
     asked = options.parse_args(words)
     check_outputs([asked.saif], [asked.file, asked.names_of])
     dump = dump_of(asked)

@@ -22,16 +22,13 @@ import itertools
 import os
 import re
 import sys
-from typing import TYPE_CHECKING, Any, Callable, Iterable, Iterator, List, Tuple
+from typing import Any, Callable, Iterable, Iterator, List, Tuple
 
 from ..forms.text import in_json, shown, write_json
 from ..model.signals import keys_of
 from ..model.values import Cell, Value
-from ..questions.windows import part_of
-from . import command, dump_of, is_part, parser, times_at, warn_of_quotes
+from . import command, dump_of, is_part, parser, part_of, times_at, warn_of_quotes
 
-if TYPE_CHECKING:
-    from ..questions.when import Questions, Transaction
 Cells = Callable[[int, List[Cell]], List[Any]]  # makes the cells of a time and values
 
 
@@ -45,13 +42,13 @@ def words_of(words: List[str]) -> argparse.Namespace:
                        help="write only the rows at which this holds")
     which.add_argument("--channel", dest="channels", action="append", default=[],
                        metavar="CHANNEL", help="join transfers in order (see below)")
-    options.add_argument("--flush", metavar="CONDITION", help="with --channel: at the edges (of the "
-                         "first channel) at which this holds, such as a reset, no transfer counts, "
-                         "and no transaction stays open")
+    options.add_argument("--flush", metavar="CONDITION", help="with --channel: at the edges (of "
+                         "the first channel) at which this holds, such as a reset, no transfer "
+                         "counts, and no transaction stays open")
     options.add_argument("--histogram", action="store_true",
                          help="with --channel: count how many transfers took each number of "
                          "edges")
-    options.window().unit("that of the time scale").json().file("*")
+    options.add("--from", "--to").unit("that of the time scale").json().file("*")
     asked = options.parse_args(words)
     if asked.at is not None and (is_part(asked) or (asked.rise, asked.fall) != (None, None)):
         options.error("--at goes with none of --rise, --fall, --from and --to")
@@ -73,7 +70,7 @@ def words_of(words: List[str]) -> argparse.Namespace:
     return asked
 
 
-def counted(transactions: Iterable["Transaction"]) -> Iterator[Tuple["Transaction", List[Any]]]:
+def counted(transactions: Iterable[List[Any]]) -> Iterator[Tuple[List[Any], List[Any]]]:
     """Returns transactions with the edges from one transfer to the next. Behind them it says how
     many lack a transfer, or have one that comes before that to its left."""
     lacking = early = 0
@@ -88,11 +85,11 @@ def counted(transactions: Iterable["Transaction"]) -> Iterator[Tuple["Transactio
               "0: %d" % (lacking, early), file=sys.stderr)
 
 
-def joined(asking: "Questions", names: List[str], heads: List[List[str]], cells: Cells,
-           is_histogram: bool) -> Tuple[List[str], Iterable[List[Any]]]:
+def joined(transactions: Iterable[List[Any]], names: List[str], heads: List[List[str]],
+           cells: Cells, is_histogram: bool) -> Tuple[List[str], Iterable[List[Any]]]:
     """Returns the head and the rows of channels with some names and heads."""
     pairs = ["%s to %s" % pair for pair in zip(names, names[1:])]
-    each = counted(asking.transactions())
+    each = counted(transactions)
     if is_histogram:
         counts = collections.Counter(pair for _, edges in each for pair in enumerate(edges))
         return ["edges", *pairs], [[one, *(counts[at, one] for at in range(len(pairs)))]
@@ -135,7 +132,7 @@ def main(words: List[str]) -> int:
         rules = [(name, text, clock) for name, clock, text, _ in channels]
         rules += [("--flush", asked.flush, channels[0][1])] if asked.flush else []
         asking = Questions(dump, rules, asked.rise, asked.fall, True, columns)
-        head, rows = joined(asking, names, heads, cells, asked.histogram)
+        head, rows = joined(asking.transactions(), names, heads, cells, asked.histogram)
     else:
         head, rows = heads[0], itertools.starmap(cells, dump.rows(
             asked.names, times, asked.rise, asked.fall, asked.condition))

@@ -16,8 +16,7 @@ from typing import List
 from ..errors import DumpFault
 from ..forms.text import in_json, shown, write_json
 from ..questions.rows import at_times, states
-from ..questions.windows import after_end
-from . import command, dump_of, parser, times_at, times_of
+from . import after_end, command, dump_of, parser, times_at, times_of
 
 
 @command

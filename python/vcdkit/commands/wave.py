@@ -20,8 +20,7 @@ from typing import List, Optional
 from ..errors import UsageError
 from ..model.times import Window
 from ..questions.dump import Dump
-from ..questions.windows import check_begin, window_of
-from . import command, dump_of, is_part, natural, parser
+from . import check_begin, command, dump_of, is_part, natural, parser, window_of
 
 LEAST_WIDTH, MAX_WIDTH = 100, 20000  # pixels: room for a time of the axis; that of lanes
 MAX_SIGNALS = 200  # rows of a picture
@@ -66,7 +65,7 @@ def write_page(dump: Dump, window: Window, mark: Optional[int], asked: argparse.
 @command
 def main(words: List[str]) -> int:
     options = parser("vcdkit-wave FILE NAME ..", __doc__, "the picture was written")
-    options.window()
+    options.add("--from", "--to")
     options.add_argument("--around", metavar="TIME",
                          help="the middle of the window, where a mark is drawn")
     options.add_argument("--context", metavar="TIME",

@@ -23,9 +23,8 @@ from ..forms.junit import Test, write_tests
 from ..forms.text import counted, mean_text, write_json
 from ..questions.dump import Dump
 from ..questions.when import Asked, Questions, named
-from ..questions.windows import part_of
 from ..reading.files import check_outputs, text_of_file
-from . import FAULT, command, dump_of, parser, question, times_of, warn_of_quotes
+from . import FAULT, command, dump_of, parser, part_of, question, times_of, warn_of_quotes
 
 WORDED = re.compile(r"(never +|always +|each +|)(.*)", re.S)
 
@@ -77,7 +76,7 @@ def words_of(words: List[str]) -> argparse.Namespace:
                          "not only those at which it begins to")
     options.add_argument("--never", action="store_true", help="for a CI job: exit with 0 if it "
                          "never held and with 1 if it did")
-    options.window().unit().json().file()
+    options.add("--from", "--to").unit().json().file()
     options.add_argument("condition", metavar="CONDITION", nargs="?",
                          help="a condition (see below); not with --rules")
     asked, rest = options.parsed(words)
@@ -141,7 +140,7 @@ def list_latencies(asking: Questions, dump: Dump, text: Callable[[int], str],
     if lengths and not asked.json:
         mean = sum(lengths) / len(lengths)
         print("least %s, mean %s, greatest %s, %d in time, %d late" % (
-            shown(min(lengths)), mean_text(dump, mean, asked.unit) if one.has_time
+            shown(min(lengths)), mean_text(dump.timescale, mean, asked.unit) if one.has_time
             else "%.6g" % mean, shown(max(lengths)), len(lengths), late))
     elif late and not asked.json:
         print("0 in time, %d late" % late)
@@ -190,8 +189,8 @@ def answer(asked: argparse.Namespace, tests: List[Test]) -> int:
     if asked.condition is not None:
         warn_of_quotes("vcdkit-when", asked.condition, dump)
     text = times_of(dump, asked)
-    asking = Questions(part_of(dump, asked.begin, asked.end), [one.asked for one in rules], asked.rise, asked.fall,
-                       asked.every)
+    asking = Questions(part_of(dump, asked.begin, asked.end), [one.asked for one in rules],
+                       asked.rise, asked.fall, asked.every)
     if asked.latency and (asking.each[0].is_refusal or not asking.each[0].condition.answer):
         raise UsageError("latencies are those of a condition such as req -> ack within 50")
     if asked.rules is not None:

@@ -18,8 +18,7 @@ from typing import List, Set
 from ..forms.text import in_json, shown, write_json
 from ..model.values import value_in
 from ..questions.unknown import Signals, values_of
-from ..questions.windows import check_begin
-from . import FAULT, command, dump_of, parser, question, times_of
+from . import FAULT, check_begin, command, dump_of, parser, question, times_of
 
 
 @command
@@ -33,7 +32,7 @@ def main(words: List[str]) -> int:
     options.add_argument("--trace", action="store_true",
                          help="list only the first one of each path")
     options.add_argument("--z", action="store_true", help="list values with a z too")
-    options.window().form().unit().json().file("*")
+    options.add("--from", "--to").form().unit().json().file("*")
     asked = options.parse_args(words)
     dump = dump_of(asked)
     text_of = times_of(dump, asked)

@@ -76,8 +76,7 @@ def texts_of(page: Page, rows: Sequence[PageRow]) -> List[str]:
 
 
 def template() -> Tuple[str, str]:
-    """Returns the text before the data and that after it. The browser runs no script but the one
-    whose sum the page gives."""
+    """Returns the text before the data and after it; only its own script can run."""
     text = (pkgutil.get_data("vcdkit", "page.html") or b"").decode()
     for name in "style", "script":
         found = re.search("<%s>(.*?)</%s>" % (name, name), text, re.DOTALL)

@@ -33,8 +33,7 @@ class Surroundings:
         self.ends = [self.time(at, part.last) for at, part in enumerate(self.parts)]
 
     def time(self, at: int, ticks: int) -> int:
-        """Returns a time of a dump as the page has it, from its begin. Values from before it are
-        those at its begin."""
+        """Returns a time of a dump as the page has it: from its begin, at least 0."""
         return max(ticks * self.factors[at] + self.later[at] - self.begin, 0)
 
     def near(self, rows: Sequence[PageRow]) -> Tuple[int, int]:

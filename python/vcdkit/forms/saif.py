@@ -33,8 +33,7 @@ def _escaped(name: str) -> str:
 
 
 def _instances(top: Scope, nets: Nets, ticks: int) -> Iterator[str]:
-    """Returns the lines of the scopes that have a bit in them, or below. Scopes may be nested
-    deeper than calls."""
+    """Returns the lines of the scopes with a bit in them, or below, however deep."""
     some = {id(one) for bits in nets.values() for bit in bits for one in bit.of.scopes}
     waiting: List[Tuple[Union[Scope, str], str]] = [(top, "")]  # scopes, and last lines
     while waiting:

@@ -42,8 +42,7 @@ def unit_of(scale: Optional[Timescale], ticks: int) -> Tuple[str, float]:
 
 
 def value_text(value: object, form: Optional[str], room: int) -> str:
-    """Returns a value as a lane has it: its last digits if it has no room for all, without zeros
-    in front."""
+    """Returns a value as a lane has it: the last digits for which there is room."""
     form = form or "hex"
     text = ("%g" % value if isinstance(value, float)
             else shown(value if isinstance(value, str) else None, form))

@@ -1,13 +1,10 @@
 """Values and times as a reader sees them, or as JSON has them."""
 import math
 import re
-from typing import TYPE_CHECKING, Any, Callable, Dict, NamedTuple, Optional, Union
+from typing import Any, Callable, Dict, NamedTuple, Optional, Union
 
-from ..model.times import UNITS
+from ..model.times import UNITS, Timescale
 from ..model.values import Cell, Value
-
-if TYPE_CHECKING:
-    from ..reading.source import Source
 
 
 class Form(NamedTuple):
@@ -36,8 +33,7 @@ def shown(value: Cell, form: Optional[str] = None) -> str:
 
 
 def _letters_of(value: Value) -> str:
-    """Returns the letters that the bytes of a number are, the highest first: \\xNN for a byte that
-    is none."""
+    """Returns the letters that the bytes of a number are: \\xNN for a byte that is none."""
     number = int(value)
     text = number.to_bytes(max((number.bit_length() + 7) // 8, 1), "big").decode("latin-1")
     return "".join(one if " " <= one <= "~" and one != "\\" else "\\x%02x" % ord(one)
@@ -58,14 +54,13 @@ def counted(count: int, what: str) -> str:
     return "%d %s%s" % (count, what, "s" * (count != 1))
 
 
-def mean_text(dump: "Source", ticks: float, unit: Optional[str]) -> str:
+def mean_text(scale: Optional[Timescale], ticks: float, unit: Optional[str]) -> str:
     """Returns a mean length of time to six digits: in a unit that is given, else in the largest one
     of which it has one. 0 is in the unit of the time scale, as in other times."""
-    scale = dump.timescale
     if scale is None or unit == "tick":
         return "%.6g" % ticks
     if not ticks:
-        return dump.time(0, unit or "")
+        return scale.text(0, unit or "")
     lengths = [(scale.seconds(ticks) * 1000**power, its) for power, its in enumerate(UNITS)]
     its = [pair for pair in lengths if pair[1] == unit] or [
         pair for pair in lengths if pair[0] >= 1] or lengths[-1:]

@@ -18,21 +18,18 @@ def bare(path: str) -> str:
 
 
 def plain(path: str) -> str:
-    """Returns a path without the range and as if no name in it were escaped: tb.u.q of
-    tb.\\u.q[3:0], and of tb.\\u/q."""
+    """Returns a path without its range and escapes: tb.u.q of tb.\\u.q[3:0], and of tb.\\u/q."""
     return re.sub(r"(?<![^.])\\", "", bare(path)).replace("/", ".")
 
 
 def field_of(name: str) -> Tuple[int, ...]:
-    """Returns the range with which a name ends, of one bit its number twice; nothing if there is
-    none."""
+    """Returns the range with which a name ends, of one bit its number twice, else nothing."""
     found = FIELD.search(name)
     return (int(found.group(1)), int(found.group(2) or found.group(1))) if found else ()
 
 
 def fronts(path: str) -> Iterator[str]:
-    """Returns the names that select a path, itself first: all that a dot or its end comes
-    after."""
+    """Returns the names that select a path, itself first: all before a dot or its end."""
     while path:
         yield path
         path = path.rpartition(".")[0]

@@ -2,7 +2,8 @@
 
 A value of some bits is an int if all its digits are 0 or 1, else its digits, a str. A real number
 is a float, with the arithmetic of IEEE Std 754. A signal that has no value yet has the digit -,
-which counts as x, except where digits themselves are asked for. Each operator takes the kind in which it works first."""
+which counts as x, except where digits themselves are asked for. Each operator takes the kind in
+which it works first."""
 import functools
 import math
 import operator

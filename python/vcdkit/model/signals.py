@@ -1,5 +1,4 @@
 """The variables and scopes of a header."""
-import gc
 import itertools
 from typing import (Any, Dict, FrozenSet, Iterable, Iterator, List, NamedTuple, Optional, Sequence,
                     Set, Tuple, Union, overload)
@@ -82,8 +81,7 @@ def each(columns: Sequence[Sequence[Any]]) -> Iterator[Signal]:
 
 
 class Signals(Sequence[Any]):  # of Signals, but mypy is to take a path as what may be in it
-    """The variables of a header, in the order of declaration. A Signal is made each time it is
-    asked for."""
+    """The variables of a header, in the order of declaration, made as they are asked for."""
 
     def __init__(self, columns: Columns):
         self._columns = columns
@@ -106,13 +104,7 @@ class Signals(Sequence[Any]):  # of Signals, but mypy is to take a path as what 
         paths, types, sizes, codes = self._columns
         if not isinstance(at, slice):
             return Signal(paths[at], types[at], sizes[at], codes[at])
-        was_enabled = gc.isenabled()
-        gc.disable()  # else it looks through all of them many times
-        try:
-            return list(each((paths[at], types[at], sizes[at], codes[at])))
-        finally:
-            if was_enabled:
-                gc.enable()
+        return list(each((paths[at], types[at], sizes[at], codes[at])))
 
     def __contains__(self, one: object) -> bool:
         """Whether there is a signal, or one of a path."""

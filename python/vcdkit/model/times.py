@@ -72,8 +72,7 @@ class Timescale(Amount):
     __slots__ = ()
 
     def ticks(self, time: Time, is_up: bool = False) -> int:
-        """Returns a time in ticks. A time between two ticks is rounded down, or up, as that is with
-        which a cut begins."""
+        """Returns a time in ticks: one between two ticks is rounded down, or up."""
         span = self.span(time)
         return -(-span // self.femtoseconds) if is_up else span // self.femtoseconds
 

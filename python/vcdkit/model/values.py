@@ -50,8 +50,7 @@ class Value(str):
         return not self.strip("01")
 
     def hex(self) -> str:
-        """Returns it as viewers show it: a digit for four bits, x or z if all four are that, and
-        X for a mixture."""
+        """Returns a digit for four bits, x or z if all four are that, and X for a mixture."""
         return self._in_groups(4)
 
     def signed(self) -> int:
@@ -120,8 +119,7 @@ class Value(str):
         return NotImplemented
 
     def _in_groups(self, size: int) -> str:
-        """Returns a digit for each so many bits: x or z if all of them are, else X for those that
-        are not known."""
+        """Returns a digit for so many bits: x or z if all are, else X if some are not known."""
         bits = full(self, -len(self) // size * -size)
         return "".join("%x" % int(some, 2) if not some.strip("01")
                        else some[0] if len(set(some)) == 1 else "X"
@@ -173,8 +171,7 @@ def full(digits: str, size: int) -> str:
 
 
 def real(text: str) -> Union[float, str]:
-    """Returns a real number. A dump may have a text there that is none: that is returned as it
-    is."""
+    """Returns a real number. A dump may have a text there that is none: that is returned so."""
     try:
         return float(text) if text.isascii() and "_" not in text else text
     except ValueError:

@@ -147,8 +147,7 @@ def short_lines(text: BinaryIO) -> Iterator[bytes]:
 
 def look_at(dump: Source, fault: DumpFault, say: Callable[[str], object] = str
             ) -> Tuple[bytes, Optional[Cause]]:
-    """Returns what is before the line of a fault, and the cause as of cause_of. `say` gets the
-    lines around it."""
+    """Returns what is before the line of a fault, and its cause. `say` gets the lines around."""
     before, bad, front, number = b"", b"", b"", 1
     with dump.open() as text:
         for block in short_lines(text):

@@ -15,7 +15,6 @@ from ..model.times import LAST_TICK, Timescale
 from ..model.values import full, real_of
 from ..reading import body, header
 from ..reading.comparing import Line, differing
-from ..reading.source import Source
 from ..reading.texts import Headed
 from .rows import Clock
 from .sides import Pair, Sides, kind
@@ -63,12 +62,6 @@ def same_within(tolerance: float, x_matches: bool = False) -> Same:
         return isclose(mine, its, rel_tol=tolerance, abs_tol=tolerance) or (
             isnan(mine) and isnan(its))
     return same
-
-
-def _unscaled(dump: Source) -> Source:
-    """Returns a dump without its time scale."""
-    return dump.like(Headed(lambda text: re.sub(
-        rb"(?m)^\$timescale\n.*\n\$end\n", b"", text, count=1), dump.cut().text))
 
 
 class Comparison:
@@ -123,7 +116,8 @@ class Comparison:
             dumps.append(part or side.dump)
             # A merge takes a dump without a time scale for one of seconds.
             if side.scale and not self._sides[1 - at].scale:
-                dumps[at] = _unscaled(dumps[at])
+                dumps[at] = dumps[at].like(Headed(lambda text: re.sub(
+                    rb"(?m)^\$timescale\n.*\n\$end\n", b"", text, count=1), dumps[at].cut().text))
             last = (side.report.last or 0) * factor
             if last > LAST_TICK:
                 raise UsageError("%s: its last time is 2^64 ticks or more in the time scale of the "

@@ -261,8 +261,7 @@ class Conditions:
         return found
 
     def take(self, changes: body.Changes) -> int:
-        """Takes changes, of which some may be of other signals; returns the conditions that name
-        those of the others."""
+        """Takes changes, of any signals; returns the conditions that name theirs."""
         found, values, over = 0, self._values, self.over.get
         for code, raw in changes:
             bits, readers = over(code, NONE)

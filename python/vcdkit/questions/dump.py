@@ -63,18 +63,15 @@ class Dump(Source):
         return [self.signals[at] for at, path in enumerate(paths) if search(path)]
 
     def value(self, name: str, time: Time) -> Cell:
-        """Returns the value of one signal at the end of a time. `None` if it has no value yet, or
-        is an event."""
+        """Returns the value of one signal at the end of a time; `None` if it has none."""
         _ = self[name]  # one signal
         return next(iter(self.sample(time, name)[time].values()), None)
 
     def sample(self, times: Union[Time, Iterable[Time]], names: Names = ()
                ) -> Dict[Time, Dict[str, Cell]]:
-        """Returns for each time, as it was given, the value of each path at the end of that time.
-
-        A value is a Value for digits, a float for a real number (or its text, if that is not a
-        number), and `None` if there is no value yet. Times may come in any order. Without names,
-        all signals are sampled, except events, which have no value."""
+        """Returns for each time, as it was given, the value of each path at the end of that time: a
+        Value for digits, a float for a real number (or its text, if that is not a number), `None`
+        if there is no value yet. Without names, all signals are sampled, except events."""
         asked, its = {time: self.ticks(time) for time in _each(times)}, self.full(names)
         chosen = states(self.places(its))
         keys = dict(zip(chosen, keys_of(chosen.values())))
@@ -134,17 +131,13 @@ class Dump(Source):
         """Returns rows of a table, as they come: a time in ticks, and the value of each signal that
         the names select, as sample() returns it. Events are left out.
 
-        Without options there is a row for each time at which one of the signals changes, with the
-        values at the end of that time, and for the beginning of a cut. Values that are written
-        again, or that come and go within one time, are not changes. A time that a fault leaves
-        unfinished has no row. `rise` and `fall` are paths of clocks of one bit: then there is a row
-        for each such edge, with the values just before its time, which are those that a flip-flop
-        takes. With both there is a row for every edge, of one clock or of two. An edge counts
-        even if the clock comes back within its time. The first value of a signal is from before its
-        time if it is in a `$dumpvars`, as at the beginning of a dump or a cut. Raises UsageError if
-        a path is not such a clock. With `at` there is a row for each of these times, in this order,
-        also if one is there twice. With `condition`, as when() takes it, there are only those of
-        these rows at which it holds, by the values that the row has."""
+        Without options there is a row for the begin of a cut, and for each time at whose end one of
+        the signals has another value than before; none for a time that a fault leaves unfinished.
+        With `rise` and `fall`, paths of clocks of one bit, there is a row for each such edge, even
+        if the clock comes back within its time, with the values just before that time: first values
+        in a `$dumpvars` are from before it. UsageError if a path is not such a clock. With `at`
+        there is a row for each of these times, in this order. With `condition`, as when() takes it,
+        there are only those of these rows at which it holds, by the values that the row has."""
         its = self.full(names)
         if not its:
             raise UsageError("rows() needs a name")
@@ -176,13 +169,9 @@ class Dump(Source):
     def when(self, condition: str, rise: Optional[str] = None, fall: Optional[str] = None,
              every: bool = False) -> Iterator[int]:
         """Returns the times, in ticks, at which a condition begins to hold, as `vcdkit-when` takes
-        it: "tb.bus == 0xff & !tb.reset".
-
-        It is looked at at the end of each time; of a cut, one that holds at its begin begins there.
-        With `rise` or `fall`, the path of a clock of one bit, it is looked at where that rises or
-        falls, with the values just before that time, with both at each of these edges; with
-        `every`, each such time counts at which it holds. UsageError if it is no condition,
-        UnknownName if a name of it selects nothing."""
+        it: "tb.bus == 0xff & !tb.reset". It is looked at at the end of each time, or at the edges
+        of `rise` and `fall`, as rows() takes them; with `every`, each edge counts at which it
+        holds. UsageError if it is no condition, UnknownName if a name of it selects nothing."""
         from .when import Questions
         asking = Questions(self, [("", condition)], rise, fall, every)
         return (time for time, _ in asking.times())
@@ -220,7 +209,6 @@ def _columns(found: Any, numpy: Any) -> Tuple[Any, Any]:
 
 
 def _counts_of(rows: str) -> List[Edges]:
-    """Returns the Edges of the rows of `edges`. Those with the same counts, as most have, are
-    one."""
+    """Returns the Edges of the rows of `edges`. Those with the same counts are one."""
     edges = functools.lru_cache(maxsize=None)(lambda counts: Edges(*map(int, counts.split(" "))))
     return [edges(row.partition(" ")[2]) for row in rows.split("\n")[:-1]]

@@ -94,8 +94,7 @@ class Lane:
             self.numbers.append((time, number))
 
     def value(self, text: bytes) -> object:
-        """Returns the value that a text of the body has; of a real signal also digits as a
-        number."""
+        """Returns the value that a text of the body has; of a real signal digits are a number."""
         value = value_in(text, self.signal.size)
         if self.is_real and isinstance(value, Value):
             return float(int(value)) if value.is_known and len(value) <= MAX_DIGITS else value

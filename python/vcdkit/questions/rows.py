@@ -122,8 +122,7 @@ class Cells:
             self._columns.setdefault(code, (one.size, []))[1].append(at)
 
     def take(self, changes: body.Changes) -> bool:
-        """Takes changes, of which some may be of other signals; whether one of the values is
-        another one after them."""
+        """Takes changes, some maybe of other signals; whether a value is another one then."""
         is_other = False
         for code, text in changes if len(changes) < 2 else dict(changes).items():
             was = self._texts.get(code)

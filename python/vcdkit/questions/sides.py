@@ -1,7 +1,7 @@
 """Two dumps side by side, for vcdkit-diff: which signals both have."""
 import itertools
 import threading
-from typing import Any, Dict, Iterable, Iterator, List, NamedTuple, Optional, Sequence, Set, Tuple, Union
+from typing import Any, Dict, Iterator, List, NamedTuple, Optional, Sequence, Set, Tuple, Union
 
 from ..errors import UnknownName, UsageError
 from ..model.names import FIELD, bare, fronts, full_names, hint, names_for, places_of, plain

@@ -115,8 +115,7 @@ class Statistics:
         return self._high_of_periods / self.periods.sum
 
     def range(self) -> Optional[Dict[str, float]]:
-        """Returns the facts of the numbers that it has, also of infinite ones; `None` if there is
-        none."""
+        """Returns the facts of its numbers, also of infinite ones; `None` if there is none."""
         its = [(value_in(text, self.signal.size), held.ticks) for text, held in self.values.items()]
         numbers = [(number, ticks) for number, ticks in its
                    if isinstance(number, float) and not math.isnan(number)]

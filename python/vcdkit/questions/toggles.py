@@ -2,7 +2,7 @@
 long it has each value."""
 from itertools import compress, islice
 from operator import lt, sub
-from typing import Any, Callable, Dict, Iterator, List, NamedTuple, Tuple
+from typing import Callable, Dict, Iterator, List, NamedTuple, Tuple
 
 from ..model.names import bare
 from ..model.signals import Declaration
@@ -135,8 +135,7 @@ def _of_bits(of: Declaration, found: Dict[bytes, Bits]) -> Iterator[BitCounts]:
 
 def _started(times: Iterator[Tuple[int, bytes]], found: Dict[bytes, Bits]
              ) -> Iterator[Tuple[int, bytes]]:
-    """Returns times with their lines, without the values with which a cut begins: these are
-    taken."""
+    """Returns times with their lines, and takes the values with which a cut begins."""
     for time, text in islice(times, 1):
         begin, mark, rest = text.partition(b"\n$end")
         if text.startswith(b"$dumpvars\n"):
@@ -150,8 +149,7 @@ def _started(times: Iterator[Tuple[int, bytes]], found: Dict[bytes, Bits]
 
 
 class _Takers(Dict[bytes, Taken]):
-    """Of each line what takes its value, the value, and what takes its time. Those of single bits
-    are kept."""
+    """What takes the value of each line, the value, and what takes its time."""
 
     def __init__(self, found: Dict[bytes, Bits]):
         super().__init__()
@@ -170,8 +168,4 @@ class _Takers(Dict[bytes, Taken]):
             bits = self._vectors.get(code)
             if bits:
                 return bits.values.append, text[1:], bits.times.append
-        return _ignore, b"", _ignore
-
-
-def _ignore(_: Any) -> None:
-    """Takes nothing of a line."""
+        return bool, b"", bool  # which take nothing of it

@@ -5,7 +5,7 @@ from typing import Any, Callable, Dict, Iterator, List, NamedTuple, Optional, Se
 
 from ..errors import DumpFault, UsageError, VcdkitError
 from ..reading import progress
-from ..reading.formats import is_dump_name
+from ..reading.formats import DUMP
 from ..reading.source import Source
 from .causes import look_at
 
@@ -30,7 +30,7 @@ def files_of(words: Sequence[str]) -> List[str]:
             files.append(word)
             continue
         found = sorted(os.path.join(folder, name) for folder, _, names in os.walk(word)
-                       for name in names if is_dump_name(name))
+                       for name in names if DUMP.search(name))
         if not found:
             raise UsageError("%s: there is no dump in this directory" % word)
         files += found

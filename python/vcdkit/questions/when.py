@@ -95,8 +95,7 @@ class _Question:
         return found
 
     def warning(self) -> str:
-        """Returns what may be wrong although each request got its answer; nothing if that is
-        nothing."""
+        """Returns what may be wrong although each request got its answer; else nothing."""
         if self.asked.in_order:
             return "%srequests that the end of the dump leaves without an answer: %d" % (
                 self.front, len(self.waiting)) if self.waiting else ""

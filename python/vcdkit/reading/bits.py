@@ -47,8 +47,7 @@ def _of_header(text: bytes, vectors: "_Vectors") -> Iterator[bytes]:
 
 
 def _vectors_in(text: bytes) -> Tuple[List[List[Bit]], Set[bytes]]:
-    """Returns the bits that make a vector, for each one in the order of declaration, and the codes
-    of all other variables."""
+    """Returns the bits of each vector, in the order of declaration, and all other codes."""
     scopes: List[bytes] = []
     uses: Dict[bytes, int] = Counter()  # of each code
     found: Dict[Path, List[Bit]] = {}

@@ -4,13 +4,16 @@ vcdkit writes on each line a timestamp, a command of a section, or a value: `0!`
 `r1.5 !`. The filters read what other programs write, and find its lines by the expressions at the
 end."""
 import contextlib
+import functools
 import io
 import re
 from typing import (TYPE_CHECKING, BinaryIO, Callable, Collection, Dict, FrozenSet, Iterable,
                     Iterator, List, Optional, Set, Tuple, cast)
 
-from ..errors import DumpFault
-from .texts import Made
+from ..errors import DumpFault, UsageError, failing
+from . import progress
+from .formats import FRONT, format_of
+from .texts import File, Made
 
 if TYPE_CHECKING:
     from .source import Source
@@ -39,6 +42,27 @@ def blocks(text: BinaryIO) -> Iterator[bytes]:
     read = cast(io.BufferedReader, text).read1
     for block in iter(lambda: read(BLOCK), b""):
         yield block if block.endswith(b"\n") else block + text.readline()
+
+
+def blocks_of(path: str) -> Iterator[bytes]:
+    """Returns the text of a file, which may be packed, or that of standard input if the path is
+    `-`, once and in blocks of whole lines, as filters read it."""
+    with failing("(stdin)" if path == "-" else path):
+        with open(0 if path == "-" else path, "rb", closefd=path != "-") as file:
+            its = format_of(file.peek(FRONT))
+            if its is None or not its.unpacker:
+                part = functools.partial(progress.part_of_file, file.fileno())
+                progress.running.append(part)
+                try:
+                    yield from blocks(file)
+                finally:
+                    progress.running.remove(part)
+                return
+        if path == "-":
+            raise UsageError("the input is compressed: unpack it first, for example with gzip -dc")
+        from .source import Source
+        with Source(File(path)).open() as text:
+            yield from blocks(text)
 
 
 def timed(part: "Source", some: Optional[Blocks] = None) -> Iterator[Tuple[int, bytes]]:
@@ -183,8 +207,7 @@ def at_clocks(source: "Source", names: List[str], codes: Collection[bytes], edge
 
 
 def _digit(text: bytes, place: int) -> bytes:
-    """Returns the digit at a place from the right; to the left of those that are written, the first
-    one goes on."""
+    """Returns the digit at a place from the right; the first one goes on to the left."""
     return text[~place:][:1] if place < len(text) else text[:1] if text[:1] in b"xz" else b"0"
 
 
@@ -219,15 +242,13 @@ def _begun(part: "Source", codes: Collection[bytes]) -> Set[bytes]:
 
 
 def last_time(text: bytes) -> Optional[int]:
-    """Returns the last timestamp of a text that has its whole line; `None` if
-    there is none."""
+    """Returns the last timestamp of a text that has its whole line; `None` if there is none."""
     at = text.rfind(TIME, 0, max(text.rfind(b"\n"), 0))
     return int(text[at + 2:text.index(b"\n", at + 1)]) if at >= 0 else None
 
 
 def last_command(text: bytes) -> Optional[bytes]:
-    """Returns the last command of a section in a text, and what comes after it; `None` if there is
-    none."""
+    """Returns the last command of a section and what comes after it; `None` without one."""
     at = text.rfind(b"\n$")
     return text[at + 1:] if at >= 0 else None
 
@@ -261,8 +282,7 @@ CODES = re.compile(rb"\n(?:[01xz]|[br]\S* )(.*)")  # of the lines that have a va
 
 
 def letters_in(letters: bytes) -> "re.Pattern[bytes]":
-    """Returns what finds the lines whose values have a digit that is one of some letters; the group
-    is the code."""
+    """Returns what finds lines whose values have one of some letters; the group is the code."""
     return re.compile(rb"\n(?:[%b]|b[01xz]*?[%b][01xz]* )(.*)" % (letters, letters))
 
 
@@ -296,8 +316,7 @@ def time_after(text: bytes, begin: int, time: int) -> int:
 
 
 def next_change(text: bytes, code: bytes, begin: int) -> int:
-    """Returns the place of the first line from a place on that has a value of a code; -1 if there
-    is none."""
+    """Returns the place of the first line from there on with a value of a code, else -1."""
     at = text.find(code + b"\n", begin)
     while at >= 0:
         line = text.rfind(b"\n", 0, at)

@@ -33,8 +33,7 @@ def lines(words: Sequence[str], merged: Text) -> Iterator[bytes]:
 
 def differing(dumps: Sequence[Source], pairs: Sequence[Sequence[Key]], words: Sequence[str]
               ) -> Iterator[Line]:
-    """Returns the lines of vcdkit-compare with these options, by time. Fails unless all pairs were
-    compared."""
+    """Returns the lines of vcdkit-compare, by time. Fails unless all pairs were compared."""
     count = 0
     for line in lines(words, Headed(functools.partial(_header, pairs), merge(*dumps).text)):
         what, *rest = line.split()
@@ -48,8 +47,7 @@ def differing(dumps: Sequence[Source], pairs: Sequence[Sequence[Key]], words: Se
 
 
 def _header(pairs: Sequence[Sequence[Key]], text: bytes) -> bytes:
-    """Returns the header of a merge, as it writes it, in which both variables of a pair have its
-    name."""
+    """Returns the header of a merge, in which both variables of a pair have its name."""
     names = {("%s.%s" % (scope, path), nth): (scope, number) for number, pair in enumerate(pairs)
              for scope, (path, nth) in zip(("in1", "in2"), pair)}
     rows: Dict[str, List[str]] = {"in1": [], "in2": [], "other": []}

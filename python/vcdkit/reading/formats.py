@@ -36,6 +36,7 @@ FORMATS = (*PACKED, FST,
            Format((b"PK\x03\x04",), cause="a zip archive", remedy="unzip -p FILE | vcdkit check"))
 FRONT = 16  # bytes that tell the form of a file
 ENDINGS = ("vcd", *(one.ending for one in FORMATS if one.ending))
+# The names of files that are looked for as dumps.
 DUMP = re.compile(r"\.(vcd|%s)(\.(%s))?\Z" % (FST.ending, "|".join(one.ending for one in PACKED)),
                   re.IGNORECASE)
 
@@ -43,8 +44,3 @@ DUMP = re.compile(r"\.(vcd|%s)(\.(%s))?\Z" % (FST.ending, "|".join(one.ending fo
 def format_of(front: bytes) -> Optional[Format]:
     """Returns the form of a file that begins like this; `None` if it may be a plain dump."""
     return next((one for one in FORMATS if front.startswith(one.fronts)), None)
-
-
-def is_dump_name(name: str) -> bool:
-    """Whether a file of this name is looked for as a dump."""
-    return bool(DUMP.search(name))

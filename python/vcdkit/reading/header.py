@@ -70,8 +70,7 @@ def facts(text: bytes) -> Header:
 
 
 def declarations(text: bytes) -> Tuple[Scope, List[Declaration]]:
-    """Returns the scopes of a header in one without a name, and the variables. A scope that is
-    there twice is one."""
+    """Returns the scopes, in one without a name and each once, and the variables."""
     top = Scope("", "", "", [], [])
     opened: List[Tuple[Scope, ...]] = [()]  # the scopes around a place, and around those
     known: Dict[Tuple[int, str], Scope] = {}
@@ -120,23 +119,12 @@ def columns(text: bytes) -> Columns:
 class Head:
     """A header that vcdkit writes: each of its facts is read once, if it is asked for."""
 
+    signals = functools.cached_property(lambda self: Signals(columns(self.text)))
+    facts = functools.cached_property(lambda self: facts(self.text))
+    declared = functools.cached_property(lambda self: declarations(self.text))
+
     def __init__(self, text: bytes):
         self.text = text
-
-    @functools.cached_property
-    def signals(self) -> Signals:
-        """Its variables."""
-        return Signals(columns(self.text))
-
-    @functools.cached_property
-    def facts(self) -> Header:
-        """What it says of the dump as a whole."""
-        return facts(self.text)
-
-    @functools.cached_property
-    def declared(self) -> Tuple[Scope, List[Declaration]]:
-        """Its scopes, and how its variables are declared."""
-        return declarations(self.text)
 
 
 def with_variables(text: bytes, places: Collection[int]) -> Iterator[bytes]:

@@ -8,7 +8,7 @@ import io
 import mmap
 import os
 from array import array
-from typing import BinaryIO, Dict, Iterator, Optional, Sequence, Tuple, Union
+from typing import BinaryIO, Iterator, Optional, Sequence, Tuple, Union
 
 from ..errors import RunFailed, UnknownName, VcdkitError, error_of
 from . import header, program

@@ -17,8 +17,7 @@ NAMES = ("vcdkit", "vcdkit-static", "vcdkit-unproved")  # of the program
 
 
 def comparer() -> str:
-    """Returns the vcdkit-compare that comes with vcdkit: the one beside it, or beside the file to
-    which it is a link."""
+    """Returns the vcdkit-compare beside vcdkit, or beside the file to which that is a link."""
     its = program_path() or ""
     for one in its, os.path.realpath(its):
         found = shutil.which(os.path.join(os.path.dirname(one), "vcdkit-compare"))
@@ -141,8 +140,7 @@ class _Pipe:
         return self.parts[-1].out
 
     def feed(self, text: Text, is_merged: bool = False) -> BinaryIO:
-        """Returns a file from which the text can be read; with `is_merged` it has no end before the
-        text's."""
+        """Returns a file to read the text from; with `is_merged` it has no end before its."""
         if isinstance(text, File):
             self.files.append(text)
             filters = text.filters()
@@ -216,8 +214,7 @@ class _Pipe:
                 to.write(FAULT)
 
     def part_read(self) -> Optional[float]:
-        """Returns how much of its first file is read, as a part of 1; `None` if that cannot be
-        known, as of a pipe."""
+        """Returns how much of its first file is read, as a part of 1; `None` if unknown."""
         process = self.parts[0].process.pid if self.parts else 0
         try:
             size = os.stat("/proc/%d/fd/0" % process).st_size
@@ -252,8 +249,7 @@ class _Pipe:
 
 @contextlib.contextmanager
 def opened(text: Text) -> Iterator[BinaryIO]:
-    """Opens a text to be read once. If the reader ends early, or closes it, so do the programs, and
-    there is no error."""
+    """Opens a text to be read once. If the reader ends early, so do the programs, with no error."""
     pipe, was_read = _Pipe(), False
     try:
         with pipe.feed(text) as out:

@@ -95,8 +95,7 @@ class Source:
             yield from iter(lambda: text.read(1 << 18), b"")
 
     def read(self) -> bytes:
-        """Returns the text of the dump. Dump(dump.read()) keeps a part in memory for many
-        questions."""
+        """Returns the text of the dump. Dump(dump.read()) keeps a part for many questions."""
         return b"".join(self.blocks())
 
     def answer(self, command: str, words: Sequence[str] = ()) -> str:
@@ -182,8 +181,7 @@ class Source:
         return [full[name] for name in its]
 
     def places(self, names: List[str]) -> Dict[int, Signal]:
-        """Returns the signals that full names select, by their places among all; all without
-        names."""
+        """Returns the signals that full names select, by their places; all without names."""
         if not names:
             return dict(enumerate(self.signals))
         last_names, last = self._last
@@ -257,8 +255,7 @@ class Source:
         return self.pick(words) if words else self if isinstance(self.text, Made) else self.cut()
 
     def cut(self: Its, begin: Time = 0, end: Time = LAST_TICK) -> Its:
-        """Returns the dump from one time to another: the values just before `begin`, and what
-        changes from there to `end`."""
+        """Returns the dump from one time to another, with the values just before `begin`."""
         return self.made("cut", ["--from", self._word(begin, True), "--to", self._word(end)])
 
     def within(self: Its, window: Window) -> Its:

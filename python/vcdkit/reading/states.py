@@ -1,6 +1,5 @@
 """The nine states of VHDL in a dump, which become the four of VCD."""
 import io
-import re
 from typing import Iterable, Iterator
 
 from . import header
@@ -10,8 +9,7 @@ FOUR = bytes.maketrans(b"UuWw-LlHh", b"xxxxx0011")
 
 
 def four_states(blocks: Iterator[bytes]) -> Iterator[bytes]:
-    """Returns a dump, which comes in blocks of whole lines, with four states and without strings,
-    in pieces."""
+    """Returns a dump, in blocks of whole lines, with four states and without strings."""
     text, body = header.parted(blocks)
     at = 0
     for one in header.commands(text):
@@ -38,12 +36,7 @@ def _of_body(blocks: Iterable[bytes]) -> Iterator[bytes]:
 
 def _of_lines(block: bytes) -> bytes:
     """Returns whole lines with four states."""
-    text = NINE_STATES.sub(_four, b"\n" + block)[1:]
+    text = NINE_STATES.sub(lambda odd: b"" if odd.group()[1:2] == b"s" else
+                           odd.group().translate(FOUR), b"\n" + block)[1:]
     # A string goes with the line feed before it, so the last line of the input may lack its.
     return text + b"\n" if text and block[block.rfind(b"\n") + 1:][:1] == b"s" else text
-
-
-def _four(odd: "re.Match[bytes]") -> bytes:
-    """Returns what to write instead of a part of a line."""
-    text = odd.group()
-    return b"" if text[1:2] == b"s" else text.translate(FOUR)
