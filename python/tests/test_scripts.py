@@ -1543,6 +1543,14 @@ class Output(Case):
             self.assertIn("wrote: %s, %s" % (good, until),
                           said("vcdkit-explain", "--salvage", good, dump))
 
+    def test_a_module_that_only_an_option_needs_is_missing(self):
+        self.file("json.py", b'raise ImportError("hidden")\n')
+        done = subprocess.run([os.path.join(EXTRAS, "vcdkit-values"), "--json", NESTED],
+                              env={**os.environ, "PYTHONPATH": self.folder.name},
+                              stdout=subprocess.PIPE, stderr=subprocess.PIPE, timeout=SECONDS)
+        self.assertEqual((done.returncode, done.stdout), (3, b""))
+        self.assertIn(b"vcdkit-values: it needs the whole standard library", done.stderr)
+
     def test_interrupted_while_it_begins(self):
         package = os.path.join(self.folder.name, "vcdkit", "commands")
         os.makedirs(package)
