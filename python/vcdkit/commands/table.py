@@ -14,22 +14,17 @@ examples:
   vcdkit-table --rise tb.clk --if 'tb.valid & tb.ready' sim.vcd tb.address tb.data
   vcdkit-table --rise clk --channel 'a: valid & ready: addr' --channel 'r: rvalid & rready' a.vcd"""
 import argparse
-import collections
 import csv
-import functools
 import io
 import itertools
 import os
 import re
 import sys
-from typing import Any, Callable, Iterable, Iterator, List, Tuple
+from typing import List
 
-from ..forms.text import in_json, shown, write_json
-from ..model.signals import keys_of
-from ..model.values import Cell, Value
+from ..forms.tables import cells_of, heads_of, joined
+from ..forms.text import write_json
 from . import command, dump_of, is_part, parser, part_of, times_at, warn_of_quotes
-
-Cells = Callable[[int, List[Cell]], List[Any]]  # makes the cells of a time and values
 
 
 def words_of(words: List[str]) -> argparse.Namespace:
@@ -70,36 +65,6 @@ def words_of(words: List[str]) -> argparse.Namespace:
     return asked
 
 
-def counted(transactions: Iterable[List[Any]]) -> Iterator[Tuple[List[Any], List[Any]]]:
-    """Returns transactions with the edges from one transfer to the next. Behind them it says how
-    many lack a transfer, or have one that comes before that to its left."""
-    lacking = early = 0
-    for of in transactions:
-        edges = [other[0] - one[1] if one and other else None for one, other in zip(of, of[1:])]
-        lacking += None in of
-        early += any(one is not None and one < 0 for one in edges)
-        yield of, edges
-    if lacking or early:
-        sys.stdout.flush()
-        print("vcdkit-table: transactions that lack a transfer: %d; with a number of edges below "
-              "0: %d" % (lacking, early), file=sys.stderr)
-
-
-def joined(transactions: Iterable[List[Any]], names: List[str], heads: List[List[str]],
-           cells: Cells, is_histogram: bool) -> Tuple[List[str], Iterable[List[Any]]]:
-    """Returns the head and the rows of channels with some names and heads."""
-    pairs = ["%s to %s" % pair for pair in zip(names, names[1:])]
-    each = counted(transactions)
-    if is_histogram:
-        counts = collections.Counter(pair for _, edges in each for pair in enumerate(edges))
-        return ["edges", *pairs], [[one, *(counts[at, one] for at in range(len(pairs)))]
-                                   for one in sorted({one for _, one in counts if one is not None})]
-    return [*itertools.chain(*heads), *pairs], (
-        [*(cell for one, head in zip(of, heads)
-           for cell in (cells(*one[2]) if one else [None] * len(head))), *edges]
-        for of, edges in each)
-
-
 @command
 def main(words: List[str]) -> int:
     asked = words_of(words)
@@ -113,20 +78,11 @@ def main(words: List[str]) -> int:
     unit = asked.unit or (scale.unit if scale else "tick")
     whole.ticks("0" if unit == "tick" else "0" + unit)  # a unit needs a time scale
     # Values at the begin of a cut are a section, and none that changed.
-    dump, form = part_of(whole, asked.begin, asked.end), asked.form
+    dump = part_of(whole, asked.begin, asked.end)
     decimal = scale.in_unit(unit) if scale and unit != "tick" and not asked.json else (
         lambda ticks: ticks)
-    text: Callable[..., Any] = [shown, in_json][asked.json]
-    digits = functools.lru_cache(maxsize=1 << 14)(text)  # of numbers it would take 0 for -0
-    cells: Cells = lambda time, values: [decimal(time), *[
-        digits(value, form) if value.__class__ is Value else text(value, form) for value in values]]
-    names = [one[0] for one in channels]
-    others, is_bus = [*names, *map("%s to %s".__mod__, zip(names, names[1:]))], bool(asked.channels)
-    heads = [[name, *((name + " ") * is_bus + key for key in keys_of(its, [
-        one[(len(name) + 1) * is_bus:] for one in others
-        if one.startswith((name + " ") * is_bus)]))]
-             if asked.json else ["%s (%s)" % (name, unit), *(one.path for one in its)]
-             for name, its in zip(names, columns)]
+    cells, names = cells_of(decimal, asked.form, asked.json), [one[0] for one in channels]
+    heads = heads_of(names, columns, unit, bool(asked.channels), asked.json)
     if asked.channels:
         from ..questions.when import Questions
         rules = [(name, text, clock) for name, clock, text, _ in channels]

@@ -12,8 +12,7 @@ from ..questions.compare import FIRST, Comparison, Difference
 from ..questions.sides import Pair, Sides, kind
 from ..reading.files import write
 from .junit import Test, write_tests
-from .text import FORMS, in_json, write_json
-from .text import shown as value_text
+from .text import FORMS, in_json, shown, write_json
 
 MAX_LINES = 20
 # What the words of a line are, by its first one.
@@ -38,7 +37,7 @@ class Lines:
         in hexadecimal, two mixtures of x or z may be the same digit, X."""
         form: Optional[str] = self._asked.form
         is_alike = form and FORMS[form].is_alike and len({
-            value_text(one, form) for one in line[3:]}) < 2
+            shown(one, form) for one in line[3:]}) < 2
         return "binary" if is_alike else form
 
     def _text(self, line: Line) -> str:
@@ -47,7 +46,7 @@ class Lines:
         if what == "differs":
             fields[0] = self.times[0](fields[0])
             fields[2:] = [one if isinstance(one, str) and one in ("-", "triggered")
-                          else value_text(one, self._form(line)) for one in fields[2:]]
+                          else shown(one, self._form(line)) for one in fields[2:]]
         if what == "ends":
             fields = [None if end is None else text(end) for text, end in zip(self.times, fields)]
         return " ".join(map(str, [what, *("-" if one is None else one for one in fields)]))
@@ -93,7 +92,7 @@ class Lines:
         write_tests(self._asked.junit, "vcdkit-diff", tests)
 
 
-def shown(value: Optional[bytes], signal: Signal) -> Cell:
+def cell_of(value: Optional[bytes], signal: Signal) -> Cell:
     """Returns a value of a line; of an event whether it is triggered."""
     if signal.type == "event":
         return "triggered" if value else "-"
@@ -104,7 +103,7 @@ def lines_of(differences: Iterable[Difference]) -> List[Line]:
     """Returns the lines of differences of one time, in the order of their names; those of one name
     in the order of declaration."""
     return [("differs", one.times[0], one.pair.name,
-             *(shown(value, signal) for value, signal in zip(one.values, one.pair.signals)))
+             *(cell_of(value, signal) for value, signal in zip(one.values, one.pair.signals)))
             for one in sorted(differences, key=lambda one: (one.pair.name, one.pair.places))]
 
 

@@ -39,8 +39,8 @@ class Value(str):
     As in Verilog, it is true if one of its digits is 1. If it has an x or a z, it equals no number,
     is neither less nor greater than any, and int() of it raises ValueError. If two Values of
     different sizes are compared, the shorter one is extended as in a dump. As the key of a
-    dictionary, a Value is its text: use int() for its number. So it has to be in arithmetic, which
-    is refused (TypeError), as a text would be repeated or joined. Only `+` with a text joins."""
+    dictionary, a Value is its text. Arithmetic with it is refused (TypeError): use int() for its
+    number. Only `+` with a text joins."""
 
     __slots__ = ("_number",)  # what _known() says, once it was asked for
 

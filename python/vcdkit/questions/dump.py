@@ -24,22 +24,20 @@ class Dump(Source):
     """A dump: a file, an open file, its bytes, or what pick(), cut() and merge() make of others.
 
     A file may be compressed (gzip, xz, bzip2, zstd, or FST if fst2vcd is on the PATH), or a pipe;
-    "-" is standard input. Nothing is read before the first question. Each question reads the dump
-    again, except for the header. So a fault or an unknown name is raised by a question: DumpFault,
-    UnknownName, NoTimescale, UsageError or RunFailed, which are all VcdkitErrors.
+    "-" is standard input. Nothing is read before the first question, and each reads the dump again,
+    except for the header. It raises DumpFault, UnknownName, NoTimescale, UsageError or RunFailed.
 
     A time is a number of ticks, or a text with a unit, such as "115ns" or "1.5us". A name is a path
     of `signals`, or a scope, which stands for everything in it. Except for pick(), "q" stands for
-    "q[3:0]" if there is no other such path. Dictionaries have paths as keys. If
-    variables with different values have the same path, a blank and the code follow the path."""
+    "q[3:0]" if there is no other such path. Dictionaries have paths as keys, with a
+    blank and the code behind if variables with different values have one path."""
 
     def __init__(self, source: Union[str, "os.PathLike[str]", bytes, IO[Any]],
                  name: Optional[str] = None, token_limit: Optional[int] = None,
                  four_state: bool = False):
         """An open file is read to its end and kept in memory. `name` is what faults call the bytes.
         `token_limit` is the maximum length of a token in bytes (by default 1,048,576). With
-        `four_state`, a file is read through vcdkit-four-state, which converts the nine states of
-        VHDL."""
+        `four_state`, a file is read through vcdkit-four-state."""
         if hasattr(source, "read"):
             data, name = source.read(), name or str(getattr(source, "name", "(file)"))
             source = data.encode("utf-8", "surrogateescape") if isinstance(data, str) else data
@@ -92,8 +90,7 @@ class Dump(Source):
     def changes(self, name: str) -> Iterator[Tuple[int, Cell]]:
         """Returns the times, in ticks, and the values of one signal, as they come: one for each
         value that the dump writes, even if it is the same again. Each trigger of an event is a 1.
-        At a fault, those of the last time may not be all. Raises UnknownName if the name selects
-        nothing, and UsageError if it selects several."""
+        At a fault, those of the last time may not be all. It raises what dump[name] does."""
         signal = self[name]
         pairs = body.at_once(self.part([name]), signal.code.encode())
         return ((time, value_in(value, signal.size)) for time, value in pairs)

@@ -1,9 +1,8 @@
 """What a picture has room for: of each signal what its pixels show.
 
-A pixel is red if and only if the signal is x at some time of the pixel, and it is a block if and
-only if the signal changes there more than once. Of a block only that is kept, and not each change,
-so the work for a long dump is that of its text, and not that of its changes. The script of a page
-(page.html, eachPiece and blocksOf) draws the same for whatever time it shows."""
+A pixel is red if and only if the signal is x at some time of it, and a block if and only if the
+signal changes there more than once. Of a block only that is kept, so the work for a long dump is
+that of its text, not of its changes. The script of a page (eachPiece, blocksOf) draws the same."""
 import io
 import math
 from typing import BinaryIO, Dict, FrozenSet, Iterator, List, NamedTuple, Tuple

@@ -138,10 +138,9 @@ class Cells:
 
 def as_they_come(source: Source, names: List[str], columns: Sequence[Signal],
                  edges: Collection[body.Edge], only: Optional["Conditions"]) -> Iterator[Row]:
-    """Returns a row for each time that has one of some edges, with the values just before it; if
-    there is no edge, for each time at whose end a value of a column is another one than before it,
-    with the values at its end. With a condition, it returns only the rows at which that holds. The
-    names select all these signals."""
+    """Returns a row for each of some edges, with the values just before it; without edges, for each
+    time at whose end a value of a column is another one than before, with the values then. With a
+    condition, it returns only rows at which that holds. The names select all these signals."""
     codes = {one.code.encode() for one in columns}.union(only.over if only else ())
     holds = only.compiled() if only else None
     if only:

@@ -200,8 +200,7 @@ class _Pipe:
         return cast(BinaryIO, os.fdopen(reader, "rb"))
 
     def _pass_on(self, text: Headed, file: BinaryIO, to: BinaryIO) -> None:
-        """Writes the other header, and what comes behind that of a file; behind that a fault,
-        unless all of it is there."""
+        """Writes the other header and what is behind a file's own; then a fault if that fails."""
         with contextlib.suppress(BrokenPipeError), file, to:
             try:
                 front = header.front(file)

@@ -158,8 +158,7 @@ class Source:
     # Names.
 
     def __getitem__(self, name: str) -> Signal:
-        """Returns the one signal that a name selects. UnknownName if it selects nothing, UsageError
-        if it selects several."""
+        """Returns the one signal of a name; UnknownName if there is none, UsageError if several."""
         chosen = self.select(name)
         if len({one.code for one in chosen}) > 1:
             raise UsageError("%s: selects %d signals, where one is asked for: %s, .."
@@ -169,8 +168,7 @@ class Source:
     __iter__ = None  # else Python would look for [0], [1], ..
 
     def select(self, names: Names) -> List[Signal]:
-        """Returns the signals that names select, each once, in the order of the names. UnknownName
-        if one selects nothing."""
+        """Returns the signals that names select, each once, in their order; or UnknownName."""
         its = self.full(names)
         return list(self.places(its).values()) if its else []
 
@@ -270,8 +268,7 @@ class Source:
         return str(amount if amount.number <= LAST_TICK else self.ticks(time, is_up))
 
     def around(self: Its, time: Time, before: Time, after: Optional[Time] = None) -> Its:
-        """Returns the dump from `before` before a time to `after` after it. Without `after`, it is
-        the same on both sides."""
+        """Returns the dump from `before` before a time to `after`, else `before`, after it."""
         return self.cut(*self.window(time, before, after))
 
     def whole(self, *commands: str) -> Text:
