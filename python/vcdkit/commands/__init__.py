@@ -1,6 +1,5 @@
 """The commands vcdkit-diff, vcdkit-explain, .. : a module each, whose main() the shell calls. What
-only some of them need is imported where it is used, because each import takes a part of their
-start."""
+only some need is imported where it is used, because each import takes a part of their start."""
 import argparse
 import functools
 import io

@@ -1,5 +1,4 @@
-"""Dump: questions about one dump. What only some of them need is imported where it is used, because
-each import takes a part of a script's start."""
+"""Dump: questions about one dump, which import what only they need, as each import takes time."""
 import functools
 import importlib
 import os

@@ -144,9 +144,8 @@ Sides = Tuple[Side, Side]
 
 def sides_of(dumps: Sequence[Source], maps: Sequence[Map], names: Sequence[str],
              exceptions: Sequence[str]) -> Sides:
-    """Reads both dumps, at the same time, and chooses the signals that names select, all without
-    names, but for the exceptions. Fails if a dump lacks a name, or if both lack what a map or an
-    exception names."""
+    """Reads both dumps, at the same time, and chooses the signals that names select, as choose().
+    Fails if a dump lacks a name, or if both lack what a map or an exception names."""
     if len(maps) > 1:
         maps = originals(maps, [dump.signals.columns()[0] for dump in dumps])
     found: List[Any] = [None, None]

@@ -1,8 +1,7 @@
 """The lines of a body: what knows them is here.
 
 vcdkit writes on each line a timestamp, a command of a section, or a value: `0!`, `b101 !`,
-`r1.5 !`. The filters read what other programs write, and find its lines by the expressions at the
-end."""
+`r1.5 !`. Filters find the lines of other programs by the expressions at the end."""
 import contextlib
 import functools
 import io

@@ -36,7 +36,6 @@ FORMATS = (*PACKED, FST,
            Format((b"PK\x03\x04",), cause="a zip archive", remedy="unzip -p FILE | vcdkit check"))
 FRONT = 16  # bytes that tell the form of a file
 ENDINGS = ("vcd", *(one.ending for one in FORMATS if one.ending))
-# The names of files that are looked for as dumps.
 DUMP = re.compile(r"\.(vcd|%s)(\.(%s))?\Z" % (FST.ending, "|".join(one.ending for one in PACKED)),
                   re.IGNORECASE)
 

@@ -55,8 +55,7 @@ def is_vcdkit(program: str) -> bool:
     return said.startswith(b"vcdkit ")
 
 
-# What is no token of a dump, on a line of its own. It is not even an identifier code, which would
-# complete the change in which a program was killed.
+# No token of a dump, nor an identifier code, which would complete a change that was cut off.
 FAULT = b"\n\x01\n"
 
 
