@@ -66,7 +66,8 @@ class Bench(expressions.Random):
         self.widths: Dict[str, int] = {}
         self.meanings: Dict[str, str] = {}  # of a register: what it stands for
         self.is_wide = seed % 5 == 2
-        reals = [] if is_clocked or seed % 3 else self._reals()
+        # No register stands for stable() and changed() of a real number.
+        reals = [] if self.is_clocked or seed % 3 else self._reals()
         super().__init__(self.random, self._leaves(), reals,
                          self.is_clocked, *((200, "/ % **") if self.is_wide else (64, "")))
 
