@@ -1,10 +1,10 @@
 -- `compare`: where the values of two dumps differ, and what only one of them has (profile).
-use Rattle.std.specs.Prelude.{ℕ, ◌*◌, ◌/◌, Bool, true, false, not, cond, ◌&&◌, ◌||◌, ◌==◌, nat_lt, nat_le, is_none, is_some, List, [], ◌∷◌, ◌++◌, length, map, flat_map, filter, find, filter_map, count_by, decimal, codes, bytes_eq, Option, Some, None, option_map, Ok, Err}
-use Rattle.std.specs.List.{list_any}
+use Rattle.std.specs.Prelude.{ℕ, ◌*◌, ◌/◌, Bool, true, false, not, cond, ◌&&◌, ◌||◌, ◌==◌, nat_eq, nat_lt, nat_le, is_none, is_some, List, [], ◌∷◌, ◌++◌, length, map, flat_map, filter, find, filter_map, count_by, decimal, drop, codes, bytes_eq, Option, Some, None, option_map, Ok, Err}
+use Rattle.std.specs.List.{join_with_byte, list_any, starts_with}
 use Rattle.vcd_model.specs.Bytes.{is_empty}
 use Rattle.vcd_model.specs.Backward.{each}
 use Rattle.vcd_model.specs.Input.{Input}
-use Rattle.vcd_model.specs.Declarations.{IdCode, Variable, code_of}
+use Rattle.vcd_model.specs.Declarations.{IdCode, Variable, code_of, first_token}
 use Rattle.vcd_model.specs.Header.{Header}
 use Rattle.vcd_model.specs.HeadText.{words}
 use Rattle.vcd_model.specs.Scales.{scale_text}
@@ -47,17 +47,26 @@ pub record Asked : Type 0 where
 
 -- ---- which variables are compared
 
--- a variable with its path, and how many before it have the same path: two variables may share one
+-- the range of a variable, such as `[7:0]`: what stands behind its name, without the blanks
+abbrev pub range_of : Variable → List ℕ
+range_of v = filter (λ b. not (b == 32)) (drop (length (first_token v.reference)) (join_with_byte 32 v.reference))
+
+-- a variable with its path, and how many before it have the same path and the same range: several
+-- variables may share both
 pub record Named : Type 0 where
   pub path : List ℕ
   pub nth : ℕ
   pub variable : Variable
 
+-- the same path and the same range
+abbrev pub is_alike : Selected → Selected → Bool
+is_alike s u = bytes_eq u.path s.path && bytes_eq (range_of u.variable) (range_of s.variable)
+
 -- a variable that has these before it
 abbrev pub named_after : List Selected → Selected → Named
 named_after earlier s = record {
   path = s.path;
-  nth = count_by (λ u. bytes_eq u.path s.path) earlier;
+  nth = count_by (is_alike s) earlier;
   variable = s.variable;
 }
 
@@ -77,13 +86,51 @@ is_asked q path = (is_empty q.names || list_any (selects_path path) q.names) && 
 abbrev pub named : Asked → Header → List Named
 named q h = filter (λ v. is_asked q v.path) (all_named h)
 
--- the same path, and equally many before it with this path
-abbrev pub is_namesake : Named → Named → Bool
-is_namesake v w = bytes_eq v.path w.path && v.nth == w.nth
+-- the same range, and equally many before it with its path and its range
+abbrev pub same_place : Named → Named → Bool
+same_place v w = bytes_eq (range_of w.variable) (range_of v.variable) && w.nth == v.nth
+
+-- the element of a list that has no other
+abbrev pub the_only : List Named → Option Named
+the_only [] = None
+the_only (v ∷ []) = Some v
+the_only (v ∷ w ∷ vs) = None
+
+-- the only one of these variables that has this path
+abbrev pub only_at : List Named → List ℕ → Option Named
+only_at vs path = the_only (filter (λ w. bytes_eq w.path path) vs)
+
+-- one of the two has no range
+abbrev pub lacks_range : Named → Named → Bool
+lacks_range v w = is_empty (range_of v.variable) || is_empty (range_of w.variable)
+
+-- one variable, if the other is the only one of its path, and one of the two has no range
+abbrev pub lone : Option Named → Named → Option Named → Option Named
+lone own v None = None
+lone own v (Some w) = cond (is_some own && lacks_range v w) (Some w) None
+
+-- the first of two that is there
+abbrev pub first_of : Option Named → Option Named → Option Named
+first_of (Some v) other = Some v
+first_of None other = other
+
+-- What a variable of some is compared with: among others, the variable of this path that has the
+-- same range and as many of both before it. If there is none, but each of the two paths is that of
+-- only one variable, then it is this one, unless both have a range.
+abbrev pub counterpart : (ones others : List Named) → List ℕ → Named → Option Named
+counterpart ones others path v = first_of (find (λ w. bytes_eq w.path path && same_place v w) others) (lone (only_at ones v.path) v (only_at others path))
 
 -- the variable of the other dump that this one is compared with
-abbrev pub partner : List Named → Named → Option Named
-partner others v = find (is_namesake v) others
+abbrev pub partner : Header → Header → Named → Option Named
+partner one other v = counterpart (all_named one) (all_named other) v.path v
+
+-- the path and the range
+abbrev pub full_name : Named → List ℕ
+full_name v = v.path ++ range_of v.variable
+
+-- how lines name a variable: by its path, and by its range too if another one has the path
+abbrev pub name_in : Header → Named → List ℕ
+name_in h v = cond (is_some (only_at (all_named h) v.path)) v.path (full_name v)
 
 -- what two variables need to have in common: a real number may be declared with any size
 pub data Kind : Type 0 where
@@ -91,11 +138,11 @@ pub data Kind : Type 0 where
   Real : Kind
   Digits : (size : ℕ) → Kind
 
--- the kind of a variable
+-- the kind of a variable: it is a real number if its type begins with `real` or is `shortreal`
 abbrev pub kind_of : Variable → Kind
 kind_of v =
     cond (bytes_eq v.type (codes "event")) Event
-    (cond (bytes_eq v.type (codes "real") || bytes_eq v.type (codes "realtime")) Real
+    (cond (starts_with nat_eq v.type (codes "real") || bytes_eq v.type (codes "shortreal")) Real
     (Digits v.size))
 
 -- the two are of one kind
@@ -110,19 +157,19 @@ same_kind Real (Digits n) = false
 same_kind (Digits m) Event = false
 same_kind (Digits m) Real = false
 
--- a variable of the one dump with its path, and its partner in the other
+-- a variable of the one dump with the name that lines give it, and its partner in the other
 pub record Pair : Type 0 where
   pub path : List ℕ
   pub one : Variable
   pub other : Variable
 
 -- a variable with its partner
-abbrev pub pair_of : List Named → Named → Option Pair
-pair_of others v = option_map (λ w. record { path = v.path; one = v.variable; other = w.variable }) (partner others v)
+abbrev pub pair_of : Header → Header → Named → Option Pair
+pair_of one other v = option_map (λ w. record { path = name_in one v; one = v.variable; other = w.variable }) (partner one other v)
 
 -- all variables that both have, in the order of the one
 abbrev pub in_common : Asked → Header → Header → List Pair
-in_common q one other = filter_map (pair_of (named q other)) (named q one)
+in_common q one other = filter_map (pair_of one other) (named q one)
 
 -- the two are of one kind
 abbrev pub is_fit : Pair → Bool
@@ -138,7 +185,7 @@ unlike q one other = filter (λ p. not (is_fit p)) (in_common q one other)
 
 -- the variables of the one that the other does not have
 unfoldable pub alone : Asked → Header → Header → List Named
-alone q one other = filter (λ v. is_none (partner (named q other) v)) (named q one)
+alone q one other = filter (λ v. is_none (partner one other v)) (named q one)
 
 -- ---- values that match
 
@@ -237,7 +284,7 @@ changes_at s code t = list_any (λ e. gives_to code e.item && s.scale * e.time =
 
 -- ---- the lines
 
--- the line of a pair at a time: the time in ticks of the one dump, rounded down, the path, and both
+-- the line of a pair at a time: the time in ticks of the one dump, rounded down, the name, and both
 -- states
 abbrev pub value_line : Side → Side → Pair → ℕ → List ℕ
 value_line a b p t = words (codes "differs" ∷ decimal (t / a.scale) ∷ p.path
@@ -270,9 +317,9 @@ kind_shown Event = codes "event"
 kind_shown Real = codes "real"
 kind_shown (Digits n) = decimal n
 
--- a line for each variable that only this dump has
+-- a line for each variable that only this dump has, always with its range
 abbrev pub alone_lines : List ℕ → List Named → List ℕ
-alone_lines letter vs = flat_map (λ v. words (codes "alone" ∷ letter ∷ v.path ∷ [])) vs
+alone_lines letter vs = flat_map (λ v. words (codes "alone" ∷ letter ∷ full_name v ∷ [])) vs
 
 -- a line for each pair of different kinds
 abbrev pub unlike_lines : List Pair → List ℕ

@@ -1,14 +1,14 @@
 -- Two parts of one dump compared, such as the two inputs in what `merge` writes (profile).
-use Rattle.std.specs.Prelude.{ℕ, Bool, true, not, cond, ◌&&◌, ◌||◌, ◌==◌, nat_le, is_none, List, [], ◌∷◌, ◌++◌, length, drop, flat_map, filter, filter_map, find, codes, bytes_eq, Option, Some, None, option_map, Ok, Err}
+use Rattle.std.specs.Prelude.{ℕ, Bool, true, not, cond, ◌&&◌, ◌||◌, nat_le, nat_lt, is_none, List, [], ◌∷◌, ◌++◌, length, decimal, drop, flat_map, filter, filter_map, find, codes, Option, Some, None, option_map, Ok, Err}
 use Rattle.std.specs.List.{list_any}
 use Rattle.vcd_model.specs.Input.{Input}
 use Rattle.vcd_model.specs.Header.{Header}
-use Rattle.vcd_model.specs.Items.{BodyItem, marks}
+use Rattle.vcd_model.specs.Items.{BodyItem, marks, time_after}
 use Rattle.vcd_model.specs.Selection.{selects_path}
 use Rattle.vcd_model.specs.Cut.{is_mark_above}
 use Rattle.vcd_model.specs.Sample.{is_settled}
 use Rattle.vcd_model.specs.Outcome.{Opened, Outcome, fault_in, items_in, open_from}
-use Rattle.vcd_model.specs.Compare.{Asked, Named, Pair, Side, all_named, alone_lines, answer, ends_with, fault_after, in_order, is_fit, is_left_in, lines_at, unlike_lines}
+use Rattle.vcd_model.specs.Compare.{Asked, Named, Pair, Side, all_named, alone_lines, answer, counterpart, ends_with, fault_after, in_order, is_fit, is_left_in, lines_at, name_in, unlike_lines}
 
 -- two names: of a variable and of what it is compared with, or of two scopes whose variables are
 -- compared
@@ -19,23 +19,23 @@ Names = List ℕ × List ℕ
 abbrev pub rest_of : List ℕ → List ℕ → Option (List ℕ)
 rest_of name path = cond (selects_path path name) (Some (drop (length name) path)) None
 
--- the variable of this path that has so many of the same path before it
-abbrev pub at_path : Header → List ℕ → ℕ → Option Named
-at_path h path nth = find (λ w. bytes_eq w.path path && w.nth == nth) (all_named h)
+-- what a variable is compared with, at this path
+abbrev pub at_path : Header → List ℕ → Named → Option Named
+at_path h path v = counterpart (all_named h) (all_named h) path v
 
 -- the variables that the first name selects, each with the one whose path has the second name in
 -- place of the first
 abbrev pub places_of : Asked → Header → Names → List (Named × Option Named)
-places_of q h n = filter_map (λ v. option_map (λ r. (v, at_path h (n.1 ++ r) v.nth)) (rest_of n.0 v.path))
+places_of q h n = filter_map (λ v. option_map (λ r. (v, at_path h (n.1 ++ r) v)) (rest_of n.0 v.path))
     (filter (λ v. is_left_in q v.path) (all_named h))
 
 -- a variable that is not the only one of the two
-abbrev pub pair_at : Named × Option Named → Option Pair
-pair_at p = option_map (λ w. record { path = p.0.path; one = p.0.variable; other = w.variable }) p.1
+abbrev pub pair_at : Header → Named × Option Named → Option Pair
+pair_at h p = option_map (λ w. record { path = name_in h p.0; one = p.0.variable; other = w.variable }) p.1
 
 -- all pairs, in the order of the names, and of each in that of declaration
 abbrev pub pairs_in : Asked → Header → List Names → List Pair
-pairs_in q h ns = flat_map (λ n. filter_map pair_at (places_of q h n)) ns
+pairs_in q h ns = flat_map (λ n. filter_map (pair_at h) (places_of q h n)) ns
 
 -- the pairs whose values are compared
 abbrev pub compared_in : Asked → Header → List Names → List Pair
@@ -114,3 +114,48 @@ within q limit ns name input =
     over : List Opened → Outcome
     over [] = answer 0 []
     over (o ∷ os) = within_dump q ns name o
+
+-- ---- what is refused
+
+-- the name selects a variable
+abbrev pub selects_some : Header → List ℕ → Bool
+selects_some h name = list_any (λ v. selects_path v.path name) (all_named h)
+
+-- the first of all names that selects nothing, otherwise the first such exception
+abbrev pub unselected : Asked → Header → List Names → Option (List ℕ)
+unselected q h ns = find (λ name. not (selects_some h name)) (flat_map (λ n. n.0 ∷ n.1 ∷ []) ns ++ q.exceptions)
+
+-- a name that selects nothing
+abbrev pub refused : List ℕ → Outcome
+refused name = record { output = []; message = name ++ codes ": selects nothing"; status = 2 }
+
+-- the first time is after the end of the dump: these lines, but not how many pairs were compared
+abbrev pub late : (from last : ℕ) → List ℕ → Outcome
+late from last lines = record { output = lines; message = codes "--from: " ++ decimal from ++ codes " is after the end of the dump, " ++ decimal last; status = 2 }
+
+-- a dump with these items that has ended well
+abbrev pub at_end : Asked → Header → List Names → List BodyItem → List ℕ → Outcome
+at_end q h ns items lines = let last = time_after items in cond (nat_lt last q.from) (late q.from last lines) (answer_in q h ns lines)
+
+-- `within_dump`, unless the first time is after the end
+unfoldable pub from_dump : Asked → List Names → List ℕ → Opened → Outcome
+from_dump q ns name o =
+    let h = o.header in
+    let items = items_in o in
+    cond (ends_run q h ns items) (answer_in q h ns (within_open q h ns items))
+    (elim (fault_in o) [
+      | Some f ↦ fault_after (within_open q h ns items) name f
+      | None ↦ at_end q h ns items (within_open q h ns items ++ within_close q h ns items)
+    ])
+
+-- `within`, unless a name selects nothing, or the first time is after the end: what the program gives
+unfoldable pub comparison : Asked → ℕ → List Names → List ℕ → Input → Outcome
+comparison q limit ns name input =
+    elim (open_from limit [] (input ∷ [])) [
+      | Ok os ↦ over os
+      | Err e ↦ fault_after [] name e.1
+    ]
+  where
+    over : List Opened → Outcome
+    over [] = answer 0 []
+    over (o ∷ os) = elim (unselected q o.header ns) [ Some one ↦ refused one | None ↦ from_dump q ns name o ]
