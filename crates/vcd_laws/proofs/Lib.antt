@@ -19,6 +19,7 @@ mod MergeRows
 mod UnlikeRows
 pub mod CompareRows
 mod WithinRows
+mod StrobeRows
 mod SafeRows
 pub mod WordLemmas
 pub mod OpenedBodies
@@ -92,6 +93,7 @@ pub mod WholeWithin
 pub mod SameSides
 pub mod CompareInputs
 pub mod CompareOfMerge
+pub mod SameStrobes
 pub mod SuccessMatches
 pub mod MergedSuccess
 pub mod Cited

@@ -12,3 +12,4 @@ pub mod Final
 pub mod Due
 pub mod CompareMerged
 pub mod Matching
+pub mod Strobes

@@ -13,6 +13,7 @@ ghost use Rattle.vcd_laws.specs.OverCut.{ListOfCut, SampleOfCut, SampleOfCutAnyw
 ghost use Rattle.vcd_laws.specs.OverMerge.{ListOfMerge, SampleOfMerge, EdgesOfMerge, SampleOfOneMerged, SampleOfAllMerged, EdgesOfOneMerged, EdgesOfAllMerged, SampleOfAnyMerged, EdgesOfAnyMerged};
 ghost use Rattle.vcd_laws.specs.CompareMerged.{CompareOfMerge};
 ghost use Rattle.vcd_laws.specs.Matching.{SuccessIsAMatch, MergedSuccessIsAMatch};
+ghost use Rattle.vcd_laws.specs.Strobes.{NothingRevisedInStrobe, SameStrobes};
 ghost use Rattle.vcd_laws.specs.Counted.{CheckOfPick, CheckOfCut, CheckOfMerge};
 ghost use Rattle.vcd_laws.specs.Checked.{CheckedIsSafe, CheckNamesTheFault, CleanIsChecked, CheckedMergeIsSafe, MergeNamesTheFault};
 ghost use Rattle.vcd_laws.specs.Final.{SettledIsFinal, SettledIsFinalInMerge, SettledMergeIsFinal, SettledAloneSettlesMerge, UnsettledIsOpen, UnsettledMergeIsOpen};
@@ -274,6 +275,17 @@ pub fn compare_of_merge()
 /// the shorter one.
 pub fn merged_success_is_a_match()
     ensures { MergedSuccessIsAMatch }
+{}
+
+/// What a strobe has written is a prefix of what it writes if more items follow.
+pub fn nothing_revised_in_strobe()
+    ensures { NothingRevisedInStrobe }
+{}
+
+/// Two dumps with the same values just before their edges have the same lines of values at each
+/// edge, whatever happens between the edges, and whenever the edges are.
+pub fn same_strobes()
+    ensures { SameStrobes }
 {}
 
 /// `check` of what `pick` wrote counts the selected variables and what was kept of the body.

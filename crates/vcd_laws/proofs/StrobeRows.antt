@@ -1,0 +1,198 @@
+-- `strobe`: worked rows. `;` stands for a line feed.
+use Rattle.vcd_laws.proofs.Cited.{◌≡◌, ℕ, List, [], ◌∷◌, ◌++◌, codes, refl, true, false, String, Mark, Outcome, Want, outcome}
+use Rattle.vcd_laws.proofs.Computing.{model}
+use Rattle.vcd_laws.proofs.RowText.{at, dump, limit, written}
+use Rattle.vcd_model.specs.Strobe.{ClockName, strobe}
+
+-- the rising edges of t.c
+abbrev rise : List ClockName
+rise = (codes "t.c", false) ∷ []
+
+-- its falling edges
+abbrev fall : List ClockName
+fall = (codes "t.c", true) ∷ []
+
+-- what `strobe` gives for a dump on standard input
+abbrev of : List ClockName → String → String → String → Outcome
+of clocks name front body = strobe (record { clocks = clocks; names = codes name ∷ [] }) limit (codes "(stdin)") (dump front body)
+
+-- an output of a head and a body, a message, and a status
+abbrev gives : String → String → String → ℕ → Outcome
+gives head body message status = record { output = written head ++ written body; message = written message; status = status }
+
+-- a clock, its alias, a vector, an event, a real number and another clock
+abbrev front : String
+front = "$date today $end $timescale 1 ns $end $scope module t $end $var reg 1 ! c $end $var wire 1 ! also $end $var reg 4 \" q $end $var event 1 # e $end $var real 64 $ r $end $var reg 1 % d $end $upscope $end $enddefinitions $end;"
+
+-- what a head has for one name
+abbrev q_head : String
+q_head = "$scope module strobe $end;$var time 64 !! time $end;$upscope $end;$scope module t $end;$var reg 4 \" q $end;$upscope $end;$enddefinitions $end;"
+
+abbrev e_head : String
+e_head = "$scope module strobe $end;$var time 64 !! time $end;$upscope $end;$scope module t $end;$var event 1 # e $end;$upscope $end;$enddefinitions $end;"
+
+abbrev r_head : String
+r_head = "$scope module strobe $end;$var time 64 !! time $end;$upscope $end;$scope module t $end;$var real 64 $ r $end;$upscope $end;$enddefinitions $end;"
+
+abbrev c_head : String
+c_head = "$scope module strobe $end;$var time 64 !! time $end;$upscope $end;$scope module t $end;$var reg 1 ! c $end;$upscope $end;$enddefinitions $end;"
+
+-- t.q at the rising edges of t.c
+abbrev q : String → Outcome
+q body = of rise "t.q" front body
+
+abbrev q_gives : String → Outcome
+q_gives body = gives q_head body "" 0
+
+-- the value that a flip-flop takes: that before the edge, although the new one has the same time
+plain : q "#0;$dumpvars;0!;b0 \";$end;#5;1!;b1 \";#10;0!;#15;1!;" ≡ q_gives "#1;b101 !!;b0 \";#2;b1111 !!;b1 \";"
+unfolding model
+plain = refl
+
+-- no order within a time matters
+before_the_clock : q "#0;0!;b0 \";#5;b1 \";1!;#10;0!;#15;b10 \";1!;" ≡ q_gives "#1;b101 !!;b0 \";#2;b1111 !!;b1 \";"
+unfolding model
+before_the_clock = refl
+
+-- neither does a timestamp that is there twice
+twice : q "#0;0!;b0 \";#5;b1 \";#5;1!;#5;b10 \";" ≡ q_gives "#1;b101 !!;b0 \";"
+unfolding model
+twice = refl
+
+-- an edge is from 0 to 1 only
+from_x : q "#0;x!;b0 \";#5;1!;#10;0!;#15;x!;#20;1!;#25;z!;#30;0!;#35;1!;" ≡ q_gives "#1;b100011 !!;b0 \";"
+unfolding model
+from_x = refl
+
+-- no edge without a value before it
+first_value : q "#0;1!;b0 \";#5;1!;" ≡ q_gives ""
+unfolding model
+first_value = refl
+
+-- a clock that is written as a vector
+as_vector : q "#0;b0 !;b0 \";#5;b1 !;" ≡ q_gives "#1;b101 !!;b0 \";"
+unfolding model
+as_vector = refl
+
+-- a glitch of the clock is an edge, and two in one time are one
+clock_glitch : q "#0;0!;b0 \";#5;1!;b1 \";0!;1!;0!;#7;1!;" ≡ q_gives "#1;b101 !!;b0 \";#2;b111 !!;b1 \";"
+unfolding model
+clock_glitch = refl
+
+-- a glitch of a value between two edges leaves no line, nor does one within a time
+glitch : q "#0;0!;b1 \";#5;1!;#6;0!;b10 \";#7;b1 \";#8;b11 \";b1 \";#10;1!;" ≡ q_gives "#1;b101 !!;b1 \";#2;b1010 !!;"
+unfolding model
+glitch = refl
+
+-- equal values of different texts are the same
+widths : q "#0;0!;b1 \";#5;1!;#6;0!;b0001 \";#10;1!;#11;0!;bX \";#15;1!;#16;0!;bxxx \";#20;1!;" ≡ q_gives "#1;b101 !!;b1 \";#2;b1010 !!;#3;b1111 !!;bx \";#4;b10100 !!;"
+unfolding model
+widths = refl
+
+-- at the first time the values of a `$dumpvars` are from before, others are not
+at_start : q "#0;$dumpvars;0!;b1 \";$end;1!;b10 \";" ≡ q_gives "#1;b0 !!;b1 \";"
+unfolding model
+at_start = refl
+
+without_section : q "#0;0!;b1 \";1!;#3;0!;#5;1!;" ≡ q_gives "#1;b0 !!;#2;b101 !!;b1 \";"
+unfolding model
+without_section = refl
+
+-- a `$dumpvars` gives only first values from before its time, and only before the edge
+later_section : q "#0;0!;b1 \";#5;$dumpvars;b10 \";$end;1!;" ≡ q_gives "#1;b101 !!;b1 \";"
+unfolding model
+later_section = refl
+
+late_section : q "#0;0!;#5;1!;$dumpvars;b10 \";$end;#6;0!;#7;1!;" ≡ q_gives "#1;b101 !!;#2;b111 !!;b10 \";"
+unfolding model
+late_section = refl
+
+-- the first value comes after the first edge
+late : q "#0;0!;#5;1!;#6;0!;b1 \";#7;1!;" ≡ q_gives "#1;b101 !!;#2;b111 !!;b1 \";"
+unfolding model
+late = refl
+
+-- falling edges, and both
+falling : of fall "t.q" front "#0;0!;b0 \";#5;1!;#10;0!;b1 \";#15;1!;" ≡ q_gives "#1;b1010 !!;b0 \";"
+unfolding model
+falling = refl
+
+both : of ((codes "t.c", false) ∷ (codes "t.c", true) ∷ []) "t.q" front "#0;0!;b0 \";#5;1!;b1 \";#10;0!;#15;1!;" ≡ q_gives "#1;b101 !!;b0 \";#2;b1010 !!;b1 \";#3;b1111 !!;"
+unfolding model
+both = refl
+
+-- two clocks: edges at one time are one
+two_clocks : of ((codes "t.c", false) ∷ (codes "t.d", false) ∷ []) "t.q" front "#0;0!;0%;b0 \";#5;1!;b1 \";1%;#7;0%;#8;1%;" ≡ q_gives "#1;b101 !!;b0 \";#2;b1000 !!;b1 \";"
+unfolding model
+two_clocks = refl
+
+-- an alias is the same clock
+alias : of ((codes "t.also", false) ∷ []) "t.q" front "#0;0!;b0 \";#5;1!;" ≡ q_gives "#1;b101 !!;b0 \";"
+unfolding model
+alias = refl
+
+-- a gated clock has no edges for a while
+gated : q "#0;0!;b0 \";#5;1!;#6;0!;b1 \";#100;b10 \";#105;1!;#106;0!;" ≡ q_gives "#1;b101 !!;b0 \";#2;b1101001 !!;b10 \";"
+unfolding model
+gated = refl
+
+-- the clock itself
+itself : of rise "t.c" front "#0;0!;#5;1!;#10;0!;#15;1!;" ≡ gives c_head "#1;b101 !!;0!;#2;b1111 !!;" "" 0
+unfolding model
+itself = refl
+
+-- no edge at all, no item at all
+no_edge : q "#0;0!;b0 \";#5;b1 \";#10;" ≡ q_gives ""
+unfolding model
+no_edge = refl
+
+-- `$dumpoff` gives x: what `$dumpon` gives then is no edge
+off : q "#0;0!;b0 \";#5;1!;#10;$dumpoff;x!;bx \";$end;#20;$dumpon;1!;b1 \";$end;#25;0!;#30;1!;" ≡ q_gives "#1;b101 !!;b0 \";#2;b11110 !!;b1 \";"
+unfolding model
+off = refl
+
+-- an event shows at the next edge, one of the edge's time at the one after that
+events : of rise "t.e" front "#0;0!;#2;1#;#3;1#;#5;1#;1!;1#;#10;0!;#15;1!;#20;0!;#25;1!;" ≡ gives e_head "#1;b101 !!;1#;#2;b1111 !!;1#;#3;b11001 !!;" "" 0
+unfolding model
+events = refl
+
+-- in a section it is not triggered
+event_inside : of rise "t.e" front "#0;$dumpvars;0!;1#;$end;#5;1!;#6;$dumpall;1#;$end;0!;#9;1!;" ≡ gives e_head "#1;b101 !!;#2;b1001 !!;" "" 0
+unfolding model
+event_inside = refl
+
+-- real numbers: other texts are other values
+reals : of rise "t.r" front "#0;0!;r1.5 $;#5;1!;#6;0!;r1.50 $;#7;1!;#8;0!;r1.50 $;#9;1!;" ≡ gives r_head "#1;b101 !!;r1.5 $;#2;b111 !!;r1.50 $;#3;b1001 !!;" "" 0
+unfolding model
+reals = refl
+
+-- a fault: the edges before it are there, also one of its time
+fault : q "#0;0!;b1 \";#5;1!;?" ≡ gives q_head "#1;b101 !!;b1 \";" "(stdin):7: unknown command" 2
+unfolding model
+fault = refl
+
+-- a dump that was cut off
+cut_off : q "#0;0!;b1 \";#5;1!;#6;b1" ≡ gives q_head "#1;b101 !!;b1 \";" "(stdin):8: unexpected end of input" 2
+unfolding model
+cut_off = refl
+
+-- the greatest time, and one that is too large
+greatest : q "#0;0!;b1 \";#18446744073709551615;1!;#18446744073709551616;" ≡ gives q_head "#1;b1111111111111111111111111111111111111111111111111111111111111111 !!;b1 \";" "(stdin):7: bad time" 2
+unfolding model
+greatest = refl
+
+-- no clock: of several bits, an event, of no such name
+no_clock : of ((codes "t.q", false) ∷ []) "t.q" front "#0;" ≡ gives "" "" "no clock of one bit: t.q" 2
+unfolding model
+no_clock = refl
+
+no_such : of ((codes "t.x", false) ∷ []) "t.q" front "#0;" ≡ gives "" "" "no clock of one bit: t.x" 2
+unfolding model
+no_such = refl
+
+-- a window by time is a cut: an edge at its first time has the values from before it
+window : strobe (record { clocks = rise; names = codes "t.q" ∷ [] }) limit (codes "(stdin)")
+    (record { bytes = (outcome (Want.Cut (at 5) (at 10)) limit (codes "(stdin)" ∷ []) (dump front "#0;0!;b0 \";#3;b1 \";#5;1!;b10 \";#7;0!;#9;1!;#11;0!;#12;1!;" ∷ [])).output; mark = Mark.Clean })
+    ≡ q_gives "#1;b101 !!;b1 \";#2;b1001 !!;b10 \";"
+unfolding model
+window = refl
