@@ -73,6 +73,10 @@ module _ (xs ys : List ℕ) (size : ℕ) where
   pub differ_at_longest : (n : ℕ) → n ≡ max (length xs) (length ys) → max size (length xs) ≡ max size (length ys) → (r : Bool) → Decides r (extend xs n ≡ extend ys n) → not r ≡ not (bytes_eq (extend xs size) (extend ys size))
   differ_at_longest n is fill r d = test_is r (same_at_longest n is fill r d)
 
+-- digits that do not fill one size differ
+pub other_sizes : (xs ys : List ℕ) (size : ℕ) → max size (length xs) ≢ max size (length ys) → extend xs size ≢ extend ys size
+other_sizes xs ys size apart e = apart (sym (length_extended xs size) ∙ ap length e ∙ length_extended ys size)
+
 -- they differ
 pub differ_for : (xs ys : List ℕ) (size : ℕ) → extend xs size ≢ extend ys size → true ≡ not (bytes_eq (extend xs size) (extend ys size))
 differ_for xs ys size other = test_is xs ys size false ((λ f. absurd (let g : false ≡ true = f in cc)), λ same. absurd (other same))

@@ -1,5 +1,5 @@
 -- What the slots of two codes tell of their values.
-use Rattle.vcd_body.proofs.Cited.{◌≡◌, ◌≢◌, ℕ, zero, suc, ◌+◌, ◌-◌, ◌*◌, ◌/◌, ◌%◌, ◌<◌, ◌≤◌, ◌==◌, max, min, cond, true, List, take, drop, slice_get, Option, Some, None, refl, sym, ap, subst, ◌∙◌, arith, Decides, eq-eqb, eqb-true, le-leb, bytes_eq-Decides, Value, extend, binary_digits, count_in, is_proper, number_in, IsLaidOut, held_at, Held, last_digit_in, value_at_size, held_by, holding_of, len_in, one_digit, some_by, state_in, used, Slot, State, Table}
+use Rattle.vcd_body.proofs.Cited.{◌≡◌, ◌≢◌, ℕ, zero, suc, ◌+◌, ◌-◌, ◌*◌, ◌/◌, ◌%◌, ◌<◌, ◌≤◌, ◌==◌, max, min, cond, true, List, take, drop, slice_get, Option, Some, None, refl, sym, ap, subst, ◌∙◌, arith, Decides, bytes_eq, eq-eqb, eqb-true, le-leb, bytes_eq-Decides, Value, extend, binary_digits, count_in, is_proper, number_in, IsLaidOut, held_at, Held, last_digit_in, value_at_size, held_by, holding_of, len_in, one_digit, some_by, state_in, used, Slot, State, Table}
 use Rattle.vcd_body.specs.declared.values.slot.State.TheVariants as state
 use Rattle.vcd_body.proofs.BinaryLemmas.{proper, proper_count}
 use Rattle.vcd_body.proofs.CompareLemmas.{last_of_state}
@@ -95,14 +95,16 @@ module _ (t : Table) (one other : ℕ) (s u : Slot) (laid : IsLaidOut t) (at : s
   digits_are : (k : ℕ) (v : Slot) (x : IsOfSlot t k v) → 7 ≤ v.tag → held_at t k ≡ Held.Digits (binary_digits (count_in (len_in v.tag v.number x.upper)) (number_in (len_in v.tag v.number x.upper)))
   digits_are k v x many = x.is ∙ ap (λ (st : State). held_by st (len_in v.tag v.number x.upper) x.bytes) (many_bits v.tag many)
 
-  pub number_told : 7 ≤ s.tag → s.tag ≡ u.tag → s.number < 4294967296 → u.number < 4294967296 → (size : ℕ) → Decides (s.number == u.number) (value_at_size size (held_at t one) ≡ value_at_size size (held_at t other))
-  number_told many same low less size = (
+  -- two numbers that fill one size
+  pub number_told : 7 ≤ s.tag → 7 ≤ u.tag → (size : ℕ) → max size (min 32 (s.tag - 7)) ≡ max size (min 32 (u.tag - 7)) → s.number < 4294967296 → u.number < 4294967296 → Decides (s.number == u.number) (value_at_size size (held_at t one) ≡ value_at_size size (held_at t other))
+  number_told many many_too size same low less = (
     λ yes.
-        let equal = eqb-true s.number u.number yes in
-        ap (value_at_size size) (first ∙ ap (λ k. Held.Digits (binary_digits k (number_in la))) as_many ∙ ap (λ k. Held.Digits (binary_digits (count_in lb) k)) (own.1 ∙ equal ∙ sym its.1) ∙ sym second),
+        let numbers = eq-eqb (number_in la) (number_in lb) (own.1 ∙ eqb-true s.number u.number yes ∙ sym its.1) in
+        let digits = (bytes_eq-Decides (extend xs size) (extend ys size)).0 (sym told ∙ numbers) in
+        ap (value_at_size size) first ∙ ap (λ (l : List ℕ). Some (Value.Bits l)) digits ∙ sym (ap (value_at_size size) second),
     λ same_value.
         let digits = same_bits (extend xs size) (extend ys size) (sym (ap (value_at_size size) first) ∙ same_value ∙ ap (value_at_size size) second) in
-        let numbers = eqb-true (number_in la) (number_in lb) (numbers_differ (count_in la) (count_in lb) (number_in la) (number_in lb) size (proper_count la proper_one) (proper_count lb proper_other) (proper_number la proper_one) (proper_number lb proper_other) (ap (max size) as_many) ∙ (bytes_eq-Decides (extend xs size) (extend ys size)).1 digits) in
+        let numbers = eqb-true (number_in la) (number_in lb) (told ∙ (bytes_eq-Decides (extend xs size) (extend ys size)).1 digits) in
         eq-eqb s.number u.number (sym own.1 ∙ numbers ∙ its.1),
   )
     where
@@ -124,17 +126,14 @@ module _ (t : Table) (one other : ℕ) (s u : Slot) (laid : IsLaidOut t) (at : s
       ys : List ℕ
       ys = binary_digits (count_in lb) (number_in lb)
 
-      many_too : 7 ≤ u.tag
-      many_too = omega (arith, many, same)
-
       own : (count_in la ≡ min 32 (s.tag - 7)) × (number_in la ≡ s.number)
       own = parts s.tag s.number a.upper many low
 
       its : (count_in lb ≡ min 32 (u.tag - 7)) × (number_in lb ≡ u.number)
       its = parts u.tag u.number b.upper many_too less
 
-      as_many : count_in la ≡ count_in lb
-      as_many = own.0 ∙ ap (λ k. min 32 (k - 7)) same ∙ sym its.0
+      fill : max size (count_in la) ≡ max size (count_in lb)
+      fill = ap (max size) own.0 ∙ same ∙ sym (ap (max size) its.0)
 
       first : held_at t one ≡ Held.Digits xs
       first = digits_are one s a many
@@ -147,3 +146,6 @@ module _ (t : Table) (one other : ℕ) (s u : Slot) (laid : IsLaidOut t) (at : s
 
       proper_other : is_proper lb ≡ true
       proper_other = proper lb (subst (λ (st : State). 1 ≤ some_by st lb) (many_bits u.tag many_too) b.some)
+
+      told : (number_in la == number_in lb) ≡ bytes_eq (extend xs size) (extend ys size)
+      told = numbers_differ (count_in la) (count_in lb) (number_in la) (number_in lb) size (proper_count la proper_one) (proper_count lb proper_other) (proper_number la proper_one) (proper_number lb proper_other) fill

@@ -7,7 +7,7 @@
 //!   digits in a share, four to a byte
 //! - `held`: the digits of a held value; `compare`: whether that of a change differs; `several`:
 //!   several digits that are set over several others; `step`: `Step`, what became of a value;
-//!   `same`: whether two codes hold the same
+//!   `same`: whether two codes have the same value
 //! - `table_text`, `held_text`: `put_short`, `put_full`: the line of a held value
 
 pub(crate) mod bits;

@@ -25,6 +25,28 @@ fn places_differ(held: HeldValue<'_>, text: &[u8]) -> bool
     false
 }
 
+/// Returns whether digits are the same as others, both extended to `size` digits, which is at least
+/// their numbers.
+pub(crate) fn are_alike<D: Digits, E: Digits>(one: D, other: E, size: usize) -> bool
+    requires one_fits { length (D.digits one) ≤ size }
+    requires other_fits { length (E.digits other) ≤ size }
+    ensures { Decides result (extend (D.digits one) size ≡ extend (E.digits other) size) }
+{
+    let own = Extended { digits: one, size };
+    let its = Extended {
+        digits: other,
+        size,
+    };
+    let mut index = size;
+    while index > 0 {
+        index -= 1;
+        if own.digit(index) != its.digit(index) {
+            return false;
+        }
+    }
+    true
+}
+
 /// Returns whether a held value, which has to be one of digits, and a text of digits are the same,
 /// both extended to `size` digits, which is at least their lengths.
 fn are_same(held: HeldValue<'_>, text: &[u8], size: usize) -> bool
@@ -36,19 +58,7 @@ fn are_same(held: HeldValue<'_>, text: &[u8], size: usize) -> bool
     if places_differ(held, text) {
         return false;
     }
-    let own = Extended { digits: held, size };
-    let other = Extended {
-        digits: Lower { text },
-        size,
-    };
-    let mut index = size;
-    while index > 0 {
-        index -= 1;
-        if own.digit(index) != other.digit(index) {
-            return false;
-        }
-    }
-    true
+    are_alike(held, Lower { text }, size)
 }
 
 /// Returns whether the held value, which has to be one of digits, and a text of digits differ once
