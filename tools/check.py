@@ -1,6 +1,5 @@
 #!/usr/bin/env python3
-"""check.py [--write] [FILE..]: runs the commands that pages and tests show, and compares what they
-print.
+"""check.py [FILE..]: runs the commands that pages and tests show, and compares what they print.
 
 In each ```console block of a page (without arguments, of DOCUMENTS), bash runs each line that
 begins with a dollar sign and a blank, in the top directory of the repository. The lines below it,
@@ -12,9 +11,7 @@ in what is printed, its name is $T. If a block begins with ```console PROGRAM ..
 programs (or modules of Python) is missing, the block is skipped, and the last line of the output
 says so.
 
-A table below a line <!-- made by: COMMAND --> has to be what the command prints. With --write, such
-tables are written anew, and nothing else is checked. What other tables name has to be in the crates
-(contracts.py says which tables and what they may name).
+What tables name has to be in the crates (contracts.py says which tables and what they may name).
 
 A file of tests, whose name ends in .console, is one block. A command behind `1$ ` has to end with
 status 1, and one behind `$ ` with status 0. A pipe fails if any part of it does (pipefail).
@@ -43,7 +40,6 @@ DOCUMENTS = ["README.md", "docs/TUTORIAL.md", "docs/FAQ.md", "docs/MANUAL.md",
 PROGRAM = os.path.abspath(os.path.join(TOP, os.environ.get("VCDKIT") or "vcdkit"))
 SECONDS = 300
 START = re.compile(r"([0-9]*)\$ (.*)")
-MADE = re.compile(r"(?m)^<!-- made by: (.*) -->\n((?:\|.*\n)*)")
 
 
 def commands_of(document):
@@ -97,25 +93,6 @@ def text_of(document):
         return file.read()
 
 
-def tables_of(document):
-    """The tables of a document that a command makes, as commands_of returns commands."""
-    text = text_of(document)
-    return [[text.count("\n", 0, made.start()) + 1, made[1], made[2].splitlines(), [], None]
-            for made in MADE.finditer(text)]
-
-
-def write(documents):
-    """Writes the tables of these documents anew that a command makes, and returns the status."""
-    for document in documents:
-        with tempfile.TemporaryDirectory() as folder:
-            text = MADE.sub(lambda made: "\n".join(
-                ["<!-- made by: %s -->" % made[1], *printed_by(made[1], folder, folder, None), ""]),
-                text_of(document))
-        with open(os.path.join(TOP, document), "w", encoding="utf-8") as file:
-            file.write(text)
-    return 0
-
-
 def check(documents, programs):
     """Runs the commands of these documents, with the directory of the programs first on the PATH,
     and returns the exit status."""
@@ -125,8 +102,7 @@ def check(documents, programs):
             faults += 1
             print("%s:%d: %s" % (document, number, fault))
         with tempfile.TemporaryDirectory() as folder:
-            commands = commands_of(document) + tables_of(document)
-            for number, command, expected, needs, status in commands:
+            for number, command, expected, needs, status in commands_of(document):
                 absent = {program for program in needs
                           if not shutil.which(program) and not importlib.util.find_spec(program)}
                 if absent:
@@ -145,8 +121,6 @@ def check(documents, programs):
 
 
 def main(documents):
-    if documents[:1] == ["--write"]:
-        return write(documents[1:])
     folder, name = os.path.split(PROGRAM)
     compare = os.path.join(folder, name.replace("vcdkit", "vcdkit-compare", 1))
     with tempfile.TemporaryDirectory() as programs:

@@ -1,6 +1,6 @@
 #!/usr/bin/env python3
 """edits.py [--table] [CRATE..]: prints the must-fail edits of these crates, or of all. With
---table, it prints the table that `tools/check.py --write docs/PROOFS.md` puts into this page.
+--table, it prints a table in which tools/contracts.py looks for functions and clauses.
 
 An edit is a file crates/CRATE/must-fail/NAME.edit. Its first line says what the wrong code does,
 and which clause of which function rejects it, in one of these forms:
