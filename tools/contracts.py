@@ -1,5 +1,6 @@
 #!/usr/bin/env python3
-"""contracts.py NAME..: prints where these functions are, and the clauses of their contracts.
+"""contracts.py NAME..: prints where these functions are, or all functions of these crates, and the
+clauses of their contracts.
 contracts.py PAGE.md..: looks for what the tables of these pages name.
 
 In a table with the columns "function" and "clause", each function has to be in the crate before its
@@ -128,10 +129,12 @@ class Sources:
 
     def named(self, name: str, crate: str = "") -> "List[Function]":
         """Returns the functions `NAME` or `TYPE::NAME`, of this crate or of all, or of the crate
-        that stands before the name; for the name of a type or trait, all that belongs to it."""
+        that stands before the name; for the name of a type or trait, all that belongs to it; for
+        that of a crate, its functions that have clauses."""
         front, _, rest = name.partition("::")
         if front in self.functions:
-            return self.named(rest, front)
+            return self.named(rest, front) if rest else [
+                one for one in self.functions[front] if one.name and one.clauses]
         owner, _, last = name.rpartition("::")
         crates = [crate] if crate else list(self.functions)
         among = [one for each in crates for one in self.functions.get(each, [])]
