@@ -57,8 +57,8 @@ static inline int run(const char *const *words, size_t count, const char *name) 
         free(out);
         if (!(out = malloc(room)))
             return 3;
-        status = vcdkit_run(lent, count, (const uint8_t *)"", 0, &file, 1, seed(), out, room, &used, err,
-                            sizeof err, &said);
+        status = vcdkit_run(lent, count, (const uint8_t *)"", 0, &file, 1, seed(), out, room, &used,
+                            err, sizeof err, &said);
     } while (status != 4 && used > room);
     if (status != 4) {
         fwrite(out, 1, used, stdout);
