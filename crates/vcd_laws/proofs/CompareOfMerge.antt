@@ -1,10 +1,10 @@
 -- The two inputs in what `merge` wrote compared, and the two inputs themselves.
-use Rattle.vcd_laws.proofs.Cited.{◌≡◌, ℕ, ◌*◌, ◌≤◌, ◌==◌, min, Bool, true, false, cond, ◌&&◌, ◌||◌, nat_lt, nat_le, List, [], ◌∷◌, ◌++◌, length, map, filter, filter_map, flat_map, codes, bytes_eq, Option, Some, None, option_map, inl, inr, refl, sym, ap, ◌∙◌, subst, arith, AllByRecursion, list_any, cons_option, append-nil, length-map, mul-le-mul_left, and_parts, leb-true, le-leb, ltb-true, eq-eqb, eqb-true, each_after, Input, code_of, Header, BodyItem, time_after, Keyed, Dump, factor, headers_of, merged_items, merge_kept, greatest_mark, Opened, items_in, dumps_of, Want, outcome, merged_codes, parts_items, input_of, AreReadable, input_scope, Asked}
+use Rattle.vcd_laws.proofs.Cited.{◌≡◌, ℕ, ◌*◌, ◌≤◌, ◌==◌, min, Bool, true, false, cond, ◌&&◌, ◌||◌, nat_lt, nat_le, List, [], ◌∷◌, ◌++◌, length, map, filter, filter_map, flat_map, codes, bytes_eq, Option, Some, None, option_map, inl, inr, refl, sym, ap, ◌∙◌, subst, arith, AllByRecursion, list_any, cons_option, append-nil, length-map, mul-le-mul_left, and_parts, leb-true, le-leb, ltb-true, eq-eqb, eqb-true, each_after, Input, code_of, Header, BodyItem, time_after, Keyed, Dump, factor, headers_of, merged_items, merge_kept, greatest_mark, Opened, items_in, dumps_of, Want, outcome, merged_codes, parts_items, input_of, AreReadable, append_assoc, input_scope, is_some, under_input, find, Asked}
 use Rattle.std.proofs.lemmas.List.Folds.{flat_map-map}
 use Rattle.vcd_model.specs.Items.{marks}
 use Rattle.vcd_model.specs.HeadText.{words}
 use Rattle.vcd_model.specs.Selection.{selected}
-use Rattle.vcd_model.specs.Compare.{Kind, Named, Pair, Side, all_named, alone, alone_lines, answer, changes_at, in_common, in_order, is_fit, is_past, kind_of, lines_at, marks_of, named, named_after, pair_of, pairs, partner, same_kind, state_at, times, unlike, unlike_lines, kind_shown, is_asked, is_namesake}
+use Rattle.vcd_model.specs.Compare.{Kind, Named, Pair, Side, all_named, alone, alone_lines, answer, changes_at, counterpart, first_of, full_name, in_common, in_order, is_fit, is_past, kind_of, lacks_range, lines_at, lone, marks_of, name_in, named, named_after, only_at, pair_of, pairs, partner, range_of, same_kind, same_place, state_at, the_only, times, unlike, unlike_lines, kind_shown, is_asked}
 use Rattle.vcd_model.specs.Within.{alone_in, compared_in, side, times_in, turned, unlike_in, within, within_head}
 use Rattle.vcd_laws.specs.CompareMerged.{CompareOfMerge, alone_in_style, asked_of_merge, both_inputs, lines_in_style, merged_style, side_of, unlike_in_style, values_in_style}
 use Rattle.vcd_laws.proofs.MergeDumps.{headers_are}
@@ -33,27 +33,58 @@ named_from done [] v i = absurd i
 named_from done (s ∷ ss) v (inl e) = (s, inl refl, ap (λ (x : Named). x.variable) e)
 named_from done (s ∷ ss) v (inr i) = let f = named_from (done ++ s ∷ []) ss v i in (f.0, inr f.1, f.2)
 
-named_code : (q : Asked) (h : Header) (v : Named) → CanMerge h → In v (named q h) → In (code_of v.variable) h.codes
-named_code q h v can i =
-    let f = named_from [] (selected [] h.declarations) v (from_filter (λ w. is_asked q w.path) (all_named h) v i).0 in
+named_code : (h : Header) (v : Named) → CanMerge h → In v (all_named h) → In (code_of v.variable) h.codes
+named_code h v can i =
+    let f = named_from [] (selected [] h.declarations) v i in
     subst (λ x. In (code_of x) h.codes) (sym f.2) (code_in h [] f.0 can f.1)
 
-pair_from : (others vs : List Named) (p : Pair) → In p (filter_map (pair_of others) vs)
-    → (v : Named) × (w : Named) × In v vs × In w others
-    × (p ≡ record { path = v.path; one = v.variable; other = w.variable })
-pair_from others [] p i = absurd i
-pair_from others (v ∷ vs) p i = by_partner (partner others v) refl i (pair_from others vs p)
+-- a counterpart is one of the others
+counterpart_in : (ones others : List Named) (path : List ℕ) (v w : Named) → counterpart ones others path v ≡ Some w → In w others
+counterpart_in ones others path v w e = by_found (find (λ x. bytes_eq x.path path && same_place v x) others) refl e
   where
-    by_partner : (o : Option Named) → partner others v ≡ o
-        → In p (cons_option (option_map (λ w. record { path = v.path; one = v.variable; other = w.variable }) o)
-        (filter_map (pair_of others) vs))
-        → (In p (filter_map (pair_of others) vs) → (x : Named) × (w : Named) × In x vs × In w others
-        × (p ≡ record { path = x.path; one = x.variable; other = w.variable }))
-        → (x : Named) × (w : Named) × In x (v ∷ vs) × In w others
-        × (p ≡ record { path = x.path; one = x.variable; other = w.variable })
+    only_in : (vs : List Named) (x : Named) → the_only vs ≡ Some x → In x vs
+    only_in [] x f = cc
+    only_in (y ∷ []) x f = let same : x ≡ y = cc in inl same
+    only_in (y ∷ z ∷ vs) x f = cc
+
+    lone_is : (own o : Option Named) → lone own v o ≡ Some w → o ≡ Some w
+    lone_is own None f = cc
+    lone_is own (Some x) f = by_test (is_some own && lacks_range v x) f
+      where
+        by_test : (b : Bool) → cond b (Some x) None ≡ Some w → Some x ≡ Some w
+        by_test true g = g
+        by_test false g = cc
+
+    by_found : (o : Option Named) → find (λ x. bytes_eq x.path path && same_place v x) others ≡ o
+        → first_of o (lone (only_at ones v.path) v (only_at others path)) ≡ Some w → In w others
+    by_found None f g = (from_filter (λ x. bytes_eq x.path path) others w
+        (only_in (filter (λ x. bytes_eq x.path path) others) w (lone_is (only_at ones v.path) (only_at others path) g))).0
+    by_found (Some x) f g = (from_find (λ x. bytes_eq x.path path && same_place v x) others w (f ∙ g)).0
+
+pair_from : (one other : Header) (vs : List Named) (p : Pair) → In p (filter_map (pair_of one other) vs)
+    → (v : Named) × (w : Named) × In v vs × In w (all_named other)
+    × (p ≡ record { path = name_in one v; one = v.variable; other = w.variable })
+pair_from one other [] p i = absurd i
+pair_from one other (v ∷ vs) p i = by_partner (partner one other v) refl i (pair_from one other vs p)
+  where
+    by_partner : (o : Option Named) → partner one other v ≡ o
+        → In p (cons_option (option_map (λ w. record { path = name_in one v; one = v.variable; other = w.variable }) o)
+        (filter_map (pair_of one other) vs))
+        → (In p (filter_map (pair_of one other) vs) → (x : Named) × (w : Named) × In x vs × In w (all_named other)
+        × (p ≡ record { path = name_in one x; one = x.variable; other = w.variable }))
+        → (x : Named) × (w : Named) × In x (v ∷ vs) × In w (all_named other)
+        × (p ≡ record { path = name_in one x; one = x.variable; other = w.variable })
     by_partner None e j more = let m = more j in (m.0, m.1, inr m.2, m.3, m.4)
-    by_partner (Some w) e (inl same) more = (v, w, inl refl, (from_find (is_namesake v) others w e).0, same)
+    by_partner (Some w) e (inl same) more = (v, w, inl refl, counterpart_in (all_named one) (all_named other) v.path v w e, same)
     by_partner (Some w) e (inr j) more = let m = more j in (m.0, m.1, inr m.2, m.3, m.4)
+
+-- the full name of a variable in a merge
+full_under : (n : ℕ) (v : Named) → under_input n v.path ++ range_of v.variable ≡ under_input n (full_name v)
+full_under n v = append_assoc (input_scope n) (46 ∷ v.path) (range_of v.variable)
+
+flat_map_same : {X Y : Type 0} (f g : X → List Y) (xs : List X) → ((x : X) → f x ≡ g x) → flat_map f xs ≡ flat_map g xs
+flat_map_same f g [] same = refl
+flat_map_same f g (x ∷ xs) same = rw (same x, flat_map_same f g xs same) refl
 
 even_kinds : (x y r s : Bool) (m n : ℕ)
     → same_kind (cond x Kind.Event (cond r Kind.Real (Kind.Digits m))) (cond y Kind.Event (cond s Kind.Real (Kind.Digits n))) ≡ true
@@ -82,10 +113,10 @@ pairs_known : (q : Asked) (one other : Header) (p : Pair) → CanMerge one → C
 unfolding pairs
 pairs_known q one other p can can' i =
     let f = from_filter is_fit (in_common q one other) p i in
-    let g = pair_from (named q other) (named q one) p f.0 in
+    let g = pair_from one other (named q one) p f.0 in
     record {
-      first = subst (λ (x : Pair). In (code_of x.one) one.codes) (sym g.4) (named_code q one g.0 can g.2);
-      second = subst (λ (x : Pair). In (code_of x.other) other.codes) (sym g.4) (named_code q other g.1 can' g.3);
+      first = subst (λ (x : Pair). In (code_of x.one) one.codes) (sym g.4) (named_code one g.0 can (from_filter (λ w. is_asked q w.path) (all_named one) g.0 g.2).0);
+      second = subst (λ (x : Pair). In (code_of x.other) other.codes) (sym g.4) (named_code other g.1 can' g.3);
       even = fit_even p f.1;
     }
 
@@ -268,12 +299,16 @@ module _ (q : Asked) (limit : ℕ) (names : List (List ℕ)) (inputs : List Inpu
       ≡ alone_in_style merged_style (codes "A") 1 (alone q o.header p.header)
       = append-nil (alone_lines (codes "A") (alone_in asked k (input_scope 1, input_scope 2)))
       ∙ ap (alone_lines (codes "A")) paired.first
-      ∙ flat_map-map (λ v. words (codes "alone" ∷ codes "A" ∷ v.path ∷ [])) (named_in [] o.header) (alone q o.header p.header) in
+      ∙ flat_map-map (λ v. words (codes "alone" ∷ codes "A" ∷ full_name v ∷ [])) (named_in [] o.header) (alone q o.header p.header)
+      ∙ flat_map_same (λ v. words (codes "alone" ∷ codes "A" ∷ full_name (named_in [] o.header v) ∷ [])) (λ v. words (codes "alone" ∷ codes "A" ∷ under_input 1 (full_name v) ∷ []))
+      (alone q o.header p.header) (λ v. ap (λ l. words (codes "alone" ∷ codes "A" ∷ l ∷ [])) (full_under 1 v)) in
       let second : flat_map (λ n. alone_lines (codes "B") (alone_in asked k (turned n))) both_inputs
       ≡ alone_in_style merged_style (codes "B") 2 (alone q p.header o.header)
       = append-nil (alone_lines (codes "B") (alone_in asked k (input_scope 2, input_scope 1)))
       ∙ ap (alone_lines (codes "B")) paired.second
-      ∙ flat_map-map (λ v. words (codes "alone" ∷ codes "B" ∷ v.path ∷ [])) (named_in (o.header ∷ []) p.header) (alone q p.header o.header) in
+      ∙ flat_map-map (λ v. words (codes "alone" ∷ codes "B" ∷ full_name v ∷ [])) (named_in (o.header ∷ []) p.header) (alone q p.header o.header)
+      ∙ flat_map_same (λ v. words (codes "alone" ∷ codes "B" ∷ full_name (named_in (o.header ∷ []) p.header v) ∷ [])) (λ v. words (codes "alone" ∷ codes "B" ∷ under_input 2 (full_name v) ∷ []))
+      (alone q p.header o.header) (λ v. ap (λ l. words (codes "alone" ∷ codes "B" ∷ l ∷ [])) (full_under 2 v)) in
       let third : unlike_lines (unlike_in asked k both_inputs) ≡ unlike_in_style merged_style (unlike q o.header p.header)
       = ap unlike_lines paired.different
       ∙ flat_map-map (λ x. words (codes "size" ∷ x.path ∷ kind_shown (kind_of x.one) ∷ kind_shown (kind_of x.other) ∷ [])) (merged_pair o.header p.header) (unlike q o.header p.header) in

@@ -1,9 +1,9 @@
 -- The variables of two inputs in a merge, and their pairs: those of the two inputs, in order.
-use Rattle.vcd_laws.proofs.Cited.{◌≡◌, ℕ, ◌+◌, ◌<◌, ◌^◌, ◌==◌, Bool, true, false, cond, not, ◌&&◌, ◌||◌, List, [], ◌∷◌, ◌++◌, length, map, filter, filter_map, flat_map, find, count_by, bytes_eq, Option, Some, None, option_map, is_none, refl, sym, ap, ◌∙◌, arith, list_any, cons_option, append-nil, append_assoc, map-append, filter-append, filter_map-append, list_any-append, sum_by-append, sum_by-cons, eq-eqb, eqb-true, bytes_eq-Decides, and_parts, or_parts, each_after, each_after-append, Header, Selected, selects_path, selected, renamed, input_scope, under_input, merged_variable}
+use Rattle.vcd_laws.proofs.Cited.{◌≡◌, ℕ, ◌+◌, ◌<◌, ◌^◌, Bool, true, false, cond, not, ◌&&◌, ◌||◌, List, [], ◌∷◌, ◌++◌, length, map, filter, filter_map, flat_map, find, count_by, bytes_eq, Option, Some, None, option_map, is_none, refl, sym, ap, ◌∙◌, arith, list_any, cons_option, is_some, append-nil, append_assoc, map-append, filter-append, filter_map-append, list_any-append, sum_by-append, sum_by-cons, eq-eqb, bytes_eq-Decides, or_parts, each_after, each_after-append, Header, Selected, selects_path, selected, renamed, input_scope, under_input, merged_variable}
 use Rattle.std.specs.Prelude.{nat_eq}
 use Rattle.std.specs.List.{starts_with}
 use Rattle.std.proofs.Math.Seq.{drop-append_seam}
-use Rattle.vcd_model.specs.Compare.{Asked, Named, Pair, Side, all_named, alone, in_common, is_asked, is_fit, is_left_in, is_namesake, named, named_after, pair_of, pairs, partner, unlike}
+use Rattle.vcd_model.specs.Compare.{Asked, Named, Pair, Side, all_named, alone, counterpart, first_of, full_name, in_common, is_alike, is_asked, is_fit, is_left_in, lacks_range, lone, name_in, named, named_after, only_at, pair_of, pairs, partner, range_of, same_place, the_only, unlike}
 use Rattle.vcd_model.specs.Within.{Names, alone_in, at_path, compared_in, pair_at, pairs_in, places_of, rest_of, unlike_in}
 use Rattle.vcd_laws.specs.CompareMerged.{asked_of_merge, both_inputs}
 use Rattle.vcd_laws.proofs.MergedHead.{merged_selected}
@@ -34,14 +34,6 @@ bytes_turned a b = by_tests (bytes_eq a b) (bytes_eq b a) refl refl
     by_tests false true e f = (bytes_eq-Decides a b).1 (sym ((bytes_eq-Decides b a).0 f)) ∙ sym f
     by_tests false false e f = e ∙ sym f
 
-number_turned : (m n : ℕ) → (m == n) ≡ (n == m)
-number_turned m n = by_tests (m == n) (n == m) refl refl
-  where
-    by_tests : (p q : Bool) → (m == n) ≡ p → (n == m) ≡ q → (m == n) ≡ (n == m)
-    by_tests true q e f = e ∙ sym (eq-eqb n m (sym (eqb-true m n e)))
-    by_tests false true e f = eq-eqb m n (sym (eqb-true n m f)) ∙ sym f
-    by_tests false false e f = e ∙ sym f
-
 -- a variable of an input as it is in a merge
 abbrev pub named_in : List Header → Header → Named → Named
 named_in front h v = record {
@@ -59,36 +51,35 @@ module _ (front : List Header) (h : Header) where
   abbrev N : Named → Named
   N v = named_in front h v
 
-  -- how many variables have a path of the input
-  abbrev count_of : List ℕ → List Selected → ℕ
-  count_of path ss = count_by (λ u. bytes_eq u.path path) ss
+  -- how many variables have the path and the range of another
+  abbrev count_of : Selected → List Selected → ℕ
+  count_of s ss = count_by (is_alike s) ss
 
-  count_own : (path : List ℕ) (ss : List Selected)
-      → count_of (under_input (length front + 1) path) (map M ss) ≡ count_of path ss
-  count_own path [] = refl
-  count_own path (s ∷ ss) =
-      let own = under_input (length front + 1) path in
-      sum_by-cons (λ (u : Selected). cond {A = ℕ} (bytes_eq u.path own) 1 0) (M s) (map M ss)
-      ∙ ap (λ b. cond {A = ℕ} b 1 0 + count_of own (map M ss)) (under_same (length front + 1) s.path path)
-      ∙ ap (λ n. cond {A = ℕ} (bytes_eq s.path path) 1 0 + n) (count_own path ss)
-      ∙ sym (sum_by-cons (λ (u : Selected). cond {A = ℕ} (bytes_eq u.path path) 1 0) s ss)
+  count_own : (s : Selected) (ss : List Selected) → count_of (M s) (map M ss) ≡ count_of s ss
+  count_own s [] = refl
+  count_own s (u ∷ ss) =
+      let same : is_alike (M s) (M u) ≡ is_alike s u
+      = ap (λ b. b && bytes_eq (range_of u.variable) (range_of s.variable)) (under_same (length front + 1) u.path s.path) in
+      sum_by-cons (λ (u : Selected). cond {A = ℕ} (is_alike (M s) u) 1 0) (M u) (map M ss)
+      ∙ ap (λ b. cond {A = ℕ} b 1 0 + count_of (M s) (map M ss)) same
+      ∙ ap (λ n. cond {A = ℕ} (is_alike s u) 1 0 + n) (count_own s ss)
+      ∙ sym (sum_by-cons (λ (u : Selected). cond {A = ℕ} (is_alike s u) 1 0) u ss)
 
   -- variables of other inputs
   abbrev pub AreOthers : List Selected → Type 0
-  AreOthers ss = (path : List ℕ) → count_of (under_input (length front + 1) path) ss ≡ 0
+  AreOthers ss = (s : Selected) → count_of (M s) ss ≡ 0
 
   named_from : (others done ss : List Selected) → AreOthers others
       → each_after named_after (others ++ map M done) (map M ss) ≡ map N (each_after named_after done ss)
   named_from others done [] none = refl
   named_from others done (s ∷ ss) none =
-      let own = under_input (length front + 1) s.path in
-      let all = sum_by-append (λ (u : Selected). cond {A = ℕ} (bytes_eq u.path own) 1 0) others (map M done) in
-      let before = none s.path in
-      let here = count_own s.path done in
-      let nth : count_of own (others ++ map M done) ≡ count_of s.path done = omega arith in
+      let all = sum_by-append (λ (u : Selected). cond {A = ℕ} (is_alike (M s) u) 1 0) others (map M done) in
+      let before = none s in
+      let here = count_own s done in
+      let nth : count_of (M s) (others ++ map M done) ≡ count_of s done = omega arith in
       let more : (others ++ map M done) ++ M s ∷ [] ≡ others ++ map M (done ++ s ∷ [])
       = append_assoc others (map M done) (M s ∷ []) ∙ ap (λ l. others ++ l) (sym (map-append M done (s ∷ []))) in
-      ap (λ n. record { path = own; nth = n; variable = (M s).variable }
+      ap (λ n. record { path = (M s).path; nth = n; variable = (M s).variable }
       ∷ each_after named_after ((others ++ map M done) ++ M s ∷ []) (map M ss)) nth
       ∙ ap (λ l. N (named_after done s) ∷ each_after named_after l (map M ss)) more
       ∙ ap (λ l. N (named_after done s) ∷ l) (named_from others (done ++ s ∷ []) ss none)
@@ -96,13 +87,14 @@ module _ (front : List Header) (h : Header) where
 -- no path of the first input is one of the second
 none_of_second : (one other : Header) (ss : List Selected)
     → AreOthers (one ∷ []) other (map (merged_variable [] one) ss)
-none_of_second one other [] path = refl
-none_of_second one other (s ∷ ss) path =
-    sum_by-cons (λ (u : Selected). cond {A = ℕ} (bytes_eq u.path (under_input 2 path)) 1 0)
-    (merged_variable [] one s) (map (merged_variable [] one) ss)
-    ∙ ap (λ b. cond {A = ℕ} b 1 0 + count_by (λ (u : Selected). bytes_eq u.path (under_input 2 path)) (map (merged_variable [] one) ss))
-    (under_other 1 2 s.path path (omega arith) (omega arith) (λ e. omega arith))
-    ∙ (let more = none_of_second one other ss path in omega arith)
+none_of_second one other [] s = refl
+none_of_second one other (u ∷ ss) s =
+    let there = merged_variable (one ∷ []) other s in
+    sum_by-cons (λ (u : Selected). cond {A = ℕ} (is_alike there u) 1 0)
+    (merged_variable [] one u) (map (merged_variable [] one) ss)
+    ∙ ap (λ b. cond {A = ℕ} (b && bytes_eq (range_of u.variable) (range_of s.variable)) 1 0 + count_by (is_alike there) (map (merged_variable [] one) ss))
+    (under_other 1 2 u.path s.path (omega arith) (omega arith) (λ e. omega arith))
+    ∙ (let more = none_of_second one other ss s in omega arith)
 
 -- the variables of a merge of two inputs are those of the first, and then those of the second
 pub named_in_merge : (one other k : Header)
@@ -115,7 +107,7 @@ named_in_merge one other k variables =
     ap (each_after named_after []) (variables ∙ ap (λ l. firsts ++ l) (append-nil seconds))
     ∙ each_after-append named_after [] firsts seconds
     ∙ ap (λ l. l ++ each_after named_after firsts seconds)
-    (named_from [] one [] [] (selected [] one.declarations) (λ path. refl))
+    (named_from [] one [] [] (selected [] one.declarations) (λ s. refl))
     ∙ ap (λ l. map (named_in [] one) (all_named one) ++ l)
     (ap (λ l. each_after named_after l seconds) (sym (append-nil firsts))
     ∙ named_from (one ∷ []) other firsts [] (selected [] other.declarations)
@@ -138,23 +130,6 @@ find_first : {X : Type 0} (test : X → Bool) (xs ys : List X) → find test ys 
     → find test (xs ++ ys) ≡ find test xs
 find_first test [] ys e = e
 find_first test (x ∷ xs) ys e = ap (cond (test x) (Some x)) (find_first test xs ys e)
-
--- a search among those that are kept, if all that it can find are
-find_kept : {X : Type 0} (test keep : X → Bool) (xs : List X)
-    → ((x : X) → test x ≡ true → keep x ≡ true) → find test (filter keep xs) ≡ find test xs
-find_kept test keep [] all = refl
-find_kept test keep (x ∷ xs) all = by_tests (test x) (keep x) refl refl (find_kept test keep xs all)
-  where
-    by_tests : (b p : Bool) → test x ≡ b → keep x ≡ p → find test (filter keep xs) ≡ find test xs
-        → find test (cond p (x ∷ filter keep xs) (filter keep xs)) ≡ cond b (Some x) (find test xs)
-    by_tests b true e f more = rw e (ap (cond b (Some x)) more)
-    by_tests true false e f more = let g = all x e in cc
-    by_tests false false e f more = more
-
-find_same : {X : Type 0} (test test' : X → Bool) (xs : List X) → ((x : X) → test x ≡ test' x)
-    → find test xs ≡ find test' xs
-find_same test test' [] same = refl
-find_same test test' (x ∷ xs) same = rw (same x, find_same test test' xs same) refl
 
 find_mapped : {X Y : Type 0} (f : X → Y) (test : Y → Bool) (test' : X → Bool) (xs : List X)
     → ((x : X) → test (f x) ≡ test' x) → find test (map f xs) ≡ option_map f (find test' xs)
@@ -190,54 +165,120 @@ rest_other : (m n : ℕ) (path : List ℕ) → m < 2 ^ 64 → n < 2 ^ 64 → (m 
     → rest_of (input_scope n) (under_input m path) ≡ None
 rest_other m n path h g apart = rw (other_scope m n path h g apart) refl
 
--- the variable of a path of an input, among those of this input and among those of another
-at_own : (front : List Header) (h : Header) (path : List ℕ) (nth : ℕ) (vs : List Named)
-    → find (λ w. bytes_eq w.path (under_input (length front + 1) path) && w.nth == nth)
-    (map (named_in front h) vs)
-    ≡ option_map (named_in front h) (find (λ w. bytes_eq w.path path && w.nth == nth) vs)
-at_own front h path nth vs = find_mapped (named_in front h)
-    (λ w. bytes_eq w.path (under_input (length front + 1) path) && w.nth == nth)
-    (λ w. bytes_eq w.path path && w.nth == nth) vs
-    (λ w. ap (λ b. b && w.nth == nth) (under_same (length front + 1) w.path path))
+filter_never : {X Y : Type 0} (f : X → Y) (test : Y → Bool) (xs : List X)
+    → ((x : X) → test (f x) ≡ false) → filter test (map f xs) ≡ []
+filter_never f test [] none = refl
+filter_never f test (x ∷ xs) none = rw (none x) (filter_never f test xs none)
 
-at_other : (front : List Header) (h : Header) (n : ℕ) (path : List ℕ) (nth : ℕ) (vs : List Named)
-    → length front + 1 < 2 ^ 64 → n < 2 ^ 64 → (length front + 1 ≡ n → ⊥)
-    → find (λ w. bytes_eq w.path (under_input n path) && w.nth == nth) (map (named_in front h) vs) ≡ None
-at_other front h n path nth vs small low apart = find_never (named_in front h)
-    (λ w. bytes_eq w.path (under_input n path) && w.nth == nth) vs
-    (λ w. ap (λ b. b && w.nth == nth) (under_other (length front + 1) n w.path path small low apart))
+only_mapped : (f : Named → Named) (vs : List Named) → the_only (map f vs) ≡ option_map f (the_only vs)
+only_mapped f [] = refl
+only_mapped f (v ∷ []) = refl
+only_mapped f (v ∷ w ∷ vs) = refl
+
+is_some_mapped : (f : Named → Named) (o : Option Named) → is_some (option_map f o) ≡ is_some o
+is_some_mapped f None = refl
+is_some_mapped f (Some v) = refl
+
+-- ---- what is at a path of one input
+
+-- the variables of a header, and those of another one
+record HasBoth (k : Header) (front : List Header) (h : Header) (front' : List Header) (h' : Header) : Type 0 where
+  parts : (test : Named → Bool) → filter test (map (named_in front' h') (all_named h')) ≡ []
+      → filter test (all_named k) ≡ filter test (map (named_in front h) (all_named h))
+  first : (test : Named → Bool) → find test (map (named_in front' h') (all_named h')) ≡ None
+      → find test (all_named k) ≡ find test (map (named_in front h) (all_named h))
+
+module _ (k : Header) (front : List Header) (h : Header) (front' : List Header) (h' : Header) (both : HasBoth k front h front' h')
+    (small : length front + 1 < 2 ^ 64) (small' : length front' + 1 < 2 ^ 64)
+    (apart : length front' + 1 ≡ length front + 1 → ⊥) where
+  abbrev own_path : List ℕ → List ℕ
+  own_path path = under_input (length front + 1) path
+
+  -- the only variable of a path
+  only_own : (path : List ℕ) → only_at (all_named k) (own_path path) ≡ option_map (named_in front h) (only_at (all_named h) path)
+  only_own path =
+      ap the_only (both.parts (λ w. bytes_eq w.path (own_path path))
+      (filter_never (named_in front' h') (λ w. bytes_eq w.path (own_path path)) (all_named h')
+      (λ w. under_other (length front' + 1) (length front + 1) w.path path small' small apart))
+      ∙ filter_mapped (named_in front h) (λ w. bytes_eq w.path (own_path path)) (λ w. bytes_eq w.path path) (all_named h)
+      (λ w. under_same (length front + 1) w.path path))
+      ∙ only_mapped (named_in front h) (filter (λ w. bytes_eq w.path path) (all_named h))
+
+  -- the name of a variable
+  name_own : (v : Named) → name_in k (named_in front h v) ≡ own_path (name_in h v)
+  name_own v =
+      ap (λ b. cond b (own_path v.path) (own_path v.path ++ range_of v.variable))
+      (ap is_some (only_own v.path) ∙ is_some_mapped (named_in front h) (only_at (all_named h) v.path))
+      ∙ by_only (is_some (only_at (all_named h) v.path))
+    where
+      by_only : (b : Bool) → cond b (own_path v.path) (own_path v.path ++ range_of v.variable)
+          ≡ own_path (cond b v.path (full_name v))
+      by_only true = refl
+      by_only false = append_assoc (input_scope (length front + 1)) (46 ∷ v.path) (range_of v.variable)
+
+  -- the variable at a path that is in the place of another
+  found_own : (path : List ℕ) (v : Named) → find (λ w. bytes_eq w.path (own_path path) && same_place v w) (all_named k)
+      ≡ option_map (named_in front h) (find (λ w. bytes_eq w.path path && same_place v w) (all_named h))
+  found_own path v =
+      both.first (λ w. bytes_eq w.path (own_path path) && same_place v w)
+      (find_never (named_in front' h') (λ w. bytes_eq w.path (own_path path) && same_place v w) (all_named h')
+      (λ w. ap (λ b. b && same_place v (named_in front' h' w)) (under_other (length front' + 1) (length front + 1) w.path path small' small apart)))
+      ∙ find_mapped (named_in front h) (λ w. bytes_eq w.path (own_path path) && same_place v w)
+      (λ w. bytes_eq w.path path && same_place v w) (all_named h)
+      (λ w. ap (λ b. b && same_place v w) (under_same (length front + 1) w.path path))
+
+-- a counterpart of a variable, as they are in a merge
+counterpart_own : (k : Header) (front : List Header) (h : Header) (front' : List Header) (h' : Header) (path : List ℕ) (v : Named)
+    → only_at (all_named k) (under_input (length front + 1) v.path) ≡ option_map (named_in front h) (only_at (all_named h) v.path)
+    → only_at (all_named k) (under_input (length front' + 1) path) ≡ option_map (named_in front' h') (only_at (all_named h') path)
+    → find (λ w. bytes_eq w.path (under_input (length front' + 1) path) && same_place v w) (all_named k)
+    ≡ option_map (named_in front' h') (find (λ w. bytes_eq w.path path && same_place v w) (all_named h'))
+    → at_path k (under_input (length front' + 1) path) (named_in front h v)
+    ≡ option_map (named_in front' h') (counterpart (all_named h) (all_named h') path v)
+counterpart_own k front h front' h' path v own other found =
+    ap (λ o. first_of o (lone (only_at (all_named k) (under_input (length front + 1) v.path)) (named_in front h v) (only_at (all_named k) (under_input (length front' + 1) path)))) found
+    ∙ ap (λ o. first_of (option_map (named_in front' h') exact) (lone o (named_in front h v) (only_at (all_named k) (under_input (length front' + 1) path)))) own
+    ∙ ap (λ o. first_of (option_map (named_in front' h') exact) (lone (option_map (named_in front h) (only_at (all_named h) v.path)) (named_in front h v) o)) other
+    ∙ ap (first_of (option_map (named_in front' h') exact)) (lone_mapped (only_at (all_named h) v.path) (only_at (all_named h') path))
+    ∙ first_mapped exact (lone (only_at (all_named h) v.path) v (only_at (all_named h') path))
+  where
+    exact : Option Named
+    exact = find (λ w. bytes_eq w.path path && same_place v w) (all_named h')
+
+    lone_mapped : (o p : Option Named) → lone (option_map (named_in front h) o) (named_in front h v) (option_map (named_in front' h') p)
+        ≡ option_map (named_in front' h') (lone o v p)
+    lone_mapped o None = refl
+    lone_mapped None (Some w) = refl
+    lone_mapped (Some u) (Some w) = by_range (lacks_range v w)
+      where
+        by_range : (b : Bool) → cond (true && b) (Some (named_in front' h' w)) None ≡ option_map (named_in front' h') (cond (true && b) (Some w) None)
+        by_range true = refl
+        by_range false = refl
+
+    first_mapped : (o p : Option Named) → first_of (option_map (named_in front' h') o) (option_map (named_in front' h') p)
+        ≡ option_map (named_in front' h') (first_of o p)
+    first_mapped None p = refl
+    first_mapped (Some w) p = refl
 
 module _ (q asked : Asked) (k : Header) (front : List Header) (h : Header) (front' : List Header) (h' : Header)
     (left : (v : Named) → is_left_in asked (under_input (length front + 1) v.path) ≡ is_asked q v.path)
-    (found : (path : List ℕ) (nth : ℕ) → at_path k (under_input (length front' + 1) path) nth
-    ≡ option_map (named_in front' h') (find (λ w. bytes_eq w.path path && w.nth == nth) (all_named h')))
+    (found : (v : Named) → at_path k (under_input (length front' + 1) v.path) (named_in front h v)
+    ≡ option_map (named_in front' h') (partner h h' v))
+    (named_so : (v : Named) → name_in k (named_in front h v) ≡ under_input (length front + 1) (name_in h v))
     (small : length front + 1 < 2 ^ 64) (small' : length front' + 1 < 2 ^ 64)
     (apart : length front' + 1 ≡ length front + 1 → ⊥) where
   -- a variable of the input with the one of the other input that it is compared with
   abbrev place : Named → Named × Option Named
-  place v = (named_in front h v, option_map (named_in front' h') (partner (named q h') v))
+  place v = (named_in front h v, option_map (named_in front' h') (partner h h' v))
 
   abbrev names : Names
   names = (input_scope (length front + 1), input_scope (length front' + 1))
 
   abbrev placed : Named → Option (Named × Option Named)
-  placed v = option_map (λ r. (v, at_path k (names.1 ++ r) v.nth)) (rest_of names.0 v.path)
+  placed v = option_map (λ r. (v, at_path k (names.1 ++ r) v)) (rest_of names.0 v.path)
 
-  partner_is : (v : Named) → is_asked q v.path ≡ true
-      → find (λ w. bytes_eq w.path v.path && w.nth == v.nth) (all_named h') ≡ partner (named q h') v
-  partner_is v asks =
-      find_same (λ w. bytes_eq w.path v.path && w.nth == v.nth) (is_namesake v) (all_named h')
-      (λ w. ap (λ b. b && w.nth == v.nth) (bytes_turned w.path v.path)
-      ∙ ap (λ b. bytes_eq v.path w.path && b) (number_turned w.nth v.nth))
-      ∙ sym (find_kept (is_namesake v) (λ w. is_asked q w.path) (all_named h')
-      (λ w e. ap (is_asked q)
-      (sym ((bytes_eq-Decides v.path w.path).0 (and_parts (bytes_eq v.path w.path) (v.nth == w.nth) e).0))
-      ∙ asks))
-
-  one_place : (v : Named) → is_asked q v.path ≡ true → placed (named_in front h v) ≡ Some (place v)
-  one_place v asks = rw (rest_own (length front + 1) v.path)
-      (ap (λ o. Some (named_in front h v, o))
-      (found v.path v.nth ∙ ap (option_map (named_in front' h')) (partner_is v asks)))
+  one_place : (v : Named) → placed (named_in front h v) ≡ Some (place v)
+  one_place v = rw (rest_own (length front + 1) v.path) (ap (λ o. Some (named_in front h v, o)) (found v))
 
   places_own : (vs : List Named)
       → filter_map placed (filter (λ v. is_left_in asked v.path) (map (named_in front h) vs))
@@ -252,7 +293,7 @@ module _ (q asked : Asked) (k : Header) (front : List Header) (h : Header) (fron
           → filter_map placed rest ≡ map place (filter (λ v. is_asked q v.path) vs)
           → filter_map placed (cond b (named_in front h v ∷ rest) rest)
           ≡ map place (cond b (v ∷ filter (λ v. is_asked q v.path) vs) (filter (λ v. is_asked q v.path) vs))
-      by_test true e more = ap (λ o. cons_option o (filter_map placed rest)) (one_place v e)
+      by_test true e more = ap (λ o. cons_option o (filter_map placed rest)) (one_place v)
           ∙ ap (λ l. place v ∷ l) more
       by_test false e more = more
 
@@ -290,12 +331,12 @@ module _ (q asked : Asked) (k : Header) (front : List Header) (h : Header) (fron
 
   -- those that have no counterpart
   alone_are : (vs : List Named) → filter_map (λ p. cond (is_none p.1) (Some p.0) None) (map place vs)
-      ≡ map (named_in front h) (filter (λ v. is_none (partner (named q h') v)) vs)
+      ≡ map (named_in front h) (filter (λ v. is_none (partner h h' v)) vs)
   alone_are [] = refl
-  alone_are (v ∷ vs) = by_partner (partner (named q h') v) (alone_are vs)
+  alone_are (v ∷ vs) = by_partner (partner h h' v) (alone_are vs)
     where
       rest : List Named
-      rest = filter (λ v. is_none (partner (named q h') v)) vs
+      rest = filter (λ v. is_none (partner h h' v)) vs
 
       by_partner : (o : Option Named)
           → filter_map (λ p. cond (is_none p.1) (Some p.0) None) (map place vs) ≡ map (named_in front h) rest
@@ -313,19 +354,21 @@ module _ (q asked : Asked) (k : Header) (front : List Header) (h : Header) (fron
     other = record p.other { code = renamed front' h' p.other.code };
   }
 
-  pairs_are : (vs : List Named) → filter_map pair_at (map place vs)
-      ≡ map pair (filter_map (pair_of (named q h')) vs)
+  pairs_are : (vs : List Named) → filter_map (pair_at k) (map place vs)
+      ≡ map pair (filter_map (pair_of h h') vs)
   pairs_are [] = refl
-  pairs_are (v ∷ vs) = by_partner (partner (named q h') v) (pairs_are vs)
+  pairs_are (v ∷ vs) = by_partner (partner h h' v) (pairs_are vs)
     where
       rest : List Pair
-      rest = filter_map (pair_of (named q h')) vs
+      rest = filter_map (pair_of h h') vs
 
-      by_partner : (o : Option Named) → filter_map pair_at (map place vs) ≡ map pair rest
-          → cons_option (pair_at (named_in front h v, option_map (named_in front' h') o)) (filter_map pair_at (map place vs))
-          ≡ map pair (cons_option (option_map (λ w. record { path = v.path; one = v.variable; other = w.variable }) o) rest)
+      by_partner : (o : Option Named) → filter_map (pair_at k) (map place vs) ≡ map pair rest
+          → cons_option (pair_at k (named_in front h v, option_map (named_in front' h') o)) (filter_map (pair_at k) (map place vs))
+          ≡ map pair (cons_option (option_map (λ w. record { path = name_in h v; one = v.variable; other = w.variable }) o) rest)
       by_partner None more = more
-      by_partner (Some w) more = ap (λ l. pair (record { path = v.path; one = v.variable; other = w.variable }) ∷ l) more
+      by_partner (Some w) more =
+          ap (λ (name : List ℕ). record { path = name; one = (named_in front h v).variable; other = (named_in front' h' w).variable } ∷ filter_map (pair_at k) (map place vs)) (named_so v)
+          ∙ ap (λ l. pair (record { path = name_in h v; one = v.variable; other = w.variable }) ∷ l) more
 
 -- ---- both inputs
 
@@ -385,35 +428,46 @@ are_paired q a b k one other e variables =
     let named_k = named_in_merge one other k variables in
     let firsts = map (named_in [] one) (all_named one) in
     let seconds = map (named_in (one ∷ []) other) (all_named other) in
-    let in_second : (path : List ℕ) (nth : ℕ) → at_path k (under_input 2 path) nth
-    ≡ option_map (named_in (one ∷ []) other) (find (λ w. bytes_eq w.path path && w.nth == nth) (all_named other))
-    = λ path nth. ap (find (λ w. bytes_eq w.path (under_input 2 path) && w.nth == nth)) named_k
-    ∙ find_none (λ w. bytes_eq w.path (under_input 2 path) && w.nth == nth) firsts seconds
-    (at_other [] one 2 path nth (all_named one) (omega arith) (omega arith) (λ f. omega arith))
-    ∙ at_own (one ∷ []) other path nth (all_named other) in
-    let in_first : (path : List ℕ) (nth : ℕ) → at_path k (under_input 1 path) nth
-    ≡ option_map (named_in [] one) (find (λ w. bytes_eq w.path path && w.nth == nth) (all_named one))
-    = λ path nth. ap (find (λ w. bytes_eq w.path (under_input 1 path) && w.nth == nth)) named_k
-    ∙ find_first (λ w. bytes_eq w.path (under_input 1 path) && w.nth == nth) firsts seconds
-    (at_other (one ∷ []) other 1 path nth (all_named other) (omega arith) (omega arith) (λ f. omega arith))
-    ∙ at_own [] one path nth (all_named one) in
+    let ones : HasBoth k [] one (one ∷ []) other = record {
+      parts = λ test none. ap (filter test) named_k ∙ filter-append test firsts seconds
+          ∙ ap (λ l. filter test firsts ++ l) none ∙ append-nil (filter test firsts);
+      first = λ test none. ap (find test) named_k ∙ find_first test firsts seconds none;
+    } in
+    let others : HasBoth k (one ∷ []) other [] one = record {
+      parts = λ test none. ap (filter test) named_k ∙ filter-append test firsts seconds ∙ ap (λ l. l ++ filter test seconds) none;
+      first = λ test none. ap (find test) named_k ∙ find_none test firsts seconds none;
+    } in
+    let only_one : (path : List ℕ) → only_at (all_named k) (under_input 1 path) ≡ option_map (named_in [] one) (only_at (all_named one) path)
+    = only_own k [] one (one ∷ []) other ones (omega arith) (omega arith) (λ f. omega arith) in
+    let only_other : (path : List ℕ) → only_at (all_named k) (under_input 2 path) ≡ option_map (named_in (one ∷ []) other) (only_at (all_named other) path)
+    = only_own k (one ∷ []) other [] one others (omega arith) (omega arith) (λ f. omega arith) in
+    let name_one : (v : Named) → name_in k (named_in [] one v) ≡ under_input 1 (name_in one v)
+    = name_own k [] one (one ∷ []) other ones (omega arith) (omega arith) (λ f. omega arith) in
+    let name_other : (v : Named) → name_in k (named_in (one ∷ []) other v) ≡ under_input 2 (name_in other v)
+    = name_own k (one ∷ []) other [] one others (omega arith) (omega arith) (λ f. omega arith) in
+    let in_second : (v : Named) → at_path k (under_input 2 v.path) (named_in [] one v) ≡ option_map (named_in (one ∷ []) other) (partner one other v)
+    = λ v. counterpart_own k [] one (one ∷ []) other v.path v (only_one v.path) (only_other v.path)
+    (found_own k (one ∷ []) other [] one others (omega arith) (omega arith) (λ f. omega arith) v.path v) in
+    let in_first : (v : Named) → at_path k (under_input 1 v.path) (named_in (one ∷ []) other v) ≡ option_map (named_in [] one) (partner other one v)
+    = λ v. counterpart_own k (one ∷ []) other [] one v.path v (only_other v.path) (only_one v.path)
+    (found_own k [] one (one ∷ []) other ones (omega arith) (omega arith) (λ f. omega arith) v.path v) in
     let places : places_of asked k (input_scope 1, input_scope 2)
-    ≡ map (place q asked k [] one (one ∷ []) other (λ v. left_one a b q v.path e) in_second (omega arith) (omega arith) (λ f. omega arith)) (named q one)
-    = places_first q asked k [] one (one ∷ []) other (λ v. left_one a b q v.path e) in_second (omega arith) (omega arith) (λ f. omega arith) named_k in
+    ≡ map (place q asked k [] one (one ∷ []) other (λ v. left_one a b q v.path e) in_second name_one (omega arith) (omega arith) (λ f. omega arith)) (named q one)
+    = places_first q asked k [] one (one ∷ []) other (λ v. left_one a b q v.path e) in_second name_one (omega arith) (omega arith) (λ f. omega arith) named_k in
     let backward : places_of asked k (input_scope 2, input_scope 1)
-    ≡ map (place q asked k (one ∷ []) other [] one (λ v. left_other a b q v.path e) in_first (omega arith) (omega arith) (λ f. omega arith)) (named q other)
-    = places_last q asked k (one ∷ []) other [] one (λ v. left_other a b q v.path e) in_first (omega arith) (omega arith) (λ f. omega arith) named_k in
+    ≡ map (place q asked k (one ∷ []) other [] one (λ v. left_other a b q v.path e) in_first name_other (omega arith) (omega arith) (λ f. omega arith)) (named q other)
+    = places_last q asked k (one ∷ []) other [] one (λ v. left_other a b q v.path e) in_first name_other (omega arith) (omega arith) (λ f. omega arith) named_k in
     let all : pairs_in asked k both_inputs ≡ map (merged_pair one other) (in_common q one other)
-    = append-nil (filter_map pair_at (places_of asked k (input_scope 1, input_scope 2)))
-    ∙ ap (filter_map pair_at) places
-    ∙ pairs_are q asked k [] one (one ∷ []) other (λ v. left_one a b q v.path e) in_second (omega arith) (omega arith) (λ f. omega arith) (named q one) in
+    = append-nil (filter_map (pair_at k) (places_of asked k (input_scope 1, input_scope 2)))
+    ∙ ap (filter_map (pair_at k)) places
+    ∙ pairs_are q asked k [] one (one ∷ []) other (λ v. left_one a b q v.path e) in_second name_one (omega arith) (omega arith) (λ f. omega arith) (named q one) in
     record {
       compared = ap (filter is_fit) all
           ∙ filter_mapped (merged_pair one other) is_fit is_fit (in_common q one other) (λ p. refl);
       different = ap (filter (λ p. not (is_fit p))) all
           ∙ filter_mapped (merged_pair one other) (λ p. not (is_fit p)) (λ p. not (is_fit p)) (in_common q one other) (λ p. refl);
       first = ap (filter_map (λ p. cond (is_none p.1) (Some p.0) None)) places
-          ∙ alone_are q asked k [] one (one ∷ []) other (λ v. left_one a b q v.path e) in_second (omega arith) (omega arith) (λ f. omega arith) (named q one);
+          ∙ alone_are q asked k [] one (one ∷ []) other (λ v. left_one a b q v.path e) in_second name_one (omega arith) (omega arith) (λ f. omega arith) (named q one);
       second = ap (filter_map (λ p. cond (is_none p.1) (Some p.0) None)) backward
-          ∙ alone_are q asked k (one ∷ []) other [] one (λ v. left_other a b q v.path e) in_first (omega arith) (omega arith) (λ f. omega arith) (named q other);
+          ∙ alone_are q asked k (one ∷ []) other [] one (λ v. left_other a b q v.path e) in_first name_other (omega arith) (omega arith) (λ f. omega arith) (named q other);
     }

@@ -9,7 +9,7 @@ use Rattle.vcd_laws.proofs.CheckOfMerge.{merge_items}
 use Rattle.vcd_laws.proofs.MergedPairs.{merged_pair, named_in}
 use Rattle.vcd_laws.proofs.SameSides.{differs_alike}
 use Rattle.vcd_laws.proofs.CompareOfMerge.{alike, items, paired_there}
-use Rattle.vcd_laws.proofs.SuccessMatches.{both_none, parts_none, success_is_a_match}
+use Rattle.vcd_laws.proofs.SuccessMatches.{both_none, parts_none, within_is_a_match}
 
 map_none : {X Y : Type 0} (f : X → Y) (xs : List X) → map f xs ≡ [] → xs ≡ []
 map_none f [] e = refl
@@ -89,7 +89,7 @@ module _ (q : Asked) (limit : ℕ) (names : List (List ℕ)) (inputs : List Inpu
 pub merged_success_is_a_match : MergedSuccessIsAMatch
 merged_success_is_a_match q limit name names inputs o p can all =
     let d = (merge_items limit names inputs (o ∷ p ∷ []) can).dump in
-    let law = success_is_a_match (asked q limit names inputs o p can all) limit both_inputs name
+    let law = within_is_a_match (asked q limit names inputs o p can all) limit both_inputs name
     (input_of (outcome Want.Merge limit names inputs).output) d.dump d.opens in (
       λ good. from_there q limit names inputs o p can all (law.0 good).1,
       λ m. law.1 (inl d.whole, from_here q limit names inputs o p can all m),

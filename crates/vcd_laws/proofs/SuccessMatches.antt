@@ -1,12 +1,14 @@
 -- A comparison of two parts of a dump has status 0 if all of both matches, and only then.
-use Rattle.vcd_laws.proofs.Cited.{◌≡◌, ◌≢◌, ℕ, zero, suc, ◌*◌, ◌<◌, ◌≤◌, ◌==◌, Bool, true, false, cond, not, ◌&&◌, ◌||◌, nat_lt, List, [], ◌∷◌, ◌++◌, length, flat_map, codes, Option, Some, None, ◌⊎◌, inl, inr, refl, sym, ap, ◌∙◌, arith, list_any, eq-eqb, ltb-true, lt-ltb, or_cases, or_parts, is_empty, code_of, Header, BodyItem, Asked, Extent, Fault, Names, Opened, Outcome, fault_outcome, items_in, fault_in, is_mark_above, words, as_line, join_with_byte, decimal, shown, ◌/◌}
+use Rattle.vcd_laws.proofs.Cited.{◌≡◌, ◌≢◌, ℕ, zero, suc, ◌*◌, ◌<◌, ◌≤◌, ◌==◌, Bool, true, false, cond, not, ◌&&◌, ◌||◌, nat_lt, List, [], ◌∷◌, ◌++◌, length, flat_map, codes, Option, Some, None, ◌⊎◌, ◌↔◌, cases_lt, inl, inr, refl, sym, ap, ◌∙◌, arith, list_any, eq-eqb, ltb-true, lt-ltb, or_cases, or_parts, is_empty, code_of, Header, BodyItem, Asked, Extent, Fault, Names, Opened, Outcome, fault_outcome, items_in, fault_in, is_mark_above, words, as_line, join_with_byte, decimal, shown, ◌/◌}
 use Rattle.std.proofs.Math.Nat.{one-mul}
-use Rattle.vcd_model.specs.Items.{marks}
+use Rattle.vcd_model.specs.Items.{marks, time_after}
 use Rattle.vcd_model.specs.Sample.{is_settled}
-use Rattle.vcd_model.specs.Compare.{Named, Pair, alone_lines, answer, changes_at, differs, ends_with, fault_after, is_due, is_fit, kind_of, kind_shown, lines_at, state_at, unlike_lines, value_line}
+use Rattle.vcd_model.specs.Compare.{Named, Pair, alone_lines, answer, changes_at, differs, ends_with, fault_after, full_name, is_due, is_fit, kind_of, kind_shown, lines_at, state_at, unlike_lines, value_line}
 use Rattle.vcd_model.specs.Compare.Extent.{First, EachPair, Always}
-use Rattle.vcd_model.specs.Within.{alone_in, compared_in, ends_run, lines_where, pairs_in, side, times_in, turned, unlike_in, within_dump, within_head, within_open}
-use Rattle.vcd_laws.specs.Matching.{AllMatch, SuccessIsAMatch}
+use Rattle.vcd_model.specs.Within.{alone_in, comparison, compared_in, ends_run, from_dump, lines_where, pairs_in, refused, side, times_in, turned, unlike_in, unselected, within, within_dump, within_head, within_open}
+use Rattle.vcd_model.specs.Input.{Input}
+use Rattle.vcd_laws.specs.KeptValues.{Opens}
+use Rattle.vcd_laws.specs.Matching.{AllMatch, ComparisonIsWithin, IsReached, SuccessIsAMatch}
 use Rattle.vcd_laws.proofs.RunLaws.{fault_status}
 use Rattle.vcd_laws.proofs.WrittenCodes.{In, any_of, from_contained, from_filter, to_contained}
 use Rattle.vcd_laws.proofs.MergedHead.{all_in}
@@ -51,8 +53,8 @@ alone_none q h (n ∷ ns) e f =
     let b = parts_none (alone_lines (codes "B") (alone_in q h (turned n))) (flat_map (λ n. alone_lines (codes "B") (alone_in q h (turned n))) ns) f in
     both_none (alone_in q h n ++ alone_in q h (turned n)) (flat_map (λ n. alone_in q h n ++ alone_in q h (turned n)) ns)
     (both_none (alone_in q h n) (alone_in q h (turned n))
-    (none_of (λ (v : Named). codes "alone" ∷ codes "A" ∷ v.path ∷ []) (alone_in q h n) a.0)
-    (none_of (λ (v : Named). codes "alone" ∷ codes "B" ∷ v.path ∷ []) (alone_in q h (turned n)) b.0))
+    (none_of (λ (v : Named). codes "alone" ∷ codes "A" ∷ full_name v ∷ []) (alone_in q h n) a.0)
+    (none_of (λ (v : Named). codes "alone" ∷ codes "B" ∷ full_name v ∷ []) (alone_in q h (turned n)) b.0))
     (alone_none q h ns a.1 b.1)
 
 no_alone : (q : Asked) (h : Header) (ns : List Names)
@@ -274,16 +276,17 @@ module _ (q : Asked) (ns : List Names) (name : List ℕ) (o : Opened) where
   abbrev EndsThere : Type 0
   EndsThere = (fault_in o ≡ None) ⊎ (list_any (is_mark_above q.to) items ≡ true)
 
-  same_end : ends_run q o.header ns items ≡ true → (within_dump q ns name o).status ≡ 0 → EndsThere × Matches q ns o
-  same_end e good =
+  above_end : ends_run q o.header ns items ≡ true → (within_dump q ns name o).status ≡ 0
+      → (list_any (is_mark_above q.to) items ≡ true) × Matches q ns o
+  above_end e good =
       let is : (whole_answer q ns o).status ≡ 0 = sym (ap (λ (x : Outcome). x.status) (ended_outcome q ns name o e)) ∙ good in
       let m = from_status q ns o is in
       (by_why (or_cases (list_any (is_mark_above q.to) items) (ends_with q.extent (lines_where q o.header ns items (is_settled items))) e) m, m)
     where
       by_why : (list_any (is_mark_above q.to) (items_in o) ≡ true)
           ⊎ (ends_with q.extent (lines_where q o.header ns (items_in o) (is_settled (items_in o))) ≡ true)
-          → Matches q ns o → EndsThere
-      by_why (inl above) m = inr above
+          → Matches q ns o → list_any (is_mark_above q.to) (items_in o) ≡ true
+      by_why (inl above) m = above
       by_why (inr ends) m =
           let early = lines_where q o.header ns (items_in o) (is_settled (items_in o)) in
           let full = ends_first q.extent early ends in
@@ -293,7 +296,7 @@ module _ (q : Asked) (ns : List Names) (name : List ℕ) (o : Opened) where
           let no : true ≡ false = sym (ap is_empty none) ∙ full.1 in
           cc
 
-  from_zero : (within_dump q ns name o).status ≡ 0 → EndsThere × Matches q ns o
+  pub from_zero : (within_dump q ns name o).status ≡ 0 → EndsThere × Matches q ns o
   from_zero good = by_end (ends_run q o.header ns items) refl
     where
       by_fault : (f : Option Fault) → fault_in o ≡ f → ends_run q o.header ns (items_in o) ≡ false → EndsThere × Matches q ns o
@@ -302,10 +305,10 @@ module _ (q : Asked) (ns : List Names) (name : List ℕ) (o : Opened) where
           (sym (ap (λ (x : Outcome). x.status) (faulty_outcome q ns name o f end e)) ∙ good))
 
       by_end : (b : Bool) → ends_run q o.header ns (items_in o) ≡ b → EndsThere × Matches q ns o
-      by_end true e = same_end e good
+      by_end true e = let f = above_end e good in (inr f.0, f.1)
       by_end false e = by_fault (fault_in o) refl e
 
-  to_end : EndsThere × Matches q ns o → (within_dump q ns name o).status ≡ 0
+  pub to_end : EndsThere × Matches q ns o → (within_dump q ns name o).status ≡ 0
   to_end x = by_why x.0 (to_status q ns o x.1)
     where
       by_why : EndsThere → (whole_answer q ns o).status ≡ 0 → (within_dump q ns name o).status ≡ 0
@@ -313,8 +316,111 @@ module _ (q : Asked) (ns : List Names) (name : List ℕ) (o : Opened) where
       by_why (inr above) good = ap (λ (x : Outcome). x.status) (ended_outcome q ns name o
           (rw above refl)) ∙ good
 
-pub success_is_a_match : SuccessIsAMatch
-success_is_a_match q limit ns name input o opens = (
+-- ---- what is refused
+
+module _ (q : Asked) (ns : List Names) (name : List ℕ) (o : Opened) where
+  abbrev Reached : Type 0
+  Reached = IsReached q o
+
+  ended_same : ends_run q o.header ns (items_in o) ≡ true → from_dump q ns name o ≡ within_dump q ns name o
+  unfolding from_dump within_dump
+  ended_same e = rw e refl
+
+  -- unless the dump ends before the first time
+  in_time : nat_lt (time_after (items_in o)) q.from ≡ false → from_dump q ns name o ≡ within_dump q ns name o
+  unfolding from_dump within_dump
+  in_time late = by_end (ends_run q o.header ns (items_in o)) refl
+    where
+      by_fault : (f : Option Fault) → fault_in o ≡ f → ends_run q o.header ns (items_in o) ≡ false → from_dump q ns name o ≡ within_dump q ns name o
+      by_fault None f e = rw (e, f, late) refl
+      by_fault (Some x) f e = rw (e, f) refl
+
+      by_end : (b : Bool) → ends_run q o.header ns (items_in o) ≡ b → from_dump q ns name o ≡ within_dump q ns name o
+      by_end true e = ended_same e
+      by_end false e = by_fault (fault_in o) refl e
+
+  -- a fault, or the end before the first time
+  faulty_same : (f : Fault) → ends_run q o.header ns (items_in o) ≡ false → fault_in o ≡ Some f
+      → from_dump q ns name o ≡ fault_after (within_open q o.header ns (items_in o)) name f
+  unfolding from_dump
+  faulty_same f e fault = rw (e, fault) refl
+
+  late_is : ends_run q o.header ns (items_in o) ≡ false → fault_in o ≡ None → nat_lt (time_after (items_in o)) q.from ≡ true
+      → (from_dump q ns name o).status ≡ 2
+  unfolding from_dump
+  late_is e fault l = rw (e, fault, l) refl
+
+  not_after : nat_lt (time_after (items_in o)) q.from ≡ false → q.from ≤ time_after (items_in o)
+  not_after e = elim (cases_lt (time_after (items_in o)) q.from) [
+    | inl l ↦ (let no : true ≡ false = sym (lt-ltb (time_after (items_in o)) q.from l) ∙ e in cc)
+    | inr g ↦ g
+  ]
+
+  reached_same : Reached → from_dump q ns name o ≡ within_dump q ns name o
+  reached_same (inl x) = by_late (nat_lt (time_after (items_in o)) q.from) refl
+    where
+      by_late : (b : Bool) → nat_lt (time_after (items_in o)) q.from ≡ b → from_dump q ns name o ≡ within_dump q ns name o
+      by_late true e = let l = ltb-true (time_after (items_in o)) q.from e in let g = x.1 in absurd (omega arith)
+      by_late false e = in_time e
+  reached_same (inr above) = ended_same (rw above refl)
+
+  reached_from : (from_dump q ns name o).status ≡ 0 → Reached × Matches q ns o
+  reached_from good = by_end (ends_run q o.header ns (items_in o)) refl
+    where
+      by_late : (b : Bool) → nat_lt (time_after (items_in o)) q.from ≡ b → ends_run q o.header ns (items_in o) ≡ false → fault_in o ≡ None
+          → Reached × Matches q ns o
+      by_late true l e f = let no : ◌≡◌ {A = ℕ} 2 0 = sym (late_is e f l) ∙ good in absurd (omega (arith, no))
+      by_late false l e f = (inl (f, not_after l), (from_zero q ns name o (sym (ap (λ (x : Outcome). x.status) (in_time l)) ∙ good)).1)
+
+      by_fault : (f : Option Fault) → fault_in o ≡ f → ends_run q o.header ns (items_in o) ≡ false → Reached × Matches q ns o
+      by_fault None f e = by_late (nat_lt (time_after (items_in o)) q.from) refl e f
+      by_fault (Some x) f e = absurd (fault_other (within_open q o.header ns (items_in o)) name x
+          (sym (ap (λ (x : Outcome). x.status) (faulty_same x e f)) ∙ good))
+
+      by_end : (b : Bool) → ends_run q o.header ns (items_in o) ≡ b → Reached × Matches q ns o
+      by_end true e = let f = above_end q ns name o e (sym (ap (λ (x : Outcome). x.status) (ended_same e)) ∙ good) in (inr f.0, f.1)
+      by_end false e = by_fault (fault_in o) refl e
+
+  reached_to : Reached → Matches q ns o → (from_dump q ns name o).status ≡ 0
+  reached_to r m = ap (λ (x : Outcome). x.status) (reached_same r) ∙ to_end q ns name o (ends r, m)
+    where
+      ends : Reached → (fault_in o ≡ None) ⊎ (list_any (is_mark_above q.to) (items_in o) ≡ true)
+      ends (inl x) = inl x.0
+      ends (inr above) = inr above
+
+-- the outcome of an input, by what selects nothing
+abbrev outcome_by : Asked → List Names → List ℕ → Opened → Option (List ℕ) → Outcome
+outcome_by q ns name o (Some one) = refused one
+outcome_by q ns name o None = from_dump q ns name o
+
+comparison_opened : (q : Asked) (limit : ℕ) (ns : List Names) (name : List ℕ) (input : Input) (o : Opened)
+    → Opens limit input o → comparison q limit ns name input ≡ outcome_by q ns name o (unselected q o.header ns)
+unfolding comparison
+comparison_opened q limit ns name input o opens = rw (opens, comparison) refl
+
+pub comparison_is_within : ComparisonIsWithin
+comparison_is_within q limit ns name input o opens none reached =
+    comparison_opened q limit ns name input o opens ∙ ap (outcome_by q ns name o) none
+    ∙ reached_same q ns name o reached ∙ sym (within_opened q limit ns name input o opens)
+
+-- the same of `within`
+pub within_is_a_match : (q : Asked) (limit : ℕ) (ns : List Names) (name : List ℕ) (input : Input) (o : Opened) → Opens limit input o
+    → ((within q limit ns name input).status ≡ 0)
+    ↔ (((fault_in o ≡ None) ⊎ (list_any (is_mark_above q.to) (items_in o) ≡ true)) × Matches q ns o)
+within_is_a_match q limit ns name input o opens = (
   λ good. from_zero q ns name o (sym (ap (λ (x : Outcome). x.status) (within_opened q limit ns name input o opens)) ∙ good),
   λ all. ap (λ (x : Outcome). x.status) (within_opened q limit ns name input o opens) ∙ to_end q ns name o all,
 )
+
+pub success_is_a_match : SuccessIsAMatch
+success_is_a_match q limit ns name input o opens = (
+  λ good. by_name (unselected q o.header ns) refl
+      (sym (ap (λ (x : Outcome). x.status) (comparison_opened q limit ns name input o opens)) ∙ good),
+  λ all. ap (λ (x : Outcome). x.status) (comparison_opened q limit ns name input o opens ∙ ap (outcome_by q ns name o) all.0)
+      ∙ reached_to q ns name o all.1 all.2,
+)
+  where
+    by_name : (one : Option (List ℕ)) → unselected q o.header ns ≡ one → (outcome_by q ns name o one).status ≡ 0
+        → (unselected q o.header ns ≡ None) × IsReached q o × Matches q ns o
+    by_name None e good = let f = reached_from q ns name o good in (e, f.0, f.1)
+    by_name (Some x) e good = cc

@@ -3,7 +3,7 @@ use Rattle.vcd_laws.proofs.Cited.{◌≡◌, List, [], ◌∷◌, codes, refl, S
 use Rattle.vcd_laws.proofs.Computing.{model}
 use Rattle.vcd_laws.proofs.CompareRows.{all}
 use Rattle.vcd_laws.proofs.RowText.{clean, dump, gives, limit}
-use Rattle.vcd_model.specs.Within.{within}
+use Rattle.vcd_model.specs.Within.{comparison, within}
 
 abbrev cores : List Names
 cores = (codes "t.a", codes "t.b") ∷ []
@@ -19,15 +19,35 @@ by_scopes : on_two all "#0;b0 !;b0 $;1\";1%;#3;b1 !;#4;b1 $;0%;" ≡ gives "alon
 unfolding model
 by_scopes = refl
 
--- a part compared with itself
-with_itself : within all limit ((codes "t.a", codes "t.a") ∷ []) (codes "(stdin)") (dump two "#0;b0 !;#3;b1 !;x\";") ≡ gives "compared 3;" "" 0
-unfolding model
-with_itself = refl
+-- a name and an exception that select nothing
+abbrev asked_on_two : Asked → String → String → String → Outcome
+asked_on_two q one other body = comparison q limit ((codes one, codes other) ∷ []) (codes "(stdin)") (dump two body)
 
--- names that select nothing
-nothing : within all limit ((codes "t.x", codes "t.y") ∷ []) (codes "(stdin)") (dump two "#0;b0 !;b0 $;") ≡ gives "compared 0;" "" 1
+nothing : asked_on_two all "t.a" "t.x" "#0;?" ≡ gives "" "t.x: selects nothing" 2
 unfolding model
 nothing = refl
+
+nothing_left_out : asked_on_two (record all { exceptions = codes "t.a.n" ∷ codes "t.a.m" ∷ [] }) "t.a" "t.b" "#0;" ≡ gives "" "t.a.m: selects nothing" 2
+unfolding model
+nothing_left_out = refl
+
+-- a first time after the end, and at the end
+too_late : asked_on_two (record all { from = 4 }) "t.a.q" "t.b.q" "#0;b0 !;b1 $;#3;" ≡ gives "differs 4 t.a.q 0000 0001;" "--from: 4 is after the end of the dump, 3" 2
+unfolding model
+too_late = refl
+
+in_time : asked_on_two (record all { from = 3 }) "t.a.q" "t.b.q" "#0;b0 !;b0 $;#3;" ≡ gives "compared 1;" "" 0
+unfolding model
+in_time = refl
+
+-- slices in another order, a range that only one has, and two ranges of one path each
+slices : String
+slices = "$scope module t $end $scope module a $end $var reg 4 ! q [3:0] $end $var reg 4 \" q [7 :4] $end $var reg 2 # r [1:0] $end $var reg 2 $ s [1:0] $end $upscope $end $scope module b $end $var reg 4 % q [7:4] $end $var reg 4 & q [3:0] $end $var reg 2 ' r $end $var reg 2 ( s [0:1] $end $upscope $end $upscope $end $enddefinitions $end;"
+
+by_range : within all limit cores (codes "(stdin)") (dump slices "#0;b1 !;b1 &;b10 \";b11 %;b0 #;b0 ';#3;b11 #;")
+    ≡ gives "alone A t.a.s[1:0];alone B t.b.s[0:1];differs 0 t.a.q[7:4] 0010 0011;differs 3 t.a.r 11 00;compared 3;" "" 1
+unfolding model slices
+by_range = refl
 
 -- several names: a variable may be in several pairs
 several : within all limit ((codes "t.a.q", codes "t.b.q") ∷ (codes "t.b", codes "t.a") ∷ (codes "t.a.c", codes "t.b.q") ∷ []) (codes "(stdin)") (dump two "#0;b0 !;b1 $;1\";1%;")

@@ -9,7 +9,7 @@ use Rattle.vcd_model.specs.Merge.{factor}
 use Rattle.vcd_model.specs.Sample.{shown}
 use Rattle.vcd_model.specs.Outcome.{Opened, items_in}
 use Rattle.vcd_model.specs.Job.{Want, outcome}
-use Rattle.vcd_model.specs.Compare.{Asked, Named, Pair, Side, alone, answer, compared, end_lines, ends_with, is_due, kind_of, kind_shown, pairs, scale_shown, state_at, times, unlike, value_lines}
+use Rattle.vcd_model.specs.Compare.{Asked, Named, Pair, Side, alone, answer, compared, end_lines, ends_with, full_name, is_due, kind_of, kind_shown, pairs, scale_shown, state_at, times, unlike, value_lines}
 use Rattle.vcd_model.specs.Within.{Names, within}
 use Rattle.vcd_laws.specs.Heads.{input_scope, under_input}
 use Rattle.vcd_laws.specs.Dumps.{AreReadable, input_of}
@@ -22,7 +22,7 @@ pub record Style : Type 0 where
 -- a line for each variable of one dump that the other does not have
 abbrev pub alone_in_style : Style → List ℕ → ℕ → List Named → List ℕ
 alone_in_style s letter n vs =
-    flat_map (λ v. words (codes "alone" ∷ letter ∷ s.path n v.path ∷ [])) vs
+    flat_map (λ v. words (codes "alone" ∷ letter ∷ s.path n (full_name v) ∷ [])) vs
 
 -- a line for each pair of different kinds
 abbrev pub unlike_in_style : Style → List Pair → List ℕ

@@ -2,11 +2,12 @@
 use Rattle.std.specs.Prelude.{◌≡◌, ◌≢◌, ◌⊎◌, ◌↔◌, ℕ, ◌≤◌, IsTrue, IsFalse, List, [], ◌∷◌, ◌++◌, flat_map, Contains, None}
 use Rattle.std.specs.List.{list_any}
 use Rattle.vcd_model.specs.Input.{Input}
+use Rattle.vcd_model.specs.Items.{time_after}
 use Rattle.vcd_model.specs.Cut.{is_mark_above}
 use Rattle.vcd_model.specs.Outcome.{Opened, fault_in, items_in}
 use Rattle.vcd_model.specs.Job.{Want, outcome}
 use Rattle.vcd_model.specs.Compare.{Asked, Named, Pair, Rule, Side, alone, differs, pairs, unlike}
-use Rattle.vcd_model.specs.Within.{Names, alone_in, compared_in, side, turned, unlike_in, within}
+use Rattle.vcd_model.specs.Within.{Names, alone_in, compared_in, side, comparison, turned, unlike_in, unselected, within}
 use Rattle.vcd_laws.specs.KeptValues.{Opens}
 use Rattle.vcd_laws.specs.Dumps.{AreReadable, input_of}
 use Rattle.vcd_laws.specs.CompareMerged.{asked_of_merge, both_inputs, side_of}
@@ -21,16 +22,28 @@ pub record AllMatch (rule : Rule) (a b : Side) (ps : List Pair) (alone : List Na
   pub states : (p : Pair) (t : ℕ) → Contains ps p → from ≤ t → t ≤ to
       → IsFalse (differs rule a b p t)
 
--- The comparison of two parts of a dump has status 0 if and only if all of both matches. The dump
--- may have a fault, but only after a timestamp above the last time.
+-- the comparison has reached its first time: the dump has no fault and does not end before it, or it
+-- has a timestamp above the last time, and what follows does not matter
+abbrev pub IsReached : Asked → Opened → Type 0
+IsReached q o = ((fault_in o ≡ None) × (q.from ≤ time_after (items_in o)))
+    ⊎ IsTrue (list_any (is_mark_above q.to) (items_in o))
+
+-- The comparison of two parts of a dump has status 0 if and only if each name selects something, the
+-- first time is reached, and all of both matches.
 abbrev pub SuccessIsAMatch : Type 0
 SuccessIsAMatch = (q : Asked) (limit : ℕ) (ns : List Names) (name : List ℕ) (input : Input)
     (o : Opened) → Opens limit input o
-    → ((within q limit ns name input).status ≡ 0)
-    ↔ (((fault_in o ≡ None) ⊎ IsTrue (list_any (is_mark_above q.to) (items_in o)))
+    → ((comparison q limit ns name input).status ≡ 0)
+    ↔ ((unselected q o.header ns ≡ None) × IsReached q o
     × AllMatch q.rule (side (items_in o)) (side (items_in o)) (compared_in q o.header ns)
     (flat_map (λ n. alone_in q o.header n ++ alone_in q o.header (turned n)) ns)
     (unlike_in q o.header ns) q.from q.to)
+
+-- A comparison whose names all select something, and which reaches its first time, is `within`.
+abbrev pub ComparisonIsWithin : Type 0
+ComparisonIsWithin = (q : Asked) (limit : ℕ) (ns : List Names) (name : List ℕ) (input : Input)
+    (o : Opened) → Opens limit input o → unselected q o.header ns ≡ None → IsReached q o
+    → comparison q limit ns name input ≡ within q limit ns name input
 
 -- The comparison of two inputs in what `merge` wrote has status 0 if and only if all of the inputs
 -- matches. Times are in ticks of both, up to the end of the shorter input.

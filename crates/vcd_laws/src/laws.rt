@@ -12,7 +12,7 @@ ghost use Rattle.vcd_laws.specs.OverPick.{ListOfPick, SampleOfPick, EdgesOfPick,
 ghost use Rattle.vcd_laws.specs.OverCut.{ListOfCut, SampleOfCut, SampleOfCutAnywhere, EdgesOfCut, CutTwice, CutPastEnd, CutOfCut, CutOfPick, PickOfCut};
 ghost use Rattle.vcd_laws.specs.OverMerge.{ListOfMerge, SampleOfMerge, EdgesOfMerge, SampleOfOneMerged, SampleOfAllMerged, EdgesOfOneMerged, EdgesOfAllMerged, SampleOfAnyMerged, EdgesOfAnyMerged};
 ghost use Rattle.vcd_laws.specs.CompareMerged.{CompareOfMerge};
-ghost use Rattle.vcd_laws.specs.Matching.{SuccessIsAMatch, MergedSuccessIsAMatch};
+ghost use Rattle.vcd_laws.specs.Matching.{ComparisonIsWithin, SuccessIsAMatch, MergedSuccessIsAMatch};
 ghost use Rattle.vcd_laws.specs.Strobes.{NothingRevisedInStrobe, SameStrobes};
 ghost use Rattle.vcd_laws.specs.Counted.{CheckOfPick, CheckOfCut, CheckOfMerge};
 ghost use Rattle.vcd_laws.specs.Checked.{CheckedIsSafe, CheckNamesTheFault, CleanIsChecked, CheckedMergeIsSafe, MergeNamesTheFault};
@@ -259,10 +259,16 @@ pub fn edges_of_any_merged()
     ensures { EdgesOfAnyMerged }
 {}
 
-/// A comparison of two parts of a dump has status 0 if and only if all of both matches, at every
-/// time.
+/// A comparison of two parts of a dump has status 0 if and only if each name selects something, the
+/// first time is reached, and all of both matches, at every time.
 pub fn success_is_a_match()
     ensures { SuccessIsAMatch }
+{}
+
+/// A comparison whose names all select something, and which reaches its first time, is `within`, the
+/// comparison of the other laws.
+pub fn comparison_is_within()
+    ensures { ComparisonIsWithin }
 {}
 
 /// The two inputs in what `merge` wrote differ where the inputs themselves do, up to the end of the
