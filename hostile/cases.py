@@ -66,14 +66,14 @@ class Case:
 
 
 class Comparison(Case):
-    """A case of vcdkit-compare. Its names come in pairs, and may be in a file."""
+    """A case of vcdkit-compare. Its names come in pairs."""
     program = b"vcdkit-compare"
 
     def __init__(self, name, text, names, asked=comparison.Asked()):
         super().__init__(name, "compare", [text], names=names)
         self.asked = asked
 
-    def words(self, files, pairs_file=None):
+    def words(self, files):
         asked = self.asked
         words = {comparison.FIRST: ["--first"], comparison.ALWAYS: ["--always"]}.get(
             asked.extent, [])
@@ -81,8 +81,6 @@ class Comparison(Case):
         words += [word for word, one in zip(("--x-of-a", "--x-of-b"), asked.loose) if one]
         words += ["--except=" + name.decode() for name in asked.exceptions]
         words += ["-i", *files] if files else []
-        if pairs_file is not None:
-            return words + ["--pairs", pairs_file]
         return words + ["--"] + ["%s=%s" % (one.decode(), other.decode())
                                  for one, other in self.names]
 

@@ -258,8 +258,8 @@ def on_streams(programs):
 ANSWERED = [(["--help"], 0), (["--version"], 0), ([], 2), (["a"], 2), (["a=b", "--from", "x"], 2),
             (["a=b", "--from", "5", "--to", "3"], 2), (["a=b", "--first", "--always"], 2),
             (["a=b", "c=c"], 2),
-            (["--pairs", "nowhere"], 3), (["a=b", "-i", "nowhere"], 3), (["a=b", "-i", "/"], 3),
-            (["--except=b", "--pairs", "/dev/null"], 2), ([b"\xff=a"], 2)]
+            (["a=b", "-i", "nowhere"], 3), (["a=b", "-i", "/"], 3),
+            (["--except=b"], 2), ([b"\xff=a"], 2)]
 
 
 def without_a_comparison(program):

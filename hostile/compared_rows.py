@@ -48,6 +48,8 @@ KNOWN = {
         *comparison.compared(asked_of(q), names, texts_of(inputs), limit))),
     "within": (5, lambda q, limit, names, name, one: record_of(
         *comparison.within(asked_of(q), names, name, one["bytes"], limit))),
+    "comparison": (5, lambda q, limit, names, name, one: record_of(
+        *comparison.answered(asked_of(q), names, name, one["bytes"], limit))),
     "outcome": (4, lambda want, limit, names, inputs: record_of(*evaluator.run(
         want.split(".")[-1].lower(), [], [], list(zip(names, texts_of(inputs))), limit))),
     "limit": (0, lambda: 1_048_576), "true": (0, lambda: True), "false": (0, lambda: False),

@@ -4,6 +4,8 @@ from dumps import Dumps, NAMES
 
 SIZES = [1, 1, 2, 4, 8, 33, 70]
 TYPES = [b"wire", b"reg", b"integer"]
+REALS = [b"real", b"real", b"realtime", b"shortreal", b"real_parameter"]
+RANGES = [[b"[3:0]"], [b"[7:4]"], [b"[7", b":4]"], [b"[0]"], [b"[a.b]"]]
 CODES = [bytes([33 + n]) for n in range(94)] + [b"ab", b"!!", b"$end", b"longer_code"]
 UNITS = [(b"1 ns", 1), (b"100ps", 10), (b"10 ns", 1), (b"1us", 1), (None, 1)]
 DIGITS = [b"01", b"01", b"01x", b"01xz", b"XZ01", b"x"]
@@ -41,10 +43,11 @@ class Pairs(Dumps):
         for group in range(r.randrange(1, 7)):
             kind = r.random()
             type_, size = ((b"event", r.choice([1, 1, 8])) if kind < 0.15 else
-                           (r.choice([b"real", b"realtime"]), r.choice([1, 64])) if kind < 0.3 else
+                           (r.choice(REALS), r.choice([1, 64])) if kind < 0.3 else
                            (r.choice(TYPES), r.choice(SIZES)))
             for _ in range(r.choice([1, 1, 1, 2, 3])):
-                name = [r.choice(NAMES)] + r.choice([[], [], [b"[%d:0]" % (size - 1)]])
+                name = [r.choice(NAMES)] + r.choice(
+                    [[], [], [b"[%d:0]" % (size - 1)], r.choice(RANGES)])
                 if self.some(0.2):
                     name = [name[0] + b"[%d:0]" % (size - 1)]
                 found.append(Variable(r.choice(scopes), name, type_, size, group))
@@ -56,7 +59,7 @@ class Pairs(Dumps):
         r = self.r
         if one.type == b"event":
             return r.choice([b"1", b"1", b"x", b"b1 "])
-        if one.type in (b"real", b"realtime") and self.some(0.9):
+        if one.type in REALS and self.some(0.9):
             return r.choice([b"r0 ", b"r1 ", b"r1.0 ", b"R1.5 ", b"r-2e3 ", b"rnan "])
         if self.some(0.02):
             return b"r1 "
@@ -84,15 +87,17 @@ class Pairs(Dumps):
     def like(self, variables):
         """The same variables, or nearly."""
         r, found = self.r, []
-        rare = r.choice([0, 0, 0.05])
+        rare, ranges = r.choice([0, 0, 0.05]), r.choice([0, 0, 0.05, 0.5])
         for one in variables:
             scopes, name, type_, size = one.scopes, one.name, one.type, one.size
             if self.some(rare):
                 size = r.choice(SIZES)
             if self.some(rare):
-                type_ = r.choice(TYPES + [b"real", b"event"])
+                type_ = r.choice(TYPES + [b"real", b"shortreal", b"event"])
             if self.some(rare):
                 name = [r.choice(NAMES)]
+            if self.some(ranges):
+                name = name[:1] + r.choice([[], r.choice(RANGES)])
             if self.some(rare):
                 scopes = scopes[:-1] if self.some(0.5) else [*scopes, r.choice(NAMES)]
             if self.some(0.3) and len(scopes) > 1:

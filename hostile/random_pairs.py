@@ -63,39 +63,35 @@ class Trials:
     def __init__(self, program, compare, folder):
         self.program, self.compare = program, compare
         self.paths = [os.path.join(folder, "%d.%s" % (os.getpid(), name))
-                      for name in ("a.vcd", "b.vcd", "pairs")]
+                      for name in ("a.vcd", "b.vcd")]
 
     def put(self, texts):
         for path, text in zip(self.paths, texts):
             with open(path, "wb") as file:
                 file.write(text)
 
-    def words(self, case, files, in_file=False):
-        """The words of a case, with its names in a file if they are to be in one."""
-        if not in_file:
-            return [self.compare, *case.words(files)]
-        with open(self.paths[2], "wb") as file:
-            file.write(b"".join(b"%s %s\n" % pair for pair in case.names))
-        return [self.compare, *case.words(files, self.paths[2])]
+    def words(self, case, files):
+        """The words of a case."""
+        return [self.compare, *case.words(files)]
 
-    def merged(self, case, in_file=False):
+    def merged(self, case):
         """What the comparison of a merge leaves, and what the merge does."""
         merge = subprocess.Popen([self.program, "merge", *self.paths[:2]],
                                  stdout=subprocess.PIPE, stderr=subprocess.PIPE)
-        got = outcome(self.words(case, [], in_file), stdin=merge.stdout)
+        got = outcome(self.words(case, []), stdin=merge.stdout)
         merge.stdout.close()
         message = merge.communicate()[1]
         return got, (message, merge.returncode)
 
-    def given(self, case, in_file=False):
+    def given(self, case):
         """What the comparison of a dump on standard input leaves, which is a pipe."""
-        return outcome(self.words(case, [], in_file), input=case.inputs[0])
+        return outcome(self.words(case, []), input=case.inputs[0])
 
-    def from_file(self, case, in_file, is_named):
+    def from_file(self, case, is_named):
         """The same of a file, which is standard input if it is not named."""
         self.put(case.inputs)
         with open(self.paths[0], "rb") as file:
-            return outcome(self.words(case, self.paths[:is_named], in_file), stdin=file)
+            return outcome(self.words(case, self.paths[:is_named]), stdin=file)
 
 
 def of_two_dumps(asked, names, texts):
@@ -169,7 +165,7 @@ def two(trials, seed):
     paths = [b"in1." + one.path for one in variables]
     case = Comparison("two", output, names_of(p.r, paths, MERGED[0]), asked_of(p.r, paths))
     want = case.outcome([b"(stdin)"], case.inputs)
-    got, left = trials.merged(case, p.some(0.1))
+    got, left = trials.merged(case)
     # A comparison that ends early breaks the pipe of a merge that has still something to write.
     ended = case.asked.extent == FIRST or case.asked.end < LAST or want[2] > 1
     wrong = []
@@ -186,10 +182,10 @@ def alone(trials, seed):
     p = Pairs(seed)
     text, paths = p.parts()
     case = Comparison("alone", text, names_of(p.r, paths, (b"p", b"q")), asked_of(p.r, paths))
-    in_file, way = p.some(0.1), p.r.choice(["pipe", "file", "name", "name"])
+    way = p.r.choice(["pipe", "file", "name", "name"])
     name = trials.paths[0].encode() if way == "name" else b"(stdin)"
-    got = (trials.given(case, in_file) if way == "pipe" else
-           trials.from_file(case, in_file, way == "name"))
+    got = (trials.given(case) if way == "pipe" else
+           trials.from_file(case, way == "name"))
     want = case.outcome([name], [text])
     return 1, [] if got == want else [told(case, text, want, got)]
 

@@ -6,6 +6,8 @@ within(asked, names, name, text) is the outcome of two parts of one dump, and
 compared(asked, names, texts) that of two dumps: output, message and status. A text is the bytes of
 an input, and its name is for messages. answered(asked, names, name, text) is what the program
 leaves, which refuses some of what is asked for."""
+from collections import Counter
+
 from .evaluator import (MOST_DECLARATIONS, Fault, Tokens, marks, placed, read_head, read_items,
                        read_items_of, scale_text, selects, told, value_of)
 
@@ -33,46 +35,72 @@ class Asked:
 # ---- which variables are compared
 
 class Named:
-    """A variable: its path, how many before it have this path, and what two variables must have in
-    common to be compared."""
+    """A variable: its path, its range, how many before it have both, how lines name it, and what
+    two variables must have in common to be compared."""
 
-    def __init__(self, path, nth, row):
-        _, type_, size, self.code, _ = row
-        self.path, self.nth, self.event = path, nth, type_ == b"event"
-        self.kind = (b"event" if self.event else
-                     b"real" if type_ in (b"real", b"realtime") else b"%d" % size)
+    def __init__(self, path, row):
+        _, type_, size, self.code, reference = row
+        self.path, self.event = path, type_ == b"event"
+        self.range = b"".join(reference[1:])
+        self.nth, self.name, self.is_only = 0, path, True
+        self.kind = (b"event" if self.event else b"real" if type_.startswith(b"real")
+                     or type_ == b"shortreal" else b"%d" % size)
 
 
 def all_named(head):
     """All variables of a header, in order."""
-    found, before = [], {}
-    for row, path, _ in head.variables():
-        found.append(Named(path, before.get(path, 0), head.rows[row]))
-        before[path] = before.get(path, 0) + 1
+    found = [Named(path, head.rows[row]) for row, path, _ in head.variables()]
+    paths, both = Counter(one.path for one in found), Counter()
+    for one in found:
+        one.nth = both[one.path, one.range]
+        both[one.path, one.range] += 1
+        one.is_only = paths[one.path] == 1
+        if not one.is_only:
+            one.name = one.path + one.range
+    return found
+
+
+def counterpart(others, one, path):
+    """The variable at a path with the same range, and as many of both before it; else the only one
+    there, if this is the only one of its path, and one of the two has no range."""
+    there = others.get(path, [])
+    for other in there:
+        if (other.range, other.nth) == (one.range, one.nth):
+            return other
+    if one.is_only and len(there) == 1 and not (one.range and there[0].range):
+        return there[0]
+    return None
+
+
+def by_path(variables):
+    """Variables by their paths."""
+    found = {}
+    for one in variables:
+        found.setdefault(one.path, []).append(one)
     return found
 
 
 def places_of(asked, head, name, other):
     """Of each variable that the name selects what the other name has in its place, or None."""
     variables = all_named(head)
-    at = {(one.path, one.nth): one for one in variables}
-    return [(one, at.get((other + one.path[len(name):], one.nth)))
+    at = by_path(variables)
+    return [(one, counterpart(at, one, other + one.path[len(name):]))
             for one in variables if selects(one.path, name) and asked.leaves_in(one.path)]
 
 
 def partners(asked, head, other):
-    """Of each variable of a header that is asked for its namesake in the other one, or None."""
-    its = {(one.path, one.nth): one for one in all_named(other) if asked.is_for(one.path)}
-    return [(one, its.get((one.path, one.nth)))
+    """Of each variable of a header that is asked for its partner in the other one, or None."""
+    its = by_path(all_named(other))
+    return [(one, counterpart(its, one, one.path))
             for one in all_named(head) if asked.is_for(one.path)]
 
 
 def lines_alone(letter, places):
-    return b"".join(b"alone %s %s\n" % (letter, one.path) for one, other in places if not other)
+    return b"".join(b"alone %s %s\n" % (letter, one.path + one.range) for one, other in places if not other)
 
 
 def lines_size(places):
-    return b"".join(b"size %s %s %s\n" % (one.path, one.kind, other.kind)
+    return b"".join(b"size %s %s %s\n" % (one.name, one.kind, other.kind)
                     for one, other in places if other and one.kind != other.kind)
 
 
@@ -161,7 +189,7 @@ def value_lines(asked, sides, pairs, times):
                 continue
             had.add((one, other))
             found.append((time, b"differs %d %s %s %s\n" % (
-                time // scale, one.path, shown(sides[0].state(one, time)),
+                time // scale, one.name, shown(sides[0].state(one, time)),
                 shown(sides[1].state(other, time)))))
     return found
 

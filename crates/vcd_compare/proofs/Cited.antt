@@ -44,7 +44,7 @@ pub use Rattle.vcd_body.specs.declared.values.table.Table.{Table}
 pub use Rattle.vcd_compare.specs.Asked.{model_asked, model_extent, rule_of}
 pub use Rattle.vcd_compare.specs.Classes.{AddsEnd, EntersClass, HasClasses}
 pub use Rattle.vcd_compare.specs.Comparing.{AreCodes, AreCurrent, AreFlags, AreMarked, AreTriggers, Compares, ComparesOne, GivesNew, HasNoEnd, IsCounted, IsLastTrigger, SameRequest, differ_from, is_last, partner, stops_before, triggers_with}
-pub use Rattle.vcd_compare.specs.Counterparts.{AreCounterparts, ArePlaces, AreSelected, Climbs, FindPlaces, IsBelow, IsCounterpart, IsNth, IsPlace, IsPlacing, IsReady, IsSettled, Settles, StaySettled, looked_up, place_of, place_of_node, replaced, selected_in}
+pub use Rattle.vcd_compare.specs.Counterparts.{AreCounterparts, ArePlaces, AreSelected, Climbs, FindPlaces, IsFound, IsBelow, IsCounterpart, IsNth, IsPlace, IsPlacing, IsReady, IsSettled, Settles, StaySettled, looked_up, place_of, place_of_node, replaced, selected_in, with_range, without_range}
 pub use Rattle.vcd_compare.specs.Flags.{AreListed, differing, marked, settled_as}
 pub use Rattle.vcd_compare.specs.HasPairs.{AreNumbersOf, EntersNames, EntersTexts, HasPairs, HasSelected, alone_at, compared_at, compared_of, unlike_at, unlike_of}
 pub use Rattle.vcd_compare.specs.Kinds.{model_kind}
@@ -52,11 +52,14 @@ pub use Rattle.vcd_compare.specs.Leads.{HasLead}
 pub use Rattle.vcd_compare.specs.LineTexts.{ArePairLines, states_of}
 pub use Rattle.vcd_compare.specs.Lines.{DoNotFall, IsQuiet, changed_at, codes_differ, flag_of, had_line, is_always, lines_due, time_compared}
 pub use Rattle.vcd_compare.specs.Outcomes.{AnswersGiveOutcomes, BodiesGiveOutcomes, ways_within}
-pub use Rattle.vcd_compare.specs.Pairs.{AreFew, AreLinked, ArePairs, HasEnd, HoldsPairs, IsClassOf, IsLastEnd, IsPairAt, IsUnlikeAt, names_in}
+pub use Rattle.vcd_compare.specs.Pairs.{AreFew, AreLinked, ArePairs, HasEnd, HoldsPairs, IsClassOf, IsLastEnd, IsPairAt, IsShownAt, IsUnlikeAt, named_by, names_in}
 pub use Rattle.vcd_compare.specs.Paths.{AreApart, AreTexts, EntersPath, EntersText, HasTexts, IsNumberOf, has_dot, joined, node_at, texts_in}
 pub use Rattle.vcd_compare.specs.Run.{Answers, HasHandled, RunStands, Tells, TellsEnd, done_of, flag_after, is_due_now, plan_within, settled_by}
 pub use Rattle.vcd_compare.specs.Selected.{AreInside, AreNamedBelow, AreNearest, AreWithin, both_names, chosen, is_inside, is_kept, is_one_of, lists_in}
-pub use Rattle.vcd_compare.specs.Variables.{AddsVariable, AreCounted, AreNumbered, AreVariables, HasSome, IsAround, IsAt, IsKeyOf, IsNamedAt, IsScopeNumber, named_in, same_key}
+pub use Rattle.vcd_compare.specs.Variables.{AddsVariable, AreCounted, AreNumbered, AreUsers, AreVariables, HasSome, HasUsers, IsAround, IsAt, IsKeyOf, IsNamedAt, IsPathOf, IsScopeNumber, index_in, named_in, same_key, slice_of, those_at, used_by}
+pub use Rattle.vcd_compare.specs.Slices.{EntersSlice, HasSlices, IsSlice, no_blanks, tail_of}
+pub use Rattle.vcd_compare.specs.declared.slices.Slices.{Slices}
+pub use Rattle.vcd_compare.specs.declared.variables.Users.{Users}
 pub use Rattle.vcd_compare.specs.declared.comparing.Comparison.{Comparison}
 pub use Rattle.vcd_compare.specs.declared.comparing.Watched.{Watched}
 pub use Rattle.vcd_compare.specs.declared.counterparts.Places.{Places}
@@ -89,7 +92,7 @@ pub use Rattle.vcd_model.proofs.TokenTexts.{IsWord}
 pub use Rattle.vcd_model.specs.Backward.{each, each_after}
 pub use Rattle.vcd_model.specs.BodyReading.{body_fault_of, body_items, read_body}
 pub use Rattle.vcd_model.specs.Bytes.{is_empty}
-pub use Rattle.vcd_model.specs.Compare.{Asked, Extent, Kind, Named, Pair, Rule, all_match, all_named, alone_lines, changes_at, count_line, differs, digits_match, ends_with, exactly, in_order, is_due, is_fit, is_left_in, is_triggered, kind_of, kind_shown, lines_at, match, named_after, same_kind, state_at, unlike_lines, value_line, values_match, with_time}
+pub use Rattle.vcd_model.specs.Compare.{Asked, Extent, Kind, Named, Pair, Rule, all_match, all_named, alone_lines, changes_at, count_line, differs, digits_match, ends_with, exactly, first_of, full_name, in_order, is_alike, is_due, is_fit, is_left_in, is_triggered, kind_of, kind_shown, lacks_range, lines_at, lone, match, name_in, named_after, only_at, range_of, same_kind, state_at, the_only, unlike_lines, value_line, values_match, with_time}
 pub use Rattle.vcd_model.specs.Compare.Extent.{Always, EachPair, First}
 pub use Rattle.vcd_model.specs.Compare.Kind.{Digits, Event, Real}
 pub use Rattle.vcd_model.specs.Cut.{is_mark_above}

@@ -13,6 +13,7 @@ pub mod TriggerLemmas
 pub mod StateLemmas
 pub mod MatchLemmas
 pub mod PathTexts
+pub mod SliceLemmas
 pub mod VariableLemmas
 pub mod RowPaths
 pub mod SelectedLemmas

@@ -1,5 +1,5 @@
 -- The lines of a comparison, text by text.
-use Rattle.vcd_compare.proofs.Cited.{zero, ◌≡◌, ℕ, suc, ◌+◌, ◌/◌, ◌<◌, ◌==◌, Bool, true, false, cond, ◌&&◌, List, [], ◌∷◌, ◌++◌, length, take, drop, slice_get, get_or, flat_map, decimal, codes, Option, Some, refl, sym, ap, subst, ◌∙◌, append-nil, append_assoc, arith, IsErr, Result, option_map, unwrap_or, vec_len, AllZip, Appends, ne_eqb, take-append-drop, flat_map-append, is_empty, words, BodyItem, IdCode, code_of, Header, shown, Asked, Named, Pair, alone_lines, is_triggered, kind_of, kind_shown, state_at, unlike_lines, value_line, Names, alone_in, side, turned, unlike_in, Gains, AppendsSome, appends-first, appends-none, appends-some, appends-twice, takes-failed, takes-twice, states_of, ArePairs, IsPairAt, IsUnlikeAt, End, PairRow, Pairs}
+use Rattle.vcd_compare.proofs.Cited.{zero, ◌≡◌, ℕ, suc, ◌+◌, ◌/◌, ◌<◌, ◌==◌, Bool, true, false, cond, ◌&&◌, List, [], ◌∷◌, ◌++◌, length, take, drop, slice_get, get_or, flat_map, decimal, codes, Option, Some, refl, sym, ap, subst, ◌∙◌, append-nil, append_assoc, arith, IsErr, Result, option_map, unwrap_or, vec_len, AllZip, Appends, ne_eqb, take-append-drop, flat_map-append, is_empty, words, BodyItem, IdCode, code_of, Header, shown, Asked, Named, Pair, alone_lines, is_triggered, kind_of, kind_shown, state_at, unlike_lines, value_line, Names, alone_in, side, turned, unlike_in, Gains, AppendsSome, appends-first, appends-none, appends-some, appends-twice, takes-failed, takes-twice, states_of, ArePairs, IsPairAt, IsUnlikeAt, End, PairRow, Pairs, Variable, not, full_name, named_by, no_blanks, range_of, tail_of}
 use Rattle.vcd_model.specs.Within.{within_head}
 use Rattle.vcd_compare.specs.Pairs.{IsNamedAt}
 
@@ -12,7 +12,7 @@ zip_get R (x ∷ xs) [] i d all l = absurd all
 zip_get R (x ∷ xs) (y ∷ ys) zero d all l = (y, refl, all.0)
 zip_get R (x ∷ xs) (y ∷ ys) (suc i) d all l = zip_get R xs ys i d all.1 (omega arith)
 
-take_next : {X : Type 0} (xs : List X) (i : ℕ) (x : X) → slice_get xs i ≡ Some x → take (i + 1) xs ≡ take i xs ++ x ∷ []
+pub take_next : {X : Type 0} (xs : List X) (i : ℕ) (x : X) → slice_get xs i ≡ Some x → take (i + 1) xs ≡ take i xs ++ x ∷ []
 take_next [] i x at = cc
 take_next (y ∷ xs) zero x at = let same : y ≡ x = cc in ap (λ z. z ∷ []) same
 take_next (y ∷ xs) (suc i) x at = let one : suc i + 1 ≡ suc (i + 1) = omega arith in rw one (ap (λ l. y ∷ l) (take_next xs i x at))
@@ -103,15 +103,39 @@ module _ (flag : Pair → ℕ) (line : Pair → List ℕ) (p : Pair) where
   pub line_none : (flag p == 1) ≡ false → [] ≡ flat_map (λ x. cond (flag x == 1) (line x) []) (p ∷ [])
   line_none e = rw e refl
 
+-- ---- the name of a variable
+
+-- the bytes of a text that are no blanks, one after the other
+abbrev pub byte_of : ℕ → List ℕ
+byte_of b = no_blanks (b ∷ [])
+
+pub bytes_of : (text : List ℕ) → flat_map byte_of text ≡ no_blanks text
+bytes_of [] = refl
+bytes_of (b ∷ text) = by_test (not (b == 32)) (bytes_of text)
+  where
+    by_test : (t : Bool) → flat_map byte_of text ≡ no_blanks text → cond t (b ∷ []) [] ++ flat_map byte_of text ≡ cond t (b ∷ no_blanks text) (no_blanks text)
+    by_test true more = ap (λ l. b ∷ l) more
+    by_test false more = more
+
+abbrev pub name_texts : (path tail : List ℕ) → List (List ℕ)
+name_texts path tail = path ∷ no_blanks tail ∷ []
+
+pub name_line : (ranged : Bool) (path own tail name : List ℕ) (v : Variable) → own ≡ path → tail ≡ cond ranged (tail_of v) [] → named_by ranged path v ≡ name → text_of (name_texts own tail) ≡ name
+name_line ranged path own tail name v same is name_is = rw (same, is) (by_range ranged ∙ name_is)
+  where
+    by_range : (b : Bool) → text_of (name_texts path (cond b (tail_of v) [])) ≡ named_by b path v
+    by_range true = ap (λ l. path ++ l) (append-nil (range_of v))
+    by_range false = append-nil path
+
 -- ---- the lines about the header
 
 abbrev pub alone_of : List ℕ → Named → List ℕ
-alone_of letter v = words (codes "alone" ∷ letter ∷ v.path ∷ [])
+alone_of letter v = words (codes "alone" ∷ letter ∷ full_name v ∷ [])
 
 abbrev pub alone_texts : (letter path : List ℕ) → List (List ℕ)
 alone_texts letter path = codes "alone " ∷ letter ∷ (32 ∷ []) ∷ path ∷ (10 ∷ []) ∷ []
 
-pub alone_line : (letter path : List ℕ) (v : Named) → path ≡ v.path → text_of (alone_texts letter path) ≡ alone_lines letter (v ∷ [])
+pub alone_line : (letter path : List ℕ) (v : Named) → path ≡ full_name v → text_of (alone_texts letter path) ≡ alone_lines letter (v ∷ [])
 alone_line letter path v e = rw e (simp (append_assoc, append-nil))
 
 abbrev pub unlike_of : Pair → List ℕ

@@ -1,5 +1,5 @@
 -- The pair of a class, and what its codes have in common.
-use Rattle.vcd_compare.proofs.Cited.{◌≡◌, ◌≢◌, ℕ, ◌<◌, ◌==◌, Bool, true, false, cond, ◌||◌, List, length, filter_map, flat_map, codes, slice_get, get_or, Option, Some, None, refl, sym, ap, subst, ◌∙◌, MatchOption, bytes_eq, slice_set, IsSomeAnd, eqb-true, get_or-set_other, get_or-set_same, same_Some, bytes_eq-Decides, AllZip-left, IdCode, Variable, code_of, Header, Asked, Kind, Pair, is_fit, kind_of, same_kind, Event, Real, Digits, Names, compared_in, pair_at, places_of, marked, ArePairs, IsClassOf, IsPairAt, End, PairRow, Pairs}
+use Rattle.vcd_compare.proofs.Cited.{◌≡◌, ◌≢◌, ℕ, ◌<◌, ◌==◌, Bool, true, false, cond, ◌||◌, List, length, filter_map, flat_map, codes, slice_get, get_or, Option, Some, None, refl, sym, ap, subst, ◌∙◌, MatchOption, bytes_eq, nat_eq, starts_with, slice_set, IsSomeAnd, eqb-true, get_or-set_other, get_or-set_same, same_Some, bytes_eq-Decides, AllZip-left, IdCode, Variable, code_of, Header, Asked, Kind, Pair, is_fit, kind_of, same_kind, Event, Real, Digits, Names, compared_in, pair_at, places_of, marked, ArePairs, IsClassOf, IsPairAt, End, PairRow, Pairs}
 use Rattle.std.proofs.Math.ListN.{length-set}
 use Rattle.vcd_compare.proofs.PlaceLemmas.{kept}
 
@@ -25,7 +25,7 @@ turned_test xs ys = by_test (bytes_eq xs ys) refl
         other false f = refl
 
 abbrev other_kind : Variable → Kind
-other_kind v = cond (bytes_eq v.type (codes "real") || bytes_eq v.type (codes "realtime")) Real (Digits v.size)
+other_kind v = cond (starts_with nat_eq v.type (codes "real") || bytes_eq v.type (codes "shortreal")) Real (Digits v.size)
 
 -- both are events, or neither is
 pub fit_events : (p : Pair) → is_fit p ≡ true → (code_of p.one).event ≡ (code_of p.other).event
@@ -53,7 +53,7 @@ pair_of_class ps h q ns class are below =
   where
     found : (o : Option Pair) → slice_get (compared_in q h ns) (are.covered class below).0 ≡ o → IsSomeAnd o (λ p. IsPairAt h ps.ends.items (are.covered class below).1 p) → (p : Pair) × (is_fit p ≡ true) × IsClassOf h ps.ends.items class p
     found None e is = absurd is
-    found (Some p) e is = (p, kept is_fit (flat_map (λ n. filter_map pair_at (places_of q h n)) ns) (are.covered class below).0 p e, subst (λ (k : ℕ). IsClassOf h ps.ends.items k p) (are.covered class below).3 is.class)
+    found (Some p) e is = (p, kept is_fit (flat_map (λ n. filter_map (pair_at h) (places_of q h n)) ns) (are.covered class below).0 p e, subst (λ (k : ℕ). IsClassOf h ps.ends.items k p) (are.covered class below).3 is.class)
 
 -- all pairs of a class are of the same codes
 pub class_events : (ps : Pairs) (h : Header) (q : Asked) (ns : List Names) (class : ℕ) (p : Pair) → ArePairs ps h q ns → class < ps.classes → IsClassOf h ps.ends.items class p → (code_of p.one).event ≡ (code_of p.other).event

@@ -27,37 +27,37 @@ mapped p s r g (x ∷ xs) = by_tests (p x) refl (s x) refl (mapped p s r g xs)
 last_place : (q : Asked) (h : Header) (n : Names) (i : ℕ) → length (selected_in q h n) ≤ i → places_before q h n i ≡ places_of q h n
 last_place q h n i all =
     ap (map (place_of h n)) (take_all i (selected_in q h n) all)
-    ∙ sym (mapped (λ (v : Named). is_left_in q v.path) (λ (v : Named). selects_path v.path n.0) (λ (v : Named). drop (length n.0) v.path) (λ v r. (v, at_path h (n.1 ++ r) v.nth)) (all_named h))
+    ∙ sym (mapped (λ (v : Named). is_left_in q v.path) (λ (v : Named). selects_path v.path n.0) (λ (v : Named). drop (length n.0) v.path) (λ v r. (v, at_path h (n.1 ++ r) v)) (all_named h))
 
 module _ (keys : List (ℕ × ℕ)) (ps : Pairs) (q : Asked) (h : Header) (n : Names) (compared other_kinds : List Pair) (ones others : List Named) where
   -- what is held after the first variables
   abbrev pub HeldBefore : ℕ → Type 0
-  HeldBefore i = let before = places_before q h n i in HasPairs keys ps h (compared ++ compared_at before) (other_kinds ++ unlike_at before) (ones ++ alone_at before) others
+  HeldBefore i = let before = places_before q h n i in HasPairs keys ps h (compared ++ compared_at h before) (other_kinds ++ unlike_at h before) (ones ++ alone_at before) others
 
   pub held_next : (i : ℕ) (v : Named) → slice_get (selected_in q h n) i ≡ Some v
       → (let before = places_before q h n i in let more = place_of h n v ∷ [] in
-      HasPairs keys ps h ((compared ++ compared_at before) ++ compared_at more) ((other_kinds ++ unlike_at before) ++ unlike_at more) ((ones ++ alone_at before) ++ alone_at more) others) → HeldBefore (suc i)
+      HasPairs keys ps h ((compared ++ compared_at h before) ++ compared_at h more) ((other_kinds ++ unlike_at h before) ++ unlike_at h more) ((ones ++ alone_at before) ++ alone_at more) others) → HeldBefore (suc i)
   held_next i v at s =
       let before = places_before q h n i in
       let more = place_of h n v ∷ [] in
       let next = sym (next_place q h n i v at) in
-      let c : (compared ++ compared_at before) ++ compared_at more ≡ compared ++ compared_at (places_before q h n (suc i)) =
-      append_assoc compared (compared_at before) (compared_at more) ∙ ap (λ l. compared ++ l) (sym (ap (filter is_fit) (filter_map-append pair_at before more) ∙ filter-append is_fit (filter_map pair_at before) (filter_map pair_at more))) ∙ ap (λ l. compared ++ compared_at l) next in
-      let u : (other_kinds ++ unlike_at before) ++ unlike_at more ≡ other_kinds ++ unlike_at (places_before q h n (suc i)) =
-      append_assoc other_kinds (unlike_at before) (unlike_at more)
-      ∙ ap (λ l. other_kinds ++ l) (sym (ap (filter (λ p. not (is_fit p))) (filter_map-append pair_at before more) ∙ filter-append (λ p. not (is_fit p)) (filter_map pair_at before) (filter_map pair_at more)))
-      ∙ ap (λ l. other_kinds ++ unlike_at l) next in
+      let c : (compared ++ compared_at h before) ++ compared_at h more ≡ compared ++ compared_at h (places_before q h n (suc i)) =
+      append_assoc compared (compared_at h before) (compared_at h more) ∙ ap (λ l. compared ++ l) (sym (ap (filter is_fit) (filter_map-append (pair_at h) before more) ∙ filter-append is_fit (filter_map (pair_at h) before) (filter_map (pair_at h) more))) ∙ ap (λ l. compared ++ compared_at h l) next in
+      let u : (other_kinds ++ unlike_at h before) ++ unlike_at h more ≡ other_kinds ++ unlike_at h (places_before q h n (suc i)) =
+      append_assoc other_kinds (unlike_at h before) (unlike_at h more)
+      ∙ ap (λ l. other_kinds ++ l) (sym (ap (filter (λ p. not (is_fit p))) (filter_map-append (pair_at h) before more) ∙ filter-append (λ p. not (is_fit p)) (filter_map (pair_at h) before) (filter_map (pair_at h) more)))
+      ∙ ap (λ l. other_kinds ++ unlike_at h l) next in
       let a : (ones ++ alone_at before) ++ alone_at more ≡ ones ++ alone_at (places_before q h n (suc i)) =
       append_assoc ones (alone_at before) (alone_at more) ∙ ap (λ l. ones ++ l) (sym (filter_map-append (λ p. cond (is_none p.1) (Some p.0) None) before more)) ∙ ap (λ l. ones ++ alone_at l) next in
-      subst (λ l. HasPairs keys ps h l (other_kinds ++ unlike_at (places_before q h n (suc i))) (ones ++ alone_at (places_before q h n (suc i))) others) c
-      (subst (λ l. HasPairs keys ps h ((compared ++ compared_at before) ++ compared_at more) l (ones ++ alone_at (places_before q h n (suc i))) others) u
-      (subst (λ l. HasPairs keys ps h ((compared ++ compared_at before) ++ compared_at more) ((other_kinds ++ unlike_at before) ++ unlike_at more) l others) a s))
+      subst (λ l. HasPairs keys ps h l (other_kinds ++ unlike_at h (places_before q h n (suc i))) (ones ++ alone_at (places_before q h n (suc i))) others) c
+      (subst (λ l. HasPairs keys ps h ((compared ++ compared_at h before) ++ compared_at h more) l (ones ++ alone_at (places_before q h n (suc i))) others) u
+      (subst (λ l. HasPairs keys ps h ((compared ++ compared_at h before) ++ compared_at h more) ((other_kinds ++ unlike_at h before) ++ unlike_at h more) l others) a s))
 
   -- after the last variable
   pub held_all : (i : ℕ) → length (selected_in q h n) ≤ i → HeldBefore i → HasPairs keys ps h (compared ++ compared_in q h (n ∷ [])) (other_kinds ++ unlike_in q h (n ∷ [])) (ones ++ alone_in q h n) others
   held_all i all s =
-      let placed = subst (λ l. HasPairs keys ps h (compared ++ compared_at l) (other_kinds ++ unlike_at l) (ones ++ alone_at l) others) (last_place q h n i all) s in
-      subst (λ l. HasPairs keys ps h (compared ++ filter is_fit l) (other_kinds ++ filter (λ p. not (is_fit p)) l) (ones ++ alone_in q h n) others) (sym (append-nil (filter_map pair_at (places_of q h n)))) placed
+      let placed = subst (λ l. HasPairs keys ps h (compared ++ compared_at h l) (other_kinds ++ unlike_at h l) (ones ++ alone_at l) others) (last_place q h n i all) s in
+      subst (λ l. HasPairs keys ps h (compared ++ filter is_fit l) (other_kinds ++ filter (λ p. not (is_fit p)) l) (ones ++ alone_in q h n) others) (sym (append-nil (filter_map (pair_at h) (places_of q h n)))) placed
 
 module _ (q : Asked) (h : Header) (n : Names) (others : List Named) where
   -- the variables without a counterpart among the first
@@ -101,7 +101,7 @@ module _ (q : Asked) (h : Header) (ns : List Names) where
       → AllZip (IsNamedAt h) alone.items (flat_map (λ m. alone_in q h (turned m)) (take i ns) ++ alone_in q h (turned n)) → HeldNames keys (record ps { alone_other = alone }) (suc i)
   names_next keys ps alone i n at s others =
       let next = sym (take_next ns i n at) in
-      let pairs = flat_map-append (λ m. filter_map pair_at (places_of q h m)) (take i ns) (n ∷ []) in
+      let pairs = flat_map-append (λ m. filter_map (pair_at h) (places_of q h m)) (take i ns) (n ∷ []) in
       let one = flat_map_more (alone_in q h) [] (take i ns) n in
       let other = flat_map_more (λ m. alone_in q h (turned m)) [] (take i ns) n in
       let c : compared_in q h (take i ns) ++ compared_in q h (n ∷ []) ≡ compared_in q h (take (suc i) ns) =
@@ -120,18 +120,18 @@ module _ (q : Asked) (h : Header) (ns : List Names) where
 -- ---- how many there are
 
 -- what has a place is a pair or has no counterpart
-each_place : (ps : List (Named × Option Named)) → length (filter_map pair_at ps) + length (alone_at ps) ≡ length ps
-each_place [] = refl
-each_place ((v, None) ∷ ps) = let rest = each_place ps in omega (arith, rest)
-each_place ((v, Some w) ∷ ps) = let rest = each_place ps in omega (arith, rest)
+each_place : (h : Header) (ps : List (Named × Option Named)) → length (filter_map (pair_at h) ps) + length (alone_at ps) ≡ length ps
+each_place h [] = refl
+each_place h ((v, None) ∷ ps) = let rest = each_place h ps in omega (arith, rest)
+each_place h ((v, Some w) ∷ ps) = let rest = each_place h ps in omega (arith, rest)
 
 module _ (q : Asked) (h : Header) where
   each_selected : (ns : List Names) → length (pairs_in q h ns) + length (flat_map (alone_in q h) ns) ≡ length (flat_map (places_of q h) ns)
   each_selected [] = refl
   each_selected (n ∷ ns) =
       let rest = each_selected ns in
-      let one = each_place (places_of q h n) in
-      let a = length-append (filter_map pair_at (places_of q h n)) (pairs_in q h ns) in
+      let one = each_place h (places_of q h n) in
+      let a = length-append (filter_map (pair_at h) (places_of q h n)) (pairs_in q h ns) in
       let b = length-append (alone_in q h n) (flat_map (alone_in q h) ns) in
       let c = length-append (places_of q h n) (flat_map (places_of q h) ns) in
       omega (arith, rest, one, a, b, c)
@@ -140,7 +140,7 @@ module _ (q : Asked) (h : Header) where
   few_alone [] = omega arith
   few_alone (n ∷ ns) =
       let rest = few_alone ns in
-      let one = each_place (places_of q h (turned n)) in
+      let one = each_place h (places_of q h (turned n)) in
       let b = length-append (alone_in q h (turned n)) (flat_map (λ m. alone_in q h (turned m)) ns) in
       let c = length-append (places_of q h (turned n)) (flat_map (λ m. places_of q h (turned m)) ns) in
       omega (arith, rest, one, b, c)

@@ -1,13 +1,7 @@
 -- The pairs of a header, one more at a time.
-use Rattle.vcd_compare.proofs.Cited.{◌≡◌, ◌⊎◌, ℕ, suc, ◌*◌, ◌<◌, ◌≤◌, nat_lt, Bool, true, false, not, cond, List, [], ◌∷◌, ◌++◌, length, get_or, slice_get, Option, Some, None, inl, inr, refl, sym, ap, subst, ◌∙◌, arith, Vec, AllZip, length-append, ltb-false, ltb-true, get_or_from_slice_get, Variable, code_of, Header, Kind, Named, Pair, all_named, is_fit, kind_of, same_kind, all_zip_push, slice_get-front, slice_get-seam, EntersClass, HasPairs, alone_at, compared_at, compared_of, unlike_at, unlike_of, HasEnd, HoldsPairs, IsClassOf, IsPairAt, IsUnlikeAt, IsAt, IsNamedAt, UnlikeRows, End, PairRow, Pairs}
+use Rattle.vcd_compare.proofs.Cited.{◌≡◌, ◌⊎◌, ℕ, suc, ◌*◌, ◌<◌, ◌≤◌, nat_lt, Bool, true, false, not, cond, List, [], ◌∷◌, ◌++◌, length, get_or, slice_get, Option, Some, None, inl, inr, refl, sym, ap, subst, ◌∙◌, arith, Vec, AllZip, length-append, ltb-false, ltb-true, get_or_from_slice_get, Variable, code_of, Header, Kind, Named, Pair, all_named, is_fit, kind_of, same_kind, all_zip_push, slice_get-front, slice_get-seam, EntersClass, HasPairs, alone_at, compared_at, compared_of, unlike_at, unlike_of, HasEnd, HoldsPairs, IsClassOf, IsPairAt, IsShownAt, IsUnlikeAt, IsNamedAt, AreVariables, IsFound, IsNumberOf, IsPathOf, Variables, full_name, is_some, name_in, named_by, only_at, UnlikeRows, End, PairRow, Pairs}
 use Rattle.std.proofs.lemmas.List.{append-nil}
-use Rattle.vcd_compare.proofs.PlaceLemmas.{zip_at}
-
-pub zip_weaker : {X Y : Type 0} (R S : X → Y → Type 0) (xs : List X) (ys : List Y) → ((x : X) (y : Y) → R x y → S x y) → AllZip R xs ys → AllZip S xs ys
-zip_weaker R S [] [] f all = tt
-zip_weaker R S [] (y ∷ ys) f all = absurd all
-zip_weaker R S (x ∷ xs) [] f all = absurd all
-zip_weaker R S (x ∷ xs) (y ∷ ys) f all = (f x y all.0, zip_weaker R S xs ys f all.1)
+pub use Rattle.vcd_compare.proofs.SliceLemmas.{zip_at, zip_weaker}
 
 module _ (h : Header) (ends more : List End) where
   end_stays : (i : ℕ) (v : Variable) → HasEnd h ends i v → HasEnd h (ends ++ more) i v
@@ -46,12 +40,12 @@ one_more n m class each = by_test (nat_lt (suc n) m) refl
         ]
 
 -- one pair more that is compared
-pub pair_more : (h : Header) (old new : Pairs) (keys new_keys : List (ℕ × ℕ)) (codes : ℕ × ℕ) (row class : ℕ) (p : Pair) (compared unlike : List Pair) (ones others : List Named) → HoldsPairs old h compared unlike ones others
+pub pair_more : (h : Header) (old new : Pairs) (keys new_keys : List (ℕ × ℕ)) (codes : ℕ × ℕ) (row : ℕ) (ranged : Bool) (class : ℕ) (p : Pair) (compared unlike : List Pair) (ones others : List Named) → HoldsPairs old h compared unlike ones others
     → EntersClass keys new_keys old.ends.items new.ends.items old.last.items new.last.items codes class → length keys ≡ old.classes → length new_keys ≡ new.classes
-    → new.rows.items ≡ old.rows.items ++ record { row = row; class = class } ∷ [] → new.alone_one.items ≡ old.alone_one.items → new.alone_other.items ≡ old.alone_other.items → new.unlike.items ≡ old.unlike.items
-    → IsAt h row p.path p.one → is_fit p ≡ true → slice_get h.codes codes.0 ≡ Some (code_of p.one) → slice_get h.codes codes.1 ≡ Some (code_of p.other) → HoldsPairs new h (compared ++ p ∷ []) unlike ones others
-pair_more h old new keys new_keys codes row class p compared unlike ones others holds e keys_len new_len rows one_rows other_rows unlike_rows at fits one other =
-    let r : PairRow = record { row = row; class = class } in
+    → new.rows.items ≡ old.rows.items ++ record { row = row; ranged = ranged; class = class } ∷ [] → new.alone_one.items ≡ old.alone_one.items → new.alone_other.items ≡ old.alone_other.items → new.unlike.items ≡ old.unlike.items
+    → IsShownAt h row ranged p.path p.one → is_fit p ≡ true → slice_get h.codes codes.0 ≡ Some (code_of p.one) → slice_get h.codes codes.1 ≡ Some (code_of p.other) → HoldsPairs new h (compared ++ p ∷ []) unlike ones others
+pair_more h old new keys new_keys codes row ranged class p compared unlike ones others holds e keys_len new_len rows one_rows other_rows unlike_rows at fits one other =
+    let r : PairRow = record { row = row; ranged = ranged; class = class } in
     let is = class_of h keys new_keys old.ends.items new.ends.items old.last.items new.last.items codes class p e one other in
     let grown = zip_weaker (IsPairAt h old.ends.items) (IsPairAt h new.ends.items) old.rows.items compared (λ x y z. subst (λ l. IsPairAt h l x y) (sym e.grows) (pair_stays h old.ends.items e.more x y z)) holds.rows in
     record {
@@ -162,16 +156,35 @@ named_row h rows i row v all at is =
     let x = zip_at (IsNamedAt h) rows (all_named h) i v all at in
     subst (λ r. IsNamedAt h r v) (sym (is ∙ get_or_from_slice_get rows i x.0 0 x.1)) x.2
 
+-- the number of its path
+pub path_number : (h : Header) (texts : List (List ℕ)) (vs : Variables) (i n : ℕ) (v : Named) → AreVariables h texts vs → slice_get (all_named h) i ≡ Some v → n ≡ get_or vs.paths.items i 0 → IsNumberOf texts n v.path
+path_number h texts vs i n v are at is =
+    let x = zip_at (IsPathOf texts) vs.paths.items (all_named h) i v are.paths at in
+    subst (λ m. IsNumberOf texts m v.path) (sym (is ∙ get_or_from_slice_get vs.paths.items i x.0 0 x.1)) x.2
+
+-- how lines name it
+pub shown_name : (h : Header) (v : Named) (p : Option ℕ) (ranged : Bool) → IsFound h (only_at (all_named h) v.path) p → is_some p ≡ not ranged → named_by ranged v.path v.variable ≡ name_in h v
+shown_name h v p ranged found is =
+    by_range ranged ∙ ap (λ b. cond b v.path (full_name v)) (sym is ∙ by_found p found)
+  where
+    by_range : (b : Bool) → named_by b v.path v.variable ≡ cond (not b) v.path (full_name v)
+    by_range true = refl
+    by_range false = refl
+
+    by_found : (p : Option ℕ) → IsFound h (only_at (all_named h) v.path) p → is_some p ≡ is_some (only_at (all_named h) v.path)
+    by_found None e = sym (ap is_some e)
+    by_found (Some j) e = sym (ap is_some e.1)
+
 module _ (keys : List (ℕ × ℕ)) (h : Header) (compared other_kinds : List Pair) (ones others : List Named) (ps : Pairs) (v : Named) (found : Option Named) where
   -- what is held once the place is taken
   abbrev pub HeldWith : Option Named → Type 0
-  HeldWith o = HasPairs keys ps h (compared ++ compared_at ((v, o) ∷ [])) (other_kinds ++ unlike_at ((v, o) ∷ [])) (ones ++ alone_at ((v, o) ∷ [])) others
+  HeldWith o = HasPairs keys ps h (compared ++ compared_at h ((v, o) ∷ [])) (other_kinds ++ unlike_at h ((v, o) ∷ [])) (ones ++ alone_at ((v, o) ∷ [])) others
 
   pub place_missing : found ≡ None → HasPairs keys ps h compared other_kinds (ones ++ v ∷ []) others → HeldWith found
   place_missing is s =
       subst HeldWith (sym is) (subst (λ l. HasPairs keys ps h l (other_kinds ++ []) (ones ++ v ∷ []) others) (sym (append-nil compared)) (subst (λ l. HasPairs keys ps h compared l (ones ++ v ∷ []) others) (sym (append-nil other_kinds)) s))
 
-  pub place_both : (w : Named) → found ≡ Some w → (let p : Pair = record { path = v.path; one = v.variable; other = w.variable } in HasPairs keys ps h (compared ++ compared_of p) (other_kinds ++ unlike_of p) ones others) → HeldWith found
+  pub place_both : (w : Named) → found ≡ Some w → (let p : Pair = record { path = name_in h v; one = v.variable; other = w.variable } in HasPairs keys ps h (compared ++ compared_of p) (other_kinds ++ unlike_of p) ones others) → HeldWith found
   place_both w is s =
-      let p : Pair = record { path = v.path; one = v.variable; other = w.variable } in
+      let p : Pair = record { path = name_in h v; one = v.variable; other = w.variable } in
       subst HeldWith (sym is) (subst (λ l. HasPairs keys ps h (compared ++ compared_of p) (other_kinds ++ unlike_of p) l others) (sym (append-nil ones)) s)

@@ -1,9 +1,12 @@
 -- What has another name in place of a first one: paths, and variables.
-use Rattle.vcd_compare.proofs.Cited.{◌≡◌, ◌≢◌, ℕ, suc, ◌+◌, ◌<◌, ◌≤◌, ◌==◌, ◌&&◌, ◌||◌, not, nat_eq, Bool, true, false, cond, List, [], ◌∷◌, ◌++◌, length, drop, set, get_or, slice_get, filter, find, position, bytes_eq, cases_lt, Option, Some, None, inl, inr, refl, sym, ap, subst, ◌∙◌, arith, option_map, AllZip, list_any, position_or_len, find_at, take_all, eq-eqb, eqb-false, eqb-true, ne_eqb, false_from_ne_true, and_parts, length-append, length-set, get_or-set_other, get_or-set_same, get_or_from_slice_get, same_Some, slice_get-get_or, slice_get_past, slice_get_within, bytes_eq-Decides, ◌⊎◌, Header, selects_path, Asked, Named, all_named, Names, bytes_flip, there, selected_begins, ArePlaces, AreSelected, AreWithin, FindPlaces, IsCounterpart, IsNth, IsPlace, looked_up, place_of_node, replaced, selected_in, AreApart, AreTexts, IsNumberOf, has_dot, joined, both_names, chosen, is_inside, is_kept, is_one_of, lists_in, AreVariables, IsKeyOf, same_key, HasSelected, Paths, Variables, Vec, AreCounterparts, Climbs, IsBelow, IsPlacing, IsReady, IsSettled, Settles, StaySettled, node_at, Places, min, ◌-◌}
+use Rattle.vcd_compare.proofs.Cited.{◌≡◌, ◌≢◌, ℕ, suc, ◌+◌, ◌<◌, ◌≤◌, ◌==◌, ◌&&◌, ◌||◌, not, nat_eq, Bool, true, false, cond, List, [], ◌∷◌, ◌++◌, length, drop, set, get_or, slice_get, filter, find, position, bytes_eq, cases_lt, Option, Some, None, inl, inr, refl, sym, ap, subst, ◌∙◌, arith, option_map, AllZip, list_any, position_or_len, find_at, take_all, eq-eqb, eqb-false, eqb-true, ne_eqb, false_from_ne_true, and_parts, length-append, length-set, get_or-set_other, get_or-set_same, get_or_from_slice_get, same_Some, slice_get-get_or, slice_get_past, slice_get_within, bytes_eq-Decides, ◌⊎◌, Header, selects_path, Asked, Named, all_named, Names, bytes_flip, there, selected_begins, ArePlaces, AreSelected, AreWithin, FindPlaces, IsCounterpart, IsFound, IsNth, IsPlace, with_range, without_range, ap₂, is_empty, is_some, first_of, lacks_range, lone, only_at, range_of, the_only, IsSlice, Slices, texts_in, AreUsers, IsPathOf, Users, index_in, slice_of, looked_up, place_of_node, replaced, selected_in, AreApart, AreTexts, IsNumberOf, has_dot, joined, both_names, chosen, is_inside, is_kept, is_one_of, lists_in, AreVariables, IsKeyOf, same_key, HasSelected, Paths, Variables, Vec, AreCounterparts, Climbs, IsBelow, IsPlacing, IsReady, IsSettled, Settles, StaySettled, node_at, Places, min, ◌-◌}
 use Rattle.std.proofs.Common.{zero}
+use Rattle.vcd_compare.specs.declared.variables.Users.TheVariants as Users
 use Rattle.std.proofs.lemmas.List.{append_assoc, append-nil, drop-append-le}
 use Rattle.vcd_compare.proofs.PathTexts.{joined_number, last_dot, no_dot, number_within, node_of, none_first, not_there, position_first, position_none, position_passes, same_is, is_same, text_of}
 use Rattle.vcd_compare.proofs.SelectedLemmas.{chosen_zip, plain_selected, selects_inside, selects_itself}
+pub use Rattle.vcd_compare.proofs.SliceLemmas.{same_len, zip_at, zip_from}
+use Rattle.vcd_compare.proofs.SliceLemmas.{IsSliceAt, same_slice, slice_absent, slice_found}
 use Rattle.vcd_compare.proofs.VariableLemmas.{same_number}
 
 -- ---- a path with the second name in place of the first
@@ -186,20 +189,6 @@ module _ (parts : List (List ℕ)) (nodes : List (ℕ × ℕ)) (texts : List (Li
 
 -- ---- counterparts of variables
 
--- what is in one of two lists that go together is in the other
-pub zip_at : {X Y : Type 0} (R : X → Y → Type 0) (xs : List X) (ys : List Y) (i : ℕ) (y : Y) → AllZip R xs ys → slice_get ys i ≡ Some y → (x : X) × (slice_get xs i ≡ Some x) × R x y
-zip_at R [] [] i y all at = cc
-zip_at R [] (z ∷ ys) i y all at = absurd all
-zip_at R (x ∷ xs) [] i y all at = absurd all
-zip_at R (x ∷ xs) (z ∷ ys) zero y all at = (x, refl, subst (R x) (same_Some z y at) all.0)
-zip_at R (x ∷ xs) (z ∷ ys) (suc i) y all at = zip_at R xs ys i y all.1 at
-
-pub zip_from : {X Y : Type 0} (R : X → Y → Type 0) (xs : List X) (ys : List Y) (i : ℕ) (x : X) → AllZip R xs ys → slice_get xs i ≡ Some x → (y : Y) × (slice_get ys i ≡ Some y) × R x y
-zip_from R [] ys i x all at = cc
-zip_from R (w ∷ xs) [] i x all at = absurd all
-zip_from R (w ∷ xs) (y ∷ ys) zero x all at = (y, refl, subst (λ z. R z y) (same_Some w x at) all.0)
-zip_from R (w ∷ xs) (y ∷ ys) (suc i) x all at = zip_from R xs ys i x all.1 at
-
 -- a number is among those of the exceptions if and only if its text is one
 pub marked_is : (texts : List (List ℕ)) (n : ℕ) (t : List ℕ) (ns : List ℕ) (es : List (List ℕ)) → AreApart texts → IsNumberOf texts n t → AllZip (IsNumberOf texts) ns es → list_any (λ m. m == n) ns ≡ list_any (λ e. bytes_eq t e) es
 marked_is texts n t [] [] apart is all = refl
@@ -215,36 +204,40 @@ nat_flip a b = by_test (nat_eq b a) refl
     by_test false q = ne_eqb a b (λ e. eqb-false b a q (sym e))
 
 -- the test of the definition, and that of the code
-same_test : (texts : List (List ℕ)) (m nth : ℕ) (path : List ℕ) (k : ℕ × ℕ) (w : Named) → AreApart texts → IsNumberOf texts m path → IsKeyOf texts k w → same_key (m, nth) k ≡ (bytes_eq w.path path && (w.nth == nth))
-same_test texts m nth path k w apart is key =
-    let one : nat_eq m k.0 ≡ bytes_eq w.path path = same_number texts m k.0 path w.path apart is key.path ∙ bytes_flip path w.path in
+abbrev pub at_place : List ℕ → List ℕ → ℕ → Named → Bool
+at_place path range nth w = bytes_eq w.path path && (bytes_eq (range_of w.variable) range && (w.nth == nth))
+
+same_test : (list : List (List ℕ × List ℕ)) (m nth : ℕ) (path range : List ℕ) (k : ℕ × ℕ) (w : Named) → ((i j : ℕ) (z : List ℕ × List ℕ) → slice_get list i ≡ Some z → slice_get list j ≡ Some z → i ≡ j)
+    → slice_get list m ≡ Some (path, range) → IsKeyOf list k w → same_key (m, nth) k ≡ at_place path range nth w
+same_test list m nth path range k w apart is key =
+    let one : nat_eq m k.0 ≡ (bytes_eq w.path path && bytes_eq (range_of w.variable) range) =
+    same_slice list m k.0 (path, range) (slice_of w) apart is key.slice ∙ (λ z. bytes_flip path w.path z && bytes_flip range (range_of w.variable) z) in
     let two : nat_eq nth k.1 ≡ (w.nth == nth) = ap (nat_eq nth) key.nth ∙ nat_flip nth w.nth in
-    λ z. one z && two z
+    (λ z. one z && two z) ∙ grouped (bytes_eq w.path path) (bytes_eq (range_of w.variable) range) (w.nth == nth)
+  where
+    grouped : (a b c : Bool) → ((a && b) && c) ≡ (a && (b && c))
+    grouped true b c = refl
+    grouped false b c = refl
 
-first_same : (texts : List (List ℕ)) (m nth : ℕ) (path : List ℕ) (keys : List (ℕ × ℕ)) (vs : List Named) → AreApart texts → IsNumberOf texts m path → AllZip (IsKeyOf texts) keys vs
-    → position_or_len (same_key (m, nth)) keys ≡ position_or_len (λ (w : Named). bytes_eq w.path path && (w.nth == nth)) vs
-first_same texts m nth path [] [] apart is all = refl
-first_same texts m nth path [] (w ∷ vs) apart is all = absurd all
-first_same texts m nth path (k ∷ ks) [] apart is all = absurd all
-first_same texts m nth path (k ∷ ks) (w ∷ vs) apart is all =
-    ap (λ b. cond (not b) (1 + position_or_len (same_key (m, nth)) ks) 0) (same_test texts m nth path k w apart is all.0)
-    ∙ ap (λ j. cond (not (bytes_eq w.path path && (w.nth == nth))) (1 + j) 0) (first_same texts m nth path ks vs apart is all.1)
+first_same : (list : List (List ℕ × List ℕ)) (m nth : ℕ) (path range : List ℕ) (keys : List (ℕ × ℕ)) (vs : List Named) → ((i j : ℕ) (z : List ℕ × List ℕ) → slice_get list i ≡ Some z → slice_get list j ≡ Some z → i ≡ j)
+    → slice_get list m ≡ Some (path, range) → AllZip (IsKeyOf list) keys vs → position_or_len (same_key (m, nth)) keys ≡ position_or_len (at_place path range nth) vs
+first_same list m nth path range [] [] apart is all = refl
+first_same list m nth path range [] (w ∷ vs) apart is all = absurd all
+first_same list m nth path range (k ∷ ks) [] apart is all = absurd all
+first_same list m nth path range (k ∷ ks) (w ∷ vs) apart is all =
+    ap (λ b. cond (not b) (1 + position_or_len (same_key (m, nth)) ks) 0) (same_test list m nth path range k w apart is all.0)
+    ∙ ap (λ j. cond (not (at_place path range nth w)) (1 + j) 0) (first_same list m nth path range ks vs apart is all.1)
 
-pub same_len : {X Y : Type 0} (R : X → Y → Type 0) (xs : List X) (ys : List Y) → AllZip R xs ys → length xs ≡ length ys
-same_len R [] [] all = refl
-same_len R [] (y ∷ ys) all = absurd all
-same_len R (x ∷ xs) [] all = absurd all
-same_len R (x ∷ xs) (y ∷ ys) all = ap suc (same_len R xs ys all.1)
-
-none_found : (texts : List (List ℕ)) (path : List ℕ) (nth : ℕ) (keys : List (ℕ × ℕ)) (vs : List Named) → ((i : ℕ) → slice_get texts i ≢ Some path) → AllZip (IsKeyOf texts) keys vs
-    → find (λ (w : Named). bytes_eq w.path path && (w.nth == nth)) vs ≡ None
-none_found texts path nth [] [] absent all = refl
-none_found texts path nth [] (w ∷ vs) absent all = absurd all
-none_found texts path nth (k ∷ ks) [] absent all = absurd all
-none_found texts path nth (k ∷ ks) (w ∷ vs) absent all =
-    let is = all.0.path in
-    let other : bytes_eq w.path path ≡ false = false_from_ne_true (bytes_eq w.path path) (λ e. absent is.0 (is.2 ∙ ap Some ((bytes_eq-Decides w.path path).0 e))) in
-    ap (λ b. cond (b && (w.nth == nth)) (Some w) (find (λ (w : Named). bytes_eq w.path path && (w.nth == nth)) vs)) other ∙ none_found texts path nth ks vs absent all.1
+none_found : (list : List (List ℕ × List ℕ)) (path range : List ℕ) (nth : ℕ) (keys : List (ℕ × ℕ)) (vs : List Named) → ((i : ℕ) → slice_get list i ≢ Some (path, range)) → AllZip (IsKeyOf list) keys vs → find (at_place path range nth) vs ≡ None
+none_found list path range nth [] [] absent all = refl
+none_found list path range nth [] (w ∷ vs) absent all = absurd all
+none_found list path range nth (k ∷ ks) [] absent all = absurd all
+none_found list path range nth (k ∷ ks) (w ∷ vs) absent all =
+    let other : at_place path range nth w ≡ false = false_from_ne_true (at_place path range nth w) (λ e.
+    let one = and_parts (bytes_eq w.path path) (bytes_eq (range_of w.variable) range && (w.nth == nth)) e in
+    let two = and_parts (bytes_eq (range_of w.variable) range) (w.nth == nth) one.1 in
+    absent k.0 (all.0.slice ∙ ap Some (ap₂ (λ (p r : List ℕ). (p, r)) ((bytes_eq-Decides w.path path).0 one.0) ((bytes_eq-Decides (range_of w.variable) range).0 two.0)))) in
+    ap (λ b. cond b (Some w) (find (at_place path range nth) vs)) other ∙ none_found list path range nth ks vs absent all.1
 
 -- what a filter leaves passes
 pub kept : {X : Type 0} (f : X → Bool) (xs : List X) (n : ℕ) (x : X) → slice_get (filter f xs) n ≡ Some x → f x ≡ true
@@ -260,82 +253,159 @@ kept f (y ∷ ys) n x e = by_test (f y) refl n e (λ n e. kept f ys n x e)
 pub selected_nth : (q : Asked) (h : Header) (n : Names) (j : ℕ) (v : Named) → slice_get (selected_in q h n) j ≡ Some v → (is_kept q.exceptions v.path ≡ true) × (selects_path v.path n.0 ≡ true)
 selected_nth q h n j v at = and_parts (is_kept q.exceptions v.path) (selects_path v.path n.0) (kept (λ (w : Named). is_kept q.exceptions w.path && selects_path w.path n.0) (all_named h) j v at)
 
-module _ (h : Header) (n : Names) (texts : List (List ℕ)) (v : Named) (apart : AreApart texts) (vs : Variables) (are : AreVariables h texts vs) where
-  -- a variable by the place of its path
-  by_path : (place : Option ℕ) → IsCounterpart texts n v.path place → IsPlace h n v (looked_up vs.keys.keys v.nth place)
-  by_path None is = none_found texts (replaced n v.path) v.nth vs.keys.keys (all_named h) is are.keys
-  by_path (Some m) is = by_found (position (same_key (m, v.nth)) vs.keys.keys) refl
+module _ (h : Header) (texts : List (List ℕ)) (vs : Variables) (are : AreVariables h texts vs) where
+  -- a variable by the number of its path and its range
+  pub by_slice : (path range : List ℕ) (nth : ℕ) (slice : Option ℕ) → IsSliceAt are.list (path, range) slice → IsFound h (find (at_place path range nth) (all_named h)) (looked_up vs.keys.keys nth slice)
+  by_slice path range nth None is = none_found are.list path range nth vs.keys.keys (all_named h) is are.keys
+  by_slice path range nth (Some m) is = by_found (position (same_key (m, nth)) vs.keys.keys) refl
     where
-      path : List ℕ
-      path = replaced n v.path
-
       test : Named → Bool
-      test w = bytes_eq w.path path && (w.nth == v.nth)
+      test w = at_place path range nth w
 
-      by_found : (o : Option ℕ) → position (same_key (m, v.nth)) vs.keys.keys ≡ o → IsPlace h n v o
+      by_found : (o : Option ℕ) → position (same_key (m, nth)) vs.keys.keys ≡ o → IsFound h (find (at_place path range nth) (all_named h)) o
       by_found (Some f) e =
-          let first : position_or_len test (all_named h) ≡ f = sym (first_same texts m v.nth path vs.keys.keys (all_named h) apart is are.keys) ∙ position_first (same_key (m, v.nth)) vs.keys.keys f e in
-          let found = position_passes (same_key (m, v.nth)) vs.keys.keys f e in
+          let first : position_or_len test (all_named h) ≡ f = sym (first_same are.list m nth path range vs.keys.keys (all_named h) are.slices.apart is are.keys) ∙ position_first (same_key (m, nth)) vs.keys.keys f e in
+          let found = position_passes (same_key (m, nth)) vs.keys.keys f e in
           let within = slice_get_within vs.keys.keys f found.0 found.1 in
-          let w = there (all_named h) f (omega (arith, within, same_len (IsKeyOf texts) vs.keys.keys (all_named h) are.keys)) in
+          let w = there (all_named h) f (omega (arith, within, same_len (IsKeyOf are.list) vs.keys.keys (all_named h) are.keys)) in
           (w.0, find_at test (all_named h) ∙ ap (slice_get (all_named h)) first ∙ w.1, w.1)
       by_found None e =
-          let none = none_first (same_key (m, v.nth)) vs.keys.keys (position_none (same_key (m, v.nth)) vs.keys.keys e) in
-          let last : position_or_len test (all_named h) ≡ length (all_named h) = sym (first_same texts m v.nth path vs.keys.keys (all_named h) apart is are.keys) ∙ none ∙ same_len (IsKeyOf texts) vs.keys.keys (all_named h) are.keys in
+          let none = none_first (same_key (m, nth)) vs.keys.keys (position_none (same_key (m, nth)) vs.keys.keys e) in
+          let last : position_or_len test (all_named h) ≡ length (all_named h) = sym (first_same are.list m nth path range vs.keys.keys (all_named h) are.slices.apart is are.keys) ∙ none ∙ same_len (IsKeyOf are.list) vs.keys.keys (all_named h) are.keys in
           find_at test (all_named h) ∙ slice_get_past (all_named h) (position_or_len test (all_named h)) (omega (arith, last))
 
--- what the code finds for a variable
-pub variable_place : (q : Asked) (h : Header) (n : Names) (texts : List (List ℕ)) (vs : Variables) (places : List (Option ℕ)) (index j : ℕ) (v : Named) (key : ℕ × ℕ) (place result : Option ℕ) → FindPlaces q h n texts vs places → IsNth h index v → slice_get (selected_in q h n) j ≡ Some v
-    → key ≡ get_or vs.keys.keys index (0, 0) → place ≡ get_or places key.0 None → result ≡ looked_up vs.keys.keys key.1 place → IsPlace h n v result
-variable_place q h n texts vs places index j v key place result finds nth at same is looks =
-    let k = zip_at (IsKeyOf texts) vs.keys.keys (all_named h) index v finds.are.keys nth in
-    let key_is : key ≡ k.0 = same ∙ get_or_from_slice_get vs.keys.keys index k.0 (0, 0) k.1 in
-    let place_is : place ≡ get_or places k.0.0 None = is ∙ ap (λ (x : ℕ × ℕ). get_or places x.0 None) key_is in
-    subst (IsPlace h n v) (sym (looks ∙ ap (λ (x : ℕ × ℕ). looked_up vs.keys.keys x.1 place) key_is ∙ ap (λ m. looked_up vs.keys.keys m place) k.2.nth ∙ ap (looked_up vs.keys.keys v.nth) place_is))
-    (by_path h n texts v finds.apart vs finds.are (get_or places k.0.0 None) (finds.placed j k.0.0 v at k.2.path))
+  -- the keys of a variable
+  pub record HasKeys (v : Named) (key slice : ℕ × ℕ) (path : ℕ) : Type 0 where
+    pub nth : key.1 ≡ v.nth
+    pub is : IsSlice texts (texts_in vs.slices.ranges) slice (slice_of v)
+    pub number : IsNumberOf texts path v.path
+    pub path_is : slice.0 ≡ path
+
+  pub keys_of : (index : ℕ) (v : Named) (key slice : ℕ × ℕ) (path : ℕ) → AreApart texts → IsNth h index v → key ≡ get_or vs.keys.keys index (0, 0) → slice ≡ get_or vs.slices.pairs.keys key.0 (0, 0) → path ≡ get_or vs.paths.items index 0 → HasKeys v key slice path
+  keys_of index v key slice path apart nth key_at slice_at path_at =
+      let k = zip_at (IsKeyOf are.list) vs.keys.keys (all_named h) index v are.keys nth in
+      let key_is : key ≡ k.0 = key_at ∙ get_or_from_slice_get vs.keys.keys index k.0 (0, 0) k.1 in
+      let s = zip_at (IsSlice texts (texts_in vs.slices.ranges)) vs.slices.pairs.keys are.list k.0.0 (slice_of v) are.slices.each k.2.slice in
+      let slice_is : slice ≡ s.0 = slice_at ∙ ap (λ (x : ℕ × ℕ). get_or vs.slices.pairs.keys x.0 (0, 0)) key_is ∙ get_or_from_slice_get vs.slices.pairs.keys k.0.0 s.0 (0, 0) s.1 in
+      let p = zip_at (IsPathOf texts) vs.paths.items (all_named h) index v are.paths nth in
+      let path_same : path ≡ p.0 = path_at ∙ get_or_from_slice_get vs.paths.items index p.0 0 p.1 in
+      let number = subst (λ m. IsNumberOf texts m v.path) (sym path_same) p.2 in
+      let is = subst (λ x. IsSlice texts (texts_in vs.slices.ranges) x (slice_of v)) (sym slice_is) s.2 in
+      record {
+        nth = ap (λ (x : ℕ × ℕ). x.1) key_is ∙ k.2.nth;
+        is = is;
+        number = number;
+        path_is = is.0.1 ∙ ap suc (apart is.0.0 number.0 v.path is.0.2 number.2) ∙ sym number.1;
+      }
+
+  -- the only variable of a path
+  pub only_is : (n : ℕ) (t : List ℕ) (u : Users) → IsNumberOf texts n t → u ≡ get_or vs.users.items n Users.None → IsFound h (only_at (all_named h) t) (index_in u)
+  only_is n t u number e = by_users u (subst (AreUsers (all_named h) t) (sym e) (are.users n t number))
+    where
+      by_users : (u : Users) → AreUsers (all_named h) t u → IsFound h (only_at (all_named h) t) (index_in u)
+      by_users Users.None is = ap the_only is
+      by_users (Users.One i) is = (is.0, ap the_only is.1, is.2)
+      by_users Users.Several is = ap the_only is.3
+
+  -- a path that no variable has
+  pub only_none : (t : List ℕ) → ((i : ℕ) → slice_get texts i ≢ Some t) → only_at (all_named h) t ≡ None
+  only_none t absent = ap the_only (none vs.paths.items (all_named h) are.paths)
+    where
+      none : (ns : List ℕ) (ws : List Named) → AllZip (IsPathOf texts) ns ws → filter (λ w. bytes_eq w.path t) ws ≡ []
+      none [] [] all = refl
+      none [] (w ∷ ws) all = absurd all
+      none (m ∷ ns) [] all = absurd all
+      none (m ∷ ns) (w ∷ ws) all =
+          let other : bytes_eq w.path t ≡ false = false_from_ne_true (bytes_eq w.path t) (λ e. absent all.0.0 (all.0.2 ∙ ap Some ((bytes_eq-Decides w.path t).0 e))) in
+          ap (λ b. cond b (w ∷ filter (λ w. bytes_eq w.path t) ws) (filter (λ w. bytes_eq w.path t) ws)) other ∙ none ns ws all.1
+
+-- the place of a variable's path
+pub placed_at : (q : Asked) (h : Header) (n : Names) (texts : List (List ℕ)) (vs : Variables) (places : List (Option ℕ)) (j m : ℕ) (v : Named) (place : Option ℕ) → FindPlaces q h n texts vs places → slice_get (selected_in q h n) j ≡ Some v → IsNumberOf texts m v.path
+    → place ≡ get_or places m None → IsCounterpart texts n v.path place
+placed_at q h n texts vs places j m v place finds at number is = subst (IsCounterpart texts n v.path) (sym is) (finds.placed j m v at number)
+
+-- what the code finds with the same range
+pub ranged_place : (q : Asked) (h : Header) (n : Names) (texts : List (List ℕ)) (vs : Variables) (places : List (Option ℕ)) (index j : ℕ) (v : Named) (key slice : ℕ × ℕ) (place found result : Option ℕ) → FindPlaces q h n texts vs places → IsNth h index v → slice_get (selected_in q h n) j ≡ Some v
+    → key ≡ get_or vs.keys.keys index (0, 0) → slice ≡ get_or vs.slices.pairs.keys key.0 (0, 0) → place ≡ get_or places slice.0 None → found ≡ looked_up vs.slices.pairs.keys slice.1 place → result ≡ looked_up vs.keys.keys key.1 found → IsFound h (with_range h n v) result
+ranged_place q h n texts vs places index j v key slice place found result finds nth at key_is slice_is place_is found_is result_is =
+    let has = keys_of h texts vs finds.are index v key slice (get_or vs.paths.items index 0) finds.apart nth key_is slice_is refl in
+    let counter = placed_at q h n texts vs places j slice.0 v place finds at (subst (λ m. IsNumberOf texts m v.path) (sym has.path_is) has.number) place_is in
+    let there : IsSliceAt finds.are.list (replaced n v.path, range_of v.variable) found = subst (IsSliceAt finds.are.list (replaced n v.path, range_of v.variable)) (sym found_is) (by_place place has.is.1 counter) in
+    subst (IsFound h (with_range h n v)) (sym (result_is ∙ ap (λ m. looked_up vs.keys.keys m found) has.nth)) (by_slice h texts vs finds.are (replaced n v.path) (range_of v.variable) v.nth found there)
+  where
+    by_place : (place : Option ℕ) → slice_get (texts_in vs.slices.ranges) slice.1 ≡ Some (range_of v.variable) → IsCounterpart texts n v.path place → IsSliceAt finds.are.list (replaced n v.path, range_of v.variable) (looked_up vs.slices.pairs.keys slice.1 place)
+    by_place None range is = slice_absent texts vs.slices finds.are.list finds.apart finds.are.slices (range_of v.variable) slice.1 range (replaced n v.path) is
+    by_place (Some m) range is = slice_found texts vs.slices finds.are.list finds.apart finds.are.slices (range_of v.variable) slice.1 range m (replaced n v.path) is
+
+-- that comes first
+pub ranged_first : (h : Header) (n : Names) (v : Named) (i : ℕ) → IsFound h (with_range h n v) (Some i) → IsPlace h n v (Some i)
+ranged_first h n v i a = (a.0, ap (λ o. first_of o (without_range h n v)) a.1, a.2)
+
+-- and then what has no range
+pub lone_place : (h : Header) (n : Names) (v : Named) (other : Option ℕ) → with_range h n v ≡ None → IsFound h (without_range h n v) other → IsPlace h n v other
+lone_place h n v other a b = subst (λ o. IsFound h o other) (sym (ap (λ o. first_of o (without_range h n v)) a)) b
+
+-- there is an index of what is there
+pub found_some : (h : Header) (o : Option Named) (i : Option ℕ) → IsFound h o i → is_some o ≡ is_some i
+found_some h o None e = ap is_some e
+found_some h o (Some j) e = ap is_some e.1
+
+-- without a range, by what is known of both paths
+pub lone_both : (h : Header) (v : Named) (own other : Option Named) (i : Option ℕ) (j : ℕ) (one two : Bool) → IsFound h own i → (b : IsFound h other (Some j)) → one ≡ is_empty (range_of v.variable) → two ≡ is_empty (range_of b.0.variable)
+    → IsFound h (lone own v other) (cond (is_some i && (one || two)) (Some j) None)
+lone_both h v own other i j one two a b e f =
+    subst (λ o. IsFound h (lone own v o) (cond (is_some i && (one || two)) (Some j) None)) (sym b.1)
+    (subst (λ t. IsFound h (cond t (Some b.0) None) (cond (is_some i && (one || two)) (Some j) None)) same (by_test (is_some i && (one || two))))
+  where
+    same : (is_some i && (one || two)) ≡ (is_some own && lacks_range v b.0)
+    same = ap (λ t. t && (one || two)) (sym (found_some h own i a)) ∙ ap (λ t. is_some own && (t || two)) e ∙ ap (λ t. is_some own && (is_empty (range_of v.variable) || t)) f
+
+    by_test : (t : Bool) → IsFound h (cond t (Some b.0) None) (cond t (Some j) None)
+    by_test true = (b.0, refl, b.2)
+    by_test false = refl
 
 module _ (q : Asked) (h : Header) (n : Names) (texts : List (List ℕ)) (vs : Variables) (list : List ℕ) (are : AreVariables h texts vs) (selected : AreSelected q h n list) where
   -- the name selects the paths of these variables
-  pub listed_below : (i : ℕ) → i < length list → IsBelow n texts (get_or vs.keys.keys (get_or list i 0) (0, 0)).0
+  pub listed_below : (i : ℕ) → i < length list → IsBelow n texts (get_or vs.paths.items (get_or list i 0) 0)
   listed_below i l =
       let index = get_or list i 0 in
       let v = zip_from (IsNth h) list (selected_in q h n) i index selected (slice_get-get_or list i 0 l) in
-      let k = zip_at (IsKeyOf texts) vs.keys.keys (all_named h) index v.0 are.keys v.2 in
-      subst (λ (x : ℕ × ℕ). IsBelow n texts x.0) (sym (get_or_from_slice_get vs.keys.keys index k.0 (0, 0) k.1)) (v.0.path, k.2.path, (selected_nth q h n i v.0 v.1).1)
+      let k = zip_at (IsPathOf texts) vs.paths.items (all_named h) index v.0 are.paths v.2 in
+      subst (IsBelow n texts) (sym (get_or_from_slice_get vs.paths.items index k.0 0 k.1)) (v.0.path, k.2, (selected_nth q h n i v.0 v.1).1)
 
   -- their places are found once their paths are settled
-  pub places_found : (p : Places) → AreApart texts → AreCounterparts n texts p → ((i : ℕ) → i < length list → IsSettled p (get_or vs.keys.keys (get_or list i 0) (0, 0)).0) → ArePlaces q h n texts p.numbers.items
+  pub places_found : (p : Places) → AreApart texts → AreCounterparts n texts p → ((i : ℕ) → i < length list → IsSettled p (get_or vs.paths.items (get_or list i 0) 0)) → ArePlaces q h n texts p.numbers.items
   places_found p apart each settled j m v at is =
       let index = zip_at (IsNth h) list (selected_in q h n) j v selected at in
-      let k = zip_at (IsKeyOf texts) vs.keys.keys (all_named h) index.0 v are.keys index.2 in
-      let path = k.2.path in
-      let key : (get_or vs.keys.keys (get_or list j 0) (0, 0)).0 ≡ m =
-      ap (λ i. (get_or vs.keys.keys i (0, 0)).0) (get_or_from_slice_get list j index.0 0 index.1) ∙ ap (λ (x : ℕ × ℕ). x.0) (get_or_from_slice_get vs.keys.keys index.0 k.0 (0, 0) k.1) ∙ path.1 ∙ ap suc (apart path.0 is.0 v.path path.2 is.2) ∙ sym is.1 in
+      let k = zip_at (IsPathOf texts) vs.paths.items (all_named h) index.0 v are.paths index.2 in
+      let path = k.2 in
+      let key : get_or vs.paths.items (get_or list j 0) 0 ≡ m =
+      ap (λ i. get_or vs.paths.items i 0) (get_or_from_slice_get list j index.0 0 index.1) ∙ get_or_from_slice_get vs.paths.items index.0 k.0 0 k.1 ∙ path.1 ∙ ap suc (apart path.0 is.0 v.path path.2 is.2) ∙ sym is.1 in
       let its = each m (subst (IsSettled p) key (settled j (slice_get_within list j index.0 index.1))) in
       let number = its.1 in
       let text : its.0 ≡ v.path = same_Some its.0 v.path (sym number.2 ∙ ap (slice_get texts) (let a = number.1 in let b = is.1 in omega (arith, a, b)) ∙ is.2) in
       subst (λ t. IsCounterpart texts n t (get_or p.numbers.items m None)) text its.3
 
 -- the variables that a name selects are those that are inside its path
-pub selected_zip : (q : Asked) (h : Header) (n : Names) (texts : List (List ℕ)) (vs : Variables) (list : List ℕ) → AreVariables h texts vs → list ≡ chosen (λ i. is_inside texts q.exceptions n.0 (get_or vs.keys.keys i (0, 0)).0) (length vs.keys.keys) → AreSelected q h n list
+pub selected_zip : (q : Asked) (h : Header) (n : Names) (texts : List (List ℕ)) (vs : Variables) (list : List ℕ) → AreVariables h texts vs → list ≡ chosen (λ i. is_inside texts q.exceptions n.0 (get_or vs.paths.items i 0)) (length vs.paths.items) → AreSelected q h n list
 selected_zip q h n texts vs list are is =
-    let keys = vs.keys.keys in
-    let len = same_len (IsKeyOf texts) keys (all_named h) are.keys in
-    subst (AreSelected q h n) (sym is) (subst (λ l. AllZip (IsNth h) (chosen (λ i. is_inside texts q.exceptions n.0 (get_or keys i (0, 0)).0) (length keys)) (filter (λ (v : Named). is_kept q.exceptions v.path && selects_path v.path n.0) l)) (take_all (length keys) (all_named h) (omega (arith, len)))
-    (chosen_zip (all_named h) (λ i. is_inside texts q.exceptions n.0 (get_or keys i (0, 0)).0) (λ (v : Named). is_kept q.exceptions v.path && selects_path v.path n.0) same (length keys) (omega (arith, len))))
+    let paths = vs.paths.items in
+    let len = same_len (IsPathOf texts) paths (all_named h) are.paths in
+    subst (AreSelected q h n) (sym is) (subst (λ l. AllZip (IsNth h) (chosen (λ i. is_inside texts q.exceptions n.0 (get_or paths i 0)) (length paths)) (filter (λ (v : Named). is_kept q.exceptions v.path && selects_path v.path n.0) l)) (take_all (length paths) (all_named h) (omega (arith, len)))
+    (chosen_zip (all_named h) (λ i. is_inside texts q.exceptions n.0 (get_or paths i 0)) (λ (v : Named). is_kept q.exceptions v.path && selects_path v.path n.0) same (length paths) (omega (arith, len))))
   where
-    same : (i : ℕ) (v : Named) → slice_get (all_named h) i ≡ Some v → is_inside texts q.exceptions n.0 (get_or vs.keys.keys i (0, 0)).0 ≡ (is_kept q.exceptions v.path && selects_path v.path n.0)
+    same : (i : ℕ) (v : Named) → slice_get (all_named h) i ≡ Some v → is_inside texts q.exceptions n.0 (get_or vs.paths.items i 0) ≡ (is_kept q.exceptions v.path && selects_path v.path n.0)
     same i v at =
-        let k = zip_at (IsKeyOf texts) vs.keys.keys (all_named h) i v are.keys at in
-        let path = k.2.path in
-        ap (λ (x : ℕ × ℕ). is_inside texts q.exceptions n.0 x.0) (get_or_from_slice_get vs.keys.keys i k.0 (0, 0) k.1) ∙ ap (is_inside texts q.exceptions n.0) path.1
+        let k = zip_at (IsPathOf texts) vs.paths.items (all_named h) i v are.paths at in
+        let path = k.2 in
+        ap (is_inside texts q.exceptions n.0) (get_or_from_slice_get vs.paths.items i k.0 0 k.1) ∙ ap (is_inside texts q.exceptions n.0) path.1
         ∙ ap (λ t. is_kept q.exceptions t && selects_path t n.0) (get_or_from_slice_get texts path.0 v.path [] path.2)
 
 -- the paths of variables are among those of the header
-pub keys_within : (h : Header) (texts : List (List ℕ)) (vs : Variables) → AreVariables h texts vs → AreWithin vs.keys.keys (length texts)
-keys_within h texts vs are = λ i x at.
-    let v = zip_from (IsKeyOf texts) vs.keys.keys (all_named h) i x are.keys at in
-    let path = v.2.path in
+pub paths_within : (h : Header) (texts : List (List ℕ)) (vs : Variables) → AreVariables h texts vs → AreWithin vs.paths.items (length texts)
+paths_within h texts vs are = λ i x at.
+    let v = zip_from (IsPathOf texts) vs.paths.items (all_named h) i x are.paths at in
+    let path = v.2 in
     let l = slice_get_within texts path.0 v.0.path path.2 in
     let e = path.1 in
     omega (arith, l, e)

@@ -1,9 +1,9 @@
 -- What has another name in place of a first one, by number.
-use Rattle.std.specs.Prelude.{◌≡◌, ◌≢◌, ℕ, suc, ◌+◌, ◌≤◌, ◌&&◌, true, List, [], ◌∷◌, ◌++◌, drop, filter, get_or, length, set, slice_get, Option, Some, None, option_and_then, option_map, position}
+use Rattle.std.specs.Prelude.{◌≡◌, ◌≢◌, ℕ, suc, ◌+◌, ◌≤◌, ◌&&◌, true, bytes_eq, List, [], ◌∷◌, ◌++◌, drop, filter, find, get_or, length, set, slice_get, Option, Some, None, option_and_then, option_map, position}
 use Rattle.std.specs.List.{AllZip}
 use Rattle.vcd_model.specs.Header.{Header}
 use Rattle.vcd_model.specs.Selection.{selects_path}
-use Rattle.vcd_model.specs.Compare.{Asked, Named, all_named}
+use Rattle.vcd_model.specs.Compare.{Asked, Named, all_named, lone, only_at, same_place}
 use Rattle.vcd_model.specs.Within.{Names, at_path}
 use Rattle.vcd_compare.specs.Paths.{AreApart, IsNumberOf, node_at}
 use Rattle.vcd_compare.specs.Selected.{is_kept}
@@ -22,12 +22,23 @@ IsCounterpart texts n t (Some m) = IsNumberOf texts m (replaced n t)
 
 -- a variable that the first name selects, and what has the second name in its place
 abbrev pub place_of : Header → Names → Named → Named × Option Named
-place_of h n v = (v, at_path h (replaced n v.path) v.nth)
+place_of h n v = (v, at_path h (replaced n v.path) v)
+
+-- this is the index of a variable, if there is one
+abbrev pub IsFound : Header → Option Named → Option ℕ → Type 0
+IsFound h found None = found ≡ None
+IsFound h found (Some j) = (w : Named) × (found ≡ Some w) × (slice_get (all_named h) j ≡ Some w)
 
 -- the counterpart of a variable, by index
 abbrev pub IsPlace : Header → Names → Named → Option ℕ → Type 0
-IsPlace h n v None = at_path h (replaced n v.path) v.nth ≡ None
-IsPlace h n v (Some j) = (w : Named) × (at_path h (replaced n v.path) v.nth ≡ Some w) × (slice_get (all_named h) j ≡ Some w)
+IsPlace h n v j = IsFound h (at_path h (replaced n v.path) v) j
+
+-- the counterpart with the same range, and that without a range
+abbrev pub with_range : Header → Names → Named → Option Named
+with_range h n v = find (λ w. bytes_eq w.path (replaced n v.path) && same_place v w) (all_named h)
+
+abbrev pub without_range : Header → Names → Named → Option Named
+without_range h n v = lone (only_at (all_named h) v.path) v (only_at (all_named h) (replaced n v.path))
 
 -- the index of the key that consists of a number and of a second one
 abbrev pub looked_up : List (ℕ × ℕ) → ℕ → Option ℕ → Option ℕ

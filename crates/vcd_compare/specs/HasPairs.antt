@@ -22,11 +22,11 @@ abbrev pub unlike_of : Pair → List Pair
 unlike_of p = filter (λ x. not (is_fit x)) (p ∷ [])
 
 -- what places add
-abbrev pub compared_at : List (Named × Option Named) → List Pair
-compared_at ps = filter is_fit (filter_map pair_at ps)
+abbrev pub compared_at : Header → List (Named × Option Named) → List Pair
+compared_at h ps = filter is_fit (filter_map (pair_at h) ps)
 
-abbrev pub unlike_at : List (Named × Option Named) → List Pair
-unlike_at ps = filter (λ p. not (is_fit p)) (filter_map pair_at ps)
+abbrev pub unlike_at : Header → List (Named × Option Named) → List Pair
+unlike_at h ps = filter (λ p. not (is_fit p)) (filter_map (pair_at h) ps)
 
 abbrev pub alone_at : List (Named × Option Named) → List Named
 alone_at ps = filter_map (λ p. cond (is_none p.1) (Some p.0) None) ps
@@ -53,4 +53,4 @@ EntersTexts texts new ts numbers = (more : List (List ℕ)) × HasTexts new (tex
 pub record HasSelected (paths : Paths) (vs : Variables) (lists : List (Vec ℕ)) (q : Asked) (h : Header) (ns : List Names) (texts : List (List ℕ)) : Type 0 where
   pub has : HasTexts paths texts
   pub are : AreVariables h texts vs
-  pub inside : AreInside texts (both_names ns) q.exceptions vs.keys.keys (length vs.keys.keys) lists
+  pub inside : AreInside texts (both_names ns) q.exceptions vs.paths.items (length vs.paths.items) lists

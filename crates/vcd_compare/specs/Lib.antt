@@ -7,6 +7,7 @@ pub mod LineTexts
 pub mod Pairs
 pub mod Run
 pub mod Paths
+pub mod Slices
 pub mod Variables
 pub mod Selected
 pub mod Counterparts

@@ -1,9 +1,9 @@
 -- Which variables of a header are compared, as rows and codes by number.
-use Rattle.std.specs.Prelude.{◌≡◌, ◌≢◌, ℕ, suc, ◌+◌, ◌*◌, ◌<◌, ◌≤◌, true, List, length, map, flat_map, slice_get, Some}
+use Rattle.std.specs.Prelude.{◌≡◌, ◌≢◌, ℕ, suc, ◌+◌, ◌*◌, ◌<◌, ◌≤◌, Bool, true, cond, List, ◌++◌, length, map, flat_map, slice_get, Some}
 use Rattle.std.specs.List.{AllZip}
 use Rattle.vcd_model.specs.Declarations.{Declaration, Variable, code_of}
 use Rattle.vcd_model.specs.Header.{Header}
-use Rattle.vcd_model.specs.Compare.{Asked, Named, Pair, is_fit}
+use Rattle.vcd_model.specs.Compare.{Asked, Named, Pair, is_fit, range_of}
 use Rattle.vcd_model.specs.Within.{Names, alone_in, compared_in, places_of, turned, unlike_in}
 pub use Rattle.vcd_compare.specs.Variables.{IsAt, IsNamedAt}
 use Rattle.vcd_compare.specs.declared.pairs.End.{End}
@@ -25,14 +25,24 @@ pub record IsClassOf (h : Header) (ends : List End) (class : ℕ) (p : Pair) : T
   pub one : HasEnd h ends (2 * class) p.one
   pub other : HasEnd h ends (suc (2 * class)) p.other
 
+-- a path with a range behind it, or without
+abbrev pub named_by : Bool → List ℕ → Variable → List ℕ
+named_by ranged path v = cond ranged (path ++ range_of v) path
+
+-- the variable is declared at this row, and lines show it by this name
+pub record IsShownAt (h : Header) (row : ℕ) (ranged : Bool) (name : List ℕ) (v : Variable) : Type 0 where
+  pub path : List ℕ
+  pub at : IsAt h row path v
+  pub name_is : named_by ranged path v ≡ name
+
 -- the row is that of the first variable of the pair, and the class is that of the pair
 pub record IsPairAt (h : Header) (ends : List End) (r : PairRow) (p : Pair) : Type 0 where
-  pub at : IsAt h r.row p.path p.one
+  pub at : IsShownAt h r.row r.ranged p.path p.one
   pub class : IsClassOf h ends r.class p
 
 -- the rows are those of the two variables
 pub record IsUnlikeAt (h : Header) (r : UnlikeRows) (p : Pair) : Type 0 where
-  pub at : IsAt h r.one p.path p.one
+  pub at : IsShownAt h r.one r.ranged p.path p.one
   pub other : slice_get h.declarations r.other ≡ Some (Declaration.Var p.other)
 
 -- n is 1 plus the greatest index below a bound at which an end has the code, or 0 if there is none

@@ -44,17 +44,17 @@ abbrev pub lists_in : List (Vec ℕ) → List (List ℕ)
 lists_in ls = map (λ l. l.items) ls
 
 -- the list of each name has those indexes below `count` whose items are inside its path
-abbrev pub AreInside : (texts names es : List (List ℕ)) → List (ℕ × ℕ) → ℕ → List (Vec ℕ) → Type 0
+abbrev pub AreInside : (texts names es : List (List ℕ)) → List ℕ → ℕ → List (Vec ℕ) → Type 0
 AreInside texts names es items count lists = (m : ℕ) (w : List ℕ) → IsNumberOf texts m w → is_one_of names w ≡ true
-    → get_or (lists_in lists) m [] ≡ chosen (λ i. is_inside texts es w (get_or items i (0, 0)).0) count
+    → get_or (lists_in lists) m [] ≡ chosen (λ i. is_inside texts es w (get_or items i 0)) count
 
 -- the names have numbers below a bound
 abbrev pub AreNamedBelow : (texts names : List (List ℕ)) → ℕ → Type 0
 AreNamedBelow texts names bound = (m : ℕ) (w : List ℕ) → IsNumberOf texts m w → is_one_of names w ≡ true → m < bound
 
 -- the items are inside of the first `count` paths, by number
-abbrev pub AreWithin : List (ℕ × ℕ) → ℕ → Type 0
-AreWithin items count = (i : ℕ) (x : ℕ × ℕ) → slice_get items i ≡ Some x → x.0 ≤ count
+abbrev pub AreWithin : List ℕ → ℕ → Type 0
+AreWithin items count = (i x : ℕ) → slice_get items i ≡ Some x → x ≤ count
 
 -- the list of each name has one index more, if the path with this number is inside
 pub record IsPutInside (texts names es : List (List ℕ)) (around index : ℕ) (old new : List (Vec ℕ)) : Type 0 where

@@ -1,14 +1,16 @@
 // The counterpart of a path: the same path with the second name in place of the first.
-ghost use Rattle.std.specs.Prelude.{◌≡◌, ◌<◌, ◌≤◌, ◌^◌, ℕ, List, Some, None, get_or, length, set, slice_get, IfOk};
-ghost use Rattle.vcd_model.specs.Compare.{Asked, Named};
+ghost use Rattle.std.specs.Prelude.{◌≡◌, ◌<◌, ◌≤◌, ◌^◌, ◌&&◌, ◌||◌, ℕ, cond, is_some, List, Some, None, get_or, length, set, slice_get, IfOk};
+ghost use Rattle.vcd_model.specs.Bytes.{is_empty};
+ghost use Rattle.vcd_model.specs.Compare.{Asked, Named, all_named, name_in, only_at, range_of};
 ghost use Rattle.vcd_model.specs.Header.{Header};
 ghost use Rattle.vcd_model.specs.Within.{Names};
-ghost use Rattle.vcd_compare.specs.Counterparts.{ArePlaces, AreSelected, Climbs, FindPlaces, IsBelow, IsNth, IsPlace, IsPlacing, IsReady, IsSettled, Settles, StaySettled, looked_up, place_of_node, selected_in};
+ghost use Rattle.vcd_compare.specs.Counterparts.{ArePlaces, AreSelected, Climbs, FindPlaces, IsFound, IsBelow, IsCounterpart, IsNth, IsPlace, IsPlacing, IsReady, IsSettled, Settles, StaySettled, looked_up, place_of_node, replaced, selected_in, with_range, without_range};
+ghost use Rattle.vcd_compare.specs.Pairs.{named_by};
 ghost use Rattle.vcd_compare.specs.Paths.{HasTexts, IsNumberOf};
-ghost use Rattle.vcd_compare.specs.Variables.{AreVariables};
+ghost use Rattle.vcd_compare.specs.Variables.{AreVariables, index_in};
 
 use crate::paths::{Paths, key_at, node_at};
-use crate::variables::{Variables, number_at};
+use crate::variables::{Users, Variables, number_at};
 use indexmap::IndexSet;
 use std::alloc::{AllocError, Global};
 use vcd_view::CodeSeed;
@@ -64,8 +66,7 @@ pub(crate) fn place_paths(
     places.turn = turn;
     settle(places, one, Some(other));
     for index in selected {
-        let (path, _) = key_at(&variables.keys, *index);
-        place_path(paths, path, places)?;
+        place_path(paths, number_at(&variables.paths, *index), places)?;
     }
     Ok(())
 }
@@ -181,8 +182,7 @@ fn looked_up(
 }
 
 /// Returns the variable that is compared with the variable at this index, which the first of two
-/// names selects: the one whose path is the counterpart of its path, and that has equally many of
-/// this path before it.
+/// names selects. Its path is the counterpart of that one's path.
 pub(crate) fn counterpart_of(
     variables: &Variables,
     places: &[Option<usize>],
@@ -192,6 +192,118 @@ pub(crate) fn counterpart_of(
         → FindPlaces q h n texts variables.now places.now → IsNth h index v
         → slice_get (selected_in q h n) j ≡ Some v → IsPlace h n v result }
 {
-    let (path, nth) = key_at(&variables.keys, index);
-    looked_up(&variables.keys, place_at(places, path), nth)
+    match same_range(variables, places, index) {
+        Some(found) => Some(found),
+        None => lone_counterpart(variables, places, index),
+    }
+}
+
+/// Returns the variable that has the same range, and equally many of this path and this range before
+/// it.
+fn same_range(variables: &Variables, places: &[Option<usize>], index: usize) -> Option<usize>
+    ensures { (q : Asked) (h : Header) (n : Names) (texts : List (List ℕ)) (j : ℕ) (v : Named)
+        → FindPlaces q h n texts variables.now places.now → IsNth h index v
+        → slice_get (selected_in q h n) j ≡ Some v → IsFound h (with_range h n v) result }
+{
+    let pairs = &variables.slices.pairs;
+    let (slice, nth) = key_at(&variables.keys, index);
+    let (path, range) = key_at(pairs, slice);
+    let place = looked_up(pairs, place_at(places, path), range);
+    looked_up(&variables.keys, place, nth)
+}
+
+/// Returns the only variable of the path, if the variable at this index is the only one of its path
+/// too, and one of the two has no range.
+fn lone_counterpart(
+    variables: &Variables,
+    places: &[Option<usize>],
+    index: usize,
+) -> Option<usize>
+    ensures { (q : Asked) (h : Header) (n : Names) (texts : List (List ℕ)) (j : ℕ) (v : Named)
+        → FindPlaces q h n texts variables.now places.now → IsNth h index v
+        → slice_get (selected_in q h n) j ≡ Some v → IsFound h (without_range h n v) result }
+{
+    let path = number_at(&variables.paths, index);
+    let own = only_at(variables, path);
+    match only_in_place(variables, place_at(places, path)) {
+        None => None,
+        Some(other) => {
+            let lacks = lacks_range(variables, index);
+            index_if(own, lacks, lacks_range(variables, other), other)
+        }
+    }
+}
+
+/// Returns this index if the first variable is the only one of its path, and one of the two has no
+/// range.
+fn index_if(own: Option<usize>, one: bool, two: bool, index: usize) -> Option<usize>
+    ensures { result ≡ cond (is_some own && (one || two)) (Some index) None }
+{
+    if own.is_some() && (one || two) {
+        return Some(index);
+    }
+    None
+}
+
+/// Returns whether lines show the range of the variable at this index behind its path: whether
+/// another variable has the path.
+pub(crate) fn shows_range(variables: &Variables, index: usize) -> bool
+    ensures { (h : Header) (texts : List (List ℕ)) (v : Named) → AreVariables h texts variables.now
+        → IsNth h index v → named_by result v.path v.variable ≡ name_in h v }
+{
+    only_at(variables, number_at(&variables.paths, index)).is_none()
+}
+
+/// Returns the only variable of the path that is this place.
+fn only_in_place(variables: &Variables, place: Option<usize>) -> Option<usize>
+    ensures { (h : Header) (n : Names) (texts : List (List ℕ)) (t : List ℕ)
+        → AreVariables h texts variables.now → IsCounterpart texts n t place
+        → IsFound h (only_at (all_named h) (replaced n t)) result }
+{
+    match place {
+        Some(path) => only_at(variables, path),
+        None => None,
+    }
+}
+
+/// Returns the only variable of the path with this number; `None` if there are none or several.
+fn only_at(variables: &Variables, path: usize) -> Option<usize>
+    ensures { (h : Header) (texts : List (List ℕ)) (t : List ℕ) → AreVariables h texts variables.now
+        → IsNumberOf texts path t → IsFound h (only_at (all_named h) t) result }
+{
+    index_in(users_at(&variables.users, path))
+}
+
+/// Returns which variables have the path with this number.
+fn users_at(users: &[Users], path: usize) -> Users
+    ensures { result ≡ get_or users.now path Users.None }
+{
+    match users.get(path) {
+        Some(users) => *users,
+        None => Users::None,
+    }
+}
+
+/// Returns the index of the only one of these variables.
+fn index_in(users: Users) -> Option<usize>
+    ensures { result ≡ index_in users }
+{
+    match users {
+        Users::None => None,
+        Users::One(index) => Some(index),
+        Users::Several => None,
+    }
+}
+
+/// Returns whether the variable at this index has no range.
+fn lacks_range(variables: &Variables, index: usize) -> bool
+    ensures { (h : Header) (texts : List (List ℕ)) (v : Named) → AreVariables h texts variables.now
+        → IsNth h index v → result ≡ is_empty (range_of v.variable) }
+{
+    let (slice, _) = key_at(&variables.keys, index);
+    let (_, range) = key_at(&variables.slices.pairs, slice);
+    match variables.slices.ranges.as_slice().get(range) {
+        Some(range) => range.is_empty(),
+        None => true,
+    }
 }

@@ -7,7 +7,8 @@ ghost use Rattle.vcd_compare.specs.Kinds.{model_kind};
 
 use vcd_view::HeadView;
 
-// The kind of a variable. A real number may be declared with any size.
+// The kind of a variable. A real number may be declared with any size. It has a type that begins
+// with `real`, such as `realtime`, or `shortreal`.
 #[derive(Clone, Copy)]
 pub(crate) enum VariableKind {
     Event,
@@ -24,10 +25,10 @@ pub(crate) fn kind_of(view: HeadView<'_>, row: usize) -> VariableKind
     if word == b"event".as_slice() {
         return VariableKind::Event;
     }
-    if word == b"real".as_slice() {
+    if word.starts_with(b"real") {
         return VariableKind::Real;
     }
-    if word == b"realtime".as_slice() {
+    if word == b"shortreal".as_slice() {
         return VariableKind::Real;
     }
     match view.code_at(code_of(view, row)) {

@@ -7,7 +7,8 @@
 //! # The modules
 //!
 //! - `asked`: `Asked`, `Extent`
-//! - `paths`, `variables`: the paths of a header by number, and its variables by their paths
+//! - `paths`, `slices`, `variables`: the paths of a header by number, with and without ranges, and its
+//!   variables by these
 //! - `selected`: what each of some names selects; `unselected`: which of them select nothing
 //! - `counterparts`, `kinds`: what a variable is compared with, and whether it is of the same kind
 //! - `pairs`: `Pairs`, `pairs_of`
@@ -33,6 +34,7 @@ mod pairs;
 mod paths;
 mod rows;
 mod selected;
+mod slices;
 mod unselected;
 mod values;
 mod variables;

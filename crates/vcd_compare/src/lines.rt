@@ -9,15 +9,18 @@ ghost use Rattle.vcd_model.specs.Items.{BodyItem, time_after};
 ghost use Rattle.vcd_model.specs.Sample.{shown};
 ghost use Rattle.vcd_model.specs.Within.{Names, side, within_head};
 ghost use Rattle.vcd_text.specs.Device.{Counts, PutsWhere, Takes};
+ghost use Rattle.vcd_view.specs.Over.{AnyVariable};
 ghost use Rattle.vcd_view.specs.Views.{IsViewOf};
 ghost use Rattle.vcd_compare.specs.Comparing.{AreCurrent};
 ghost use Rattle.vcd_compare.specs.LineTexts.{AreRowLines, AtAlone, AtClass, AtCode, AtPair, AtUnlike, HasCodes, states_of};
-ghost use Rattle.vcd_compare.specs.Pairs.{ArePairs, IsClassOf, IsNamedAt, IsUnlikeAt};
+ghost use Rattle.vcd_compare.specs.Pairs.{ArePairs, IsClassOf, IsNamedAt, IsShownAt, IsUnlikeAt};
+ghost use Rattle.vcd_compare.specs.Slices.{no_blanks, tail_of};
 
 use crate::comparing::Comparison;
 use crate::current::Current;
 use crate::kinds::{VariableKind, kind_of};
 use crate::pairs::{PairRow, Pairs, UnlikeRows};
+use crate::slices::tail_of;
 use crate::variables::number_at;
 use vcd_body::put_full;
 use vcd_head::put_path;
@@ -81,6 +84,53 @@ fn put_states<W: Sink>(
     put(out, b"\n")
 }
 
+/// Writes the path of the variable at index `row`, and its range behind it if `ranged` says so. Fails
+/// if a write does.
+fn put_name<W: Sink>(
+    view: HeadView<'_>,
+    row: usize,
+    ranged: bool,
+    out: &mut W,
+) -> Result<(), WriteFailed>
+    requires failures { (W.device out.old).failures < 2 ^ 64 - 1 }
+    ensures { PutsWhere W.device out.old out.new result (λ takes. (h : Header) (name : List ℕ)
+        (v : Variable) → IsViewOf view.entry h → IsShownAt h row ranged name v → takes name) }
+{
+    put_path(view, row, out)?;
+    put_without_blanks(shown_tail(view, row, ranged), out)
+}
+
+/// Returns what stands behind the name of the variable at index `row` in its reference if `ranged`
+/// says so, otherwise nothing.
+fn shown_tail(view: HeadView<'_>, row: usize, ranged: bool) -> &[u8]
+    ensures { AnyVariable view.entry row (λ _ v. result.now ≡ cond ranged (tail_of v) []) }
+{
+    if ranged { tail_of(view, row) } else { &[] }
+}
+
+/// Writes the bytes of a text that are no blanks. Fails if a write does.
+fn put_without_blanks<W: Sink>(text: &[u8], out: &mut W) -> Result<(), WriteFailed>
+    requires failures { (W.device out.old).failures < 2 ^ 64 - 1 }
+    ensures { PutsWhere W.device out.old out.new result (λ takes. takes (no_blanks text.now)) }
+{
+    for byte in text {
+        put_no_blank(*byte, out)?;
+    }
+    Ok(())
+}
+
+/// Writes a byte, unless it is a blank. Fails if a write does.
+fn put_no_blank<W: Sink>(byte: u8, out: &mut W) -> Result<(), WriteFailed>
+    requires failures { (W.device out.old).failures < 2 ^ 64 - 1 }
+    ensures { PutsWhere W.device out.old out.new result (λ takes.
+        takes (no_blanks (byte ∷ []))) }
+{
+    if byte == b' ' {
+        return Ok(());
+    }
+    put(out, &[byte])
+}
+
 /// Writes the line of a pair at this time, which is not before the last timestamp. Fails if a write
 /// does.
 fn put_line<W: Sink>(
@@ -98,7 +148,7 @@ fn put_line<W: Sink>(
     put(out, b"differs ")?;
     put_number(out, time)?;
     put(out, b" ")?;
-    put_path(view, pair.row, out)?;
+    put_name(view, pair.row, pair.ranged, out)?;
     put(out, b" ")?;
     put_states(current, view, pair.class, time, out)
 }
@@ -143,7 +193,7 @@ fn put_alone_line<W: Sink>(
     put(out, b"alone ")?;
     put(out, letter)?;
     put(out, b" ")?;
-    put_path(view, row, out)?;
+    put_name(view, row, true, out)?;
     put(out, b"\n")
 }
 
@@ -192,7 +242,7 @@ fn put_unlike_line<W: Sink>(
         AtUnlike view.entry rows (λ p. takes (unlike_lines (p ∷ [])))) }
 {
     put(out, b"size ")?;
-    put_path(view, rows.one, out)?;
+    put_name(view, rows.one, rows.ranged, out)?;
     put(out, b" ")?;
     put_kind(view, rows.one, out)?;
     put(out, b" ")?;

@@ -9,10 +9,10 @@ ghost use Rattle.vcd_view.specs.Views.{IsViewOf};
 ghost use Rattle.vcd_compare.specs.Classes.{AddsEnd, EntersClass, HasClasses};
 ghost use Rattle.vcd_compare.specs.Counterparts.{AreSelected, FindPlaces, IsNth, place_of, selected_in};
 ghost use Rattle.vcd_compare.specs.Paths.{HasTexts};
-ghost use Rattle.vcd_compare.specs.Pairs.{AreFew, ArePairs, IsAt, IsNamedAt, names_in};
+ghost use Rattle.vcd_compare.specs.Pairs.{AreFew, ArePairs, IsNamedAt, IsShownAt, names_in};
 ghost use Rattle.vcd_compare.specs.HasPairs.{AreNumbersOf, EntersNames, EntersTexts, HasPairs, HasSelected, alone_at, compared_at, compared_of, unlike_at, unlike_of};
 
-use crate::counterparts::{Places, counterpart_of, place_paths};
+use crate::counterparts::{Places, counterpart_of, place_paths, shows_range};
 use crate::kinds::{code_of, is_same_kind, kind_of};
 use crate::paths::{Paths, enter_path};
 use crate::selected::{list_at, selected_by};
@@ -33,8 +33,9 @@ pub struct NamePair {
 /// A pair of variables that are compared.
 #[derive(Clone, Copy)]
 pub(crate) struct PairRow {
-    // The row of the first of the two.
+    // The row of the first of the two, and whether lines show its range.
     pub(crate) row: usize,
+    pub(crate) ranged: bool,
     // The number of the two codes among all such pairs of codes.
     pub(crate) class: usize,
 }
@@ -47,10 +48,11 @@ pub(crate) struct End {
     pub(crate) earlier: usize,
 }
 
-/// The rows of two variables of different kinds.
+/// The rows of two variables of different kinds, and whether lines show the range of the first.
 #[derive(Clone, Copy)]
 pub(crate) struct UnlikeRows {
     pub(crate) one: usize,
+    pub(crate) ranged: bool,
     pub(crate) other: usize,
 }
 
@@ -228,8 +230,8 @@ fn take_variable(
         → IsViewOf view.entry h → FindPlaces q h n texts variables.now places.now
         → IsNth h index v → slice_get (selected_in q h n) j ≡ Some v
         → HasPairs keys.old.keys pairs.old h compared unlike ones others
-        → HasPairs keys.new.keys pairs.new h (compared ++ compared_at (place_of h n v ∷ []))
-        (unlike ++ unlike_at (place_of h n v ∷ [])) (ones ++ alone_at (place_of h n v ∷ []))
+        → HasPairs keys.new.keys pairs.new h (compared ++ compared_at h (place_of h n v ∷ []))
+        (unlike ++ unlike_at h (place_of h n v ∷ [])) (ones ++ alone_at (place_of h n v ∷ []))
         others) }
 {
     let row = number_at(&variables.rows, index);
@@ -238,7 +240,11 @@ fn take_variable(
             pairs.alone_one.push(row)?;
             Ok(())
         }
-        Some(other) => add_pair(view, row, number_at(&variables.rows, other), keys, pairs),
+        Some(other) => {
+            let ranged = shows_range(variables, index);
+            let other = number_at(&variables.rows, other);
+            add_pair(view, row, ranged, other, keys, pairs)
+        }
     }
 }
 
@@ -263,31 +269,36 @@ fn add_alone(
     Ok(())
 }
 
-/// Adds the pair of the variables at these rows: to the pairs that are compared, or to those of
-/// different kinds. `keys` are the pairs of codes that have a class. Fails if there is no memory;
-/// then the pairs are of no use.
+/// Adds the pair of the variables at two rows: to the pairs that are compared, or to those of
+/// different kinds. With the first row is given whether lines show its range. `keys` are the pairs
+/// of codes that have a class. Fails if there is no memory; then the pairs are of no use.
 fn add_pair(
     view: HeadView<'_>,
     one: usize,
+    ranged: bool,
     other: usize,
     keys: &mut IndexSet<(usize, usize), CodeSeed>,
     pairs: &mut Pairs,
 ) -> Result<(), AllocError>
     ensures { IfOk result (λ _. (h : Header) (p : Pair) (compared unlike : List Pair)
-        (ones others : List Named) → IsViewOf view.entry h → IsAt h one p.path p.one
+        (ones others : List Named) → IsViewOf view.entry h → IsShownAt h one ranged p.path p.one
         → slice_get h.declarations other ≡ Some (Declaration.Var p.other)
         → HasPairs keys.old.keys pairs.old h compared unlike ones others
         → HasPairs keys.new.keys pairs.new h (compared ++ compared_of p) (unlike ++ unlike_of p)
         ones others) }
 {
     if !is_same_kind(kind_of(view, one), kind_of(view, other)) {
-        pairs.unlike.push(UnlikeRows { one, other })?;
+        pairs.unlike.push(UnlikeRows { one, ranged, other })?;
         return Ok(());
     }
     let codes = (code_of(view, one), code_of(view, other));
     let class = enter_class(codes, keys, &mut pairs.ends, &mut pairs.last)?;
     pairs.classes = keys.len();
-    pairs.rows.push(PairRow { row: one, class })?;
+    pairs.rows.push(PairRow {
+        row: one,
+        ranged,
+        class,
+    })?;
     Ok(())
 }
 

@@ -108,7 +108,7 @@ fn enter_part(
 }
 
 /// Returns the index of a text among `texts`, after which it is put if it is new.
-fn enter_text(
+pub(crate) fn enter_text(
     alloc: Global,
     texts: &mut IndexSet<Vec<u8>, CodeSeed>,
     text: &[u8],

@@ -23,16 +23,15 @@ pub(crate) fn selected_by(
     requires { named < 2 ^ 63 }
     ensures { IfOk result (λ lists. (texts es : List (List ℕ)) (ns : List Names)
         → HasTexts paths.now texts → AreNamedBelow texts (both_names ns) (named + 1)
-        → AreWithin variables.now.keys.keys (length texts)
+        → AreWithin variables.now.paths.items (length texts)
         → AllZip (AreNumbersOf texts) names.now ns → AllZip (IsNumberOf texts) exceptions.now es
-        → AreInside texts (both_names ns) es variables.now.keys.keys
-        (length variables.now.keys.keys) lists.items) }
+        → AreInside texts (both_names ns) es variables.now.paths.items
+        (length variables.now.paths.items) lists.items) }
 {
     let numbers = both_of(alloc, names)?;
     let nearest = nearest_of(alloc, paths, &numbers)?;
     let left_out = nearest_of(alloc, paths, exceptions)?;
-    let keys = variables.keys.as_slice();
-    inside_of(alloc, paths, &nearest, &left_out, keys, named)
+    inside_of(alloc, paths, &nearest, &left_out, &variables.paths, named)
 }
 
 /// Returns both numbers of each pair, in one list.
@@ -95,13 +94,13 @@ fn nearest_at(marks: &[bool], number: usize, nearest: &[usize], around: usize) -
 
 /// Returns for each number of a path the indexes of the items inside that path, if it is one of
 /// those that `nearest` has. These are at most `named`. What is inside a path that is left out is
-/// not listed. An item begins with the number of the path around it.
+/// not listed. Each item is the number of the path around it.
 pub(crate) fn inside_of(
     alloc: Global,
     paths: &Paths,
     nearest: &[usize],
     left_out: &[usize],
-    items: &[(usize, usize)],
+    items: &[usize],
     named: usize,
 ) -> Result<Vec<Vec<usize>>, AllocError>
     requires { named < 2 ^ 63 }
@@ -113,8 +112,7 @@ pub(crate) fn inside_of(
 {
     let mut lists = no_lists(alloc, named + 1)?;
     for index in 0..items.len() {
-        let (around, _) = items[index];
-        put_inside(paths, nearest, left_out, around, index, &mut lists)?;
+        put_inside(paths, nearest, left_out, items[index], index, &mut lists)?;
     }
     Ok(lists)
 }

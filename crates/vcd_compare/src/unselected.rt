@@ -58,7 +58,7 @@ fn held_by(alloc: Global, paths: &Paths, variables: &Variables) -> Result<Vec<bo
         return Err(AllocError);
     };
     let mut held = vec![in alloc; false; count]?;
-    for (path, _) in variables.keys.as_slice() {
+    for path in &variables.paths {
         mark_around(paths, *path, &mut held);
     }
     Ok(held)

@@ -1,19 +1,35 @@
-// The variables of a header, found by their paths.
-ghost use Rattle.std.specs.Prelude.{◌≡◌, ◌<◌, ◌^◌, ℕ, suc, List, Some, get_or, length, slice_get, take, IfOk};
+// The variables of a header, found by their paths and ranges.
+ghost use Rattle.std.specs.Prelude.{◌≡◌, ◌==◌, ◌<◌, ◌^◌, ℕ, suc, cond, replicate, List, Some, get_or, length, set, slice_get, take, IfOk};
 ghost use Rattle.vcd_compare.specs.Paths.{AreApart, EntersPath, HasTexts, IsNumberOf};
-ghost use Rattle.vcd_compare.specs.Variables.{AddsVariable, AreNumbered, AreVariables, Declaration, HasSome, Header, IsAround, IsViewOf, NumbersRows, path_of};
+ghost use Rattle.vcd_compare.specs.Variables.{AddsVariable, AreNumbered, AreVariables, Declaration, HasSome, Header, IsAround, IsViewOf, NumbersRows, path_of, used_by};
 
 use crate::paths::{Paths, enter_path};
+use crate::slices::{Slices, enter_slice, range_bytes};
 use indexmap::IndexSet;
 use std::alloc::{AllocError, Global};
 use vcd_view::{CodeSeed, HeadView, Kind};
+
+// Which variables have a path.
+#[derive(Clone, Copy)]
+pub(crate) enum Users {
+    None,
+    // Only the variable with this index.
+    One(usize),
+    Several,
+}
 
 // The variables of a header, in order.
 #[derive(Drop)]
 pub(crate) struct Variables {
     pub(crate) rows: Vec<usize>,
-    // Of each variable the number of its path, and how many variables before it have this path.
+    // Of each variable the number of its path.
+    pub(crate) paths: Vec<usize>,
+    // The pairs of a path and a range that variables have.
+    pub(crate) slices: Slices,
+    // Of each variable the index of its pair, and how many variables before it have this pair.
     pub(crate) keys: IndexSet<(usize, usize), CodeSeed>,
+    // For the number of each path the variables that have it.
+    pub(crate) users: Vec<Users>,
 }
 
 /// Returns for each declaration of a header the number of its path. Paths that are new are entered.
@@ -89,19 +105,34 @@ pub(crate) fn variables_of(
 {
     let mut variables = Variables {
         rows: Vec::with_capacity(alloc, view.rows.len())?,
+        paths: Vec::with_capacity(alloc, view.rows.len())?,
+        slices: Slices::new(alloc, view.seed),
         keys: IndexSet::with_capacity_and_hasher(alloc, view.rows.len(), view.seed)?,
+        users: no_users(alloc, count + 1)?,
     };
-    let mut counts = vec![in alloc; 0usize; count + 1]?;
+    let mut counts = Vec::with_capacity(alloc, view.rows.len())?;
     for row in 0..view.rows.len() {
         let path = number_at(numbers, row);
-        take_row(view, &mut variables, &mut counts, row, path)?;
+        take_row(alloc, view, &mut variables, &mut counts, row, path)?;
     }
     Ok(variables)
 }
 
+/// Returns `count` times that no variable has a path.
+fn no_users(alloc: Global, count: usize) -> Result<Vec<Users>, AllocError>
+    ensures { IfOk result (λ users. users.items ≡ replicate count Users.None) }
+{
+    let mut users = Vec::with_capacity(alloc, count)?;
+    for _ in 0..count {
+        users.push(Users::None)?;
+    }
+    Ok(users)
+}
+
 /// Adds the declaration at index `row`, which has the path with this number, if it is a variable.
-/// `counts` has for each path how many variables have it.
+/// `counts` has for each pair of a path and a range how many variables have it.
 fn take_row(
+    alloc: Global,
     view: HeadView<'_>,
     variables: &mut Variables,
     counts: &mut Vec<usize>,
@@ -120,32 +151,64 @@ fn take_row(
     match declared.kind {
         Kind::Scope => Ok(()),
         Kind::Up => Ok(()),
-        Kind::Var => add_variable(variables, counts, row, path),
+        Kind::Var => {
+            let range = range_bytes(alloc, view, row)?;
+            add_variable(alloc, variables, counts, row, path, &range)
+        }
     }
 }
 
-/// Adds the variable at index `row`, which has the path with this number. `counts` has for each
-/// path how many variables have it.
+/// Adds the variable at index `row`, which has the path with this number and this range. `counts`
+/// has for each pair of a path and a range how many variables have it.
 fn add_variable(
+    alloc: Global,
     variables: &mut Variables,
     counts: &mut Vec<usize>,
     row: usize,
     path: usize,
+    range: &[u8],
 ) -> Result<(), AllocError>
-    ensures { IfOk result (λ _. path < length counts.old.items
-        → AddsVariable variables.old variables.new counts.old.items counts.new.items row path) }
+    ensures { IfOk result (λ _. AddsVariable variables.old variables.new counts.old.items
+        counts.new.items row path range.now) }
 {
-    if path >= counts.len() {
-        return Ok(());
-    }
-    let nth = counts[path];
-    let Some(more) = nth.checked_add(1) else {
-        return Err(AllocError);
-    };
-    counts[path] = more;
+    let slice = enter_slice(alloc, &mut variables.slices, path, range)?;
+    let nth = count_one(counts, slice)?;
+    use_path(&mut variables.users, path, variables.rows.len());
     variables.rows.push(row)?;
-    let Ok(_) = variables.keys.insert((path, nth)) else {
+    variables.paths.push(path)?;
+    let Ok(_) = variables.keys.insert((slice, nth)) else {
         return Err(AllocError);
     };
     Ok(())
+}
+
+/// Adds 1 to the count at this index, and returns what it was. A count that is not there is 0.
+fn count_one(counts: &mut Vec<usize>, index: usize) -> Result<usize, AllocError>
+    ensures { IfOk result (λ was. (was ≡ get_or counts.old.items index 0)
+        × ((n : ℕ) → get_or counts.new.items n 0
+        ≡ cond (n == index) (suc was) (get_or counts.old.items n 0))) }
+{
+    while counts.len() <= index {
+        counts.push(0)?;
+    }
+    let was = counts[index];
+    let Some(more) = was.checked_add(1) else {
+        return Err(AllocError);
+    };
+    counts[index] = more;
+    Ok(was)
+}
+
+/// Adds the variable with this index to those that have the path with this number.
+fn use_path(users: &mut Vec<Users>, path: usize, index: usize)
+    ensures { users.new.items ≡ set users.old.items path
+        (used_by index (get_or users.old.items path Users.None)) }
+{
+    if path < users.len() {
+        users[path] = match users[path] {
+            Users::None => Users::One(index),
+            Users::One(_) => Users::Several,
+            Users::Several => Users::Several,
+        };
+    }
 }

@@ -1,4 +1,4 @@
-use Rattle.vcd_compare.proofs.Cited.{◌≡◌, ℕ, get_or, sym, ap, subst, arith, IsBelow, IsSettled}
+use Rattle.vcd_compare.proofs.Cited.{◌≡◌, ◌∙◌, ℕ, List, get_or, sym, ap, subst, arith, IsBelow, IsSettled}
 use Rattle.vcd_compare.proofs.Facts.{and_next, listed_below, places_found, placing_first}
 use Rattle.vcd_compare.proofs.counterparts.place_paths.Goals as goal
 
@@ -11,13 +11,13 @@ loop-index-init c = λ q h n texts has are one other selected ready. (
 pub loop-index-preserved : goal.loop-index-preserved
 loop-index-preserved c = λ q h n texts has are one other selected ready.
     let k = c.loop-index.index-index in
-    let keys = c.args.variables.now.keys.keys in
+    let paths = c.args.variables.now.paths.items in
     let list = c.args.selected.now in
     let s = c.loop-index.invariant q h n texts has are one other selected ready in
-    let path : c.key_at-path.result.0 ≡ (get_or keys (get_or list k 0) (0, 0)).0 = ap (λ (x : ℕ × ℕ). x.0) c.key_at-path.ensures in
+    let path : c.number_at.result ≡ get_or paths (get_or list k 0) 0 = c.number_at.ensures ∙ ap (λ (l : List ℕ). get_or l (get_or list k 0) 0) c.deref.ensures.value in
     let below = subst (IsBelow n texts) (sym path) (listed_below q h n texts c.args.variables.now list are selected k (omega arith)) in
     let next = c.in_ok-place_path.ensures n texts has s.0 below in
-    (next.0, and_next (λ i. IsSettled c.place_path.new.places (get_or keys (get_or list i 0) (0, 0)).0) k (λ i l. next.2 _ (s.1 i l)) (subst (IsSettled c.place_path.new.places) path next.1))
+    (next.0, and_next (λ i. IsSettled c.place_path.new.places (get_or paths (get_or list i 0) 0)) k (λ i l. next.2 _ (s.1 i l)) (subst (IsSettled c.place_path.new.places) path next.1))
 
 pub returns : goal.returns
 returns c = λ q h n texts has are one other selected ready.

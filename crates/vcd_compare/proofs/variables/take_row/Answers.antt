@@ -24,5 +24,6 @@ pub returns-in-Var : goal.returns-in-Var
 returns-in-Var c = ok_then c.add_variable.result _ _ (λ _ adds h d texts view apart at number s.
     let row = row_of (parts c.args.view) h c.args.row c.in-Some.declared d view (sym c.row_at.ensures ∙ c.in-Some.is) at in
     let v = is_variable c.args.view.text.now h.codes (take c.args.row h.declarations) c.in-Some.declared d row c.in-Var.is in
-    some_more h texts c.args.row c.args.path c.args.variables.now c.add_variable.new.variables c.args.counts.now.items c.add_variable.new.counts.items v.0 apart (at ∙ ap Some v.1)
-    (subst (λ x. IsNumberOf texts c.args.path (path_of (take c.args.row h.declarations) x)) v.1 number) adds s) c.add_variable.ensures
+    let range = c.deref.ensures.value ∙ c.in_ok-range.ensures h v.0 view (at ∙ ap Some v.1) in
+    some_more h texts c.args.row c.args.path c.args.variables.now c.add_variable.new.variables c.args.counts.now.items c.add_variable.new.counts.items c.deref.result.now v.0 apart (at ∙ ap Some v.1)
+    (subst (λ x. IsNumberOf texts c.args.path (path_of (take c.args.row h.declarations) x)) v.1 number) range adds s) c.add_variable.ensures

@@ -1,14 +1,15 @@
-use Rattle.vcd_compare.proofs.Cited.{◌≡◌, ◌+◌, [], length, get_or, replicate, take, sym, ap, subst, ◌∙◌, add-one, arith, AllZip, get_or-replicate, length-replicate, take_all, get_or_from_slice_get, path_of, there, rows_len, IsNumberOf, HasSome, IsKeyOf, IsNamedAt, named_in}
+use Rattle.vcd_compare.proofs.Cited.{◌≡◌, ◌+◌, [], length, get_or, replicate, take, sym, ap, subst, ◌∙◌, add-one, arith, AllZip, get_or-replicate, length-replicate, take_all, get_or_from_slice_get, path_of, there, rows_len, IsNumberOf, HasSome, HasUsers, IsKeyOf, IsNamedAt, IsPathOf, named_in}
+use Rattle.vcd_compare.specs.declared.variables.Users.TheVariants as Users
 use Rattle.vcd_compare.proofs.Facts.{some_none}
 use Rattle.vcd_compare.proofs.variables.variables_of.Goals as goal
 
 pub loop-row-init : goal.loop-row-init
 loop-row-init c = λ h texts view are apart len.
-    let counts = c.in_ok-counts.counts.items in
-    let filled : counts ≡ replicate (c.args.count + 1) 0 = c.in_ok-counts.ensures.items_if_clones_equal (λ y e. e) in
-    let room : length counts ≡ c.args.count + 1 = ap length filled ∙ length-replicate (c.args.count + 1) 0 in
-    some_none h texts _ counts c.in_ok-with_capacity.ensures.items c.in_ok-with_capacity_and_hasher.ensures.empty (omega (arith, room, len))
-    (λ n l. ap (λ xs. get_or xs n 0) filled ∙ get_or-replicate (c.args.count + 1) n 0 0 (omega (arith, l, room)))
+    let users = c.in_ok-no_users.field-0 in
+    let filled : users.items ≡ replicate (c.args.count + 1) Users.None = c.in_ok-no_users.ensures in
+    let room : length users.items ≡ c.args.count + 1 = ap length filled ∙ length-replicate (c.args.count + 1) Users.None in
+    some_none h texts _ _ c.in_ok-with_capacity.ensures.items c.in_ok-with_capacity-2.ensures.items (c.new.ensures texts) c.in_ok-with_capacity_and_hasher.ensures.empty c.in_ok-counts.ensures.items (omega (arith, room, len))
+    (λ n l. ap (λ xs. get_or xs n Users.None) filled ∙ get_or-replicate (c.args.count + 1) n Users.None Users.None (omega (arith, l, room)))
 
 pub loop-row-preserved : goal.loop-row-preserved
 loop-row-preserved c = λ h texts view are apart len.
@@ -28,5 +29,9 @@ returns c = λ h texts view are apart len.
     let all = ap named_in (take_all c.loop-row.row h.declarations (omega (arith, rows))) in
     record {
       rows = subst (AllZip (IsNamedAt h) c.loop-row.variables.rows.items) all s.rows;
-      keys = subst (AllZip (IsKeyOf texts) c.loop-row.variables.keys.keys) all s.keys;
+      paths = subst (AllZip (IsPathOf texts) c.loop-row.variables.paths.items) all s.paths;
+      list = s.list;
+      slices = s.slices;
+      keys = subst (AllZip (IsKeyOf s.list) c.loop-row.variables.keys.keys) all s.keys;
+      users = subst (λ vs. HasUsers texts vs c.loop-row.variables.users.items) all s.users;
     }
