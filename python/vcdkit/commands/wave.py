@@ -54,8 +54,8 @@ def write_page(dump: Dump, window: Window, mark: Optional[int], asked: argparse.
     from ..forms import page
     from ..questions.streams import Reader
     chosen = dump.select(asked.names)
-    streams = Reader().read(dump.part(asked.names), chosen, window,
-                            lambda time: time - window.begin)
+    part = dump.within(window).part(asked.names)  # else a fault after the window is met
+    streams = Reader().read(part, chosen, window, lambda time: time - window.begin)
     its = page.Page(os.path.basename(dump.name), page.about(dump), dump.timescale, window.begin,
                     window.last, mark, (window.begin, window.last), asked.form or "hex",
                     asked.light)

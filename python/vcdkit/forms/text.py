@@ -29,7 +29,7 @@ def shown(value: Cell, form: Optional[str] = None) -> str:
     if form is None or not isinstance(value, Value):
         return value
     is_text = FORMS[form].has_x or len(value) > 1 and value.is_known
-    return FORMS[form].text(value) if is_text else value
+    return FORMS[form].text(value) if is_text else str(value)  # a Value may be false
 
 
 def _letters_of(value: Value) -> str:
