@@ -16,27 +16,40 @@ import sys
 import tempfile
 import time
 import traceback
+import zlib
 from typing import Any, Callable, Counter, Dict, List, NamedTuple, Tuple
 
 from asker import PYTHON, Asker, Skip
+from faulty_dumps import with_fault
 from made_dumps import Made
 
 os.environ.setdefault("VCDKIT", os.path.join(os.path.dirname(PYTHON), "vcdkit"))
 
+import in_process
 import of_conditions
 import of_files
+import of_names
 import of_package
 import of_pages
 import of_stats
 import of_two_dumps
 import of_values
+import small_dumps
 
-MODULES = [of_values, of_conditions, of_stats, of_two_dumps, of_pages, of_files, of_package]
+MODULES = [of_values, of_conditions, of_stats, of_two_dumps, of_pages, of_files, of_names,
+           of_package]
 MAX_BYTES = 60_000  # of a dump that is given
+FAULTY = .3  # the share of made dumps that get a fault
 MAX_SHOWN = 3  # differences of a kind
 ROUNDS = 4  # of questions about a dump that is given
+EACH = 100  # of so many questions about small dumps one goes through the program too
+# What is not asked of small dumps: it depends on no dump, starts a program, or is about words that
+# only the program refuses.
+OF_NO_DUMP = ["bits-that-stay", "marks", "nested", "no-window", "packed", "shown", "twice"]
+WAYS: List[in_process.Ways] = []
 
 
+@functools.lru_cache(maxsize=None)
 def all_questions() -> Dict[str, Callable[[Asker], None]]:
     """Returns the questions by their names; those of the package begin with `package-`."""
     return {("package-" if module is of_package else "") + name[4:].replace("_", "-"): ask
@@ -45,19 +58,30 @@ def all_questions() -> Dict[str, Callable[[Asker], None]]:
 
 
 class Source(NamedTuple):
-    """A dump that is made for a seed, or one of a file."""
+    """A dump that is made for a seed, one of a file, or a small one, with another one like it."""
 
     seed: int
     path: str = ""
+    small: bytes = b""
+    other: bytes = b""
 
     def text(self) -> Tuple[bytes, List[str]]:
         """Returns its text, and the codes of clocks."""
+        if self.small:
+            return self.small, ["!"]
         if not self.path:
             made = Made(self.seed)
-            return made.text, made.clocks
+            of = random.Random("a fault %d" % self.seed)
+            return with_fault(made.text, of) if of.random() < FAULTY else made.text, made.clocks
         with open(self.path, "rb") as file:
             text = file.read(MAX_BYTES + 1)
         return (text if len(text) <= MAX_BYTES else text[:text.rfind(b"\n#") + 1]), []
+
+    def again(self, kind: str) -> str:
+        """Returns the words that repeat a question."""
+        words = "--small %d:%d" % (10**9, self.seed) if self.small else "--seeds %d:%d %s" % (
+            self.seed, self.seed + 1, self.path)
+        return "%s --kinds %s" % (words.rstrip(), kind)
 
 
 class Found(NamedTuple):
@@ -69,32 +93,43 @@ class Found(NamedTuple):
 
 def ask_all(source: Source, kinds: List[str]) -> Found:
     """Asks questions of some kinds about a dump. The choices of a question depend only on the seed
-    and its kind."""
+    and its kind. The evaluator answers about a small dump, and the program now and then."""
     found = Found(collections.Counter(), [])
     text, clocks = source.text()
+    if source.small and not WAYS:
+        WAYS.append(in_process.Ways())
     with tempfile.TemporaryDirectory() as folder:
         path = os.path.join(folder, "dump.vcd")
-        asker = Asker(source.seed, text, clocks, path, lambda *_: None)
+        asker = Asker(source.seed, text, clocks, path, lambda *_: None, source.other)
         for kind in kinds if asker.dump.variables else ():
-            asker.random.seed("%d %s" % (source.seed, kind))
-            asker.conditions.reset()
-            asker.differ = functools.partial(note, found, source, kind)
-            try:
-                all_questions()[kind](asker)
-                found.counts[kind] += 1
-            except Skip:
-                continue
-            except Exception:  # pylint: disable=broad-except
-                note(found, source, kind, "a traceback", "", traceback.format_exc(limit=-3), "")
+            ask_one(asker, source, kind, found)
+            is_again = WAYS and zlib.crc32(b"%d %s" % (source.seed, kind.encode())) % EACH == 0
+            for way in WAYS[0].others if is_again else ():
+                WAYS[0].take(way)
+                ask_one(asker, source, kind, found)
+                WAYS[0].take()
     return found
+
+
+def ask_one(asker: Asker, source: Source, kind: str, found: Found) -> None:
+    """Asks a question."""
+    asker.random.seed("%d %s" % (source.seed, kind))
+    asker.conditions.reset()
+    asker.differ = functools.partial(note, found, source, kind)
+    try:
+        all_questions()[kind](asker)
+        found.counts[kind] += 1
+    except Skip:
+        pass
+    except Exception:  # pylint: disable=broad-except
+        note(found, source, kind, "a traceback", "", traceback.format_exc(limit=-3), "")
 
 
 def note(found: Found, source: Source, kind: str, what: str, words: Any, got: Any, wanted: Any
          ) -> None:
     """Keeps a difference."""
-    again = "--seeds %d:%d --kinds %s %s" % (source.seed, source.seed + 1, kind, source.path)
     found.differences.append((kind, "%s: %s\n  asked:  %s\n  wanted: %s\n  got:    %s" % (
-        what, again.rstrip(), *(str(one)[:1000] for one in (words, wanted, got)))))
+        what, source.again(kind), *(str(one)[:1000] for one in (words, wanted, got)))))
 
 
 def is_valid(path: str) -> bool:
@@ -109,6 +144,10 @@ def is_valid(path: str) -> bool:
 
 def sources_of(asked: argparse.Namespace) -> List[Source]:
     """Returns the dumps that are asked about."""
+    if asked.small:
+        stride, _, number = asked.small.partition(":")
+        return [Source(number, "", *texts) for number, *texts in small_dumps.some(
+            int(stride), int(number or "0"))]
     first, _, last = asked.seeds.partition(":")
     begin = int(first) if asked.seeds else random.SystemRandom().randrange(10**9)
     end = int(last) if last else begin + (ROUNDS if asked.dumps else 10**6)
@@ -122,6 +161,8 @@ def words() -> argparse.Namespace:
     of.add_argument("--seeds", metavar="FIRST:END", default="", help="[default: new ones]")
     of.add_argument("--kinds", metavar="KIND,..", default=",".join(all_questions()),
                     help="the kinds of questions [default: %(default)s]")
+    of.add_argument("--small", metavar="N[:FIRST]", default="",
+                    help="ask about every N-th small dump, from number FIRST on")
     of.add_argument("--seconds", type=float, default=0.0, help="end after so many seconds")
     of.add_argument("--processes", type=int, default=os.cpu_count())
     of.add_argument("dumps", metavar="DUMP", nargs="*")
@@ -132,6 +173,7 @@ def main() -> int:
     """Asks everything, and says what differs."""
     asked = words()
     kinds, sources = asked.kinds.split(","), sources_of(asked)
+    kinds = [kind for kind in kinds if not asked.small or kind not in OF_NO_DUMP]
     counts: Counter[str] = collections.Counter()
     wrong: Counter[str] = collections.Counter()
     end = time.monotonic() + asked.seconds if asked.seconds else float("inf")

@@ -3,12 +3,15 @@ import importlib
 import io
 import os
 import random
+import re
 import sys
-from typing import Any, Callable, List, NamedTuple, Optional, Sequence, Tuple
+from typing import Any, Callable, List, NamedTuple, Optional, Sequence, Tuple, Union
 
 from conditions import Conditions
-from dumps import LAST, UNITS, Dump, Variable, bare
+from dumps import LAST, UNITS, Variable, bare
+from faulty_dumps import NAMES, read
 from looks import Edges
+from made_dumps import Made
 from shown import FORMS
 
 HERE = os.path.dirname(os.path.abspath(__file__))
@@ -16,7 +19,8 @@ PYTHON = os.path.dirname(os.path.dirname(HERE))
 sys.path.insert(0, PYTHON)
 VALUED = {"--from", "--to", "--at", "--rise", "--fall", "--unit", "--values", "--names",
           "--map", "--except", "--real-tolerance", "--junit", "--context", "--into", "--saif",
-          "--scopes", "--mark", "--around", "--width", "--rules", "--reach", "--salvage"}
+          "--scopes", "--mark", "--around", "--width", "--rules", "--reach", "--salvage",
+          "--jobs"}
 
 
 class Skip(Exception):
@@ -29,6 +33,12 @@ class Said(NamedTuple):
     status: int
     output: bytes
     message: str
+
+    @property
+    def about(self) -> Union[str, bool]:
+        """The line and the name of the fault that the message names, or whether there is one."""
+        fault = re.findall(r"(?m):(\d+: (?:%s))$" % NAMES, self.message)
+        return fault[0] if fault else bool(self.message)
 
     @property
     def text(self) -> str:
@@ -89,9 +99,11 @@ Differ = Callable[[str, Any, Any, Any], None]
 class Asker:
     """A dump in a file, and what a question about it needs."""
 
-    def __init__(self, seed: int, text: bytes, clocks: Sequence[str], path: str, differ: Differ):
+    def __init__(self, seed: int, text: bytes, clocks: Sequence[str], path: str, differ: Differ,
+                 other: bytes = b""):
         self.seed, self.text, self.path, self.differ = seed, text, path, differ
-        self.dump = Dump(text)
+        self.other = other
+        self.dump = read(text)
         self.random = random.Random("a question %d" % seed)
         self.conditions = Conditions(self.dump, self.random)
         self._clocks = clocks
@@ -117,6 +129,10 @@ class Asker:
     def maybe(self, share: float, *words: str) -> List[str]:
         """Returns the words in this share of all cases."""
         return list(words) if self.happens(share) else []
+
+    def other_text(self) -> bytes:
+        """Returns another dump, to be merged with this one: now and then this one again."""
+        return self.text if self.happens(.2) else self.other or Made(self.seed + 700000).text
 
     # ---- Random parts of a question.
 
@@ -149,13 +165,32 @@ class Asker:
         return Window(["--from", first] * bool(first) + ["--to", last] * bool(last), begin, end,
                       bool(first))
 
-    def is_late(self, window: Window, kind: str, words: Any, said: Said) -> bool:
-        """Whether a window begins after the last timestamp, which is a usage error."""
+    def is_late(self, window: Window, kind: str, words: Any, said: Said, faulty: int = 1) -> bool:
+        """Whether a window begins after the last timestamp, which is a usage error, unless there is
+        a fault before it."""
         if window.begin <= self.dump.end:
             return False
-        self.same(kind + ", a late window", words, (said.status, said.output, bool(said.message)),
-                  (2, b"", True))
+        fault = self.dump.fault
+        self.same(kind + ", a late window", words, (said.status, said.output, said.about),
+                  (faulty if fault else 2, b"", fault or True))
         return True
+
+    def fault(self, window: Window) -> Union[str, bool]:
+        """Returns the fault that a question about a window meets; whether there is one."""
+        return self.dump.fault_by(window.end) or False
+
+    def has_fault(self, window: Window, kind: str, words: Any, said: Said) -> bool:
+        """Whether a window meets a fault, so that a script that needs all of it writes nothing."""
+        fault = self.fault(window)
+        if fault:
+            self.same(kind + ", a fault", words, (said.status, said.output, said.about),
+                      (1, b"", fault))
+        return bool(fault)
+
+    def need_whole(self) -> None:
+        """Skips the question if the dump has a fault."""
+        if self.dump.fault:
+            raise Skip
 
     def names(self, most: int = 3) -> List[str]:
         """Returns names of variables and scopes."""

@@ -7,6 +7,7 @@ from typing import Dict, List, NamedTuple, Optional, Sequence, Set, Tuple, Union
 FEMTOSECONDS = {"s": 10**15, "ms": 10**12, "us": 10**9, "ns": 10**6, "ps": 10**3, "fs": 1}
 UNITS = list(FEMTOSECONDS)
 LAST = 2**64 - 1  # the greatest time
+AT_A_TIMESTAMP = ("bad time", "time goes back", "time inside a section")
 RANGE = re.compile(r"\[-?\d+:-?\d+\]$")
 
 
@@ -138,9 +139,11 @@ class Step:
 
 
 class Dump:
-    """A dump without a fault."""
+    """A dump up to its end, or up to a fault: its line and its name, as `3: bad time`. Then
+    `finished` is the last time whose changes are all known, and -1 if there is none: the last
+    timestamp only if the fault is in the place of the next one."""
 
-    def __init__(self, text: bytes):
+    def __init__(self, text: bytes, fault: str = ""):
         self.variables: List[Variable] = []
         self.scopes = 0
         self.scale: Optional[Tuple[int, str]] = None
@@ -155,6 +158,9 @@ class Dump:
         self._read_body(words, at)
         self.last = self.times[-1] if self.times else None
         self.end = self.last or 0
+        self.fault = fault
+        is_next = fault.partition(": ")[2] in AT_A_TIMESTAMP
+        self.finished = self.end - (not is_next) if fault else LAST
         number_and_unit = self.scale
         self.tick = number_and_unit and FEMTOSECONDS[number_and_unit[1]] * number_and_unit[0]
         self._times = [step.time for step in self.steps]
@@ -254,9 +260,17 @@ class Dump:
         """Returns the steps from one time to another."""
         return [step for step in self.steps if begin <= step.time <= end]
 
+    def fault_by(self, time: int) -> str:
+        """Returns the fault that is met if only values up to a time are asked for: nothing is read
+        beyond the next timestamp."""
+        return self.fault if self.end <= time else ""
+
     def end_of(self, begin: int, end: int) -> int:
-        """Returns the last time of a window: it ends with the dump if that is earlier."""
-        return end if any(time > end for time in self.times) else max(begin, self.end)
+        """Returns the last time of a window: it ends with the dump if that is earlier, and before
+        what a fault leaves open."""
+        if self.fault_by(end):
+            return self.finished
+        return end if self.end > end else max(begin, self.end)
 
     # ---- Names.
 

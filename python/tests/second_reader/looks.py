@@ -48,7 +48,7 @@ def looks_at_edges(dump: Dump, edges: Edges, begin: int = 0, end: int = LAST) ->
     times, found = edge_times(dump, edges), []
     events: Set[str] = set()
     is_inside = False
-    for step in dump.steps_in(0, end):
+    for step in dump.steps_in(0, min(end, dump.finished)):
         if step.time >= begin and not is_inside:
             is_inside, events = True, set()
         if step.time in times:
@@ -62,7 +62,8 @@ def looks_at_changes(dump: Dump, codes: Set[str], begin: int = 0, end: int = LAS
     """Returns the begin of a window that does not begin at 0, if one of the codes has a value
     there, and each time in it of which the codes have a value or a trigger, with the values at its
     end."""
-    has_begin = begin and not codes.isdisjoint(dump.at(begin))
+    end = min(end, dump.finished)
+    has_begin = 0 < begin <= end and not codes.isdisjoint(dump.at(begin))
     first = [Look(begin, dump.at(begin), dump.events_at(begin))] if has_begin else []
     return first + [Look(step.time, step.end, step.events) for step in dump.steps_in(begin, end)
                     if codes & step.codes and (step.time > begin or not has_begin)]
@@ -75,7 +76,7 @@ def rows_at_changes(dump: Dump, columns: Sequence[Variable], begin: int, end: in
     found = []
     last: List[Optional[Value]] = [None] * len(columns)
     times = {step.time for step in dump.steps_in(begin, end)} | ({begin} if is_window else set())
-    for time in sorted(times):
+    for time in sorted(time for time in times if time <= dump.finished):
         look = Look(time, dump.at(time), dump.events_at(time))
         values = [look.values.get(one.code) for one in columns]
         if not all(map(same, last, values)):

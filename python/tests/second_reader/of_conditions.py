@@ -91,17 +91,21 @@ def ask_when(of: Asker) -> None:
     mode = of.random.choice(["", "", "", "", "--count", "--first", "--json", "--never"])
     words = of.placed([*asked.words, *(["--unit", unit] if unit else []), *[mode] * bool(mode)],
                       [of.path, text])
-    said = run("when", words)
-    if of.is_late(asked.window, "when", words, said):
+    said, fault = run("when", words), of.fault(asked.window)
+    if of.is_late(asked.window, "when", words, said, 2):
         return
     lines = [dump.time_text(time, unit) for time in times]
-    wanted = {"--count": ["%d" % len(times)], "--first": lines[:1],
+    wanted = {"--count": ["%d" % len(times)] * (not fault), "--first": lines[:1],
               "--json": [json.dumps({"time": time}) for time in times]}.get(mode, lines)
     if asked.edges and not looks and mode == "--never":
-        of.same("when, without an edge", words, (said.status, bool(said.message)), (2, True))
+        of.same("when, without an edge", words, (said.status, said.about), (2, fault or True))
         return
-    of.same("when", words, (said.status, said.lines, mode != "--first" and bool(said.message)),
-            (int((not times) != (mode == "--never")), wanted, mode != "--first" and warned))
+    status = 2 if fault else int((not times) != (mode == "--never"))
+    if mode == "--first" and times:  # it stops there, so there may be a warning or not
+        of.same("when", words, (said.status, said.lines), (0, wanted))
+        return
+    of.same("when", words, (said.status, said.lines, mode != "--first" and said.about),
+            (status, wanted, mode != "--first" and (fault or warned)))
 
 
 # ---- Latencies.
@@ -118,8 +122,8 @@ def ask_latency(of: Asker) -> None:
     words = of.placed([*asked.words, "--latency", *["--json"] * is_json,
                        *(["--unit", unit] if unit else [])],
                       [of.path, "%s -> %s within %s" % (before.inside(0), after.inside(0), within)])
-    said = run("when", words)
-    if of.is_late(asked.window, "latency", words, said):
+    said, fault = run("when", words), of.fault(asked.window)
+    if of.is_late(asked.window, "latency", words, said, 2):
         return
     its = [one for one in found if one.answer is not None]
     its.sort(key=lambda one: (one.answer, one.time))  # in the order of the answers
@@ -133,10 +137,11 @@ def ask_latency(of: Asker) -> None:
             return str(of_one) if span[0] else dump.time_text(of_one, unit)
         wanted = ["%s %s %s" % (dump.time_text(one.time, unit), dump.time_text(
             one.answer or 0, unit), length(one.length)) for one in its]
-        wanted += summary(of, words, got, [one.length for one in its], len(found) - len(its),
-                          length, None if span[0] else unit or "")
-    of.same("latency", words, (said.status, got, bool(said.message)),
-            (int(not its), wanted, warned))
+        wanted += [] if fault else summary(
+            of, words, got, [one.length for one in its], len(found) - len(its), length,
+            None if span[0] else unit or "")
+    of.same("latency", words, (said.status, got, said.about),
+            (2 if fault else int(not its), wanted, fault or warned))
 
 
 def summary(of: Asker, words: List[str], got: List[str], lengths: List[int], late: int,
@@ -195,8 +200,8 @@ def ask_rules(of: Asker) -> None:
     words = of.placed([*asked.words, "--rules", file, *["--never"] * is_never,
                        *["--json"] * is_json, *of.maybe(.3, "--junit", junit),
                        *(["--unit", unit] if unit else [])], [of.path])
-    said = run("when", words)
-    if of.is_late(asked.window, "rules", words, said):
+    said, fault = run("when", words), of.fault(asked.window)
+    if of.is_late(asked.window, "rules", words, said, 2):
         return
     held = [rule for rule in rules if rule[2]]
     got = all_from_json(said.text) if is_json else said.lines
@@ -213,6 +218,9 @@ def ask_rules(of: Asker) -> None:
                                                "s" * (len(times) != 1), note))
     bad = [name for name, text_of, times, *_ in rules if bool(times) == (
         is_never or text_of.split(" ")[0] in ("never", "always", "each"))]
+    if fault:
+        of.same("rules", [*words, text], (said.status, got, said.about), (2, wanted, fault))
+        return
     status, warned = 2 if is_idle else int(bool(bad)), warned or is_idle
     count = "vcdkit-when: %d rule%s, " % (len(rules), "s" * (len(rules) > 1))
     warnings, _, end = said.message.partition(count)

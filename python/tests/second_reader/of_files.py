@@ -1,101 +1,19 @@
 """Asks what is said of faults and before them, and asks the filters and about compressed dumps."""
 import bz2
-import csv
 import gzip
-import io
 import lzma
 import os
 import re
 import subprocess
-from typing import Any, Callable, Dict, List, NamedTuple, Tuple
+from typing import Any, Callable, Dict, List, Tuple
 
 from asker import PYTHON, Asker, Skip, run
 from conditions import quoted
 from dumps import Dump, Variable
-from looks import looks_at_changes, looks_at_edges, rows_at_changes, starts, waits
-from of_conditions import condition
-from of_values import unknown, with_values
-from shown import from_json, shown
+from faulty_dumps import body_place, read
+from shown import all_from_json
 
-FAULTS = ["q!", "#-5", "#0", "U!", "$foo", "b12 !", "$end", "#1.5", "1@@@", "bUU !", "b0 @@@",
-          "sIDLE !", "#", "$dumpports", "1 !", "p0 0 !", "$enddefinitions $end", "$dumpvars",
-          "$scope module a $end", "#99999999999999999999"]
 NINE = {"x": "xXuUwW-", "0": "0lL", "1": "1hH", "z": "zZ"}
-
-
-def body_place(text: bytes) -> int:
-    """Returns where the body begins."""
-    end = re.compile(rb"\$enddefinitions\s+\$end").search(text)
-    assert end
-    return end.end()
-
-
-class Faulty(NamedTuple):
-    """A dump with a fault: its file, the line and the name of the fault, and what is before it, as
-    a dump, of which all times up to `finished` are complete."""
-
-    path: str
-    line: int
-    fault: str
-    front: Dump
-    finished: int
-
-
-def faulty(of: Asker) -> Faulty:
-    """Returns a dump that is cut off, or has a line that is a fault."""
-    place, choice = body_place(of.text), of.random.choice
-    lines = of.text[place:].split(b"\n")
-    if re.search(rb"(?m)^[^\n]*#\d+[ \t]+\S", of.text[place:]) or len(lines) < 2:
-        raise Skip  # several items on a line: what is before a fault in it, its line does not say
-    at = of.random.randrange(1, len(lines))
-    inside = [place for place in range(1, len(lines)) if is_open_before(lines, place)]
-    if inside and of.happens(.3):
-        at = choice(inside)
-    if of.happens(.4):
-        lines = lines[:at] + [lines[at][:of.random.randrange(len(lines[at]) + 1)]]
-    else:
-        lines.insert(at, choice(FAULTS).encode())
-    text = of.text[:place] + b"\n".join(lines)
-    path = of.write(of.path + ".bad.vcd", text)
-    said = subprocess.run([os.environ["VCDKIT"], "check", path], check=False,
-                          stdout=subprocess.PIPE, stderr=subprocess.PIPE)
-    found = re.search(r":(\d+): (.*)", said.stderr.decode())
-    if not found:
-        raise Skip
-    line, fault = int(found[1]), found[2]
-    front = Dump(before(text, line))
-    if not front.times:
-        raise Skip
-    is_next = fault in ("bad time", "time goes back", "time inside a section")
-    return Faulty(path, line, fault, front, front.times[-1] - (not is_next))
-
-
-def is_open_before(lines: List[bytes], place: int) -> bool:
-    """Whether a section of a body is open before one of its lines."""
-    words = [word for line in lines[:place] for word in line.split()]
-    opened = [at for at, word in enumerate(words) if word.startswith(b"$dump")]
-    return bool(opened) and b"$end" not in words[opened[-1]:]
-
-
-def before(text: bytes, line: int) -> bytes:
-    """Returns what is before a line, as a dump: an open comment is left out, an open section is
-    closed."""
-    front = b"\n".join(text.split(b"\n")[:line - 1]) + b"\n"
-    place = body_place(text)
-    if len(front) < place:
-        raise Skip
-    words, kept, at, is_open = front[place:].split(), [], 0, False
-    while at < len(words):
-        word, at = words[at], at + 1
-        if word == b"$comment":
-            at = words.index(b"$end", at) + 1 if b"$end" in words[at:] else len(words)
-        elif word[:1] not in b"bBrR":
-            is_open = word != b"$end" if word[:1] == b"$" else is_open
-            kept.append(word)
-        elif at < len(words):
-            kept.append(word + b" " + words[at])
-            at += 1
-    return text[:place] + b"\n" + b"\n".join(kept + [b"$end"] * is_open) + b"\n"
 
 
 # ---- What is refused, and limits.
@@ -155,107 +73,59 @@ def ask_nested(of: Asker) -> None:
     of.same("nested, a table", [path], (said.status, said.lines[1:]), (0, ["0,0", "5,1"]))
 
 
-# ---- Before a fault.
-
-def ask_rows_before(of: Asker) -> None:
-    """Asks for the rows before a fault."""
-    bad, names = faulty(of), of.names(2)
-    columns = [one for one in bad.front.selected(names) if not one.is_event]
-    if not columns:
-        raise Skip
-    words: List[str] = []
-    rows = rows_at_changes(bad.front, columns, 0, bad.finished, False)
-    if of.happens(.5):
-        words, edges = of.clocks()
-        rows = with_values(looks_at_edges(bad.front, edges, 0, bad.finished), columns)
-    chosen = of.conditions.make() if of.happens(.4) else None
-    if chosen:
-        words += ["--if=" + chosen.text]  # it may begin with -
-        rows = [row for row in rows if chosen.test(row[0])]
-    said = run("table", ["--unit", "tick", *words, bad.path, "--", *names])
-    of.same("rows before a fault", [bad, *words, *names], (said.status, list(csv.reader(
-        io.StringIO(said.text, newline="")))[1:], bad.fault in said.message), (1, [
-            ["%d" % look.time, *map(shown, values)] for look, values in rows], True))
-
-
-def ask_x_before(of: Asker) -> None:
-    """Asks for the unknown values before a fault."""
-    bad = faulty(of)
-    if bad.finished < 0:
-        raise Skip
-    its = [one for one in bad.front.variables if not one.is_event and not one.is_real]
-    saved, of.dump = of.dump, bad.front
-    rows = unknown(of, its, "x", 0, bad.finished, False)
-    of.dump = saved
-    said = run("x", ["--unit", "tick", bad.path])
-    of.same("x before a fault", [bad], (said.status, sorted(said.lines), bad.fault in said.message),
-            (2, sorted("%d %s %s" % row for row in rows), True))
-
-
-def ask_when_before(of: Asker) -> None:
-    """Asks for the times of a condition, and for answers, before a fault."""
-    bad, first, edges = faulty(of), condition(of), None
-    words: List[str] = []
-    text, kind = first.text, of.random.choice(["when", "answered", "refused", "latency"])
-    after = None if kind == "when" else condition(of, 1)
-    if of.happens(.6):
-        words, edges = of.clocks()
-    looks = (looks_at_edges(bad.front, edges, 0, bad.finished) if edges else
-             [look for look in looks_at_changes(bad.front, of.conditions.codes)
-              if look.time <= bad.finished])
-    begins = starts(looks, first.test, bool(edges))
-    wanted = ["%d" % look.time for look, is_one in zip(looks, begins) if is_one]
-    if after:
-        most = of.random.choice([0, 1, 2, 5, 30])
-        text = "(%s) -> (%s) within %d%s" % (first.text, after.text, most, "" if edges else "tick")
-        its = waits(looks, begins, after.test, (bool(edges), most), bad.finished)
-        if kind == "refused":
-            text = "!(%s)" % text
-        wanted = ["%d" % one.time for one in its if (one.answer is None) == (kind == "refused")]
-        if kind == "latency":
-            words += ["--latency"]
-            its = [one for one in its if one.answer is not None]
-            wanted = ["%d %s %d" % one for one in sorted(its, key=lambda one: (one[1], one[0]))]
-    said = run("when", ["--unit", "tick", *words, "--", bad.path, text])
-    of.same("when before a fault", [bad, *words, text], (said.status, said.lines, bad.fault in
-                                                         said.message), (2, wanted, True))
-
+# ---- Faults, and how long a dump is.
 
 def ask_salvage(of: Asker) -> None:
-    """Asks for what is before a fault, as a dump."""
-    bad, out = faulty(of), of.path + ".saved.vcd"
-    said = run("explain", ["--salvage", out, bad.path])
-    until = re.search(r"good until (\S+)", said.text)
+    """Asks for what is before a fault, as a dump, and for the lines around the fault."""
+    dump, out = of.dump, of.path + ".saved.vcd"
+    if not dump.fault:
+        raise Skip
+    if os.path.exists(out):
+        os.unlink(out)
+    said = run("explain", ["--salvage", out, of.path])
     with open(out, "rb") as file:
-        saved = Dump(file.read())
-    found = bad.front.ticks_down(until[1].rstrip(",")) if until else -1
-    of.same("salvage", [bad], (said.status, bad.fault in said.text + said.message, found),
-            (1, True, bad.finished))
-    times = [step.time for step in bad.front.steps if step.time <= bad.finished]
-    of.same("salvage, the values", [bad], [saved.at(time) for time in times],
-            [bad.front.at(time) for time in times])
-    with open(bad.path, "rb") as file:
-        count = len(file.read().split(b"\n"))
+        saved = read(file.read())
+    # Without a timestamp and a change nothing is known, not even that time 0 has no change.
+    until = dump.finished if dump.times or dump.items else -1
+    of.same("salvage", [of.path], (said.status, said.about, said.lines[-1:]), (1, dump.fault, [
+        "wrote: %s, %s" % (out, "good until " + dump.time_text(until) if until >= 0 else
+                           "but it has all values of no time")]))
+    of.same("salvage, the dump", [of.path], (saved.fault, saved.end, changes_of(saved)),
+            ("", dump.end, changes_of(dump)))
+    count, line = len(of.text.split(b"\n")), int(dump.fault.partition(":")[0])
     lines = [int(found) for found in re.findall(r"(?m)^[> ] *(\d+) \|", said.text)]
-    of.same("explain, the lines", [bad], [line for line in lines if line < count], [
-        line for line in range(max(1, bad.line - 2), bad.line + 2) if line < count])
+    of.same("explain, the lines", [of.path], [one for one in lines if one < count], [
+        one for one in range(max(1, line - 2), line + 2) if one < count])
+
+
+def changes_of(dump: Dump) -> List[Any]:
+    """Returns all changes of a dump; an event in a section is no trigger."""
+    return [item._replace(value="1") if dump.of_code[item.code].is_event else item
+            for item in dump.items if not (item.section and dump.of_code[item.code].is_event)]
 
 
 def ask_reach(of: Asker) -> None:
-    """Asks whether a dump is long enough."""
-    time = of.time()
-    is_valid = of.dump.last is not None and of.dump.ticks(time) <= of.dump.last
-    words = of.placed(["--reach", time, "--json"], [of.path])
+    """Asks of some dumps whether they are long enough."""
+    time, dump = of.time(), of.dump
+    reach, count = of.maybe(.8, "--reach", time), of.random.choice([1, 1, 2])
+    is_valid = not reach or dump.last is not None and dump.ticks(time) <= dump.last
+    wanted = {"file": of.path, "kind": "valid" if is_valid else "short", "last": dump.last}
+    if dump.fault:
+        line, fault = dump.fault.split(": ")
+        wanted = {"file": of.path, "kind": "fault", "line": int(line), "fault": fault}
+    words = of.placed([*reach, "--json", *of.maybe(.5, "--jobs", "2")], [of.path] * count)
     said = run("explain", words)
-    of.same("reach", words, (said.status, from_json(said.text)), (int(not is_valid), {
-        "file": of.path, "kind": "valid" if is_valid else "short", "last": of.dump.last}))
+    of.same("reach", words, (said.status, [
+        {key: one[key] for key in one if key != "cause"} for one in all_from_json(said.text)]), (
+            int(wanted["kind"] != "valid"), [wanted] * count))
 
 
 # ---- Filters.
 
 def plain_lines(of: Asker) -> Tuple[List[str], int]:
-    """Returns the lines of the dump, if each has one item, and the place of the one that ends the
-    header."""
+    """Returns the lines of the dump, if it has no fault and each has one item, and the place of the
+    one that ends the header."""
+    of.need_whole()
     lines = of.text.decode().replace("\r\n", "\n").split("\n")
     ends = [at for at, line in enumerate(lines) if line.strip() == "$enddefinitions $end"]
     if not ends or any(re.search(r"\$end\s+\S|\$var(?!.*\$end)|^[bBrR]\S+\s*$", line)
@@ -288,6 +158,7 @@ def ask_four_state(of: Asker) -> None:
 
 def ask_close_sections(of: Asker) -> None:
     """Asks for a dump in which an $end is missing before a timestamp, or is one too many."""
+    of.need_whole()
     place = body_place(of.text)
     body = re.sub(rb"\$comment\s.*?\$end(?=\s|$)", lambda found: b" " * len(found[0]),
                   of.text[place:], flags=re.S)
@@ -417,6 +288,7 @@ PACKERS: Dict[str, Callable[[bytes], bytes]] = {"gz": gzip.compress, "bz2": bz2.
 
 def ask_packed(of: Asker) -> None:
     """Asks about a compressed dump, or one that comes through a pipe, what was asked of a file."""
+    of.need_whole()
     if of.seed % 4:
         raise Skip  # it takes the time of ten other questions
     how, names = of.random.choice(list(PACKERS)), of.names(1)

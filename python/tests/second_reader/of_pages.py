@@ -5,15 +5,14 @@ import json
 import os
 import re
 from typing import Any, Callable, Dict, List, NamedTuple, Optional, Sequence, Set, Tuple
-import xml.etree.ElementTree as xml
 
 from asker import Asker, Skip, Window, run
 from dumps import LAST, Dump, Real, Value, Variable
 from page_script import NODE, shown_by
+from pictures import Row, rows_of
 from shown import cell, same, shown, unsigned
 
-NAMESPACE = "{http://www.w3.org/2000/svg}"
-EXACT, ROUGH = 1e-5, 0.06  # pixels: a place on a page is a float; one in a picture has a decimal
+EXACT = 1e-5  # pixels: a place on a page is a float
 Span = Tuple[float, float]
 Points = List[Tuple[int, Any]]
 
@@ -73,7 +72,7 @@ def page_of(of: Asker, words: List[str], window: Window) -> Optional[Any]:
     """Returns a page of vcdkit-wave and its data; None if it is refused for a reason that the pages
     give: a late window, a mark outside of it, or too many ticks."""
     said = run("wave", words)
-    if of.is_late(window, "page", words, said):
+    if of.is_late(window, "page", words, said) or of.has_fault(window, "page", words, said):
         return None
     end = of.dump.end_of(window.begin, window.end)
     marks = [of.dump.ticks_down(re.sub("--mark=", "", word)) for before, word in zip(
@@ -210,20 +209,18 @@ def busy_pixels(pieces: Sequence[Piece], width: int) -> Set[int]:
 
 
 def same_pixels(of: Asker, words: List[str], pieces: List[Piece], shapes: Dict[str, List[Span]],
-                width: int, margin: float) -> None:
+                width: int) -> None:
     """Compares the pixels of a row: red if and only if the signal is x there, and a block if and
-    only if it changes there more than once. A red shape may be wrong by a margin, and a block of a
-    picture that has an x is red."""
+    only if it changes there more than once."""
     reds, blocks = shapes.get("x", []) + shapes.get("manyX", []), shapes.get("several", [])
-    spans = unknown_spans(pieces)
+    spans, busy = unknown_spans(pieces), busy_pixels(pieces, width)
     may_be = spans + [(width - 1.0, float(width)) for begin, end in spans if begin == end]
     of.same("pixels, red without an x", words, sorted(
-        pixels_of(reds, width) - pixels_of(may_be, width, margin)), [])
+        pixels_of(reds, width) - pixels_of(may_be, width, EXACT)), [])
     of.same("pixels, an x without red", words, sorted(
-        pixels_of(spans, width) - pixels_of(reds, width, margin)), [])
-    busy = busy_pixels(pieces, width)
-    of.same("pixels, several changes without a block", words, sorted(busy - pixels_of(
-        blocks + (reds if margin > EXACT else []), width)), [])
+        pixels_of(spans, width) - pixels_of(reds, width, EXACT)), [])
+    of.same("pixels, several changes without a block", words, sorted(
+        busy - pixels_of(blocks, width)), [])
     of.same("pixels, a block without several changes", words, sorted(
         pixels_of(blocks, width) - busy), [])
 
@@ -254,95 +251,30 @@ def ask_shown(of: Asker) -> None:
         if not one.is_real and (end - begin) * width < 2**53:  # else floats are not exact
             shapes = {kind: [(shape[0], shape[1]) for shape in its] for kind, its in row["shapes"]}
             same_pixels(of, [*words, one.path, str(width)], pieces_of(wanted_points(
-                dump, one, begin, end), begin, end, width), shapes, width, EXACT)
+                dump, one, begin, end), begin, end, width), shapes, width)
 
 
 # ---- Pictures.
 
-def rows_of(text: str) -> Tuple[float, List[Tuple[str, List[Any]]]]:
-    """Returns the width of a picture, and the path of each row with its elements: they begin with
-    the text that has a title."""
-    root = xml.fromstring(text)
-    rows: List[Tuple[str, List[Any]]] = []
-    for one in root:
-        title = one.find(NAMESPACE + "title")
-        if one.tag == NAMESPACE + "text" and title is not None and one.get("text-anchor") == "end":
-            rows.append((title.text or "", []))
-        elif rows:
-            rows[-1][1].append(one)
-    return float(root.get("width", "0")), rows
-
-
-def shapes_of(elements: Sequence[Any], left: float) -> Dict[str, List[Span]]:
-    """Returns where the shapes of each class begin and end, in pixels from the left."""
-    found: Dict[str, List[Span]] = {}
-    for one in elements:
-        for part in (one.get("d") or "").split("M")[1:]:
-            places = [float(part.split(" ")[0])] + [
-                float(place) for place in re.findall(r"H([-\d.]+)|L([-\d.]+) ", part)
-                for place in place if place]
-            found.setdefault(one.get("class"), []).append(
-                (min(places) - left, max(places) - left))
-    return found
-
-
 def ask_picture(of: Asker) -> None:
-    """Asks for the picture of a window: the pixels, levels and texts of its rows."""
-    dump, choice = of.dump, of.random.choice
-    its = [one for one in dump.variables
-           if not one.is_event and not one.is_real and dump.is_unique(one)]
-    times = sorted(set(dump.times))
-    if not its or len(times) < 2:
+    """Asks for the picture of a window: the shapes of its rows."""
+    dump, names, (words, form), window = of.dump, of.names(2), of.form(), of.window(.6)
+    width, its = of.random.choice([100, 101, 103, 400, 4000]), dump.selected(names)
+    if len(its) > 20:
         raise Skip
-    names = [one.path for one in of.random.sample(its, min(3, len(its)))]
-    at = of.random.randrange(len(times) - 1)
-    begin, end = times[at], times[min(len(times) - 1, at + of.random.choice([1, 3, 8, 40]))]
-    form, width = choice(["--hex", "--decimal", "--signed", "--binary"]), choice([100, 400, 4000])
-    words = ["--from", str(begin), "--to", str(end), "--width", str(width), form, of.path, "--",
-             *names]
+    words = of.placed([*words, *window.words, "--width", str(width)], [of.path, *names])
     said = run("wave", words)
-    if not of.same("picture", words, (said.status, said.message), (0, "")):
+    if of.is_late(window, "picture", words, said) or of.has_fault(window, "picture", words, said):
         return
-    total, rows = rows_of(said.text)
-    left = total - width - 30
-    if not of.same("picture, the rows", words, [path for path, _ in rows], names):
-        return
-    for path, elements in rows:
-        one = dump.of_path[path][0]
-        pieces = pieces_of(wanted_points(dump, one, begin, end), begin, end, width)
-        shapes = shapes_of([each for each in elements if each.get("class") in (
-            "bit", "lane", "x", "z", "several")], left)
-        same_pixels(of, [*words, path], pieces, shapes, width, ROUGH)
-        if all(piece.end - piece.begin > 12 for piece in pieces[:-1]):
-            same_row(of, [*words, path], pieces, elements, (left, form, one.size))
-
-
-def same_row(of: Asker, words: List[str], pieces: List[Piece], elements: Sequence[Any],
-             how: Tuple[float, str, int]) -> None:
-    """Compares a row whose changes are far apart: its shapes, the levels of a bit, and the texts of
-    a lane."""
-    left, form, size = how
-    shapes = shapes_of([one for one in elements if one.get("class") in ("bit", "lane", "x", "z")],
-                       left)
-    got = sorted((round(begin), round(end)) for its in shapes.values() for begin, end in its)
-    wanted = sorted((round(one.begin), round(one.end)) for one in pieces)
-    far = [pair for pair in zip(got, wanted) if max(abs(a - b) for a, b in zip(*pair)) > 1]
-    of.same("picture, the shapes", words, (far, len(got)), ([], len(wanted)))
-    if size == 1:
-        levels = {float(level): round(float(begin) - left) for one in elements
-                  if one.get("class") == "bit" for begin, level in re.findall(
-                      r"M([-\d.]+) [\d.]+V([\d.]+)", one.get("d"))}
-        ones = {round(one.begin) for one in pieces if one.value == "1"}
-        if len(levels) == 2:
-            of.same("picture, the levels", words, any(
-                abs(levels[min(levels)] - one) <= 1 for one in ones), True)
-        return
-    for one in elements:
-        if one.get("text-anchor") == "middle" and one.get("class") == "":
-            place = float(one.get("x")) - left
-            full = [shown(piece.value, form) for piece in pieces
-                    if abs((piece.begin + piece.end) / 2 - place) < 1.5]
-            text = (one.text or "").lstrip("+")
-            of.same("picture, a text", [*words, one.text or ""], any(
-                value.endswith(text) for value in full), True)
-
+    end = dump.end_of(window.begin, window.end)
+    if end - window.begin > 2**53 // width or not of.same(
+            "picture", words, (said.status, said.message), (0, "")):
+        return  # else floats are not exact
+    rows = rows_of(said.text, width)
+    wanted = [(one.path, Row(one, wanted_points(dump, one, window.begin, end), window.begin, max(
+        1, end - window.begin), width, form or "--hex").shapes()) for one in its]
+    is_alike = [path for path, _ in rows] == [path for path, _ in wanted] and all(
+        len(got) == len(shapes) and all(one.is_like(other) for one, other in zip(got, shapes))
+        for (_, got), (_, shapes) in zip(rows, wanted))
+    if not is_alike:
+        of.differ("picture", words, rows, wanted)

@@ -70,7 +70,7 @@ def periods_of(states: Sequence[Tuple[int, Value]]) -> List[Tuple[int, int]]:
 
 def values_of(pulses: Sequence[Pulse], form: Optional[str]) -> List[Tuple[Any, ...]]:
     """Returns each value with its ticks, how often it is there, and its shortest and longest
-    pulse."""
+    pulse: those with most time first, and of equal ones the first."""
     groups: List[List[Pulse]] = []
     for pulse in pulses:
         group = next((one for one in groups if same(one[0].value, pulse.value)), None)
@@ -83,7 +83,7 @@ def values_of(pulses: Sequence[Pulse], form: Optional[str]) -> List[Tuple[Any, .
         whole = [one.ticks for one in group if one.is_whole]
         found.append((unsigned(shown(group[0].value, form)), sum(one.ticks for one in group),
                       len(group), min(whole, default=None), max(whole, default=None)))
-    return sorted(found, key=str)
+    return sorted(found, key=lambda one: -int(one[1]))
 
 
 def range_of(pulses: Sequence[Pulse]) -> Optional[Tuple[float, float, Any]]:
@@ -110,7 +110,7 @@ def ask_stats(of: Asker) -> None:
     dump, names, window, (words, form) = of.dump, of.names(2), of.window(), of.form()
     words = of.placed([*words, *window.words, "--json"], [of.path, *names])
     said = run("stats", words)
-    if of.is_late(window, "stats", words, said):
+    if of.is_late(window, "stats", words, said) or of.has_fault(window, "stats", words, said):
         return
     its = dump.selected(names)
     got = all_from_json(said.text)
@@ -128,10 +128,9 @@ def same_facts(of: Asker, words: List[str], got: Dict[str, Any], wanted: Tuple[V
     values = [(unsigned(one["value"]), one["ticks"], one["times"], one["shortest"], one["longest"])
               for one in got["values"]]
     of.same("stats", [*words, variable.path], (
-        got["type"], got["size"], got["changes"], sorted(values, key=str)), (
+        got["type"], got["size"], got["changes"], values), (
             variable.type, variable.size, facts.changes, values_of(facts.pulses, form)))
-    ticks, total = [one[1] for one in values], sum(one.ticks for one in facts.pulses)
-    of.same("stats, the order", words, ticks, sorted(ticks, reverse=True))
+    total = sum(one.ticks for one in facts.pulses)
     of.same("stats, the shares", [*words, variable.path], [one for one in got["values"] if not
             is_near(one["share"], Fraction(one["ticks"], total or 1))], [])
     lengths, period = [length for length, _ in facts.periods], got["period"]
@@ -200,7 +199,7 @@ def ask_toggle(of: Asker) -> None:
     dump, names, window, is_json = of.dump, of.names(3), of.window(), of.happens(.5)
     words = of.placed([*window.words, "--toggle", *["--json"] * is_json], [of.path, *names])
     said = run("stats", words)
-    if of.is_late(window, "toggle", words, said):
+    if of.is_late(window, "toggle", words, said) or of.has_fault(window, "toggle", words, said):
         return
     bits = all_toggles(dump, names, window.begin, window.end)
     wanted: List[Any] = [(bit_name(one.path, one, place), *toggles[:3])
@@ -218,10 +217,8 @@ def ask_toggle(of: Asker) -> None:
         of.same("toggle, the sum", words, said.lines[-1:], [
             "%d bit%s: %d rise and fall, %d do one of these, %d do neither" % (
                 len(bits), "s" * (len(bits) != 1), both, len(bits) - both - never, never)])
-    of.same("toggle", words, (said.status, said.message, sorted(got, key=str)),
-            (0, "", sorted(wanted, key=str)))
-    activity = [row[-3] + row[-2] for row in got]
-    of.same("toggle, the order", words, activity, sorted(activity, reverse=True))
+    wanted.sort(key=lambda row: -(row[-3] + row[-2]))  # those that toggle most come first
+    of.same("toggle", words, (said.status, said.message, got), (0, "", wanted))
 
 
 # ---- SAIF.
@@ -265,8 +262,9 @@ def ask_saif(of: Asker) -> None:
     dump, names, window = of.dump, of.names(3), of.window()
     words = of.placed([*window.words, "--saif", "-"], [of.path, *names])
     said = run("stats", words)
-    if of.is_late(window, "saif", words, said) or not of.same(
-            "saif", words, (said.status, said.message), (0, "")):
+    if of.is_late(window, "saif", words, said) or of.has_fault(
+            window, "saif", words, said) or not of.same(
+                "saif", words, (said.status, said.message), (0, "")):
         return
     head, nets = saif_of(said.text)
     bits = all_toggles(dump, names, window.begin, window.end)
@@ -285,7 +283,7 @@ def ask_text(of: Asker) -> None:
     """Asks whether the text says what JSON says."""
     dump, names, window = of.dump, of.names(2), of.window(.3)
     words, unit, most = of.form()[0] + window.words, of.unit(.2), of.random.choice([0, 1, 3, 10])
-    if window.begin > dump.end:
+    if window.begin > dump.end or of.fault(window):
         return
     wanted = []
     for one in all_from_json(run("stats", [*words, "--json", of.path, "--", *names]).text):

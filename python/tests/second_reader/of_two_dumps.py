@@ -240,6 +240,7 @@ def factors_of(one: Dump, other: Dump) -> List[int]:
 
 def ask_diff(of: Asker) -> None:
     """Asks what differs between a dump and another one."""
+    of.need_whole()
     changed = random_changes(of)
     path, other = another(of, changed)
     asked = random_asked(of, changed, other)
@@ -353,6 +354,7 @@ def moment(dump: Dump, time: Optional[int]) -> Any:
 
 def ask_context(of: Asker) -> None:
     """Asks for the parts of both dumps around the first difference."""
+    of.need_whole()
     path, other = another(of, Changed(2, end=of.random.choice([0, 0, -1])))
     folder, count = of.path + ".parts", of.random.choice([0, 1, 5, 100, 3000])
     shutil.rmtree(folder, ignore_errors=True)

@@ -4,9 +4,9 @@ import io
 import json
 import re
 from collections import Counter
-from typing import Any, Dict, List, NamedTuple, Optional, Set, Tuple
+from typing import Any, Dict, List, NamedTuple, Optional, Tuple
 
-from asker import Asker, Said, Skip, run
+from asker import Asker, Said, Skip, Window, run
 from conditions import Test
 from dumps import Dump, State, Value, Variable
 from looks import Edges, Look, holds, looks_at_edges, rows_at_changes, transfers
@@ -27,8 +27,13 @@ def ask_values(of: Asker) -> None:
     words = words + ["--at", ",".join(times)] * bool(times) + ["--json"] * is_json
     words = of.placed(words + (["--unit", unit] if unit else []), [of.path, *names])
     its = [one for one in (dump.selected(names) if names else dump.variables) if not one.is_event]
+    fault = dump.fault_by(max(ticks))
+    if fault and times and not its:
+        raise Skip  # nothing is read for events
     wanted: List[Any] = []
     for time in ticks:
+        if dump.fault_by(time):
+            continue
         for one in its:
             value = dump.at(time).get(one.code)
             front = dump.time_text(time, unit) + " " if len(ticks) > 1 else ""
@@ -36,8 +41,8 @@ def ask_values(of: Asker) -> None:
                           else front + "%s %s" % (one.path, shown(value, form)))
     said = run("values", words)
     got = all_from_json(said.text) if is_json else said.lines
-    of.same("values", words, (said.status, got, bool(said.message)),
-            (0, wanted, any(time > dump.end for time in ticks)))
+    of.same("values", words, (said.status, got, said.about),
+            (int(bool(fault)), wanted, fault or any(time > dump.end for time in ticks)))
 
 
 # ---- vcdkit-table.
@@ -51,24 +56,24 @@ def columns_of(of: Asker, most: int) -> Tuple[List[str], List[Variable]]:
     return names, columns
 
 
-def table_rows(of: Asker, columns: List[Variable], words: List[str]) -> Tuple[List[Row], int]:
-    """Returns the rows of a random kind, adds their options to the words, and returns the first
-    time of the window."""
+def table_rows(of: Asker, columns: List[Variable], words: List[str]) -> Tuple[List[Row], Window]:
+    """Returns the rows of a random kind, adds their options to the words, and returns the
+    window."""
     dump, how = of.dump, of.random.choice(["change", "edge", "time"])
     if how == "time":
         times = [of.time() for _ in range(of.random.randint(1, 4))]
         words += ["--at", ",".join(times)]
         ticks = [dump.ticks_down(time) for time in times]
-        looks = [Look(time, dump.at(time), dump.events_at(time)) for time in ticks]
-        return with_values(looks, columns), 0
+        looks = [Look(time, dump.at(time), dump.events_at(time)) for time in ticks
+                 if not dump.fault_by(time)]
+        return with_values(looks, columns), Window([], 0, max(ticks), False)
     window = of.window()
     words += window.words
     if how == "change":
-        return rows_at_changes(dump, columns, window.begin, window.end, window.is_given), \
-            window.begin
+        return rows_at_changes(dump, columns, window.begin, window.end, window.is_given), window
     options, edges = of.clocks()
     words += options
-    return with_values(looks_at_edges(dump, edges, window.begin, window.end), columns), window.begin
+    return with_values(looks_at_edges(dump, edges, window.begin, window.end), columns), window
 
 
 def with_values(looks: List[Look], columns: List[Variable]) -> List[Row]:
@@ -82,16 +87,17 @@ def ask_table(of: Asker) -> None:
     names, columns = columns_of(of, 4)
     is_json = of.happens(.25)
     rows_words: List[str] = []
-    rows, begin = table_rows(of, columns, rows_words)
+    rows, window = table_rows(of, columns, rows_words)
+    fault = of.fault(window)
     condition = of.conditions.make() if of.happens(.5) else None
     if condition:
+        is_none = fault and "--at" in rows_words  # it needs all values up to the last time
         rows_words += ["--if=" + condition.text]  # it may begin with -
-        rows = [row for row in rows if condition.test(row[0])]
+        rows = [row for row in rows if condition.test(row[0]) and not is_none]
     words = of.placed([*words, *(["--unit", unit] if unit else []), *["--json"] * is_json,
                        *rows_words], [of.path, *names])
     said = run("table", words)
-    if begin > dump.end:
-        of.same("table, a late window", words, (said.status, bool(said.message)), (2, True))
+    if of.is_late(window, "table", words, said):
         return
     unit = unit or (dump.scale[1] if dump.scale else "tick")
     wanted: List[Any] = [["time (%s)" % unit] + [one.path for one in columns]] + [
@@ -103,7 +109,7 @@ def ask_table(of: Asker) -> None:
                   for look, values in rows]
     got = all_from_json(said.text) if is_json else list(
         csv.reader(io.StringIO(said.text, newline="")))
-    of.same("table", words, (said.status, got, said.message), (0, wanted, ""))
+    of.same("table", words, (said.status, got, said.about), (int(bool(fault)), wanted, fault))
 
 
 class Channel(NamedTuple):
@@ -175,6 +181,7 @@ def ask_channels(of: Asker) -> None:
         early += any((edge or 0) < 0 for edge in wanted[-1][len(wanted[-1]) - len(pairs):])
     note = ("vcdkit-table: transactions that lack a transfer: %d; with a number of edges below 0: "
             "%d\n" % (lacking, early)) * bool(lacking or early)
+    fault = of.fault(window)
     head += ["%s to %s" % pair for pair in pairs]
     if mode == "--histogram":
         head = ["edges", *head[len(head) - len(pairs):]]
@@ -182,9 +189,10 @@ def ask_channels(of: Asker) -> None:
                   for edge in sorted({edge for _, edge in counts if edge is not None})]
     got = all_from_json(said.text) if is_json else list(
         csv.reader(io.StringIO(said.text, newline="")))
-    of.same("channels", words, (said.status, got, said.message), (
-        0, [dict(zip(head, row)) for row in wanted] if is_json else
-        [["" if cell is None else str(cell) for cell in row] for row in [head, *wanted]], note))
+    lines = [["" if cell is None else str(cell) for cell in row] for row in [head, *wanted]]
+    of.same("channels", words, (said.status, got, said.about if fault else said.message), (
+        int(bool(fault)), [dict(zip(head, row)) for row in wanted] if is_json else
+        lines * (not fault or mode != "--histogram"), fault or note))
 
 
 def keys_of(columns: List[Variable]) -> List[str]:
@@ -198,22 +206,25 @@ def keys_of(columns: List[Variable]) -> List[str]:
 
 # ---- vcdkit-x.
 
-def unknown(of: Asker, its: List[Variable], letters: str, begin: int, end: int, is_once: bool
+def unknown(dump: Dump, its: List[Variable], letters: str, begin: int, end: int
             ) -> List[Tuple[int, str, str]]:
     """Returns the times at whose end a value is another one than before, or the window begins, and
-    has one of the letters."""
+    has one of the letters. Within a time, they come in the order of their last changes; what the
+    window begins with comes first, in the order of declaration."""
     found: List[Tuple[int, str, str]] = []
-    seen: Set[str] = set()
     before: State = {}
-    for time in sorted({begin} | {step.time for step in of.dump.steps_in(begin, end)}):
-        state: State = of.dump.at(time)
-        for one in its:
-            value = state.get(one.code)
-            if not isinstance(value, str) or not set(letters) & set(value):
-                continue
-            if (time == begin or value != before.get(one.code)) and one.path not in seen:
-                seen |= {one.path} if is_once else set()
-                found.append((time, one.path, value))
+    changes = {step.time: step.changes for step in dump.steps}
+    for time in sorted({begin} | {step.time for step in dump.steps_in(begin, end)}):
+        if time > dump.finished:
+            break
+        state, codes = dump.at(time), [*dump.of_code]
+        codes += [one.code for one in changes.get(time, ())]
+        order = {code: at for at, code in enumerate(codes)}
+        for code in sorted(order, key=lambda one: order[one]):
+            value = state.get(code)
+            if isinstance(value, str) and set(letters) & set(value) and (
+                    time == begin or value != before.get(code)):
+                found += [(time, one.path, value) for one in its if one.code == code]
         before = state
     return found
 
@@ -226,33 +237,27 @@ def ask_x(of: Asker) -> None:
     mode = of.random.choice(["", "", "--first", "--count", "--json"])
     its = [one for one in (dump.selected(names) if names else dump.variables)
            if not one.is_event and not one.is_real]
-    if is_once and len({one.path for one in its}) < len(its):
-        raise Skip
     words += [*window.words, *["--z"] * (letters == "xz"), *[mode] * bool(mode),
               *["--trace"] * is_once, *(["--unit", unit] if unit else [])]
     words = of.placed(words, [of.path, *names])
-    said = run("x", words)
-    if of.is_late(window, "x", words, said):
+    said, fault = run("x", words), of.fault(window)
+    if of.is_late(window, "x", words, said, 2):
         return
-    rows = unknown(of, its, letters, window.begin, window.end, is_once)
-    wanted = ["%s %s %s" % (dump.time_text(time, unit), path, shown(value, form))
-              for time, path, value in rows]
-    got = said.lines
+    rows = unknown(dump, its, letters, window.begin, window.end)
+    if is_once:
+        rows = [row for at, row in enumerate(rows) if row[1] not in [one[1] for one in rows[:at]]]
+    if mode == "--first":
+        rows, fault = rows[:1], fault and not rows and fault
+    wanted: List[Any] = ["%s %s %s" % (dump.time_text(time, unit), path, shown(value, form))
+                         for time, path, value in rows]
     if mode == "--count":
-        wanted = ["%d" % len(rows)]
+        wanted = ["%d" % len(rows)] * (not fault)
     elif mode == "--json":
-        wanted = [json.dumps([time, path, shown(value, form)]) for time, path, value in rows]
-        got = [json.dumps([one["time"], one["path"], one["value"]])
-               for one in all_from_json(said.text)]
-    elif mode == "--first":
-        first = [line for line, row in zip(wanted, rows) if row[0] == rows[0][0]]
-        wanted = got if len(got) == 1 and got[0] in first else first[:1]
-    # The order within a time is not said.
-    of.same("x", words, (said.status, sorted(got), said.message),
-            (int(bool(rows)), sorted(wanted), ""))
-    if mode == "":
-        of.same("x, the order", words, [line.split(" ")[0] for line in got],
-                [line.split(" ")[0] for line in wanted])
+        wanted = [(time, path, shown(value, form)) for time, path, value in rows]
+    got = [tuple(one.values()) for one in all_from_json(said.text)] if mode == "--json" else (
+        said.lines)
+    of.same("x", words, (said.status, got, said.about),
+            (2 if fault else int(bool(rows)), wanted, fault))
 
 
 # ---- vcdkit-find and vcdkit-info.
@@ -270,6 +275,8 @@ def ask_find(of: Asker) -> None:
              or any(re.search(pattern, one.path) for pattern in patterns)
              or not names and not patterns]
     mode: List[str] = of.random.choice([[], ["--tree"], ["--json"], ["--pick"]])
+    if dump.fault and mode == ["--pick"]:
+        raise Skip
     words = of.placed(words + mode, [of.path, *patterns])
     said = run("find", words)
     if not found:
@@ -277,7 +284,7 @@ def ask_find(of: Asker) -> None:
     elif not of.same("find", words, (said.status, said.message), (0, "")):
         return
     elif mode == ["--tree"]:
-        of.same("find --tree", words, sorted(said.lines), sorted(tree_of(found)))
+        of.same("find --tree", words, said.lines, tree_of(dump, found))
     elif mode == ["--pick"]:
         same_part(of, words, Dump(said.output), found)
     else:
@@ -295,26 +302,32 @@ def same_part(of: Asker, words: List[str], part: Dump, wanted: List[Variable]) -
             [[of.dump.at(time).get(code) for code in codes] for time in times])
 
 
-def tree_of(found: List[Variable]) -> List[str]:
-    """Returns the lines of scopes: each counts the variables in it and below it. The top counts
-    only its own."""
-    counts: Dict[Tuple[str, ...], int] = {}
-    for one in found:
-        for depth in range(1, len(one.chain) + 1):
-            counts[one.chain[:depth]] = counts.get(one.chain[:depth], 0) + 1
+def tree_of(dump: Dump, found: List[Variable]) -> List[str]:
+    """Returns the lines of scopes, each above those in it: each counts the variables in it and
+    below it. The top counts only its own."""
+    chains = list(dict.fromkeys(one.chain[:depth] for one in dump.variables
+                                for depth in range(1, len(one.chain) + 1)))
+    place = {chain: at for at, chain in enumerate(chains)}
+    chains.sort(key=lambda chain: [place[chain[:depth + 1]] for depth in range(len(chain))])
+    counts = [(chain, sum(one.chain[:len(chain)] == chain for one in found)) for chain in chains]
     top = sum(not one.chain for one in found)
     return ["(top) %d" % top] * bool(top) + [
-        "%s%s %d" % ("  " * (len(chain) - 1), chain[-1], count) for chain, count in counts.items()]
+        "%s%s %d" % ("  " * (len(chain) - 1), chain[-1], count) for chain, count in counts if count]
 
 
 def ask_info(of: Asker) -> None:
     """Asks what a dump is."""
-    dump, said = of.dump, run("info", ["--json", of.path])
-    if not of.same("info", [], (said.status, said.message), (0, "")):
+    dump, most = of.dump, of.random.choice([0, 1, 2, 10])
+    said = run("info", ["--json", "--scopes=%d" % most, of.path])
+    if not of.same("info", [], (said.status, said.about), (
+            int(bool(dump.fault)), dump.fault or False)) or dump.fault:
+        of.same("info before a fault", [], said.output, b"" if dump.fault else said.output)
         return
     got = from_json(said.text)
     largest = got.pop("largest")
-    own = Counter(one.scope for one in dump.variables)
+    scopes = [".".join(one.chain[:depth]) for one in dump.variables
+              for depth in range(len(one.chain) + 1)]
+    own = {scope: sum(one.scope == scope for one in dump.variables) for scope in scopes}
     wanted = {
         "file": of.path, "date": dump.notes.get("date") or None,
         "version": dump.notes.get("version") or None,
@@ -328,9 +341,8 @@ def ask_info(of: Asker) -> None:
         "last": None if dump.last is None else dump.time_text(dump.last), "last_tick": dump.last}
     of.same("info", [], got, wanted)
     # A scope may be there twice, and a dot may be in a name: scopes with one path are one here.
-    of.same("info, largest", [], largest, {path: own[path] for path in largest})
-    of.same("info, largest", [], sorted(largest.values(), reverse=True),
-            sorted(own.values(), reverse=True)[:len(largest)])
+    of.same("info, largest", most, list(largest.items()),
+            [one for one in sorted(own.items(), key=lambda one: -one[1]) if one[1]][:most])
 
 
 def saved_by_gtkwave(its: List[Variable], asked: Asker) -> str:
