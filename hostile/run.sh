@@ -33,8 +33,9 @@ case $1 in
         run hostile/crafted.py ./vcdkit
         run hostile/compare.py ./vcdkit ./vcdkit-compare "$devices"
         stride=${STRIDE:-8}
-        run env STRIDE="$stride" FIRST="${FIRST:-$((RANDOM % stride))}" \
-            python/tests/test_every_small_dump.py
+        first=${FIRST:-$((RANDOM % stride))}
+        run python/tests/second_reader/ask.py --small "$stride:$first"
+        run env STRIDE="$stride" FIRST="$first" python/tests/test_every_small_dump.py
         run python/tests/second_reader/ask.py --seconds 120
         run python/tests/test_expressions.py --count 100000
         run python/tests/test_expressions.py --verilator --count 2000

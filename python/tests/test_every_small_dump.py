@@ -1,11 +1,9 @@
 #!/usr/bin/env python3
-"""Asks the package and the scripts about all small dumps, and compares what they say with
-answers.py, answers_of_jobs.py and answers_of_pictures.py, which define the answers.
+"""Asks vcdkit-diff about all small dumps, and compares what it says with answers.py, which defines
+the answers.
 
 The bodies are all of up to four lines of an alphabet (five of edges of a clock), over each of some
-declarations; nothing comes after a fault. Each question has a grid of options: windows that begin
-before, at, between and after the timestamps, a time twice, both edges, names with a range and
-without. hostile/reference plays the program's part in this process. Every hundredth question is
+declarations. hostile/reference plays the program's part in this process. Every hundredth question is
 asked again over the program that VCDKIT names, and over the library if VCDKIT_LIBRARY names one.
 
 STRIDE=N takes every N-th dump only, from number FIRST=N on, PROCESSES=N so many processes, and
@@ -19,11 +17,8 @@ import tempfile
 from typing import Counter, Dict, List, Tuple
 
 from asking import DECLARATIONS, Asked, Difference, Ways, bodies
-from filter_questions import ask_filter
-from job_questions import Jobs
 from name_questions import ask_names
-from package_questions import Case
-from script_questions import Scripts
+from script_questions import Case, Scripts
 
 JOBS = 8  # of each declaration
 
@@ -34,17 +29,14 @@ def work(job: Tuple[str, int, int]) -> Tuple[Counter[str], int, int, Dict[str, D
     asked = Asked(WAYS[0])
     with tempfile.TemporaryDirectory() as folder:
         if name not in DECLARATIONS:
-            {"names": ask_names, "filter": ask_filter}[name](asked, folder, stride)
+            ask_names(asked, folder, stride)
             return asked.counts, asked.again, asked.wrong, asked.differ
         of, first = DECLARATIONS[name], int(os.environ.get("FIRST", "0"))
-        scripts, jobs = Scripts(asked, of, folder), Jobs(asked, of, folder)
+        scripts = Scripts(asked, of, folder)
         some = itertools.islice(bodies(of.lines, of.most), first, None, stride)
         for number, body in enumerate(some):
             if number % JOBS == part:
-                case = Case(asked, of, body, number)
-                case.ask()
-                scripts.ask(case)
-                jobs.ask(case)
+                scripts.ask(Case(of, body, number))
     return asked.counts, asked.again, asked.wrong, asked.differ
 
 
@@ -55,7 +47,7 @@ def main() -> int:
     """Asks everything, and says what differs."""
     stride = int(os.environ.get("STRIDE", "1"))
     count = int(os.environ.get("PROCESSES", "0")) or os.cpu_count() or 1
-    names = os.environ.get("DECLARATIONS", "names,filter," + ",".join(DECLARATIONS)).split(",")
+    names = os.environ.get("DECLARATIONS", "names," + ",".join(DECLARATIONS)).split(",")
     WAYS.append(Ways())
     jobs = [(name, part, stride) for name in names
             for part in range(JOBS if name in DECLARATIONS else 1)]

@@ -1,25 +1,38 @@
 #!/usr/bin/env python3
-"""Compares the scripts with answers_of_jobs.py where dumps of four lines are blind: faults in long
-files and in long lines, and outputs that would replace an input."""
+"""Asks the scripts where small and made dumps are blind: faults in long files and in long lines, and
+outputs that would replace an input."""
 import os
 import sys
 import tempfile
 import unittest
-from typing import List
+from typing import List, Sequence
 
 HERE = os.path.dirname(os.path.abspath(__file__))
-sys.path[:0] = [HERE, os.path.dirname(HERE)]
+sys.path[:0] = [os.path.dirname(HERE), os.path.join(HERE, "second_reader")]
 os.environ.setdefault("VCDKIT", os.path.join(os.path.dirname(os.path.dirname(HERE)), "vcdkit"))
 
-import answers_of_jobs as of_jobs
-from asking import said
-from vcdkit.commands import diff, explain, stats, when
+from asker import run
 
 HEAD = [b"$timescale 1ns $end", b"$var wire 1 ! a $end", b"$enddefinitions $end"]
 BODY = [line for time in range(400_000) for line in (b"#%d" % time, b"%d!" % (time % 2))]
 BLOCKS = [1 << 16, 1 << 20, 1 << 22]  # bytes: what a reader may take at a time
 LONG = b"0! 1! " * 400_000
-MAINS = {"diff": diff.main, "explain": explain.main, "stats": stats.main, "when": when.main}
+
+
+def lines_around(lines: Sequence[bytes], number: int) -> List[str]:
+    """Returns what vcdkit-explain shows of a fault in a line: two lines before it, this one, and one
+    after it, if they are there; of each its number and its first 100 bytes, in which what is no
+    printable ASCII is \\xNN."""
+    return ["%s %6d | %s" % (">" if at == number else " ", at, "".join(
+        chr(byte) if 32 <= byte < 127 else "\\x%02x" % byte for byte in lines[at - 1][:100]))
+            for at in range(max(number - 2, 1), min(number + 1, len(lines)) + 1)]
+
+
+def may_replace(output: str, inputs: Sequence[str]) -> bool:
+    """Whether a script may write to a path: not if that is a regular file that it reads, under
+    whatever name, but any other file, as the shell does."""
+    return not any(os.path.isfile(one) and os.path.exists(output) and os.path.samefile(one, output)
+                   for one in inputs)
 
 
 class Case(unittest.TestCase):
@@ -44,10 +57,10 @@ class Faults(Case):
     def compare(self, lines: List[bytes], number: int) -> None:
         """Compares them for a dump with a fault in a line."""
         path = self.file("long.vcd", b"\n".join(lines) + b"\n")
-        out, status, _ = said(explain.main, [path])
-        self.assertEqual(status, 1)
-        self.assertEqual([line for line in out if " | " in line],
-                         of_jobs.lines_around(lines, number))
+        said = run("explain", [path])
+        self.assertEqual(said.status, 1)
+        self.assertEqual([line for line in said.lines if " | " in line],
+                         lines_around(lines, number))
 
     def test_places(self) -> None:
         """A fault at the begin and the end of a long dump, and where a block may end."""
@@ -100,14 +113,14 @@ class Outputs(Case):
 
     def ask(self, name: str, read: List[str], words: List[str], output: str) -> None:
         """Compares what a script does with an output."""
-        before, may_replace = self.texts(), of_jobs.may_replace(output, read)
-        out, status, is_said = said(MAINS[name], words)
-        if may_replace:
-            self.assertIn(status, (0, 1))
+        before, is_free = self.texts(), may_replace(output, read)
+        said = run(name, words)
+        if is_free:
+            self.assertIn(said.status, (0, 1))
             for path, text in zip(self.inputs, before):  # some may be inputs of other questions
                 self.file(os.path.basename(path), text)
             return
-        self.assertEqual((out, status, is_said), ([], 2, True))
+        self.assertEqual((said.output, said.status, bool(said.message)), (b"", 2, True))
         self.assertEqual(self.texts(), before)
 
     def texts(self) -> List[bytes]:

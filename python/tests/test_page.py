@@ -19,6 +19,7 @@ import re
 import sys
 import tempfile
 import unittest
+from fractions import Fraction
 
 HERE = os.path.dirname(os.path.abspath(__file__))
 TOP = os.path.dirname(os.path.dirname(HERE))
@@ -26,9 +27,9 @@ sys.path[:0] = [os.path.dirname(HERE), HERE]
 sys.path.append(os.path.join(HERE, "second_reader"))
 os.environ.setdefault("VCDKIT", os.path.join(TOP, "vcdkit"))
 
-import answers as by_definition
 import browser
 import page_script
+import pictures
 from vcdkit import Dump, Signal, Value
 from vcdkit.commands import diff, wave
 from vcdkit.forms import page, svg
@@ -321,11 +322,13 @@ class Pixels(Case):
 
     def wanted(self, at, first, begin, end, width):
         """Returns which pixels are red and which are blocks in a row whose data begin at a time."""
-        its = [by_definition.Change(time, "", "!", digit)
-               for time, digit in enumerate(self.EVERY[at]) if digit]
-        states = by_definition.states(by_definition.Dump([], its, []), "!", first, 5)
-        pixels = by_definition.pixels(states, begin, end, width)
-        return [{place for place, one in enumerate(pixels) if one[of]} for of in (0, 1)]
+        points = [(max(time, first), digit) for time, digit in enumerate(self.EVERY[at]) if digit]
+        points = list(dict(points).items())
+        points = [one for of, one in enumerate(points) if not of or one[1] != points[of - 1][1]]
+        row = pictures.Row(None, points, Fraction(begin), Fraction(end) - Fraction(begin), width, "")
+        places, every = row.pixels(), range(width)
+        return [{place for place in every if row.has_x(place)},
+                {place for place in every if places.count(place) > 1}]
 
     def compare(self, what, reds, blocks, width, wanted):
         """Compares the pixels of shapes."""

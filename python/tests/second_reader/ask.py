@@ -45,7 +45,8 @@ ROUNDS = 4  # of questions about a dump that is given
 EACH = 100  # of so many questions about small dumps one goes through the program too
 # What is not asked of small dumps: it depends on no dump, starts a program, or is about words that
 # only the program refuses.
-OF_NO_DUMP = ["bits-that-stay", "marks", "nested", "no-window", "packed", "shown", "twice"]
+OF_NO_DUMP = ["bits-that-stay", "marks", "nested", "no-window", "open-sections", "packed", "shown",
+              "twice"]
 WAYS: List[in_process.Ways] = []
 
 

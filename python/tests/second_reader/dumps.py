@@ -274,6 +274,14 @@ class Dump:
 
     # ---- Names.
 
+    def chains(self) -> List[Tuple[str, ...]]:
+        """Returns the scopes with variables in them or below them, each above those in it, and
+        those of one scope in the order of declaration. The top is no scope."""
+        every = list(dict.fromkeys(one.chain[:depth] for one in self.variables
+                                   for depth in range(1, len(one.chain) + 1)))
+        place = {chain: at for at, chain in enumerate(every)}
+        return sorted(every, key=lambda one: [place[one[:at + 1]] for at in range(len(one))])
+
     def is_unique(self, of: Variable) -> bool:
         """Whether the path of a variable selects only this one."""
         return len(self.of_path[of.path]) == 1 and of.path not in self.fronts
@@ -318,6 +326,17 @@ class Dump:
         whole, rest = divmod(ticks * self.tick, FEMTOSECONDS[unit])
         digits = ("%0*d" % (len(str(FEMTOSECONDS[unit])) - 1, rest)).rstrip("0") if rest else ""
         return "%d%s" % (whole, "." + digits if digits else "")
+
+    def mean_text(self, mean: Fraction, unit: Optional[str] = None) -> str:
+        """Returns a mean time with six digits of a unit, or of the largest one of which it has one;
+        0 as other times are."""
+        if not self.tick or unit == "tick":
+            return "%.6g" % float(mean)
+        if not mean:
+            return self.time_text(0, unit)
+        found = [one for one in UNITS if mean * self.tick >= FEMTOSECONDS[one]] or UNITS[-1:]
+        return "%.6g%s" % (float(mean * self.tick / FEMTOSECONDS[unit or found[0]]),
+                           unit or found[0])
 
     def ticks(self, text: str) -> Fraction:
         """Returns the ticks of a time, which may be between two of them."""

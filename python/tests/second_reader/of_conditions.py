@@ -7,7 +7,7 @@ import xml.etree.ElementTree as xml
 
 from asker import Asker, Said, Skip, Window, run
 from conditions import Condition, quoted
-from dumps import FEMTOSECONDS, UNITS, Dump
+from dumps import UNITS, Dump
 from looks import (Edges, Look, in_order, is_overlapping, looks_at_changes, looks_at_edges,
                    starts, waits)
 from shown import all_from_json
@@ -135,30 +135,24 @@ def ask_latency(of: Asker) -> None:
     else:
         def length(of_one: int) -> str:
             return str(of_one) if span[0] else dump.time_text(of_one, unit)
+
+        def mean(of_all: Fraction) -> str:
+            return "%.6g" % float(of_all) if span[0] else dump.mean_text(of_all, unit)
         wanted = ["%s %s %s" % (dump.time_text(one.time, unit), dump.time_text(
             one.answer or 0, unit), length(one.length)) for one in its]
-        wanted += [] if fault else summary(
-            of, words, got, [one.length for one in its], len(found) - len(its), length,
-            None if span[0] else unit or "")
+        wanted += [] if fault else summary([one.length for one in its], len(found) - len(its),
+                                           length, mean)
     of.same("latency", words, (said.status, got, said.about),
             (2 if fault else int(not its), wanted, fault or warned))
 
 
-def summary(of: Asker, words: List[str], got: List[str], lengths: List[int], late: int,
-            length: Any, unit: Optional[str]) -> List[str]:
-    """Returns the last line of --latency. Its mean has at least six digits."""
+def summary(lengths: List[int], late: int, length: Any, mean: Any) -> List[str]:
+    """Returns the last line of --latency."""
     if not lengths:
         return ["0 in time, %d late" % late] * bool(late)
-    mean = Fraction(sum(lengths), len(lengths))
-    match = re.search(r"mean ([-+.e\d]+)([a-z]*)", got[-1] if got else "")
-    text = match[1] + match[2] if match else "?"
-    if match and unit is not None and of.dump.tick:
-        scale = FEMTOSECONDS.get(match[2], of.dump.tick)
-        mean = mean * of.dump.tick / scale
-    if match and abs(Fraction(match[1]) - mean) > abs(mean) / 10**5:
-        of.differ("latency, the mean", words, match[0], float(mean))
     return ["least %s, mean %s, greatest %s, %d in time, %d late" % (
-        length(min(lengths)), text, length(max(lengths)), len(lengths), late)]
+        length(min(lengths)), mean(Fraction(sum(lengths), len(lengths))), length(max(lengths)),
+        len(lengths), late)]
 
 
 # ---- Rules.

@@ -5,7 +5,7 @@ import lzma
 import os
 import re
 import subprocess
-from typing import Any, Callable, Dict, List, Tuple
+from typing import Any, Callable, Dict, List, Sequence, Tuple
 
 from asker import PYTHON, Asker, Skip, run
 from conditions import quoted
@@ -176,6 +176,37 @@ def ask_close_sections(of: Asker) -> None:
     of.same("close-sections", [path], (said.status, Dump(said.output).items), (0, of.dump.items))
     if text == of.text:
         of.same("close-sections, nothing to do", [path], said.output, text)
+
+
+LINES = ["#0", "#5", "0!", "b1 !", "$dumpvars", "$dumpoff 1!", "$end", "$comment $end 1! $end"]
+
+
+def closed(words: Sequence[str]) -> List[str]:
+    """Returns the words of a body, without comments, in which an $end stands before a timestamp and
+    before the end if a section is open there, and an $end that ends nothing is left out. A section
+    is open if its command is behind the last $end and timestamp."""
+    found: List[str] = []
+    for at, word in enumerate([*words, "#end"]):
+        marks = [one for one in words[:at] if one[0] in "#$"]
+        is_open = bool(marks) and marks[-1].startswith("$dump")
+        if word != "$end" or is_open:
+            found += ["$end"] * (is_open and word[0] == "#") + [word]
+    return found[:-1]
+
+
+def ask_open_sections(of: Asker) -> None:
+    """Asks for bodies of a few lines, of which several may be faults. One in which no $end is
+    missing or too many stays as it is."""
+    header = "$var wire 1 ! c $end $enddefinitions $end\n"
+    for _ in range(4):
+        lines = of.random.choices(LINES, k=of.random.randrange(7))
+        text = header + "".join(line + "\n" for line in lines)
+        words = [word for line in lines for word in line.replace("$comment $end ", "").split()]
+        said = run("close-sections", [of.write(of.path + ".open.vcd", text.encode())])
+        got = " ".join(said.lines[1:]).replace("$comment $end ", "").split()
+        of.same("close-sections, any body", lines, got, closed(words))
+        if closed(words) == words:
+            of.same("close-sections, nothing to do", lines, said.text, text)
 
 
 # ---- vcdkit-join-bits.

@@ -171,8 +171,9 @@ def ask_changes(of: Asker) -> None:
             if isinstance(before, str) and isinstance(after, str)]
     counts = (len(wanted), 0, 0) if one.is_event else (
         sum(before != after for before, after in pairs), ends.count("01"), ends.count("10"))
-    same_answer(of, "package, edges", (one.path, part[1:]), lambda: tuple(
-        part.dump.edges(one.path)[one.path]), [] if fault else counts, fault)
+    more = [variable_of(of).path for _ in range(2)] if of.happens(.3) else []
+    same_answer(of, "package, edges", (one.path, more, part[1:]), lambda: tuple(
+        part.dump.edges([one.path, *more])[one.path]), [] if fault else counts, fault)
 
 
 def ask_arrays(of: Asker) -> None:
@@ -214,7 +215,7 @@ def rows_of(of: Asker, part: Part, names: List[str]) -> Tuple[Dict[str, Any], Li
         rows = with_values(looks_at_edges(of.dump, edges, part.begin, part.end), columns)
     elif how == "time":
         asked["at"] = [max(part.begin, of.tick()) for _ in range(of.random.randint(1, 4))]
-        fault = fault_by(of, part, max(asked["at"]))
+        fault = [fault_by(of, part, time) for time in sorted(asked["at"])][-1]
         rows = with_values([Look(time, of.dump.at(min(time, part.end)),
                                  of.dump.events_at(time) if time <= part.end else set())
                             for time in asked["at"]

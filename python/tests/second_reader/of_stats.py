@@ -267,10 +267,12 @@ def ask_saif(of: Asker) -> None:
                 "saif", words, (said.status, said.message), (0, "")):
         return
     head, nets = saif_of(said.text)
-    bits = all_toggles(dump, names, window.begin, window.end)
-    of.same("saif, the nets", words, sorted(nets), sorted(
+    order = {chain: at for at, chain in enumerate([(), *dump.chains()])}
+    bits = sorted(all_toggles(dump, names, window.begin, window.end),
+                  key=lambda bit: (order[bit[0].chain], bit[0].place))
+    of.same("saif, the nets", words, nets, [
         (tuple(map(unescaped, one.chain)), unescaped(bit_name(one.name, one, place)),
-         *toggles.ticks, toggles.rises + toggles.falls, 0) for one, place, toggles in bits))
+         *toggles.ticks, toggles.rises + toggles.falls, 0) for one, place, toggles in bits])
     scale = dump.scale or (1, "s")
     of.same("saif, the head", words, (head["TIMESCALE"], head["DURATION"]),
             ([str(scale[0]), scale[1]], [str(dump.end_of(window.begin, window.end)
@@ -287,23 +289,22 @@ def ask_text(of: Asker) -> None:
         return
     wanted = []
     for one in all_from_json(run("stats", [*words, "--json", of.path, "--", *names]).text):
-        wanted += lines_of(one, lambda time: dump.time_text(time, unit), most)
+        wanted += lines_of(one, lambda time: dump.time_text(time, unit), most, dump.mean_text(
+            Fraction(one["period"]["mean"]), unit) if one["period"] else "")
     words = of.placed([*words, *(["--unit", unit] if unit else []), *(
         ["--values", str(most)] if most != 10 else [])], [of.path, *names])
     said = run("stats", words)
-    # The mean of the period is rounded.
-    of.same("stats, the text", words, (said.status, [re.sub(
-        r"( period .*, mean )[^,]*", r"\1", line) for line in said.lines]), (0, wanted))
+    of.same("stats, the text", words, (said.status, said.lines), (0, wanted))
 
 
-def lines_of(facts: Dict[str, Any], time: Any, most: int) -> List[str]:
+def lines_of(facts: Dict[str, Any], time: Any, most: int, mean: str) -> List[str]:
     """Returns the lines of a signal."""
     found = ["%s %s %d" % (facts["path"], facts["type"], facts["size"]),
              "  changes %d" % facts["changes"]]
     period, span, values = facts["period"], facts["range"], facts["values"]
     if period:
-        found.append("  period %s to %s, mean , %d time%s" % (
-            time(period["shortest"]), time(period["longest"]), period["times"],
+        found.append("  period %s to %s, mean %s, %d time%s" % (
+            time(period["shortest"]), time(period["longest"]), mean, period["times"],
             "s" * (period["times"] != 1)))
     if facts["duty"] is not None:
         found.append("  duty %.4g%%" % (facts["duty"] * 100))

@@ -305,11 +305,8 @@ def same_part(of: Asker, words: List[str], part: Dump, wanted: List[Variable]) -
 def tree_of(dump: Dump, found: List[Variable]) -> List[str]:
     """Returns the lines of scopes, each above those in it: each counts the variables in it and
     below it. The top counts only its own."""
-    chains = list(dict.fromkeys(one.chain[:depth] for one in dump.variables
-                                for depth in range(1, len(one.chain) + 1)))
-    place = {chain: at for at, chain in enumerate(chains)}
-    chains.sort(key=lambda chain: [place[chain[:depth + 1]] for depth in range(len(chain))])
-    counts = [(chain, sum(one.chain[:len(chain)] == chain for one in found)) for chain in chains]
+    counts = [(chain, sum(one.chain[:len(chain)] == chain for one in found))
+              for chain in dump.chains()]
     top = sum(not one.chain for one in found)
     return ["(top) %d" % top] * bool(top) + [
         "%s%s %d" % ("  " * (len(chain) - 1), chain[-1], count) for chain, count in counts if count]

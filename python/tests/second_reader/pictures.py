@@ -54,7 +54,7 @@ class Row(NamedTuple):
         """Returns the shapes of blocks, and of each value from its time, or from the end of the
         block that it is the last value of, to the next value or block. The last value is there even
         if it has no length."""
-        of, pixels = self.of, self._pixels()
+        of, pixels = self.of, self.pixels()
         busy = {one for one in pixels if pixels.count(one) > 1}
         found, before = self._blocks(pixels), None  # type: List[Shape], Optional[float]
         places = [(at, at + 1) if at in busy else (self._place(time),) * 2
@@ -75,7 +75,7 @@ class Row(NamedTuple):
     def _place(self, time: int) -> float:
         return (time - self.begin) * self.width / self.length
 
-    def _pixels(self) -> List[int]:
+    def pixels(self) -> List[int]:
         """Returns the pixels in which the values begin."""
         return [(time - self.begin) * self.width // self.length for time, _ in self.points]
 
@@ -87,7 +87,7 @@ class Row(NamedTuple):
             its = [self._height(value) for pixel, (_, value) in zip(pixels, self.points)
                    if pixel == at]
             known = [one for one in its if one is not None] if of.is_real else []
-            kind = "x" if (of.is_real or self._has_x(at)) and not of.is_event else "several"
+            kind = "x" if (of.is_real or self.has_x(at)) and not of.is_event else "several"
             if known:
                 found.append(Shape("curve", "", at + .5, at + .5, (max(known), min(known))))
             elif found and (found[-1].kind, found[-1].end) == (kind, at) and not of.is_event:
@@ -96,7 +96,7 @@ class Row(NamedTuple):
                 found.append(Shape(kind, "", at, at + 1))
         return found
 
-    def _has_x(self, at: int) -> bool:
+    def has_x(self, at: int) -> bool:
         """Whether a value has an x at some time of a pixel."""
         ends = [time for time, _ in self.points[1:]] + [self.begin + self.length]
         return any(isinstance(value, str) and "x" in value

@@ -9,6 +9,7 @@ from ..model.signals import Signal, words_of
 from ..model.values import Cell, Row, same, value_in, value_of
 from ..reading import body
 from ..reading.source import Source
+from ..reading.texts import Made
 
 if TYPE_CHECKING:
     from .condition import Conditions
@@ -50,6 +51,8 @@ def sampled(source: Source, times: Iterable[int], names: List[str],
                      for at, time in enumerate(some) if (at + 1) * size <= len(values))
         if faults:
             break
+    if faults and isinstance(source.text, Made):  # `sample` takes the fault of a part for its end
+        return {time: values for time, values in found.items() if source.goes_beyond(time)}
     return found
 
 
