@@ -1,6 +1,7 @@
 """Asks vcdkit-diff about a dump and another one."""
 import json
 import os
+import re
 import shutil
 from math import gcd
 from typing import Any, Dict, List, NamedTuple, Optional, Sequence, Set, Tuple
@@ -8,6 +9,7 @@ import xml.etree.ElementTree as xml
 
 from asker import Asker, Said, Skip, Window, run
 from dumps import LAST, Dump, Value, Variable, bare, is_inside, plain
+from faulty_dumps import read
 from looks import Edges, Look, looks_at_edges
 from of_pages import same_page_of_two
 from other_dumps import Changed, OtherDump
@@ -36,11 +38,6 @@ class Asked(NamedTuple):
                 return (new + path[len(old):]) if new else path[len(old) + 1:]
         return path
 
-    def has(self, path: str) -> bool:
-        """Whether a path is compared."""
-        return not any(is_inside(path, name) for name in self.exceptions) and (
-            not self.names or any(is_inside(path, name) for name in self.names))
-
     def are_alike(self, one: Optional[Value], other: Optional[Value]) -> bool:
         """Whether two values do not differ."""
         if self.x_matches and isinstance(one, str) and isinstance(other, str):
@@ -61,13 +58,52 @@ class Sides:
                 name = asked.renamed(one.path)
                 self.all_names[at].add(name)
                 self.all_scopes[at].update(self._scopes(one))
-                if asked.has(name):
-                    self.of_name[at].setdefault(name, []).append(one)
+                self.of_name[at].setdefault(name, []).append(one)
+        self.factors = factors_of(*dumps)
+        self.window = self._window()
+        self.all_groups = self._groups()
+        self._choose()
         self.groups = self._groups()
         self.pairs: List[Pair] = []
         self.sizes: List[str] = []
         for name, other in self.groups:
             self._pair(name, self.of_name[0][name], self.of_name[1][other])
+
+    def _window(self) -> Tuple[int, int]:
+        """Returns the first and the last common tick that are compared. Ticks are those of A."""
+        words, one, factor = self.asked.window.words, self.dumps[0], self.factors[0]
+        texts = dict(zip(words[::2], words[1::2]))
+        return (-int(-one.ticks(texts.get("--from", "0")) * factor // 1),
+                int(one.ticks(texts["--to"]) * factor // 1) if "--to" in texts else LAST * LAST)
+
+    def windows(self, is_clocked: bool) -> List[Tuple[int, int]]:
+        """Returns the window of each dump: if its ends are between two ticks, it is longer, or with
+        a clock shorter."""
+        begin, end = self.window
+        return [(-(-begin // factor), min(LAST, end // factor)) if is_clocked else
+                (begin // factor, min(LAST, -(-end // factor))) for factor in self.factors]
+
+    def selected(self, name: str) -> List[Set[str]]:
+        """Returns the names that a name selects in each dump. What it selects in one, it also
+        selects in the other one, if the two are compared."""
+        found = []
+        for names in self.all_names:
+            its = {one for one in names if is_inside(one, name)}
+            ranged = {one for one in names if bare(one) == name}
+            found.append(its or (ranged if len(ranged) == 1 else set()))
+        both = [pair for pair in self.all_groups if pair[0] in found[0] or pair[1] in found[1]]
+        return [its | {pair[at] for pair in both} for at, its in enumerate(found)]
+
+    def _choose(self) -> None:
+        """Leaves only what is compared."""
+        names, others = ([self.selected(name) for name in some]
+                         for some in (self.asked.names, self.asked.exceptions))
+        self.is_known = all(map(all, names)) and all(map(any, others))
+        for at in (0, 1):
+            self.of_name[at] = {
+                name: its for name, its in self.of_name[at].items()
+                if (not names or any(name in one[at] for one in names))
+                and not any(name in one[at] for one in others)}
 
     def _scopes(self, of: Variable) -> List[str]:
         """Returns the scopes around a variable, the outermost first, with their new names. A dot
@@ -138,8 +174,27 @@ def _fronts(names: Set[str]) -> Set[str]:
 
 def another(of: Asker, changed: Changed) -> Tuple[str, Dump]:
     """Writes another dump, and returns its path and what it has."""
-    text = OtherDump(of.dump, of.random, changed).text
+    text = b""
+    if of.other and of.happens(.7):
+        text = partner(of, changed)
+    if not text or read(text).fault:
+        text = OtherDump(of.dump, of.random, changed).text
     return of.write(of.path + ".b.vcd", text), Dump(text)
+
+
+def partner(of: Asker, changed: Changed) -> bytes:
+    """Returns another small dump, maybe with a scope around all, as another tool writes ranges, or
+    with another name."""
+    header, end, body = of.other.partition(b"$enddefinitions")
+    if changed.is_bare or of.happens(.1):
+        header = re.sub(rb"\[\d+:\d+\]", b"", header)
+    if of.happens(.1):
+        header = re.sub(rb"(?<= )[cab] \$end", b"d $end", header, count=1)
+    names = changed.top.split(".") if changed.top else []
+    first = re.search(rb"\$(scope|var)", header)
+    at = first.start() if first else 0
+    scopes = "".join("$scope module %s $end " % name for name in names).encode()
+    return header[:at] + scopes + header[at:] + b"$upscope $end " * len(names) + end + body
 
 
 def random_changes(of: Asker) -> Changed:
@@ -168,17 +223,13 @@ def random_asked(of: Asker, changed: Changed, other: Dump) -> Asked:
             is_there = any(is_inside(one.path, its) for one in other.variables)
             maps += [(scope, "NEW.s")] + [(its, "NEW.s")] * (is_there and its != scope)
     window = of.window(.3) if of.happens(.3) else Window([], 0, LAST, False)
-    if other.tick != of.dump.tick and window.words:
-        window = Window([], 0, LAST, False)  # a number of ticks is another time in each dump
     asked = Asked(maps, [], [], window, of.happens(.3), of.happens(.5),
                   of.random.choice([0, 0, 0, 1e-9, .1]), of.happens(.2))
-    names = [[asked.renamed(one.path) for one in dump.variables] for dump in (of.dump, other)]
-    if any(bare(name) != name for side in names for name in side):
-        return asked  # what a name with a range selects in the other dump is not said
-    if of.happens(.25):
-        both = sorted({*names[0]} & {*names[1]})
-        asked = asked._replace(names=of.random.choices(both, k=2) if both else [])
-    return asked._replace(exceptions=[of.random.choice(names[0])] if of.happens(.2) else [])
+    names = [asked.renamed(one.path) for dump in (of.dump, other) for one in dump.variables]
+    names += [bare(name) for name in names] + [name.rpartition(".")[0] or name for name in names]
+    if of.happens(.3):
+        asked = asked._replace(names=of.random.sample(names, min(len(names), 2)))
+    return asked._replace(exceptions=[of.random.choice(names)] if of.happens(.2) else [])
 
 
 # ---- What differs.
@@ -194,18 +245,15 @@ class Difference(NamedTuple):
     values: Tuple[Any, Any]
 
 
-def looks_at_times(sides: Sides, factors: Sequence[int]) -> List[Tuple[Look, Look]]:
+def looks_at_times(sides: Sides) -> List[Tuple[Look, Look]]:
     """Returns what both dumps have at each time at which one of them has a change, up to the end of
     the shorter one; times are in common ticks."""
-    window = sides.asked.window
-    spans = [(window.begin * factor, dump.end_of(window.begin, window.end) * factor)
-             for dump, factor in zip(sides.dumps, factors)]
-    times = {spans[0][0]} | {step.time * factor for dump, factor in zip(sides.dumps, factors)
-                             for step in dump.steps}
-    return [(Look(time, one.at(time // factors[0]), events_of(one, time, factors[0])),
-             Look(time, other.at(time // factors[1]), events_of(other, time, factors[1])))
-            for one, other in [sides.dumps] for time in sorted(times)
-            if spans[0][0] <= time <= min(spans[0][1], spans[1][1])]
+    begin, end = sides.window
+    pairs = list(zip(sides.dumps, sides.factors))
+    times = {begin} | {step.time * factor for dump, factor in pairs for step in dump.steps}
+    last = min(end, *(max(begin, dump.end * factor) for dump, factor in pairs))
+    return [tuple(Look(time, dump.at(time // factor), events_of(dump, time, factor))  # type: ignore
+                  for dump, factor in pairs) for time in sorted(times) if begin <= time <= last]
 
 
 def events_of(dump: Dump, time: int, factor: int) -> Set[str]:
@@ -214,7 +262,7 @@ def events_of(dump: Dump, time: int, factor: int) -> Set[str]:
 
 
 def differences(sides: Sides, looks: Sequence[Tuple[Look, Look]], factor: int) -> List[Difference]:
-    """Returns the first difference of each pair."""
+    """Returns the first difference of each pair, those of one time in the order of their names."""
     found = []
     for name, one, other in sides.pairs:
         for mark, (mine, its) in enumerate(looks):
@@ -227,7 +275,7 @@ def differences(sides: Sides, looks: Sequence[Tuple[Look, Look]], factor: int) -
             if not is_alike:
                 found.append(Difference(mark, mine.time // factor, name, one.is_event, values))
                 break
-    return found
+    return sorted(found, key=lambda one: (one.mark, one.name))
 
 
 def factors_of(one: Dump, other: Dump) -> List[int]:
@@ -245,17 +293,18 @@ def ask_diff(of: Asker) -> None:
     path, other = another(of, changed)
     asked = random_asked(of, changed, other)
     sides = Sides([of.dump, other], asked)
-    factors = factors_of(of.dump, other)
+    factors = sides.factors
+    if any(dump.end * factor > LAST for dump, factor in zip(sides.dumps, factors)):
+        raise Skip  # there is no such tick of both
     words, form, unit, clock = *of.form(), of.unit(.2), of.happens(.35) and sides.clocks()
     is_json, page, report = of.happens(.4), of.path + ".html", of.path + ".xml"
-    counts, looks = [1, 1], looks_at_times(sides, factors)
+    counts, looks = [1, 1], looks_at_times(sides)
     if clock:
         name, one, its = of.random.choice(clock)
         edge = of.random.choice([("--rise", "0", "1"), ("--fall", "1", "0")])
         words += [edge[0], name]
-        both = [looks_at_edges(dump, {(code, edge[1], edge[2])}, asked.window.begin,
-                               asked.window.end)
-                for dump, code in ((of.dump, one.code), (other, its.code))]
+        both = [looks_at_edges(dump, {(code, edge[1], edge[2])}, *window) for dump, code, window in
+                zip(sides.dumps, (one.code, its.code), sides.windows(True))]
         looks = [(mine, its) for mine, its in zip(*both)]
         counts = [len(each) for each in both]
     words += [*asked.window.words, *["--common"] * asked.is_common, *["--every"] * asked.every,
@@ -271,11 +320,9 @@ def ask_diff(of: Asker) -> None:
     if os.path.exists(page):
         os.unlink(page)
     said = run("diff", words)
-    is_refused = (asked.window.begin > min(of.dump.end, other.end)
+    is_refused = (sides.window[0] > min(of.dump.end * factors[0], other.end * factors[1])
                   or counts == [0, 0] and bool(sides.pairs)
-                  or asked.is_common and not sides.pairs and not sides.sizes
-                  or not all(any(is_inside(each, name) for each in names)
-                             for names in sides.all_names for name in asked.names))
+                  or asked.is_common and not sides.pairs and not sides.sizes or not sides.is_known)
     if is_refused:
         of.same("diff, refused", words, (said.status, bool(said.message)), (2, True))
         return
@@ -303,10 +350,12 @@ def same_lines(of: Asker, words: List[str], said: Said, sides: Sides, found: Lis
         scales = ["%d%s" % dump.scale if dump.scale else None for dump in (one, other)]
         wanted += [["timescale", *scales]] * (scales[0] != scales[1])
         wanted += [["alone", *each] for each in sides.alone()]
-        lasts = [last_of(dump, asked.window) for dump in (one, other)]
+        lasts = [last_of(*each) for each in zip((one, other), sides.windows(bool(counts)))]
+        moments = [min((last or 0) * factor, sides.window[1])
+                   for last, factor in zip(lasts, sides.factors)]
         if counts and 0 not in counts:
             wanted += [["edges", *counts]] * (counts[0] != counts[1] and not found)
-        elif not counts and moment(one, lasts[0]) != moment(other, lasts[1]):
+        elif not counts and moments[0] != moments[1]:
             wanted.append(["ends", *(last if is_json else None if last is None else
                                      dump.time_text(last, unit)
                                      for dump, last in zip((one, other), lasts))])
@@ -334,20 +383,16 @@ def same_lines(of: Asker, words: List[str], said: Said, sides: Sides, found: Lis
     if not asked.every and any(kinds.count(kind) > MAX_LINES for kind in kinds):
         wanted = [row for row in wanted if row in got]
     is_refused = not sides.pairs and not wanted
+    of.same("diff, the order", words, *([row for row in rows if row[0] == "differs"]
+                                        for rows in (got, wanted)))
     of.same("diff", words, (said.status, sorted(got, key=key), bool(said.message)),
             (2 if is_refused else int(bool(wanted)), sorted(wanted, key=key),
              is_refused or asked.is_common and not wanted))
 
 
-def last_of(dump: Dump, window: Window) -> Optional[int]:
+def last_of(dump: Dump, window: Tuple[int, int]) -> Optional[int]:
     """Returns the last timestamp of a window; None if there is none. All of a dump is no window."""
-    is_all = (window.begin, window.end) == (0, LAST)
-    return dump.last if is_all else dump.end_of(window.begin, window.end)
-
-
-def moment(dump: Dump, time: Optional[int]) -> Any:
-    """Returns a time in femtoseconds, if the dump has a time scale; 0 without a timestamp."""
-    return (time or 0) * (dump.tick or 1)
+    return dump.last if window == (0, LAST) else dump.end_of(*window)
 
 
 # ---- The windows around the first difference.
