@@ -94,8 +94,6 @@ later 'conditions, against Verilator' python3 $test --verilator --count 50
 [[ -n $(type -P verilator) ]] || echo 'conditions are not compared with Verilator: no verilator'
 later 'the package and the scripts, on every 60th small dump' env VCDKIT_LIBRARY="$library" \
     "${with_numpy:-python3}" python/tests/second_reader/ask.py --processes 1 --small 60
-later 'vcdkit-diff, on every 60th small dump' env STRIDE=60 PROCESSES=1 \
-    VCDKIT_LIBRARY="$library" python3 python/tests/test_every_small_dump.py
 later 'the scripts, at any argument, file and stream' python3 python/tests/test_scripts.py
 later 'the scripts, on long files and as outputs' python3 python/tests/test_files.py
 later 'the pages of vcdkit-wave and vcdkit-diff' python3 python/tests/test_page.py

@@ -33,9 +33,7 @@ case $1 in
         run hostile/crafted.py ./vcdkit
         run hostile/compare.py ./vcdkit ./vcdkit-compare "$devices"
         stride=${STRIDE:-8}
-        first=${FIRST:-$((RANDOM % stride))}
-        run python/tests/second_reader/ask.py --small "$stride:$first"
-        run env STRIDE="$stride" FIRST="$first" python/tests/test_every_small_dump.py
+        run python/tests/second_reader/ask.py --small "$stride:${FIRST:-$((RANDOM % stride))}"
         run python/tests/second_reader/ask.py --seconds 120
         run python/tests/test_expressions.py --count 100000
         run python/tests/test_expressions.py --verilator --count 2000
