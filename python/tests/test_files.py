@@ -1,6 +1,6 @@
 #!/usr/bin/env python3
-"""Asks the scripts where small and made dumps are blind: faults in long files and in long lines, and
-outputs that would replace an input."""
+"""Asks the scripts where small and made dumps are blind: faults in long files and in long lines,
+and outputs that would replace an input."""
 import os
 import sys
 import tempfile
@@ -20,8 +20,8 @@ LONG = b"0! 1! " * 400_000
 
 
 def lines_around(lines: Sequence[bytes], number: int) -> List[str]:
-    """Returns what vcdkit-explain shows of a fault in a line: two lines before it, this one, and one
-    after it, if they are there; of each its number and its first 100 bytes, in which what is no
+    """Returns what vcdkit-explain shows of a fault in a line: two lines before it, this one, and
+    one after it, if they are there; of each its number and its first 100 bytes, in which what is no
     printable ASCII is \\xNN."""
     return ["%s %6d | %s" % (">" if at == number else " ", at, "".join(
         chr(byte) if 32 <= byte < 127 else "\\x%02x" % byte for byte in lines[at - 1][:100]))

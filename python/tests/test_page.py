@@ -325,7 +325,8 @@ class Pixels(Case):
         points = [(max(time, first), digit) for time, digit in enumerate(self.EVERY[at]) if digit]
         points = list(dict(points).items())
         points = [one for of, one in enumerate(points) if not of or one[1] != points[of - 1][1]]
-        row = pictures.Row(None, points, Fraction(begin), Fraction(end) - Fraction(begin), width, "")
+        length = Fraction(end) - Fraction(begin)
+        row = pictures.Row(None, points, Fraction(begin), length, width, "")
         places, every = row.pixels(), range(width)
         return [{place for place in every if row.has_x(place)},
                 {place for place in every if places.count(place) > 1}]

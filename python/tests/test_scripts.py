@@ -1,12 +1,10 @@
 #!/usr/bin/env python3
 """Tests of the scripts as a whole: none shows a traceback, whatever its arguments, files and
-streams are, and none says anything if the reader of its output has gone. Then what vcdkit-stats,
-vcdkit-values, vcdkit-find and vcdkit-explain say of small dumps, worked out by hand, and the lanes
-of vcdkit-wave against a plain reader.
+streams are, and none says anything if the reader of its output has gone. Then what scripts say of
+small dumps, worked out by hand.
 
 VCDKIT names the program, else it is ./vcdkit of the repository.
 """
-import bisect
 import bz2
 import contextlib
 import gzip
@@ -14,7 +12,6 @@ import importlib
 import io
 import json
 import lzma
-import math
 import os
 import random
 import re
@@ -30,7 +27,6 @@ import unittest.mock
 import warnings
 import xml.etree.ElementTree as xml
 from concurrent.futures import ThreadPoolExecutor
-from fractions import Fraction
 
 HERE = os.path.dirname(os.path.abspath(__file__))
 TOP = os.path.dirname(os.path.dirname(HERE))
@@ -39,14 +35,12 @@ sys.path.insert(0, os.path.dirname(HERE))
 os.environ.update(PYTHONDONTWRITEBYTECODE="1", COLUMNS="80", VCDKIT=os.path.abspath(
     shutil.which(os.environ.get("VCDKIT", "")) or os.path.join(TOP, "vcdkit")))
 
-from vcdkit import Dump, Signal
-from vcdkit.commands import x
+from vcdkit import Dump
 from vcdkit.forms import saif
 from vcdkit.model.names import names_for
 from vcdkit.model.times import Window
-from vcdkit.model.values import value_in
-from vcdkit.questions import lanes, picked, toggles, unknown, when
-from vcdkit.reading import bits, body, sections, states
+from vcdkit.questions import picked, toggles, when
+from vcdkit.reading import bits, sections, states
 
 NESTED = os.path.join(TOP, "samples", "nested.vcd")
 SCRIPTS = sorted(name for name in os.listdir(EXTRAS) if name.startswith("vcdkit-"))
@@ -605,62 +599,6 @@ class Answers(Case):
             with subprocess.Popen(["cat", name], stdout=subprocess.PIPE) as cat:
                 status, out, _ = run("vcdkit-values", [time, "-", scope], stdin=cat.stdout)
                 self.assertEqual(out.decode().splitlines() + ["status %d" % status], wanted)
-
-
-def random_dump(rnd, sizes):
-    """Returns a body, its changes of each code, and its last time."""
-    time, lines, changes = rnd.choice([0, 7]), [], {code: [] for code in sizes}
-    often = {code: rnd.choice([0.01, 0.1, 0.5, 0.9]) for code in sizes}
-    for _ in range(rnd.choice([5, 400, 2000])):
-        lines.append("#%d" % time)
-        for code, size in sizes.items():
-            if rnd.random() < often[code]:
-                for _ in range(rnd.choice([1, 1, 1, 2, 3])):  # only the last one counts
-                    letters = "01xz" if size == 1 or rnd.random() < 0.2 else "01"
-                    digits = "".join(rnd.choice(letters) for _ in range(size))
-                    lines.append(digits + code if size == 1 else "b%s %s" % (digits, code))
-                if not changes[code] or changes[code][-1][1] != digits:
-                    changes[code].append((time, digits))
-        if rnd.random() < 0.02:
-            often = {code: rnd.choice([0, 0.1, 0.5, 0.9]) for code in sizes}
-        last, time = time, time + rnd.choice([1, 1, 5])
-    return ("\n".join(lines) + "\n").encode(), changes, last
-
-
-class Pictures(unittest.TestCase):
-    """The lanes of vcdkit-wave."""
-
-    def test_pixels(self):
-        sizes = {"!": 1, "0": 1, "1": 8, "b!": 3, "#": 1}
-        lanes.SMALL, lanes.BLOCK = 64, 4096
-        for seed in range(40):
-            rnd = random.Random(seed)
-            text, changes, last = random_dump(rnd, sizes)
-            begin = int(text[1:text.index(b"\n")])
-            signals = [Signal("s" + code, "wire", size, code) for code, size in sizes.items()]
-            its = lanes.Lanes(signals, Window(begin, last + 1), rnd.choice([3, 10, 50, 100_000]))
-            its.read(io.BytesIO(text))
-            for code in sizes:
-                with self.subTest(seed=seed, code=code):
-                    self.compare(its.pixels, its.of_code[code.encode()].points, changes[code])
-
-    def compare(self, pixels, points, changes):
-        """A pixel has its one change, or Several and then the last value, or nothing. Several says
-        whether there is an x at a time of the pixel."""
-        (begin, last), of_pixel, wanted = (pixels.window.begin, pixels.window.last), {}, []
-        length = Fraction(max(last - begin, 1), pixels.width)  # ticks of a pixel
-        for one in changes:
-            of_pixel.setdefault((one[0] - begin) // length, []).append(one)
-        for pixel, its in of_pixel.items():
-            if len(its) < 2:
-                wanted += its
-                continue
-            start, end = begin + pixel * length, begin + math.ceil((pixel + 1) * length)
-            early = changes[:bisect.bisect([time for time, _ in changes], math.floor(start))][-1:]
-            has_x = any("x" in value for _, value in [*early, *its])
-            wanted += [(math.ceil(start), has_x), (min(end, last), its[-1][1])]
-        self.assertEqual([(time, value.has_x if isinstance(value, lanes.Several) else value)
-                          for time, value in points], wanted)
 
 
 EDGE = b"""$timescale 10ns $end $scope module t $end $var wire 1 ! clk $end
@@ -1712,88 +1650,8 @@ b011 q
                                  (name, seed))
 
 
-class Unknown(Case):
-    """vcdkit-x, which leaves out most lines, against a look at each line."""
-
-    def plain(self, text, letters, begin, end):
-        """Returns the lines of vcdkit-x, from each step of the body."""
-        last, lines = {}, []
-        dump = Dump(text).cut(begin, end)
-        for time, before, found in body.steps(dump, {one.code.encode() for one in dump.signals},
-                                               is_cut=True):
-            ends = dict(reversed(before + found))  # each code where it changes last
-            ends = {code: dict(before + found)[code] for code in reversed(list(ends))}
-            for code, value in ends.items():
-                is_shown = value[:1] != b"r" and any(letter in value.decode() for letter in letters)
-                if is_shown and last.get(code) != value:
-                    lines += ["%s %s %s" % (dump.time(time), one.path, value_in(value, one.size))
-                              for one in dump.signals if one.code.encode() == code]
-                last[code] = value if is_shown else None
-        return lines
-
-    def test_against_each_line(self):
-        codes = {"!": 1, "x": 4, "#1": 1, "b0": 3, "z": 1, "$": 12}
-        head = "".join("$var wire %d %s v%d $end\n" % (size, code, at) for at, (code, size) in
-                       enumerate(codes.items())) + "$var wire 1 z again $end\n"
-        head = ("$timescale 1ns $end\n%s$var real 64 r x $end\n$enddefinitions $end\n"
-                % head).encode()
-        for seed in range(60):
-            rnd = random.Random(seed)
-            text, _, last = random_dump(rnd, codes)
-            lines = text.split(b"\n")
-            for _ in range(rnd.choice([0, 0, 1, 3, 300])):  # unknown values, and other lines
-                code, size = rnd.choice(list(codes.items()))
-                value = "".join(rnd.choice("01xxz") for _ in range(rnd.randint(1, size)))
-                value = ("%s%s" % (value, code) if size == 1 else "b%s %s" % (value, code)).encode()
-                lines.insert(rnd.randrange(1, len(lines)), rnd.choice([
-                    value, value, b"rxyz r", b"rxz !", b"$dumpall %s $end" % value,
-                    b"$dumpvars %s $end" % value, b"$comment x $end"]))
-            text = head + b"\n".join(lines)
-            dump = self.file("random.vcd", text)
-            begin = rnd.choice([0, 0, rnd.randrange(last + 1)])
-            end = rnd.choice([2**64 - 1, rnd.randrange(begin, last + 2)])
-            for words, letters in ([], "x"), (["--z"], "xz"):
-                out, body.BLOCK = io.StringIO(), rnd.choice([16, 300, 4000, 1 << 16])
-                unknown.MAX_CODES = rnd.choice([0, 16])
-                with self.subTest(seed=seed, words=words), contextlib.redirect_stdout(out):
-                    self.assertIn(x.main([*words, "--from", str(begin), "--to", str(end), dump]),
-                                  (0, 1))
-                    self.assertEqual(out.getvalue().splitlines(),
-                                     self.plain(text, letters, begin, end))
-
-
 class Toggles(unittest.TestCase):
-    """vcdkit-stats --toggle and --saif, which take many times together, against each value."""
-
-    def wanted(self, changes, size, begin, end):
-        """Returns what each bit does by a list of changes: rises, falls, to x, ticks of 1, x, z."""
-        before = [digits for time, digits in changes if time < begin][-1:]
-        its = [(begin, "x" * size), *((begin, digits) for digits in before),
-               *(one for one in changes if one[0] >= begin), (end, None)]
-        for at in range(size):
-            pairs = [(one[1][at], other[1][at]) for one, other in zip(its[1:-1], its[2:-1])]
-            spans = [(one[1][at], other[0] - one[0]) for one, other in zip(its, its[1:])]
-            yield (pairs.count(("0", "1")), pairs.count(("1", "0")),
-                   sum(new == "x" != old for old, new in pairs),
-                   *(sum(ticks for digit, ticks in spans if digit == one) for one in "1xz"))
-
-    def test_against_values(self):
-        sizes = {"!": 1, "0": 1, "1": 8, "b!": 3, "#": 1}
-        names = ["s%d" % at for at in range(len(sizes))]
-        head = "".join("$var wire %d %s %s $end\n" % (size, code, name)
-                       for name, (code, size) in zip(names, sizes.items()))
-        for name in ("BATCH", "ENOUGH"):
-            self.addCleanup(setattr, toggles, name, getattr(toggles, name))
-        for seed in range(30):
-            rnd = random.Random(seed)
-            text, changes, last = random_dump(rnd, sizes)
-            dump = Dump((head + "$enddefinitions $end\n").encode() + text)
-            begin, toggles.BATCH = rnd.choice([0, 7, last // 2]), rnd.choice([1, 3, 50, 2048])
-            toggles.ENOUGH = rnd.choice([1, 2, 9])
-            rows = toggles.counts_of(dump, names, Window(begin, max(last, begin) + 1), True)
-            wanted = [counts for code, size in sizes.items()
-                      for counts in self.wanted(changes[code], size, begin, max(last, begin))]
-            self.assertEqual([row[3:] for row in rows], wanted, seed)
+    """vcdkit-stats --toggle and --saif."""
 
     def test_one_bit(self):
         with tempfile.NamedTemporaryFile(suffix=".vcd") as file:

@@ -74,25 +74,6 @@ def answered(command, data, *words):
                           stderr=subprocess.DEVNULL).stdout
 
 
-def changes_by_hand(text, code):
-    """The changes of a scalar or a vector: pairs of a time and digits."""
-    tokens, found, now, at = text.split(), [], 0, 0
-    at = tokens.index(b"$enddefinitions") + 2
-    while at < len(tokens):
-        token, at = tokens[at], at + 1
-        if token == b"$comment":
-            at = tokens.index(b"$end", at) + 1
-        elif token[:1] == b"#":
-            now = int(token[1:])
-        elif token[:1] in b"bBrR":
-            if tokens[at] == code:
-                found.append((now, token[1:].lower().decode()))
-            at += 1
-        elif token[:1] in b"01xXzZ" and token[1:] == code:
-            found.append((now, token[:1].lower().decode()))
-    return found
-
-
 class Questions:
     """What holds in both ways; a class below for each."""
 
@@ -260,26 +241,6 @@ class Questions:
         self.assertEqual(list(dump.changes("q")), [(0, "foo"), (1, 1000.0)])
         if numpy:
             self.assertEqual(list(map(str, dump.arrays("q")[1])), ["nan", "1000.0"])
-
-    def test_changes_are_those_of_another_reader(self):
-        tried = 0
-        for dump in dumps():
-            text = dump.read()
-            for one in dump.signals[:12]:
-                if one.is_real or one.type == "event" or len(dump.select(one.path)) > 1:
-                    continue
-                with self.subTest(dump=dump, signal=one):
-                    wanted = [(now, Value(digits.rjust(one.size, "0" if digits[0] == "1" else
-                                                       digits[0])))
-                              for now, digits in changes_by_hand(text, one.code.encode())]
-                    self.assertEqual(list(dump.changes(one.path)), wanted)
-                    if numpy:
-                        times, values = (column.tolist() for column in dump.arrays(one.path))
-                        self.assertEqual(list(zip(times, values)), [
-                            (now, value if one.size > 64 else
-                             int(value) if value.is_known else None) for now, value in wanted])
-                    tried += 1
-        self.assertGreater(tried, 30)
 
     def test_events_and_wide_values(self):
         text = (b"$var event 1 ! e $end $var reg 70 \" w $end $enddefinitions $end\n"

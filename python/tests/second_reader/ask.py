@@ -114,8 +114,7 @@ def ask_all(source: Source, kinds: List[str]) -> Found:
 
 def ask_one(asker: Asker, source: Source, kind: str, found: Found) -> None:
     """Asks a question."""
-    asker.random.seed("%d %s" % (source.seed, kind))
-    asker.conditions.reset()
+    asker.reset(kind)
     asker.differ = functools.partial(note, found, source, kind)
     try:
         all_questions()[kind](asker)

@@ -5,7 +5,7 @@ import os
 import random
 import re
 import sys
-from typing import Any, Callable, List, NamedTuple, Optional, Sequence, Tuple, Union
+from typing import Any, Callable, Dict, List, NamedTuple, Optional, Sequence, Tuple, Union
 
 from conditions import Conditions
 from dumps import LAST, UNITS, Variable, bare
@@ -21,6 +21,16 @@ VALUED = {"--from", "--to", "--at", "--rise", "--fall", "--unit", "--values", "-
           "--map", "--except", "--real-tolerance", "--junit", "--context", "--into", "--saif",
           "--scopes", "--mark", "--around", "--width", "--rules", "--reach", "--salvage",
           "--jobs"}
+
+
+# How much of a dump is taken at once, and how much less it may be: then small dumps have several
+# pieces too.
+AT_ONCE: Sequence[Tuple[str, str, Sequence[int]]] = (
+    ("reading.body", "BLOCK", (16, 300, 4000)), ("reading.body", "MAX_SEEN", (1, 9)),
+    ("questions.lanes", "BLOCK", (4096,)), ("questions.lanes", "SMALL", (16, 64)),
+    ("questions.rows", "TIMES_OF_A_CALL", (1, 2)), ("questions.toggles", "BATCH", (1, 50, 2048)),
+    ("questions.toggles", "ENOUGH", (1, 9)), ("questions.toggles", "MAX_DIGITS", (1, 100)),
+    ("questions.unknown", "MAX_STARTS", (0, 3)), ("questions.unknown", "MAX_CODES", (0, 2)))
 
 
 class Skip(Exception):
@@ -94,6 +104,7 @@ def run(script: str, words: Sequence[str]) -> Said:
 
 
 Differ = Callable[[str, Any, Any, Any], None]
+WHOLE: Dict[Tuple[str, str], int] = {}  # as the package has the sizes of AT_ONCE
 
 
 class Asker:
@@ -108,6 +119,15 @@ class Asker:
         self.conditions = Conditions(self.dump, self.random)
         self._clocks = clocks
         self.write(path, text)
+
+    def reset(self, kind: str) -> None:
+        """Begins a question of a kind, whose choices depend only on the seed and the kind."""
+        self.random.seed("%d %s" % (self.seed, kind))
+        self.conditions.reset()
+        for name, size, smaller in AT_ONCE:
+            module = importlib.import_module("vcdkit." + name)
+            whole = WHOLE.setdefault((name, size), getattr(module, size))
+            setattr(module, size, self.random.choice([whole, *smaller]))
 
     @staticmethod
     def write(path: str, text: bytes) -> str:

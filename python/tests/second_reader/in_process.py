@@ -2,8 +2,8 @@
 this process, because a small dump is read faster than a program starts."""
 from typing import Any, Dict, Iterator, List, Optional, Sequence, Tuple
 
-import faulty_dumps
-from reference import comparison, evaluator  # type: ignore[import]
+from faulty_dumps import evaluator
+from reference import comparison  # type: ignore[import]
 from vcdkit.questions import dump
 from vcdkit.reading import comparing, library, program, source
 from vcdkit.reading.texts import Text, library_path, program_path

@@ -1,10 +1,8 @@
 """Asks vcdkit-wave: the data of a page, what its own script shows, and the shapes of a picture. The
 page of vcdkit-diff is compared here too."""
-import collections
 import json
-import os
 import re
-from typing import Any, Callable, Dict, List, NamedTuple, Optional, Sequence, Set, Tuple
+from typing import Any, Callable, Dict, List, Optional, Sequence, Set, Tuple
 
 from asker import Asker, Skip, Window, run
 from dumps import LAST, Dump, Real, Value, Variable
@@ -168,61 +166,21 @@ def same_page_of_two(of: Asker, words: List[str], path: str,
 
 # ---- Pixels.
 
-class Piece(NamedTuple):
-    """A value, where it begins and ends in pixels, and the pixel in which it begins."""
-
-    begin: float
-    end: float
-    value: Value
-    pixel: int
-
-
-def pieces_of(points: Sequence[Tuple[int, Value]], begin: int, end: int, width: int) -> List[Piece]:
-    """Returns where the values of a window are."""
-    span = max(1, end - begin)
-    places = [(time - begin) * width / span for time, _ in points] + [float(width)]
-    return [Piece(places[at], places[at + 1], value, (time - begin) * width // span)
-            for at, (time, value) in enumerate(points)]
-
-
-def pixels_of(spans: Sequence[Span], width: int, margin: float = 0.0) -> Set[int]:
-    """Returns the pixels that have a part of the spans, each of which is longer by a margin."""
-    found: Set[int] = set()
-    for begin, end in spans:
-        rounded = min(1e-6, (end - begin) / 3)
-        first, last = begin - margin + rounded, end + margin - rounded
-        if last > first:
-            found.update(range(max(0, int(first // 1)), min(width, int(-(-last // 1)))))
-    return found
-
-
-def unknown_spans(pieces: Sequence[Piece]) -> List[Span]:
-    """Returns where a signal is x."""
-    return [(one.begin, one.end) for one in pieces
-            if isinstance(one.value, str) and "x" in one.value]
-
-
-def busy_pixels(pieces: Sequence[Piece], width: int) -> Set[int]:
-    """Returns the pixels in which a signal changes more than once."""
-    places = collections.Counter(one.pixel for one in pieces if one.pixel < width)
-    return {place for place, count in places.items() if count > 1}
-
-
-def same_pixels(of: Asker, words: List[str], pieces: List[Piece], shapes: Dict[str, List[Span]],
-                width: int) -> None:
+def same_pixels(of: Asker, words: List[str], row: Row, shapes: Dict[str, List[Span]]) -> None:
     """Compares the pixels of a row: red if and only if the signal is x there, and a block if and
-    only if it changes there more than once."""
+    only if it changes there more than once. A value that begins at the end may be drawn."""
     reds, blocks = shapes.get("x", []) + shapes.get("manyX", []), shapes.get("several", [])
-    spans, busy = unknown_spans(pieces), busy_pixels(pieces, width)
-    may_be = spans + [(width - 1.0, float(width)) for begin, end in spans if begin == end]
-    of.same("pixels, red without an x", words, sorted(
-        pixels_of(reds, width) - pixels_of(may_be, width, EXACT)), [])
-    of.same("pixels, an x without red", words, sorted(
-        pixels_of(spans, width) - pixels_of(reds, width, EXACT)), [])
-    of.same("pixels, several changes without a block", words, sorted(
-        busy - pixels_of(blocks, width)), [])
-    of.same("pixels, a block without several changes", words, sorted(
-        pixels_of(blocks, width) - busy), [])
+    places, pixels = row.pixels(), range(row.width - (row.width in row.pixels()))
+    of.same("pixels, red", words, [place for place in pixels if is_in(place, reds)],
+            [place for place in pixels if row.has_x(place)])
+    of.same("pixels, a block", words, [place for place in pixels if is_in(place, blocks)],
+            [place for place in pixels if places.count(place) > 1])
+
+
+def is_in(place: int, spans: Sequence[Span]) -> bool:
+    """Whether a pixel has a part of some spans."""
+    return any(min(end, place + 1) - max(begin, place) > min(EXACT, (end - begin) / 3)
+               for begin, end in spans)
 
 
 def ask_shown(of: Asker) -> None:
@@ -250,8 +208,8 @@ def ask_shown(of: Asker) -> None:
                     [unsigned(shown(dump.at(time).get(one.code), "--" + form)) for time in times])
         if not one.is_real and (end - begin) * width < 2**53:  # else floats are not exact
             shapes = {kind: [(shape[0], shape[1]) for shape in its] for kind, its in row["shapes"]}
-            same_pixels(of, [*words, one.path, str(width)], pieces_of(wanted_points(
-                dump, one, begin, end), begin, end, width), shapes, width)
+            same_pixels(of, [*words, one.path, str(width)], Row(one, wanted_points(
+                dump, one, begin, end), begin, max(1, end - begin), width, ""), shapes)
 
 
 # ---- Pictures.

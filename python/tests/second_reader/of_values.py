@@ -4,7 +4,7 @@ import io
 import json
 import re
 from collections import Counter
-from typing import Any, Dict, List, NamedTuple, Optional, Tuple
+from typing import Any, List, NamedTuple, Optional, Tuple
 
 from asker import Asker, Said, Skip, Window, run
 from conditions import Test
