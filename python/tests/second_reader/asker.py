@@ -124,10 +124,11 @@ class Asker:
         """Begins a question of a kind, whose choices depend only on the seed and the kind."""
         self.random.seed("%d %s" % (self.seed, kind))
         self.conditions.reset()
+        is_less = self.happens(.3) and kind != "nested"  # that has long lines
         for name, size, smaller in AT_ONCE:
             module = importlib.import_module("vcdkit." + name)
             whole = WHOLE.setdefault((name, size), getattr(module, size))
-            setattr(module, size, self.random.choice([whole, *smaller]))
+            setattr(module, size, self.random.choice(smaller) if is_less else whole)
 
     @staticmethod
     def write(path: str, text: bytes) -> str:

@@ -245,6 +245,12 @@ class Dump:
 
     # ---- States and windows.
 
+    def changes(self) -> List[Item]:
+        """Returns all changes; a trigger of an event has the value 1, and is none in a section."""
+        events = {one.code for one in self.variables if one.is_event}
+        return [item._replace(value="1") if item.code in events else item for item in self.items
+                if not (item.section and item.code in events)]
+
     def at(self, time: int) -> State:
         """Returns the values at the end of a time."""
         place = bisect.bisect_right(self._times, time)

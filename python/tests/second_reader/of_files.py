@@ -90,18 +90,12 @@ def ask_salvage(of: Asker) -> None:
     of.same("salvage", [of.path], (said.status, said.about, said.lines[-1:]), (1, dump.fault, [
         "wrote: %s, %s" % (out, "good until " + dump.time_text(until) if until >= 0 else
                            "but it has all values of no time")]))
-    of.same("salvage, the dump", [of.path], (saved.fault, saved.end, changes_of(saved)),
-            ("", dump.end, changes_of(dump)))
+    of.same("salvage, the dump", [of.path], (saved.fault, saved.end, saved.changes()),
+            ("", dump.end, dump.changes()))
     count, line = len(of.text.split(b"\n")), int(dump.fault.partition(":")[0])
     lines = [int(found) for found in re.findall(r"(?m)^[> ] *(\d+) \|", said.text)]
     of.same("explain, the lines", [of.path], [one for one in lines if one < count], [
         one for one in range(max(1, line - 2), line + 2) if one < count])
-
-
-def changes_of(dump: Dump) -> List[Any]:
-    """Returns all changes of a dump; an event in a section is no trigger."""
-    return [item._replace(value="1") if dump.of_code[item.code].is_event else item
-            for item in dump.items if not (item.section and dump.of_code[item.code].is_event)]
 
 
 def ask_reach(of: Asker) -> None:

@@ -352,9 +352,9 @@ def ask_part(of: Asker) -> None:
             codes = {one.code for one in its}
             picked = Dump(Package(of.path).pick(names).read())
             of.same("package, pick", names, (
-                [one.row for one in picked.variables], picked.items, picked.end), (
+                [one.row for one in picked.variables], picked.changes(), picked.end), (
                     [one.row for one in its],
-                    [one for one in of.dump.items if one.code in codes], of.dump.end))
+                    [one for one in of.dump.changes() if one.code in codes], of.dump.end))
         return
     part = part_of(of)
     found = Dump(part.dump.read())
@@ -362,8 +362,7 @@ def ask_part(of: Asker) -> None:
               for time, value in changes_of(of, part, one)]
     of.same("package, the part", part[1:], (
         [one.row for one in found.variables], found.end, sorted(
-            (item.time, item.code, "1" if found.of_code[item.code].is_event else item.value)
-            for item in found.items if not (found.of_code[item.code].is_event and item.section))),
+            (item.time, item.code, item.value) for item in found.changes())),
         ([one.row for one in of.dump.variables], of.dump.end_of(part.begin, part.end),
          sorted(wanted)))
 
