@@ -92,8 +92,10 @@ later 'transactions, against two buses in Icarus Verilog' python3 python/tests/t
     echo 'conditions and transactions are not compared with Icarus: no iverilog'
 later 'conditions, against Verilator' python3 $test --verilator --count 50
 [[ -n $(type -P verilator) ]] || echo 'conditions are not compared with Verilator: no verilator'
-later 'the package and the scripts, on every 60th small dump' env VCDKIT_LIBRARY="$library" \
-    "${with_numpy:-python3}" python/tests/second_reader/ask.py --processes 1 --small 60
+for some in 120 120:60; do
+    later "the same, on every 120th small dump: $some" env VCDKIT_LIBRARY="$library" \
+        "${with_numpy:-python3}" python/tests/second_reader/ask.py --processes 1 --small $some
+done
 later 'the scripts, at any argument, file and stream' python3 python/tests/test_scripts.py
 later 'the scripts, on long files and as outputs' python3 python/tests/test_files.py
 later 'the pages of vcdkit-wave and vcdkit-diff' python3 python/tests/test_page.py

@@ -4,7 +4,7 @@
 # random dumps, and leaves out what takes minutes by itself. Each script runs, even if one before it
 # fails; then the status is 1.
 #
-# All small dumps take two hours of CPU time, so a run of `all` asks about an eighth of them,
+# All small dumps take over two hours of CPU time, so a run of `all` asks about an eighth of them,
 # another one each time: FIRST=0 to FIRST=7 say which one, and STRIDE=1 asks about all. The second
 # reader takes new seeds each time too. All other seeds are fixed.
 set -u
