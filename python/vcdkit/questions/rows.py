@@ -44,15 +44,13 @@ def sampled(source: Source, times: Iterable[int], names: List[str],
             if faults is None:
                 raise
             faults.append(fault)
-        values = list(map(value_of, words_of(b"".join(text).decode("utf-8", "surrogateescape")
-                                             )[2::3]))
+        values = [*map(value_of, words_of(b"".join(text).decode("utf-8", "surrogateescape"))[2::3])]
         size = len(places)
         found.update((time, dict(zip(places, values[at * size:(at + 1) * size])))
                      for at, time in enumerate(some) if (at + 1) * size <= len(values))
-        if faults:
-            break
-    if faults and isinstance(source.text, Made):  # `sample` takes the fault of a part for its end
-        return {time: values for time, values in found.items() if source.goes_beyond(time)}
+        if faults:  # `sample` takes the fault of a part for its end
+            return {time: its for time, its in found.items()
+                    if not isinstance(source.text, Made) or source.goes_beyond(time)}
     return found
 
 
@@ -65,9 +63,8 @@ def at_times(source: Source, columns: Collection[int], times: List[int], names: 
         times = [time for time in times if time in holding]
     faults: List[DumpFault] = []
     found = sampled(source, times, names, faults) if columns else {}
-    for time in times:
-        if time in found or not faults:
-            yield Row(time, [found[time][place] for place in columns])
+    yield from (Row(time, [found[time][place] for place in columns])
+                for time in times if time in found or not faults)
     if faults:
         raise faults[0]
 
