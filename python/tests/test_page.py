@@ -10,7 +10,6 @@ import base64
 import contextlib
 import hashlib
 import io
-import itertools
 import json
 import math
 import os
@@ -19,23 +18,18 @@ import re
 import sys
 import tempfile
 import unittest
-from fractions import Fraction
 
 HERE = os.path.dirname(os.path.abspath(__file__))
 TOP = os.path.dirname(os.path.dirname(HERE))
 sys.path[:0] = [os.path.dirname(HERE), HERE]
-sys.path.append(os.path.join(HERE, "second_reader"))
 os.environ.setdefault("VCDKIT", os.path.join(TOP, "vcdkit"))
 
 import browser
-import page_script
-import pictures
 from vcdkit import Dump, Signal, Value
 from vcdkit.commands import diff, wave
-from vcdkit.forms import page, svg
+from vcdkit.forms import page
 from vcdkit.forms.text import FORMS, shown
-from vcdkit.model.times import Window
-from vcdkit.questions import lanes, streams
+from vcdkit.questions import streams
 
 NESTED = os.path.join(TOP, "samples", "nested.vcd")
 HOSTILE = b"""$date </script><script>hacked = 1</script> $end
@@ -299,68 +293,6 @@ def contrast(colours, name, back):
     mixed = [part * one + (1 - part) * other for one, other in zip(over, below)]
     one, other = sorted((light(channels(colours[name])[0]), light(mixed)), reverse=True)
     return (one + 0.05) / (other + 0.05)
-
-
-class Pixels(Case):
-    """What pixels show, in a picture and by the page's own script in node, against the definition:
-    of all rows of five ticks, in each of which the signal gets no value, a 0, a 1 or an x."""
-
-    EVERY = list(itertools.product(["", "0", "1", "x"], repeat=5))
-    VIEWS = [(0, 5, width) for width in range(1, 8)] + [(1, 4, 2), (2, 3, 3), (1, 4, 7)]
-
-    def setUp(self):
-        """Writes a dump with a bit and a vector of each row."""
-        super().setUp()
-        names = ["%s%d" % (kind, at) for at in range(len(self.EVERY)) for kind in "av"]
-        body = ["#%d\n" % time + "".join(
-            "%sa%d\nb1%s v%d\n" % (row[time], at, row[time], at)
-            for at, row in enumerate(self.EVERY) if row[time]) for time in range(5)]
-        self.path = self.file("a.vcd", ("".join(
-            "$var wire %d %s %s $end\n" % (1 + (name[0] == "v"), name, name) for name in names)
-            + "$enddefinitions $end\n" + "".join(body) + "#5\n").encode())
-        self.names = names
-
-    def wanted(self, at, first, begin, end, width):
-        """Returns which pixels are red and which are blocks in a row whose data begin at a time."""
-        points = [(max(time, first), digit) for time, digit in enumerate(self.EVERY[at]) if digit]
-        points = list(dict(points).items())
-        points = [one for of, one in enumerate(points) if not of or one[1] != points[of - 1][1]]
-        length = Fraction(end) - Fraction(begin)
-        row = pictures.Row(None, points, Fraction(begin), length, width, "")
-        places, every = row.pixels(), range(width)
-        return [{place for place in every if row.has_x(place)},
-                {place for place in every if places.count(place) > 1}]
-
-    def compare(self, what, reds, blocks, width, wanted):
-        """Compares the pixels of shapes."""
-        got = [{place for begin, end, *_ in its for place in range(width)
-                if min(end, place + 1) - max(begin, place) > 1e-6} for its in (reds, blocks)]
-        if got != wanted:
-            self.fail("%s: %s, and not %s" % (what, got, wanted))
-
-    def test_pictures(self):
-        for begin, end, width in self.VIEWS:
-            its = lanes.lanes_of(Dump(self.path), self.names, Window(begin, end + 1), width)
-            picture = svg.Picture(its.pixels, 0)
-            for at in range(len(self.EVERY)):
-                wanted = self.wanted(at, begin, begin, end, width)
-                for name in "a%d" % at, "v%d" % at:
-                    pieces = picture.pieces(its.of_code[name.encode()].points)
-                    blocks = [one for one in pieces if isinstance(one[2], lanes.Several)]
-                    reds = [one for one in pieces if "x" in (
-                        one[2].kind if one in blocks else one[2])]
-                    self.compare((self.EVERY[at], begin, end, width), reds, blocks, width, wanted)
-
-    @unittest.skipIf(page_script.NODE is None, "there is no node")
-    def test_pages(self):
-        page = self.file("page.html", self.page(self.path, *self.names).encode())
-        for begin, end, width in [*self.VIEWS, (0.5, 3.25, 3), (-0.25, 5.5, 4)]:
-            for row in page_script.shown_by(page, width, [], (begin, end)):
-                at, shapes = int(row["path"][1:]), dict(row["shapes"])
-                self.compare((row["path"], self.EVERY[at], begin, end, width),
-                             shapes.get("x", []) + shapes.get("manyX", []),
-                             shapes.get("several", []), width,
-                             self.wanted(at, 0, begin, end, width))
 
 
 @unittest.skipIf(browser.PROGRAM is None, "there is no chromium")

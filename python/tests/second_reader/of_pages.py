@@ -2,6 +2,7 @@
 page of vcdkit-diff is compared here too."""
 import json
 import re
+from fractions import Fraction
 from typing import Any, Callable, Dict, List, Optional, Sequence, Set, Tuple
 
 from asker import Asker, Skip, Window, run
@@ -166,7 +167,7 @@ def same_page_of_two(of: Asker, words: List[str], path: str,
 
 # ---- Pixels.
 
-def same_pixels(of: Asker, words: List[str], row: Row, shapes: Dict[str, List[Span]]) -> None:
+def same_pixels(of: Asker, words: List[Any], row: Row, shapes: Dict[str, List[Span]]) -> None:
     """Compares the pixels of a row: red if and only if the signal is x there, and a block if and
     only if it changes there more than once. A value that begins at the end may be drawn."""
     reds, blocks = shapes.get("x", []) + shapes.get("manyX", []), shapes.get("several", [])
@@ -183,6 +184,13 @@ def is_in(place: int, spans: Sequence[Span]) -> bool:
                for begin, end in spans)
 
 
+def view_of(of: Asker, span: int) -> Optional[Tuple[float, float]]:
+    """Returns from when to when a page is zoomed, or `None`."""
+    ends = sorted(of.random.randint(-2, 4 * span + 2) / 4 for _ in range(2))
+    is_one = span < 2**40 and ends[0] < ends[1] and of.happens(.5)
+    return (ends[0], ends[1]) if is_one else None
+
+
 def ask_shown(of: Asker) -> None:
     """Asks the page's own script for values at a cursor, and for the pixels of its rows."""
     dump, window, width = of.dump, of.window(.3), of.random.choice([50, 120, 400, 1000])
@@ -196,8 +204,9 @@ def ask_shown(of: Asker) -> None:
         return
     begin, end = window.begin, dump.end_of(window.begin, window.end)
     times = [min(end, max(begin, of.tick())) for _ in range(4)]
+    view = view_of(of, max(1, end - begin))
     rows = shown_by(of.write(of.path + ".html", found[1].output), width,
-                    [time - begin for time in times])
+                    [time - begin for time in times], view)
     for row in rows:
         one = dump.of_path[row["path"]][0]
         if one.is_event:
@@ -208,8 +217,9 @@ def ask_shown(of: Asker) -> None:
                     [unsigned(shown(dump.at(time).get(one.code), "--" + form)) for time in times])
         if not one.is_real and (end - begin) * width < 2**53:  # else floats are not exact
             shapes = {kind: [(shape[0], shape[1]) for shape in its] for kind, its in row["shapes"]}
-            same_pixels(of, [*words, one.path, str(width)], Row(one, wanted_points(
-                dump, one, begin, end), begin, max(1, end - begin), width, ""), shapes)
+            first, last = map(Fraction, view or (0, max(1, end - begin)))
+            same_pixels(of, [*words, one.path, view, str(width)], Row(one, wanted_points(
+                dump, one, begin, end), begin + first, last - first, width, ""), shapes)
 
 
 # ---- Pictures.

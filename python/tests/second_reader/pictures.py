@@ -1,7 +1,8 @@
 """What a picture of vcdkit-wave shows of a signal: its shapes, with their classes and places."""
 import math
 import re
-from typing import Any, List, NamedTuple, Optional, Sequence, Tuple
+from fractions import Fraction
+from typing import Any, List, NamedTuple, Optional, Sequence, Tuple, Union
 import xml.etree.ElementTree as xml
 
 from dumps import Real, Value, Variable, number
@@ -45,8 +46,8 @@ class Row(NamedTuple):
 
     of: Variable
     points: Points
-    begin: int
-    length: int
+    begin: Union[int, Fraction]
+    length: Union[int, Fraction]
     width: int
     form: str
 
@@ -73,11 +74,11 @@ class Row(NamedTuple):
         return sorted(found)
 
     def _place(self, time: int) -> float:
-        return (time - self.begin) * self.width / self.length
+        return float((time - self.begin) * self.width / self.length)
 
     def pixels(self) -> List[int]:
         """Returns the pixels in which the values begin."""
-        return [(time - self.begin) * self.width // self.length for time, _ in self.points]
+        return [int((time - self.begin) * self.width // self.length) for time, _ in self.points]
 
     def _blocks(self, pixels: List[int]) -> List[Shape]:
         """Returns the pixels with several changes. Blocks of values that look the same are one; a
