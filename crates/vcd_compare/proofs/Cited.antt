@@ -48,7 +48,6 @@ pub use Rattle.vcd_compare.specs.Counterparts.{AreCounterparts, ArePlaces, AreSe
 pub use Rattle.vcd_compare.specs.Flags.{AreListed, differing, marked, settled_as}
 pub use Rattle.vcd_compare.specs.HasPairs.{AreNumbersOf, EntersNames, EntersTexts, HasPairs, HasSelected, alone_at, compared_at, compared_of, unlike_at, unlike_of}
 pub use Rattle.vcd_compare.specs.Kinds.{model_kind}
-pub use Rattle.vcd_compare.specs.Leads.{HasLead}
 pub use Rattle.vcd_compare.specs.LineTexts.{ArePairLines, states_of}
 pub use Rattle.vcd_compare.specs.Lines.{DoNotFall, IsQuiet, changed_at, codes_differ, flag_of, had_line, is_always, lines_due, time_compared}
 pub use Rattle.vcd_compare.specs.Outcomes.{AnswersGiveOutcomes, BodiesGiveOutcomes, ways_within}

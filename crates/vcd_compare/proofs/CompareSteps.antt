@@ -6,7 +6,6 @@ use Rattle.vcd_compare.specs.Lines.{flag_of}
 use Rattle.vcd_compare.specs.declared.pairs.End.{End as PairEnd}
 use Rattle.vcd_compare.proofs.DueFlags.{flag_for, none_due, none_had}
 use Rattle.vcd_compare.proofs.FlagLemmas.{compared_other, flag_after, flag_same, settled_flag, settled_other}
-use Rattle.vcd_compare.proofs.LeadLemmas.{leads_still}
 use Rattle.vcd_compare.proofs.OpenGrows.{changes_other, later_compared, open_again, open_later, open_other, state_other, triggered_other}
 use Rattle.vcd_compare.proofs.PairLemmas.{class_events}
 use Rattle.vcd_compare.proofs.QuietLemmas.{compared_again, flag_again, no_fall-marks, no_fall-other, quiet_after, quiet_again, quiet_other}
@@ -34,7 +33,6 @@ current_still c h items x none current = record {
   triggers = λ index d there event.
       let its = current.triggers index d there event in
       (its.0, its.1, last d its.0 its.2);
-  leads = leads_still c.leads.now h items x none current.leads;
 }
   where
     later : time_after items ≤ time_after (items ++ x ∷ [])

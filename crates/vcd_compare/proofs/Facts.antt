@@ -4,7 +4,6 @@ pub use Rattle.vcd_compare.proofs.ClassLemmas.{class_new}
 pub use Rattle.vcd_compare.proofs.CompareSteps.{compares_still, compares_with, open_same, other_quiet, same_time, section_quiet, time_more, timestamp_on}
 pub use Rattle.vcd_compare.proofs.EndLemmas.{its_code, marked_first, marked_last, marked_on, not_before, partner_there}
 pub use Rattle.vcd_compare.proofs.KindLemmas.{is_digits, is_event, is_real, is_shortreal}
-pub use Rattle.vcd_compare.proofs.LeadLemmas.{front_match, in_parts, leads_after, lower_at, match_turned, next_digit, rest_here, rest_next}
 pub use Rattle.vcd_compare.proofs.LineLemmas.{HasFlag, byte_of, bytes_of, name_line, name_texts, alone_line, alone_of, alone_texts, due_of, event_is, event_shown, head_empty, head_is, line_due, line_none, lines_cut, lines_more, pair_line, pair_texts, state_texts, state_words, texts_cut, texts_last, take_next as take_one, texts_more, texts_none, unlike_line, unlike_texts, zip_get}
 pub use Rattle.vcd_compare.proofs.MatchLemmas.{match_self}
 pub use Rattle.vcd_compare.proofs.PairLoops.{AloneBefore, HeldBefore, HeldNames, alone_all, alone_one, alone_same, few_kept, held_all, held_next, names_next, places_before}
@@ -17,7 +16,7 @@ pub use Rattle.vcd_compare.proofs.RunEnds.{not_ended}
 pub use Rattle.vcd_compare.proofs.RunSteps.{begins_none, closes, takes_section, takes_quiet, takes_time, time_forth}
 pub use Rattle.vcd_compare.proofs.SelectedLemmas.{both_one, both_zip, named_below}
 pub use Rattle.vcd_compare.proofs.StartLemmas.{compares_first, open_first}
-pub use Rattle.vcd_compare.proofs.StatesNow.{apart_from, bits_real, bits_there, both_real, few_match, held_final, held_state, lengths_match, shown_digits, some_unset, told_same, triggered_now, unset_some}
+pub use Rattle.vcd_compare.proofs.StatesNow.{apart_from, bits_real, bits_there, both_real, few_match, held_final, held_state, lengths_match, next_digit, shown_digits, some_unset, told_same, triggered_now, unset_some}
 pub use Rattle.vcd_compare.proofs.TimeSteps.{counted_none, listed_none, differs_none, differs_some, none_now, puts_now, settles_due, settles_none, tells_again, tells_first, tells_later, tells_none}
 pub use Rattle.vcd_compare.proofs.TriggerLemmas.{triggers_after}
 pub use Rattle.vcd_compare.proofs.VariableLemmas.{counted_at, is_variable, not_variable, some_more, some_none, some_same, zero_behind}

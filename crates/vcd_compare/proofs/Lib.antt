@@ -19,7 +19,6 @@ pub mod RowPaths
 pub mod SelectedLemmas
 pub mod PlaceLemmas
 pub mod KindLemmas
-pub mod LeadLemmas
 pub mod LineLemmas
 pub mod ClassLemmas
 pub mod PairSteps

@@ -1,10 +1,9 @@
 -- How a run stands before the first item.
-use Rattle.vcd_compare.proofs.Cited.{zero, ◌≡◌, ℕ, suc, ◌<◌, ◌≤◌, ◌==◌, Bool, true, false, cond, List, [], ◌∷◌, length, filter, slice_get, Option, Some, None, refl, sym, ap, ◌∙◌, append-nil, arith, replicate, list_any, get_or-replicate, length-replicate, slice_get-get_or, IdCode, code_of, Header, Value, is_settled, state_at, Names, times_in, within_head, IsViewOf, HeadView, codes_len, AreHeld, model_asked, AreFlags, AreTriggers, Compares, differing, codes_differ, had_line, is_always, time_compared, ArePairs, Comparison, Watched, Pairs}
+use Rattle.vcd_compare.proofs.Cited.{zero, ◌≡◌, ℕ, suc, ◌<◌, ◌==◌, Bool, true, false, cond, List, [], ◌∷◌, length, filter, slice_get, Option, Some, None, refl, sym, ap, ◌∙◌, append-nil, arith, replicate, list_any, get_or-replicate, length-replicate, slice_get-get_or, IdCode, code_of, Header, Value, is_settled, state_at, Names, times_in, within_head, IsViewOf, HeadView, codes_len, AreHeld, model_asked, AreFlags, AreTriggers, Compares, differing, codes_differ, had_line, is_always, time_compared, ArePairs, Comparison, Watched, Pairs}
 use Rattle.vcd_model.specs.Compare.{Asked as ModelAsked}
 use Rattle.vcd_model.specs.Within.{within_open}
 use Rattle.vcd_compare.specs.Lines.{flag_of}
 use Rattle.vcd_compare.proofs.DueSome.{none_one}
-use Rattle.vcd_compare.proofs.LeadLemmas.{leads_first}
 
 -- ---- nothing is settled, and nothing differs
 
@@ -58,10 +57,10 @@ triggers_first v h views index c at event =
 -- ---- a comparison
 
 pub compares_first : (v : HeadView) (h : Header) (exceptions : List (List ℕ)) (ns : List Names) (c : Comparison) (w : Watched) → IsViewOf v h → ArePairs c.current.pairs.now h (model_asked c.current.asked exceptions) ns → AreHeld c.current.table h []
-    → length v.codes.now ≤ length c.current.leads.now → c.current.triggers.now ≡ replicate (length v.codes.now) None → c.flags.bytes.now ≡ replicate c.current.pairs.now.classes 0 → w.at ≡ c.current.asked.from → Compares h exceptions ns [] c w
-compares_first v h exceptions ns c w views pairs held leads triggers flags at = record {
+    → c.current.triggers.now ≡ replicate (length v.codes.now) None → c.flags.bytes.now ≡ replicate c.current.pairs.now.classes 0 → w.at ≡ c.current.asked.from → Compares h exceptions ns [] c w
+compares_first v h exceptions ns c w views pairs held triggers flags at = record {
   pairs = pairs;
-  current = record { held = held; triggers = rw triggers (triggers_first v h views); leads = leads_first c.current.leads.now h (let many = codes_len v.text.now v.codes.now h.codes views.codes in omega (arith, many, leads)) };
+  current = record { held = held; triggers = rw triggers (triggers_first v h views) };
   flags = rw flags (flags_first c.current.pairs.now h (model_asked c.current.asked exceptions));
   at = at;
   up = tt;

@@ -3,7 +3,6 @@ use Rattle.vcd_compare.proofs.Cited.{zero, ◌≡◌, ◌≢◌, inl, inr, ℕ, 
 use Rattle.vcd_body.specs.declared.values.slot.Shown.TheVariants as shown
 use Rattle.vcd_compare.specs.declared.asked.Asked.{Asked}
 use Rattle.vcd_compare.proofs.FlagLemmas.{value_final}
-use Rattle.vcd_compare.proofs.LeadLemmas.{in_parts}
 use Rattle.vcd_compare.proofs.MatchLemmas.{match_other, match_self}
 
 module _ (v : HeadView) (c : Current) (h : Header) (items : List BodyItem) (views : IsViewOf v h) (current : AreCurrent c h items) (code : ℕ) (a : IdCode) (there : slice_get h.codes code ≡ Some a) where
@@ -54,6 +53,17 @@ told_same k items a b t le alike event same told either is_first = by_order is_f
 
 -- ---- digit by digit
 
+in_parts : (r : Rule) (k : ℕ) (ds es : List ℕ) → length ds ≡ length es → all_match r ds es ≡ (all_match r (take k ds) (take k es) && all_match r (drop k ds) (drop k es))
+in_parts r zero ds es same = refl
+in_parts r (suc k) [] [] same = refl
+in_parts r (suc k) [] (e ∷ es) same = absurd (omega (arith, same))
+in_parts r (suc k) (d ∷ ds) [] same = absurd (omega (arith, same))
+in_parts r (suc k) (d ∷ ds) (e ∷ es) same = ap (λ b. digits_match r d e && b) (in_parts r k ds es (omega (arith, same))) ∙ joined (digits_match r d e)
+  where
+    joined : (b : Bool) → (b && (all_match r (take k ds) (take k es) && all_match r (drop k ds) (drop k es))) ≡ ((b && all_match r (take k ds) (take k es)) && all_match r (drop k ds) (drop k es))
+    joined true = refl
+    joined false = refl
+
 -- lists of two lengths do not match
 pub lengths_match : (r : Rule) (ds es : List ℕ) → length ds ≢ length es → all_match r ds es ≡ false
 lengths_match r [] [] apart = absurd (apart refl)
@@ -74,6 +84,11 @@ apart_from r (suc k) zero ds es a b le e f wrong = absurd (omega (arith, le))
 apart_from r (suc k) (suc i) [] es a b le e f wrong = cc
 apart_from r (suc k) (suc i) (d ∷ ds) [] a b le e f wrong = cc
 apart_from r (suc k) (suc i) (d ∷ ds) (x ∷ es) a b le e f wrong = apart_from r k i ds es a b (omega (arith, le)) e f wrong
+
+pub next_digit : (ds : List ℕ) (i d : ℕ) → slice_get ds i ≡ Some d → drop i ds ≡ d ∷ drop (i + 1) ds
+next_digit [] i d e = cc
+next_digit (x ∷ xs) zero d e = ap (λ y. y ∷ xs) (same_Some x d e)
+next_digit (x ∷ xs) (suc i) d e = let one : suc i + 1 ≡ suc (i + 1) = omega arith in rw one (next_digit xs i d e)
 
 pub drop_all : (ds : List ℕ) (n : ℕ) → length ds ≤ n → drop n ds ≡ []
 drop_all [] zero le = refl

@@ -22,7 +22,6 @@ use Rattle.vcd_body.specs.declared.item.Item.{Item}
 use Rattle.vcd_body.specs.declared.item.Regs.{Regs}
 use Rattle.vcd_compare.specs.Asked.{model_asked}
 use Rattle.vcd_compare.specs.Flags.{AreListed, differing, settled_as}
-use Rattle.vcd_compare.specs.Leads.{AreLeads}
 use Rattle.vcd_compare.specs.Lines.{DoNotFall, IsQuiet, codes_differ, flag_of, time_compared}
 use Rattle.vcd_compare.specs.Pairs.{ArePairs, IsClassOf}
 use Rattle.vcd_compare.specs.declared.comparing.Comparison.{Comparison}
@@ -86,7 +85,6 @@ partner i = cond (i % 2 == 0) (i + 1) (i - 1)
 pub record AreCurrent (c : Current) (h : Header) (items : List BodyItem) : Type 0 where
   pub held : AreHeld c.table h items
   pub triggers : AreTriggers c.triggers.now h items
-  pub leads : AreLeads c.leads.now h items
 
 -- two codes of this header have these values at its indexes
 pub record AreCodes (h : Header) (one other : ℕ) (a b : IdCode) : Type 0 where

@@ -12,7 +12,6 @@ pub mod Variables
 pub mod Selected
 pub mod Counterparts
 pub mod Kinds
-pub mod Leads
 pub mod Classes
 pub mod HasPairs
 pub mod Outcomes

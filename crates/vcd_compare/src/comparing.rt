@@ -14,7 +14,6 @@ ghost use Rattle.vcd_compare.specs.Rows.{HaveRows};
 
 use crate::current::{Current, note_trigger};
 use crate::flags::{Flags, mark};
-use crate::leads::note_lead;
 use crate::pairs::End;
 use crate::rows::{Links, sort_front, take_due};
 use vcd_body::{Bits, Item, Regs, ScannedItem, Visit, set_item};
@@ -135,7 +134,6 @@ impl Comparison<'_, '_> {
             return watched.differing;
         };
         note_trigger(self.current.triggers, code, declared, regs);
-        note_lead(self.current.leads, code, declared, text);
         mark_ends(
             &self.current,
             &mut self.flags,

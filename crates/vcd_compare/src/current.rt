@@ -9,21 +9,19 @@ ghost use Rattle.vcd_compare.specs.Comparing.{AreCodes, AreCurrent, TellsSame, d
 ghost use Rattle.vcd_compare.specs.Lines.{codes_differ};
 
 use crate::asked::Asked;
-use crate::leads::Lead;
 use crate::pairs::Pairs;
 use crate::values::values_match;
 use vcd_body::{Regs, Table};
 use vcd_view::{Code, HeadView};
 
-/// What is compared, and the current states of all codes: their values, when each event was
-/// triggered last outside sections, and how each long value begins.
+/// What is compared, and the current states of all codes: their values, and when each event was
+/// triggered last outside sections.
 #[derive(Drop)]
 pub(crate) struct Current<'p, 'r> {
     pub pairs: &'p Pairs,
     pub asked: Asked,
     pub table: Table<'r>,
     pub triggers: &'r mut [Option<u64>],
-    pub leads: &'r mut [Lead],
 }
 
 /// Notes a change of the code at index `code`, which is declared so, with these registers before
@@ -61,12 +59,11 @@ impl Current<'_, '_> {
         if view.is_event(one) {
             return self.is_triggered(one, at) != self.is_triggered(other, at);
         }
-        !values_match(self.leads, &self.table, view, self.asked, one, other)
+        !values_match(&self.table, view, self.asked, one, other)
     }
 
     /// Returns whether the code at index `code`, which is declared so, has the same value as the
-    /// code at index `other`, if their slots tell it. `None` if they do not, if the codes have not
-    /// the same size, and if they are events.
+    /// code at index `other`. `None` if the codes have not the same size, and if they are events.
     #[inline(always)]
     fn are_same(
         &self,
@@ -83,7 +80,7 @@ impl Current<'_, '_> {
         if declared.event || declared.size != view.code_at(other)?.size {
             return None;
         }
-        self.table.same_short(code, other)
+        Some(self.table.same_value(code, other, declared.size))
     }
 
     /// Returns whether the states of the code at index `code`, which is declared so, and of the

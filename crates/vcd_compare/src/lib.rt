@@ -12,8 +12,7 @@
 //! - `selected`: what each of some names selects; `unselected`: which of them select nothing
 //! - `counterparts`, `kinds`: what a variable is compared with, and whether it is of the same kind
 //! - `pairs`: `Pairs`, `pairs_of`
-//! - `current`, `values`: the current states of all codes, and whether two of them match; `leads`:
-//!   how long values begin
+//! - `current`, `values`: the current states of all codes, and whether two of them match
 //! - `flags`: a flag for each two codes that are compared; `rows`: the pairs that have a line due
 //! - `comparing`: what an item changes; the visit of the walk over the items ahead
 //! - `lines`: how the lines are written
@@ -28,7 +27,6 @@ mod current;
 mod flags;
 mod kinds;
 pub mod laws;
-mod leads;
 mod lines;
 mod pairs;
 mod paths;
@@ -41,7 +39,6 @@ mod variables;
 mod whole;
 
 pub use asked::{Asked, Extent};
-pub use leads::Lead;
 pub use pairs::{NamePair, Pairs, pairs_of};
 pub use unselected::PairsFault;
 pub use whole::{Answer, Room, compare};

@@ -21,7 +21,6 @@ use crate::asked::{Asked, Extent};
 use crate::comparing::{Comparison, Watched};
 use crate::current::Current;
 use crate::flags::Flags;
-use crate::leads::Lead;
 use crate::lines::{has_header_lines, put_header_lines, put_lines};
 use crate::pairs::Pairs;
 use crate::rows::Links;
@@ -41,8 +40,6 @@ pub struct Room<'r> {
     pub shares: &'r mut [Share],
     /// `None` for each code.
     pub triggers: &'r mut [Option<u64>],
-    /// `Lead::new()` for each code, or any other.
-    pub leads: &'r mut [Lead],
     /// A 0 for each class of the pairs.
     pub flags: &'r mut [u8],
     /// A number for each class of the pairs, whatever it is.
@@ -99,7 +96,6 @@ impl<'p, 'r> Run<'p, 'r> {
         requires values { table_bytes view ≤ length room.values.now }
         requires slots { length view.codes.now ≤ length room.slots.now }
         requires shares { length view.codes.now ≤ length room.shares.now }
-        requires leads { length view.codes.now ≤ length room.leads.now }
         requires triggers { room.triggers.now ≡ replicate (length view.codes.now) None }
         requires flags { room.flags.now ≡ replicate pairs.now.classes 0 }
         requires last { room.last.now ≡ replicate pairs.now.classes 0 }
@@ -118,7 +114,6 @@ impl<'p, 'r> Run<'p, 'r> {
                     asked,
                     table: Table::new(view, room.values, room.slots, room.shares),
                     triggers: room.triggers,
-                    leads: room.leads,
                 },
                 flags: Flags {
                     bytes: room.flags,
@@ -307,7 +302,6 @@ pub fn compare<S: Source, W: Sink>(
     requires values { table_bytes view ≤ length room.values.now }
     requires slots { length view.codes.now ≤ length room.slots.now }
     requires shares { length view.codes.now ≤ length room.shares.now }
-    requires leads { length view.codes.now ≤ length room.leads.now }
     requires triggers { room.triggers.now ≡ replicate (length view.codes.now) None }
     requires flags { room.flags.now ≡ replicate pairs.now.classes 0 }
     requires last { room.last.now ≡ replicate pairs.now.classes 0 }

@@ -7,7 +7,7 @@ use crate::failure::Failure;
 use std::alloc::Global;
 use std::hash::BuildHasher;
 use vcd_body::{Done, Share, Slot};
-use vcd_compare::{Answer, Asked, Lead, NamePair, PairsFault, Room, compare, pairs_of};
+use vcd_compare::{Answer, Asked, NamePair, PairsFault, Room, compare, pairs_of};
 use vcd_head::{Head, HeadFault, read_head_with_hasher};
 use vcd_text::{Feed, Sink, Source, WriteFailed, put, put_number};
 use vcd_view::need;
@@ -89,7 +89,6 @@ fn compare_body<'a, S: Source, W: Sink>(
     let mut slots = vec![in alloc; Slot::new(); need.slots]?;
     let mut shares = vec![in alloc; Share::new(); need.slots]?;
     let mut triggers = vec![in alloc; None; need.slots]?;
-    let mut leads = vec![in alloc; Lead::new(); need.slots]?;
     let mut flags = vec![in alloc; 0u8; pairs.class_count()]?;
     let mut classes = vec![in alloc; 0usize; pairs.class_count()]?;
     let mut last = vec![in alloc; 0usize; pairs.class_count()]?;
@@ -100,7 +99,6 @@ fn compare_body<'a, S: Source, W: Sink>(
         slots: &mut slots,
         shares: &mut shares,
         triggers: &mut triggers,
-        leads: &mut leads,
         flags: &mut flags,
         classes: &mut classes,
         last: &mut last,

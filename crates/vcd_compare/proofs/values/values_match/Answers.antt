@@ -1,9 +1,9 @@
-use Rattle.vcd_compare.proofs.Cited.{HasLead, Option, Some, sym, ap, subst, ◌∙◌, bytes_eq, match, Value, codes_shown, held_at, value_in, real_text, value_at_size, value_there, rule_of}
-use Rattle.vcd_compare.proofs.Facts.{match_self, bits_real, bits_there, both_real, some_unset, unset_some}
+use Rattle.vcd_compare.proofs.Cited.{Option, Some, sym, ap, ◌∙◌, bytes_eq, match, Value, codes_shown, held_at, value_in, real_text, value_at_size, value_there, rule_of}
+use Rattle.vcd_compare.proofs.Facts.{bits_real, bits_there, both_real, some_unset, unset_some}
 use Rattle.vcd_compare.proofs.values.values_match.Goals as goal
 
 pub returns-in-Bits-get : goal.returns-in-Bits-get
-returns-in-Bits-get c = λ k d laid there its lead lead_other.
+returns-in-Bits-get c = λ k d laid there its.
     let t = c.args.table.now in
     let r = rule_of c.args.asked in
     let one = held_at t c.args.one in
@@ -14,7 +14,7 @@ returns-in-Bits-get c = λ k d laid there its lead lead_other.
     sym (values ∙ unset_some r k.size d.size one other _ first second (λ e. cc))
 
 pub returns-in-Real-get : goal.returns-in-Real-get
-returns-in-Real-get c = λ k d laid there its lead lead_other.
+returns-in-Real-get c = λ k d laid there its.
     let t = c.args.table.now in
     let r = rule_of c.args.asked in
     let one = held_at t c.args.one in
@@ -25,7 +25,7 @@ returns-in-Real-get c = λ k d laid there its lead lead_other.
     sym (values ∙ unset_some r k.size d.size one other _ first second (λ e. cc))
 
 pub returns-in-Unset-get-2 : goal.returns-in-Unset-get-2
-returns-in-Unset-get-2 c = λ k d laid there its lead lead_other.
+returns-in-Unset-get-2 c = λ k d laid there its.
     let t = c.args.table.now in
     let r = rule_of c.args.asked in
     let one = held_at t c.args.one in
@@ -36,7 +36,7 @@ returns-in-Unset-get-2 c = λ k d laid there its lead lead_other.
     sym (values ∙ some_unset r k.size d.size one other _ first second (λ e. cc))
 
 pub returns-in-Unset-get-3 : goal.returns-in-Unset-get-3
-returns-in-Unset-get-3 c = λ k d laid there its lead lead_other.
+returns-in-Unset-get-3 c = λ k d laid there its.
     let t = c.args.table.now in
     let r = rule_of c.args.asked in
     let one = held_at t c.args.one in
@@ -47,7 +47,7 @@ returns-in-Unset-get-3 c = λ k d laid there its lead lead_other.
     sym (values ∙ some_unset r k.size d.size one other _ first second (λ e. cc))
 
 pub returns-in-Bits-get-2 : goal.returns-in-Bits-get-2
-returns-in-Bits-get-2 c = λ k d laid there its lead lead_other.
+returns-in-Bits-get-2 c = λ k d laid there its.
     let t = c.args.table.now in
     let r = rule_of c.args.asked in
     let one = held_at t c.args.one in
@@ -58,11 +58,10 @@ returns-in-Bits-get-2 c = λ k d laid there its lead lead_other.
     let (ds, a) = bits_there k.size one first in
     let (es, b) = bits_there d.size other second in
     c.all_match.ensures ds es laid (value_there c.args.view t c.args.one k there ∙ a) (value_there c.args.view t c.args.other d its ∙ b)
-    (subst (HasLead c.args.leads.now c.args.one) (value_there c.args.view t c.args.one k there ∙ a) lead) (subst (HasLead c.args.leads.now c.args.other) (value_there c.args.view t c.args.other d its ∙ b) lead_other)
     ∙ sym (values ∙ ap (λ (o : Option Value). match r o (value_at_size d.size other)) a ∙ ap (λ (o : Option Value). match r (Some (Value.Bits ds)) o) b)
 
 pub returns-in-Real-get-2 : goal.returns-in-Real-get-2
-returns-in-Real-get-2 c = λ k d laid there its lead lead_other.
+returns-in-Real-get-2 c = λ k d laid there its.
     let t = c.args.table.now in
     let r = rule_of c.args.asked in
     let one = held_at t c.args.one in
@@ -73,7 +72,7 @@ returns-in-Real-get-2 c = λ k d laid there its lead lead_other.
     sym (values ∙ (bits_real r k.size d.size one other first second).0)
 
 pub returns-in-Bits-get-3 : goal.returns-in-Bits-get-3
-returns-in-Bits-get-3 c = λ k d laid there its lead lead_other.
+returns-in-Bits-get-3 c = λ k d laid there its.
     let t = c.args.table.now in
     let r = rule_of c.args.asked in
     let one = held_at t c.args.one in
@@ -84,7 +83,7 @@ returns-in-Bits-get-3 c = λ k d laid there its lead lead_other.
     sym (values ∙ (bits_real r d.size k.size other one second first).1)
 
 pub returns-in-Real-get-3 : goal.returns-in-Real-get-3
-returns-in-Real-get-3 c = λ k d laid there its lead lead_other.
+returns-in-Real-get-3 c = λ k d laid there its.
     let t = c.args.table.now in
     let r = rule_of c.args.asked in
     let one = held_at t c.args.one in
@@ -93,11 +92,3 @@ returns-in-Real-get-3 c = λ k d laid there its lead lead_other.
     let second = sym c.get-in-Real.ensures ∙ c.in-Real-get-3.is in
     let values = ap (λ (o : Option Value). match r o (value_in (codes_shown c.args.view) t c.args.other)) (value_there c.args.view t c.args.one k there) ∙ ap (λ (o : Option Value). match r (value_at_size k.size one) o) (value_there c.args.view t c.args.other d its) in
     c.eq.ensures ∙ ap (λ l. bytes_eq l c.real-in-Real-get-3.result.now) (c.real.ensures laid) ∙ ap (λ l. bytes_eq (real_text one) l) (c.real-in-Real-get-3.ensures laid) ∙ sym (values ∙ both_real c.args.asked k.size d.size one other first second)
-
-pub returns-then-holds_same : goal.returns-then-holds_same
-returns-then-holds_same c = λ k d laid there its lead lead_other.
-    let t = c.args.table.now in
-    let other = held_at t c.args.other in
-    sym (match_self (rule_of c.args.asked) _ _
-    (value_there c.args.view t c.args.one k there ∙ ap (value_at_size k.size) (c.holds_same.ensures laid c.if-holds_same.true)
-    ∙ ap (λ n. value_at_size n other) (c.are_of_one_size.ensures k d there its c.if-are_of_one_size.true) ∙ sym (value_there c.args.view t c.args.other d its)))

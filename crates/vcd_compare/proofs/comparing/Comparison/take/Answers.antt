@@ -1,9 +1,5 @@
 use Rattle.vcd_compare.proofs.Cited.{◌≡◌, ℕ, true, List, [], ◌∷◌, ◌++◌, Option, refl, sym, ap, subst, ◌∙◌, same_Some, bytes_eq-Decides, gives_to, BodyItem, marks, Code, code_at, HasGoodText, IsItem, Item, AreTriggers}
-use Rattle.std.specs.Str.{str_to_ascii_lowercase}
-use Rattle.vcd_body.proofs.CurrentLemmas.{good_text}
-use Rattle.vcd_compare.specs.Leads.{AreLeads, leads_with}
-use Rattle.vcd_compare.specs.declared.leads.Lead.{Lead}
-use Rattle.vcd_compare.proofs.Facts.{compares_still, compares_with, leads_after, open_same, other_quiet, same_time, triggers_after}
+use Rattle.vcd_compare.proofs.Facts.{compares_still, compares_with, open_same, other_quiet, same_time, triggers_after}
 use Rattle.vcd_compare.proofs.comparing.Comparison.take.Goals as goal
 
 pub returns-in_default : goal.returns-in_default
@@ -30,19 +26,15 @@ returns-clause-on c = λ h exceptions ns items x views is before after stands.
     let triggers = subst (λ (ts : List (Option ℕ)). AreTriggers ts h (items ++ x ∷ [])) (sym c.note_trigger.ensures)
     (triggers_after v h views items x code a change.1 gives (same_time items x other) c.args.regs before own.current.triggers.now c.in-Some.declared.event event stands.current.triggers) in
     let good = subst (λ (i : Item). HasGoodText v.codes.now c.args.text.now i) c.in-Change.is c.requires.sound in
-    let size = ap (λ (k : Code). k.size) (sym declared) ∙ m.2.size_is in
-    let leads = subst (λ (ls : List Lead). AreLeads ls h (items ++ x ∷ [])) (sym (c.note_lead.ensures ∙ ap (λ s. leads_with s code (str_to_ascii_lowercase c.args.text.now) own.current.leads.now) size))
-    (subst (λ (y : BodyItem). AreLeads (leads_with a.size code (str_to_ascii_lowercase c.args.text.now) own.current.leads.now) h (items ++ y ∷ [])) (sym change.2)
-    (leads_after v h views items code a change.1 c.in-Change.form c.args.text.now (λ d there. good_text v.codes.now c.args.text.now code c.in-Change.form d good there) own.current.leads.now stands.current.leads)) in
     let held = c.set_item.ensures.held v h items x views good change stands.current.held in (
-      compares_with h exceptions ns items x own c.args.watched stands other _ _ refl refl refl (record { held = held; triggers = triggers; leads = leads })
+      compares_with h exceptions ns items x own c.args.watched stands other _ _ refl refl refl (record { held = held; triggers = triggers })
           (c.mark_ends.ensures.marks h exceptions ns items x a (record {
             views = views;
             there = change.1;
             gives = gives;
             other = other;
             pairs = stands.pairs;
-            current = record { held = held; triggers = triggers; leads = leads };
+            current = record { held = held; triggers = triggers };
             at_is = stands.at;
             flags = stands.flags;
           })),

@@ -1,5 +1,5 @@
-use Rattle.vcd_compare.proofs.Cited.{◌≡◌, false, not, cond, Option, sym, ap, subst, HasLead, ◌∙◌, option_map, unwrap_or, exactly, match, state_at, IdCode, Value, code_at, codes_shown, value_in, rule_of}
-use Rattle.vcd_compare.proofs.Facts.{held_final, held_state}
+use Rattle.vcd_compare.proofs.Cited.{◌≡◌, false, not, cond, Option, sym, ap, ◌∙◌, option_map, unwrap_or, exactly, match, state_at, IdCode, Value, code_at, codes_shown, value_in, rule_of}
+use Rattle.vcd_compare.proofs.Facts.{held_state}
 use Rattle.vcd_compare.proofs.current.Current.differ.Goals as goal
 
 pub returns : goal.returns
@@ -14,8 +14,6 @@ returns c = λ h items a b views current codes le.
     let second = held_state v k h items views current c.args.other b codes.other_is c.args.at le (sym codes.same ∙ event) in
     ap not
     (c.values_match.ensures m.0 n.0 current.held.values.laid m.1 n.1
-    (subst (HasLead k.leads.now c.args.one) (sym (held_final v k h items views current c.args.one a codes.one_is event)) (current.leads.each c.args.one a codes.one_is event))
-    (subst (HasLead k.leads.now c.args.other) (sym (held_final v k h items views current c.args.other b codes.other_is (sym codes.same ∙ event))) (current.leads.each c.args.other b codes.other_is (sym codes.same ∙ event)))
     ∙ ap (λ (o : Option Value). match r o (value_in (codes_shown v) k.table c.args.other)) first
     ∙ ap (λ (o : Option Value). match r (state_at 1 items a c.args.at) o) second
     ∙ ap (λ e. match (cond e exactly r) (state_at 1 items a c.args.at) (state_at 1 items b c.args.at)) (sym event))
