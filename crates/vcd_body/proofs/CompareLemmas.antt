@@ -1,10 +1,10 @@
 -- Digits that extend to one value, or to several.
-use Rattle.vcd_body.proofs.Cited.{◌≡◌, ◌≢◌, ℕ, zero, suc, ◌+◌, ◌-◌, max, ◌≤◌, ◌<◌, Bool, true, false, not, List, [], ◌∷◌, ◌++◌, length, replicate, drop, get_or, Option, Some, None, slice_get, refl, sym, ap, subst, ◌∙◌, arith, ◌⊎◌, inl, inr, Decides, last_or, to_ascii_lowercase, bytes_eq, str_to_ascii_lowercase, cases_lt, same_from_decides, length-append, length-replicate, bytes_eq-Decides, Value, extend, extension, last_digit_in, value_at_size, binary_digits, count_in, number_in, digits_in, held_by, one_digit, some_by, State}
+use Rattle.vcd_body.proofs.Cited.{◌≡◌, ◌≢◌, ℕ, zero, suc, ◌+◌, ◌-◌, max, ◌≤◌, ◌<◌, Bool, true, false, not, List, [], ◌∷◌, ◌++◌, length, replicate, drop, get_or, Option, Some, None, slice_get, refl, sym, ap, subst, ◌∙◌, arith, ◌⊎◌, inl, inr, Decides, last_or, to_ascii_lowercase, bytes_eq, str_to_ascii_lowercase, cases_lt, same_from_decides, length-append, length-replicate, bytes_eq-Decides, Value, extend, extension, short, short_is_shortest, last_digit_in, value_at_size, binary_digits, count_in, number_in, digits_in, held_by, one_digit, some_by, State}
 use Rattle.vcd_body.specs.declared.values.slot.State.TheVariants as state
 use Rattle.vcd_body.proofs.BinaryLemmas.{length_binary}
 use Rattle.vcd_body.proofs.HeldLemmas.{digit_behind}
 use Rattle.vcd_body.proofs.PackedLemmas.{length_digits}
-use Rattle.vcd_body.proofs.Shortest.{extend_wide, extension_again}
+use Rattle.vcd_body.proofs.Shortest.{extend_wide, extension_again, not_empty}
 
 -- ---- extended digits
 
@@ -76,6 +76,17 @@ module _ (xs ys : List ℕ) (size : ℕ) where
 -- digits that do not fill one size differ
 pub other_sizes : (xs ys : List ℕ) (size : ℕ) → max size (length xs) ≢ max size (length ys) → extend xs size ≢ extend ys size
 other_sizes xs ys size apart e = apart (sym (length_extended xs size) ∙ ap length e ∙ length_extended ys size)
+
+-- nor are fewer than the shortest
+pub fewer_differ : (xs ys : List ℕ) (size : ℕ) → xs ≡ short (extend xs size) → 0 < length ys → length ys < length xs → max size (length xs) ≡ max size (length ys) → extend xs size ≢ extend ys size
+fewer_differ xs ys size is some less fill e =
+    let v = extend xs size in
+    let l = length_extended xs size in
+    let long : length v ≡ size = omega (arith, l, less, fill) in
+    let q = short_is_shortest v (not_empty v (omega (arith, l, less))) in
+    let no_longer : length (short v) ≤ length ys = q.2 ys (not_empty ys some) (ap (extend ys) long ∙ sym e) in
+    let all = ap length is in
+    absurd (omega (arith, no_longer, all, less))
 
 -- they differ
 pub differ_for : (xs ys : List ℕ) (size : ℕ) → extend xs size ≢ extend ys size → true ≡ not (bytes_eq (extend xs size) (extend ys size))

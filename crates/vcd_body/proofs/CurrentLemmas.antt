@@ -1,7 +1,11 @@
 -- A table of current values when it is new, and with one item more.
-use Rattle.vcd_body.proofs.Cited.{◌≡◌, ◌≢◌, ℕ, ◌≤◌, ◌==◌, Bool, true, false, List, [], ◌∷◌, ◌++◌, slice_get, Option, Some, refl, sym, ap, subst, ◌∙◌, arith, option_map, unwrap_or, eqb-true, eqb-false, bytes_eq-Decides, IdCode, same_code, Header, final_value, gives_to, BodyItem, value_with, final_new, final_other, parts, IsViewOf, Code, HeadView, same_sum, sum_fits, HasBits, binary_digits, ChangesCode, IsLaidOut, held_at, kept_at, HasGoodText, IsText, model_form, Held, Kept, unset, value_at_size, with_text, room_of, share_of, Bits, Form, Vector, Item, Time, Begin, End, Change, Finish, Table, IsItem, AreHeld, HasShares, table_bytes, same_Some}
+use Rattle.vcd_body.proofs.Cited.{◌≡◌, ◌≢◌, ℕ, zero, suc, ◌≤◌, ◌<◌, ◌==◌, ◌&&◌, Bool, true, false, List, [], ◌∷◌, ◌++◌, length, drop, slice_get, list_all, length-map, length-drop, to_ascii_lowercase, str_to_ascii_lowercase, is_value_digit, Value, extend, short, short_is_shortest, Option, Some, refl, sym, ap, subst, ◌∙◌, arith, option_map, unwrap_or, eqb-true, eqb-false, bytes_eq-Decides, IdCode, same_code, Header, final_value, gives_to, BodyItem, value_with, final_new, final_other, parts, IsViewOf, Code, HeadView, same_sum, sum_fits, HasBits, binary_digits, ChangesCode, IsLaidOut, held_at, kept_at, HasGoodText, IsText, model_form, Held, Kept, unset, value_at_size, with_text, room_of, share_of, Bits, Form, Vector, Item, Time, Begin, End, Change, Finish, Table, IsItem, AreHeld, HasShares, table_bytes, same_Some}
 use Rattle.vcd_view.proofs.LookUpLemmas.{same_place}
 use Rattle.vcd_view.proofs.RowLemmas.{code_at}
+use Rattle.vcd_body.specs.Changes.{extended}
+use Rattle.vcd_body.specs.Current.{GivesSame}
+use Rattle.vcd_body.proofs.CompareLemmas.{length_extended}
+use Rattle.vcd_body.proofs.Shortest.{not_empty}
 use Rattle.vcd_body.proofs.TableLemmas.{room_needed}
 
 -- ---- a new table
@@ -109,6 +113,44 @@ module _ (v : HeadView) (h : Header) (old new : Table) (items : List BodyItem) (
 pub set_holds : (v : HeadView) (h : Header) (old new : Table) (items : List BodyItem) (place : ℕ) (form : Form) (text : List ℕ) (c : IdCode) → IsViewOf v h → slice_get h.codes place ≡ Some c → AreHeld old h items → ChangesCode place (with_text form text) old new → IsLaidOut new
     → ((d : Code) → slice_get v.codes.now place ≡ Some d → IsText form d text) → SetsValue form text place old new → AreHeld new h (items ++ BodyItem.Changes (record { code = c; form = model_form form; text = text }) ∷ [])
 set_holds v h old new items place form text c views declared held changes = change_holds v h old new items place form text c views declared held (with_text form text) (λ k. refl) changes
+
+-- ---- a text without the digits that its value does not need
+
+all_rest : (k : ℕ) (ds : List ℕ) → list_all is_value_digit ds ≡ true → list_all is_value_digit (drop k ds) ≡ true
+all_rest zero ds e = e
+all_rest (suc k) [] e = e
+all_rest (suc k) (d ∷ ds) e = all_rest k ds (second (is_value_digit d) (list_all is_value_digit ds) e)
+  where
+    second : (a b : Bool) → (a && b) ≡ true → b ≡ true
+    second true b e = e
+    second false b e = cc
+
+some_digits : (ds : List ℕ) → ds ≢ [] → 0 < length ds
+some_digits [] n = absurd (n refl)
+some_digits (d ∷ ds) n = omega arith
+
+-- gives the same value
+pub short_gives : (text : List ℕ) (k : ℕ) → ((size : ℕ) → str_to_ascii_lowercase (drop k text) ≡ short (extended text size)) → GivesSame Vector text (drop k text)
+short_gives text k rest code (some, digits, fits) =
+    let n = code.size in
+    let v = extended text n in
+    let m = length-map text to_ascii_lowercase in
+    let l = length_extended (str_to_ascii_lowercase text) n in
+    let q = short_is_shortest v (not_empty v (omega (arith, l, m, some))) in
+    let left = length-map (drop k text) to_ascii_lowercase in
+    let there = ap length (rest n) in
+    let filled = some_digits (short v) q.0 in
+    let dropped = length-drop k text in
+    let few : code.event ≡ false → length (drop k text) ≤ n = λ event. let all = fits event in omega (arith, dropped, all) in (
+      (omega (arith, left, there, filled), all_rest k text digits, few),
+      λ event.
+          let all = fits event in
+          let long : length v ≡ n = omega (arith, l, m, all) in
+          ap Value.Bits (ap (λ (ds : List ℕ). extend ds n) (rest n) ∙ ap (extend (short v)) (sym long) ∙ q.1),
+    )
+
+pub gives_same : (form : Form) (text other : List ℕ) (place : ℕ) (old new : Table) → GivesSame form text other → SetsValue form other place old new → SetsValue form text place old new
+gives_same form text other place old new same sets = λ c k good event kept room. sets c k (same c good).0 event kept room ∙ ap Some ((same c good).1 event)
 
 -- ---- the item that was read last
 

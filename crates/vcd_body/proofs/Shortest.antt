@@ -57,7 +57,7 @@ bare_some : (s : List ℕ) → IsBare s → 0 < length s
 bare_some [] b = absurd b
 bare_some (x ∷ s) b = omega arith
 
-not_empty : (s : List ℕ) → 0 < length s → s ≢ []
+pub not_empty : (s : List ℕ) → 0 < length s → s ≢ []
 not_empty [] h = absurd (omega arith)
 not_empty (x ∷ s) h = λ e. cc
 

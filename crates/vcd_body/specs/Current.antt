@@ -4,17 +4,25 @@ use Rattle.vcd_model.specs.Declarations.{IdCode}
 use Rattle.vcd_model.specs.Header.{Header}
 use Rattle.vcd_model.specs.History.{final_value}
 use Rattle.vcd_model.specs.Items.{BodyItem}
-use Rattle.vcd_model.specs.Values.{Value}
+use Rattle.vcd_model.specs.Values.{Value, value_with}
 use Rattle.vcd_view.specs.Needs.{value_bytes}
+use Rattle.vcd_view.specs.declared.view.Code.{Code}
 use Rattle.vcd_view.specs.declared.view.HeadView.{HeadView}
 use Rattle.vcd_body.specs.Contents.{IsLaidOut, held_at, kept_at}
+use Rattle.vcd_body.specs.Given.{IsText}
+use Rattle.vcd_body.specs.Items.{model_form}
 use Rattle.vcd_body.specs.Kept.{Kept, value_at_size}
 use Rattle.vcd_body.specs.Stored.{share_of}
+use Rattle.vcd_body.specs.declared.item.Form.{Form}
 use Rattle.vcd_body.specs.declared.values.table.Table.{Table}
 
 -- how many bytes the values of the codes of a header take at most
 abbrev pub table_bytes : HeadView → ℕ
 table_bytes v = min (sum_by value_bytes v.codes.now) (2 ^ 64 - 1)
+
+-- where a code may have this text it may have the other one, which gives it the same value
+abbrev pub GivesSame : Form → List ℕ → List ℕ → Type 0
+GivesSame form text other = (code : Code) → IsText form code text → IsText form code other × (code.event ≡ false → value_with code.size (model_form form) other ≡ value_with code.size (model_form form) text)
 
 -- of each code that is no event the table holds this value
 pub record HasValues (t : Table) (h : Header) (value : IdCode → Option Value) : Type 0 where

@@ -137,6 +137,17 @@ pub(crate) fn first_needed<D: Digits>(digits: D, least: usize) -> usize
     from
 }
 
+/// Returns whether there are several digits, and no fewer extend to the same value.
+pub(crate) fn are_shortest<D: Digits>(digits: D) -> bool
+    ensures { result ≡ true → (size : ℕ)
+        → D.digits digits ≡ short (extend (D.digits digits) size) }
+{
+    if digits.count() < 2 {
+        return false;
+    }
+    digits.digit(0) != extension_of(digits.digit(1))
+}
+
 /// Fills `to` with the digits from index `from` on, counted from the left. There have to be at
 /// least as many as `to` has bytes.
 fn copy_digits<D: Digits>(digits: D, from: usize, to: &mut [u8])

@@ -1,8 +1,8 @@
 // Whether the value of a change differs from the one that its code has.
-ghost use Rattle.std.specs.Prelude.{◌≡◌, ◌≤◌, length, true};
+ghost use Rattle.std.specs.Prelude.{◌≡◌, ◌≢◌, ◌≤◌, ℕ, length, max, true};
 ghost use Rattle.vcd_body.specs.Names.{AreTwo, Decides, HasDigits, are_two, differs, digits_of, extend, extended, held_in, model_form, value_at_size, value_with};
 
-use crate::digits::{Digits, Extended, Lower};
+use crate::digits::{Digits, Extended, Lower, are_shortest};
 use crate::item::Form;
 use crate::values::held::last_held;
 use crate::values::slot::{HeldValue, State};
@@ -23,6 +23,25 @@ fn places_differ(held: HeldValue<'_>, text: &[u8]) -> bool
         }
     }
     false
+}
+
+/// Returns true only if there are fewer digits than others, and no fewer than these extend to the
+/// same value. Then the values of the two differ at each size that both fit.
+// It looks at two digits: a long value that is compared again and again with short ones takes no
+// longer than they do.
+pub(crate) fn are_too_few<D: Digits, E: Digits>(digits: D, others: E) -> bool
+    ensures { result ≡ true → (size : ℕ)
+        → max size (length (E.digits others)) ≡ max size (length (D.digits digits))
+        → extend (E.digits others) size ≢ extend (D.digits digits) size }
+{
+    let count = digits.count();
+    if count == 0 {
+        return false;
+    }
+    if count >= others.count() {
+        return false;
+    }
+    are_shortest(others)
 }
 
 /// Returns whether digits are the same as others, both extended to `size` digits, which is at least

@@ -3,7 +3,7 @@ ghost use Rattle.std.specs.Prelude.{◌≡◌, ℕ, IfSome, length};
 ghost use Rattle.vcd_body.specs.Names.{Decides, HasDigits, IsLaidOut, digits_held, digits_of, extend, held_at, held_in, shown_as, value_at_size};
 
 use crate::digits::Digits;
-use crate::values::compare::are_alike;
+use crate::values::compare::{are_alike, are_too_few};
 use crate::values::slot::{BITS, HIGH, HeldValue, Holding, Shown, State};
 use crate::values::table::Table;
 
@@ -35,6 +35,12 @@ fn are_same_digits(held: HeldValue<'_>, its: HeldValue<'_>, size: usize) -> bool
     }
     let (count, its_count) = (held.count(), its.count());
     if size.max(count) != size.max(its_count) {
+        return false;
+    }
+    if are_too_few(its, held) {
+        return false;
+    }
+    if are_too_few(held, its) {
         return false;
     }
     are_alike(held, its, count.max(its_count))

@@ -1,5 +1,5 @@
-use Rattle.vcd_body.proofs.Cited.{◌≡◌, [], ◌∷◌, ◌++◌, Some, refl, sym, subst, slice_get, BodyItem, Code, HasBits, HasGoodText, IsItem, IsText, Item, AreHeld}
-use Rattle.vcd_body.proofs.Facts.{bits_hold, good_text, held_still, other_gives, set_holds}
+use Rattle.vcd_body.proofs.Cited.{◌≡◌, [], ◌∷◌, ◌++◌, Some, refl, sym, subst, slice_get, BodyItem, Code, HasBits, HasGoodText, IsItem, IsText, Item, AreHeld, with_text}
+use Rattle.vcd_body.proofs.Facts.{bits_hold, good_text, held_still, change_holds, gives_same, other_gives}
 use Rattle.vcd_body.proofs.current.set_item.Goals as goal
 
 pub returns-in_default : goal.returns-in_default
@@ -26,4 +26,5 @@ returns-in-None-clause-held c = λ view h items x views good read held.
     let fits : (d : Code) → slice_get codes place ≡ Some d → IsText form d text = λ d there. good_text codes text place form d sound there in
     let laid = held.values.laid in
     subst (λ (y : BodyItem). AreHeld c.set.new.self h (items ++ y ∷ [])) (sym change.2)
-    (set_holds view h c.args.table.now c.set.new.self items place form text change.0 views change.1 held (c.set.ensures.sets.changes laid) (c.set.ensures.sets.keeps.laid laid) fits (c.set.ensures.value laid))
+    (change_holds view h c.args.table.now c.set.new.self items place form text change.0 views change.1 held (with_text form c.shortest.result.now) (λ k. refl) (c.set.ensures.sets.changes laid) (c.set.ensures.sets.keeps.laid laid) fits
+    (gives_same form text c.shortest.result.now place c.args.table.now c.set.new.self c.shortest.ensures (c.set.ensures.value laid)))
