@@ -64,6 +64,7 @@ module _ {P J H I : Type 0} (p : Programs P J) (opens : H → Option Text → Re
       by_fault use_fault.NotRising is e quiet shown status_is = said use_fault.NotRising is (λ no. cc) e quiet shown status_is
       by_fault use_fault.TooManyFiles is e quiet shown status_is = said use_fault.TooManyFiles is (λ no. cc) e quiet shown status_is
       by_fault use_fault.InputTwice is e quiet shown status_is = said use_fault.InputTwice is (λ no. cc) e quiet shown status_is
+      by_fault (use_fault.BadArgument first second) is e quiet shown status_is = said (use_fault.BadArgument first second) is (λ no. cc) e quiet shown status_is
       by_fault use_fault.OutOfMemory is e quiet shown status_is = no-memory host out err err' status NoneKept (inr is) (memory-fails p.name p.refusal out err err' status memory shown status_is)
 
   module _ (host host' : H) (out out' err err' : Device) (status : ℕ) (NoneKept : Type 0) (job : J) (is : p.asks matches (Ok job)) where

@@ -51,6 +51,7 @@ refusal-is matches use_fault.FromAboveTo e = command-refused (words_used matches
 refusal-is matches use_fault.NotRising e = command-refused (words_used matches) model.UseFault.NotRising e
 refusal-is matches use_fault.TooManyFiles e = command-refused (words_used matches) model.UseFault.TooManyFiles e
 refusal-is matches use_fault.InputTwice e = command-refused (words_used matches) model.UseFault.InputTwice e
+refusal-is matches (use_fault.BadArgument first second) e = absurd e
 refusal-is matches use_fault.OutOfMemory e = tt
 
 -- the same of what a call returned
@@ -70,6 +71,7 @@ refusal-quiet use_fault.FromAboveTo = refl
 refusal-quiet use_fault.NotRising = refl
 refusal-quiet use_fault.TooManyFiles = refl
 refusal-quiet use_fault.InputTwice = refl
+refusal-quiet (use_fault.BadArgument first second) = refl
 refusal-quiet use_fault.OutOfMemory = refl
 
 pub refusal-memory : use_outcome use_fault.OutOfMemory ≡ memory_outcome
@@ -84,6 +86,7 @@ refusal-low use_fault.FromAboveTo = omega arith
 refusal-low use_fault.NotRising = omega arith
 refusal-low use_fault.TooManyFiles = omega arith
 refusal-low use_fault.InputTwice = omega arith
+refusal-low (use_fault.BadArgument first second) = omega arith
 refusal-low use_fault.OutOfMemory = omega arith
 
 -- ---- the inputs

@@ -25,6 +25,7 @@ refusal-is matches use_fault.FromAboveTo e = absurd e
 refusal-is matches use_fault.NotRising e = absurd e
 refusal-is matches use_fault.TooManyFiles e = absurd e
 refusal-is matches use_fault.InputTwice e = absurd e
+refusal-is matches (use_fault.BadArgument first second) e = absurd e
 refusal-is matches use_fault.OutOfMemory e = tt
 
 -- the line was written, or a write of it failed

@@ -128,6 +128,7 @@ fault-of matches use_fault.FromAboveTo e other = (model.UseFault.FromAboveTo, e)
 fault-of matches use_fault.NotRising e other = (model.UseFault.NotRising, e)
 fault-of matches use_fault.TooManyFiles e other = (model.UseFault.TooManyFiles, e)
 fault-of matches use_fault.InputTwice e other = (model.UseFault.InputTwice, e)
+fault-of matches (use_fault.BadArgument first second) e other = absurd e
 fault-of matches use_fault.OutOfMemory e other = absurd (other refl)
 
 -- functions that agree on each element make the same list

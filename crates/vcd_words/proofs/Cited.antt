@@ -5,6 +5,7 @@ pub use Rattle.clap.specs.Built.{AddsSubcommand}
 pub use Rattle.clap.specs.Lexer.{usize_max}
 pub use Rattle.clap.specs.Simple.{app_of_fields}
 pub use Rattle.clap.specs.Words.{AddsArg, App, Row, Rule, Text, all_of, fault_of, first_of, found_of, new_app, new_rule, rows_of, rule_of, subcommand_of, subcommand_rows_of, takes, with_rule, with_subcommand}
+pub use Rattle.clap.specs.declared.builder.action.ArgAction.{ArgAction}
 pub use Rattle.clap.specs.declared.builder.arg.Arg.{Arg}
 pub use Rattle.clap.specs.declared.builder.command.Command.{Command, out-Command}
 pub use Rattle.clap.specs.declared.builder.range.ValueRange.{ValueRange}
@@ -46,7 +47,7 @@ pub use Rattle.vcd_words.specs.Ticks.{AreRefused, AreTicks, all_ticks, has_units
 pub use Rattle.vcd_words.specs.Times.{IsOrderOf, last_of, parts}
 pub use Rattle.vcd_words.specs.Words.{IsFaultIn, IsFaultOf, IsLocal, IsWhole, bare_app, command_used, complete, cut_app, file_app, file_rule, files_rule, input_rule, limit_rule, merge_app, named_app, names_rule, one_input_app, program_app, sample_app, some_names, some_of, time_or_rule, time_rule, word_after, words_command}
 pub use Rattle.vcd_words.specs.declared.job.UseFault.{UseFault}
-pub use Rattle.vcd_words.specs.declared.job.UseFault.TheVariants.{BadLimit, BadTime, BadWords, FromAboveTo, InputTwice, NotRising, OutOfMemory, TooManyFiles}
+pub use Rattle.vcd_words.specs.declared.job.UseFault.TheVariants.{BadLimit, BadTime, BadWords, FromAboveTo, InputTwice, NotRising, OutOfMemory, TooManyFiles, BadArgument}
 pub use Rattle.vcd_words.specs.declared.moment_word.TimesOrder.{TimesOrder}
 pub use Rattle.vcd_words.specs.declared.refusal.Refusal.{Refusal}
 pub use Rattle.vcd_words.specs.declared.words.Words.{Words}

@@ -1,5 +1,5 @@
 -- How the calls that build an argument or a command change what a parse reads of it.
-use Rattle.vcd_words.proofs.Cited.{◌≡◌, ◌∙◌, ◌∷◌, [], ℕ, Bool, true, Option, Some, ap, ap₂, Bor, app_of_fields, AddsArg, App, Rule, Text, rule_of, with_rule, Arg, One, Command, out-Command, ValueRange, IsLocal, IsWhole}
+use Rattle.vcd_words.proofs.Cited.{◌≡◌, ◌∙◌, ◌∷◌, [], ℕ, Bool, true, Option, Some, ap, ap₂, Bor, app_of_fields, AddsArg, App, Rule, Text, rule_of, with_rule, Arg, ArgAction, One, Command, out-Command, ValueRange, IsLocal, IsWhole}
 
 -- ---- arguments
 
@@ -31,6 +31,10 @@ module _ (old new : Arg) (r : Rule) (before : IsLocal old r) where
   -- whether help shows that word, which no parse reads
   pub with_hidden_default : (hidden : Bool) → new ≡ record old { hide_default_value = hidden } → IsLocal new r
   with_hidden_default hidden e = (ap rule_of e ∙ before.0, ap (λ (a : Arg). a.global) e ∙ before.1)
+
+  -- what a use of it does
+  pub with_action : (action : ArgAction) → new ≡ record old { action = Some action } → IsLocal new (record r { action = Some action })
+  with_action action e = (ap rule_of e ∙ ap (λ (r : Rule). record r { action = Some action }) before.0, ap (λ (a : Arg). a.global) e ∙ before.1)
 
   -- its help, which no parse reads
   pub with_help : (text : Bor Text) → new ≡ record old { help = Some text } → IsLocal new r

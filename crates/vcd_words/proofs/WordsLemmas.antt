@@ -1,5 +1,5 @@
 -- What a command and a word after `--token-limit` ask for.
-use Rattle.vcd_words.proofs.Cited.{◌≡◌, ◌==◌, ℕ, Bool, true, false, not, List, [], ◌∷◌, length, map, ap, ap₂, refl, sym, ◌∙◌, eqb-suc-zero, Bor, then_some, Option, Some, None, Result, Ok, Err, option_map, option_and_then, unwrap_or, IsSomeAnd, ValueRange, Row, Text, all_of, first_of, Words, UseFault, BadWords, BadLimit, BadTime, FromAboveTo, NotRising, TooManyFiles, InputTwice, OutOfMemory, complete, some_of, words_command, IsFaultIn, IsFaultOf}
+use Rattle.vcd_words.proofs.Cited.{◌≡◌, ◌==◌, ℕ, Bool, true, false, not, List, [], ◌∷◌, length, map, ap, ap₂, refl, sym, ◌∙◌, eqb-suc-zero, Bor, then_some, Option, Some, None, Result, Ok, Err, option_map, option_and_then, unwrap_or, IsSomeAnd, ValueRange, Row, Text, all_of, first_of, Words, UseFault, BadWords, BadLimit, BadTime, FromAboveTo, NotRising, TooManyFiles, InputTwice, BadArgument, OutOfMemory, complete, some_of, words_command, IsFaultIn, IsFaultOf}
 use Rattle.vcd_model.specs.Job as model_job
 use Rattle.vcd_model.specs.Words as model
 
@@ -62,6 +62,7 @@ fault-in FromAboveTo asked e = e
 fault-in NotRising asked e = e
 fault-in TooManyFiles asked e = e
 fault-in InputTwice asked e = e
+fault-in (BadArgument first second) asked e = absurd e
 fault-in OutOfMemory asked e = absurd e
 
 -- a fault of some words is one of others, where theirs are the same
@@ -73,6 +74,7 @@ fault-moves FromAboveTo a b moves e = moves _ e
 fault-moves NotRising a b moves e = moves _ e
 fault-moves TooManyFiles a b moves e = moves _ e
 fault-moves InputTwice a b moves e = moves _ e
+fault-moves (BadArgument first second) a b moves e = absurd e
 fault-moves OutOfMemory a b moves e = absurd e
 
 -- a fault of the limit is the job's
@@ -90,6 +92,7 @@ want-fault named limit w n FromAboveTo e l t = with-complete named _ limit (sym 
 want-fault named limit w n NotRising e l t = with-complete named _ limit (sym e) ∙ ap₂ model.job_with l t
 want-fault named limit w n TooManyFiles e l t = with-complete named _ limit (sym e) ∙ ap₂ model.job_with l t
 want-fault named limit w n InputTwice e l t = with-complete named _ limit (sym e) ∙ ap₂ model.job_with l t
+want-fault named limit w n (BadArgument first second) e l t = absurd t
 want-fault named limit w n OutOfMemory e l (wanted, t) = (record { want = wanted; limit = n }, with-complete named _ limit (sym e) ∙ ap₂ model.job_with l t)
 
 -- ---- what comes after the command that was used

@@ -1,9 +1,10 @@
 -- The words of the command line: how they are read, and what they ask for.
-use Rattle.std.specs.Prelude.{◌≡◌, ℕ, Bool, true, false, cond, List, [], ◌∷◌, map, codes, Option, Some, None, option_map, option_and_then, unwrap_or, Result, Ok, Err, IfErr, IfOk}
+use Rattle.std.specs.Prelude.{◌≡◌, ℕ, Bool, true, false, cond, List, [], ◌∷◌, ◌++◌, map, codes, Option, Some, None, option_map, option_and_then, unwrap_or, Result, Ok, Err, IfErr, IfOk}
 use Rattle.std.specs.Borrow.{Bor}
 use Rattle.std.specs.Str.{bytes_eq}
 use Rattle.clap.specs.Lexer.{usize_max}
 use Rattle.clap.specs.Words.{App, Rule, Text, all_of, app_of, first_of, is_broken, new_app, new_rule, rule_of, subcommand_name_of, subcommand_rows_of, with_rule, with_subcommand}
+use Rattle.clap.specs.declared.builder.action.ArgAction.TheVariants as action
 use Rattle.clap.specs.declared.builder.arg.Arg.{Arg}
 use Rattle.clap.specs.declared.builder.command.Command.{Command}
 use Rattle.clap.specs.declared.parser.matches.ArgMatches.{ArgMatches}
@@ -17,7 +18,7 @@ use Rattle.vcd_words.specs.declared.job.Want.{Want}
 use Rattle.vcd_words.specs.declared.words.Words.{Words}
 use Rattle.vcd_words.specs.declared.words.Words.TheVariants as words
 use Rattle.vcd_words.specs.declared.job.UseFault.{UseFault}
-use Rattle.vcd_words.specs.declared.job.UseFault.TheVariants.{BadWords, BadLimit, BadTime, FromAboveTo, NotRising, TooManyFiles, InputTwice, OutOfMemory}
+use Rattle.vcd_words.specs.declared.job.UseFault.TheVariants.{BadWords, BadLimit, BadTime, FromAboveTo, NotRising, TooManyFiles, InputTwice, BadArgument, OutOfMemory}
 
 -- ---- how words are read
 
@@ -44,6 +45,10 @@ names_rule required = record (new_rule (codes "names")) { range = Some (record {
 -- an option of this name for times; the parse does not decide which texts are times
 abbrev pub time_rule : Text → Rule
 time_rule name = record (new_rule name) { long = Some name; value_names = 1 }
+
+-- an option of this name without a word
+abbrev pub flag_rule : Text → Rule
+flag_rule name = record (new_rule name) { long = Some name; action = Some action.SetTrue }
 
 -- a command of this name over one input
 abbrev pub one_input_app : Text → App
@@ -186,6 +191,18 @@ words_command (words.Sample at names) = model.Command.Sample at.now (some_names 
 words_command (words.Edges names) = model.Command.Edges (some_names names)
 words_command (words.Merge files) = merge_command files.now
 
+-- what is said of a fault
+abbrev pub use_text : UseFault → Text
+use_text BadWords = model.use_text model.UseFault.BadWords
+use_text (BadLimit word) = model.use_text (model.UseFault.BadLimit word.now)
+use_text (BadTime word) = model.use_text (model.UseFault.BadTime word.now)
+use_text FromAboveTo = model.use_text model.UseFault.FromAboveTo
+use_text NotRising = model.use_text model.UseFault.NotRising
+use_text TooManyFiles = model.use_text model.UseFault.TooManyFiles
+use_text InputTwice = model.use_text model.UseFault.InputTwice
+use_text (BadArgument first second) = first.now ++ second.now
+use_text OutOfMemory = codes "out of memory"
+
 -- the fault is one that the words have, and not of memory
 abbrev pub IsFaultIn : {X : Type 0} → UseFault → Result X model.UseFault → Type 0
 IsFaultIn {X} BadWords asked = asked ≡ Err model.UseFault.BadWords
@@ -195,6 +212,7 @@ IsFaultIn {X} FromAboveTo asked = asked ≡ Err model.UseFault.FromAboveTo
 IsFaultIn {X} NotRising asked = asked ≡ Err model.UseFault.NotRising
 IsFaultIn {X} TooManyFiles asked = asked ≡ Err model.UseFault.TooManyFiles
 IsFaultIn {X} InputTwice asked = asked ≡ Err model.UseFault.InputTwice
+IsFaultIn {X} (BadArgument first second) asked = ⊥
 IsFaultIn {X} OutOfMemory asked = ⊥
 
 -- this is the fault; or memory ran out, which happens only if the words have no fault

@@ -107,6 +107,8 @@ pub enum UseFault<'a> {
     TooManyFiles,
     /// A merge has standard input more than once among its files.
     InputTwice,
+    /// The message about an argument of another program, in two parts. `job_of` returns none.
+    BadArgument(&'a str, &'a str),
     /// Memory ran out.
     OutOfMemory,
 }

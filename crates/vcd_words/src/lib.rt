@@ -30,5 +30,6 @@ mod words;
 
 pub use command::{command_of, parse_status};
 pub use job::{Job, UseFault, Want, job_of};
+pub use moment_word::number_of;
 pub use refusal::Refusal;
 pub use words::{MAX_FILES, Words, files_of, input_of, is_standard_input, want_of};

@@ -14,7 +14,7 @@ const MAX_DIGITS: usize = 20;
 
 /// Returns the number that 1 to 20 decimal digits spell. `None` if these bytes are anything else,
 /// or if the number is 2^64 or more.
-pub(crate) fn number_of(digits: &[u8]) -> Option<u64>
+pub fn number_of(digits: &[u8]) -> Option<u64>
     ensures { result ≡ cond (is_number digits.now) (Some (decimal_value digits.now)) None }
 {
     if digits.len() > MAX_DIGITS {

@@ -93,6 +93,7 @@ use_outcome use_fault.FromAboveTo = model.use_outcome model.UseFault.FromAboveTo
 use_outcome use_fault.NotRising = model.use_outcome model.UseFault.NotRising
 use_outcome use_fault.TooManyFiles = model.use_outcome model.UseFault.TooManyFiles
 use_outcome use_fault.InputTwice = model.use_outcome model.UseFault.InputTwice
+use_outcome (use_fault.BadArgument first second) = record { output = []; message = first.now ++ second.now; status = 2 }
 use_outcome use_fault.OutOfMemory = record { output = []; message = fault_text 32; status = 3 }
 
 -- the file of this name cannot be opened

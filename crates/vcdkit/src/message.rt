@@ -192,6 +192,7 @@ pub fn use_fault<E: Sink>(program: &'static str, fault: UseFault<'_>, err: &mut 
         UseFault::NotRising => say(program, err, "times must rise", 2),
         UseFault::TooManyFiles => say(program, err, "too many files", 2),
         UseFault::InputTwice => say(program, err, "standard input twice", 2),
+        UseFault::BadArgument(first, second) => say_both(program, err, first, second, 2),
         UseFault::OutOfMemory => report(program, Failure::OutOfMemory, &[], &[], err),
     }
 }
