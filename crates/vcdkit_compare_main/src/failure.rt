@@ -6,16 +6,18 @@ use std::io;
 use std::io::ErrorKind;
 use vcd_body::Stop;
 use vcd_text::{Sink, WriteFailed, put, put_number, text_of};
+use vcd_words::UseFault;
+use vcdkit::use_fault;
 
 /// Why the program ends without an answer.
 #[derive(Drop)]
 pub(crate) enum Failure<'a> {
     /// The command line is refused, with this text.
     Refused(String),
-    /// What is wrong with the command line, and the argument or the file that is wrong.
-    Usage(&'static str, &'a str),
-    /// A name, and what is wrong with it.
-    Name(Vec<u8>, &'static str),
+    /// The command line asks for nothing.
+    Words(UseFault<'a>),
+    /// This name selects nothing.
+    Unselected(Vec<u8>),
     /// The first time at which values are to be compared, and the last time of the dump, which is
     /// before it.
     Late(u64, u64),
@@ -32,10 +34,10 @@ pub(crate) enum Failure<'a> {
 }
 
 impl<'a> Failure<'a> {
-    /// Returns what is wrong with a name. If there is no memory, returns that.
-    pub(crate) fn of_name(alloc: Global, name: &[u8], what: &'static str) -> Failure<'a> {
+    /// Returns that this name selects nothing. If there is no memory, returns that.
+    pub(crate) fn of_name(alloc: Global, name: &[u8]) -> Failure<'a> {
         match Vec::from_slice(alloc, name) {
-            Ok(name) => Failure::Name(name, what),
+            Ok(name) => Failure::Unselected(name),
             Err(_) => Failure::OutOfMemory,
         }
     }
@@ -69,6 +71,13 @@ impl<T: Drop> From<AllocFailed<T>> for Failure<'_> {
     /// Returns `OutOfMemory`.
     fn from(_error: AllocFailed<T>) -> Self {
         Failure::OutOfMemory
+    }
+}
+
+impl<'a> From<UseFault<'a>> for Failure<'a> {
+    /// Returns this fault.
+    fn from(fault: UseFault<'a>) -> Self {
+        Failure::Words(fault)
     }
 }
 
@@ -121,8 +130,8 @@ pub(crate) fn report<E: Sink>(failure: Failure<'_>, err: &mut E) -> u8
 {
     let _ = match &failure {
         Failure::Refused(text) => put(err, text.as_bytes()),
-        Failure::Usage(what, word) => put_both(err, what.as_bytes(), word.as_bytes()),
-        Failure::Name(name, what) => put_both(err, name, what.as_bytes()),
+        Failure::Words(fault) => return use_fault("vcdkit-compare", *fault, err),
+        Failure::Unselected(name) => put_both(err, name, b": selects nothing"),
         Failure::Late(from, last) => put_late(err, *from, *last),
         Failure::Unopened(name) => put_both(err, name.as_bytes(), b": cannot be opened"),
         Failure::Unread(name) => put_both(err, name.as_bytes(), b": read failed"),

@@ -3,15 +3,11 @@
 
 ghost use Rattle.std.specs.Prelude.{◌-◌, ◌^◌, ◌<◌};
 
-mod command;
 mod failure;
-mod names;
 mod run;
 
-use crate::command::{asked_of, command_of};
 use crate::failure::{Failure, report};
-use crate::names::{add_file, add_words, texts_of};
-use crate::run::{Request, compared};
+use crate::run::compared;
 use clap::{ArgMatches, Error};
 use std::alloc::Global;
 use std::env;
@@ -19,8 +15,10 @@ use std::fs::File;
 use std::hash::RandomState;
 use std::io::Read;
 use std::process::ExitCode;
+use vcd_compare_words::{Comparing, command_of, input_of, job_of};
 use vcd_host::{Buffered, Output};
 use vcd_text::{Sink, Watch, put};
+use vcd_words::UseFault;
 use vcdkit::{Again, parse_status};
 
 /// Returns the arguments, the program's name first. Fails if one of them is not UTF-8, or if memory
@@ -28,7 +26,7 @@ use vcdkit::{Again, parse_status};
 fn words_of(rt: &HostRuntime) -> Result<Vec<String>, Failure<'static>> {
     match env::args(rt) {
         Ok(words) => Ok(words.collect(rt.alloc())?),
-        Err(error) => Err(Failure::of_error(&error, Failure::Usage("bad words", ""))),
+        Err(error) => Err(Failure::of_error(&error, Failure::Words(UseFault::BadWords))),
     }
 }
 
@@ -41,30 +39,10 @@ fn opened<'a>(rt: &HostRuntime, path: &'a str) -> Result<File, Failure<'a>> {
     }
 }
 
-/// Returns what a parsed command line asks for. Fails if a time, the names or the file of names is
-/// wrong, or if memory runs out.
-fn request_of<'a>(rt: &HostRuntime, matches: &ArgMatches<'a>) -> Result<Request, Failure<'a>> {
-    let alloc = rt.alloc();
-    let asked = asked_of(matches)?;
-    let mut names = Vec::new(alloc);
-    add_words(alloc, matches.get_strs("names"), &mut names)?;
-    if let Some(path) = matches.get_str("pairs") {
-        add_file(alloc, opened(rt, path)?, path, &mut names)?;
-    }
-    if names.is_empty() {
-        return Err(Failure::Usage("no names: X=Y", ""));
-    }
-    Ok(Request {
-        names,
-        exceptions: texts_of(alloc, matches.get_strs("except"))?,
-        asked,
-    })
-}
-
 /// Compares the dump of this reader, which has this name, and returns the exit status 0 or 1.
 fn run_over<'a, R: Read + Drop, W: Sink>(
     rt: &HostRuntime,
-    request: &Request,
+    request: &Comparing,
     name: &'a str,
     reader: R,
     out: &mut W,
@@ -87,8 +65,8 @@ fn run_matches<'a, W: Sink>(
 ) -> Result<u8, Failure<'a>>
     requires { (W.device out.old).failures < 2 ^ 64 - 1 }
 {
-    let request = request_of(rt, matches)?;
-    match matches.get_str("input") {
+    let request = job_of(rt.alloc(), matches)?;
+    match input_of(matches) {
         Some(path) if path != "-" => run_over(rt, &request, path, opened(rt, path)?, out),
         _ => run_over(rt, &request, "(stdin)", rt.stdin(), out),
     }

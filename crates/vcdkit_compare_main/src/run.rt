@@ -7,18 +7,11 @@ use crate::failure::Failure;
 use std::alloc::Global;
 use std::hash::BuildHasher;
 use vcd_body::{Done, Share, Slot};
-use vcd_compare::{Answer, Asked, NamePair, PairsFault, Room, compare, pairs_of};
+use vcd_compare::{Answer, Asked, PairsFault, Room, compare, pairs_of};
+use vcd_compare_words::Comparing;
 use vcd_head::{Head, HeadFault, read_head_with_hasher};
 use vcd_text::{Feed, Sink, Source, WriteFailed, put, put_number};
 use vcd_view::need;
-
-/// What is compared.
-#[derive(Drop)]
-pub(crate) struct Request {
-    pub names: Vec<NamePair>,
-    pub exceptions: Vec<Vec<u8>>,
-    pub asked: Asked,
-}
 
 /// Returns why the header of the dump with this name is bad. `line` is the line of the fault.
 fn of_head(fault: HeadFault, name: &str, line: u64) -> Failure<'_> {
@@ -30,7 +23,7 @@ fn of_head(fault: HeadFault, name: &str, line: u64) -> Failure<'_> {
 }
 
 /// Returns the name that selects nothing. `None` if memory ran out.
-fn unselected(fault: PairsFault, request: &Request) -> Option<&[u8]> {
+fn unselected(fault: PairsFault, request: &Comparing) -> Option<&[u8]> {
     match fault {
         PairsFault::One(at) => Some(&request.names.get(at)?.one),
         PairsFault::Other(at) => Some(&request.names.get(at)?.other),
@@ -40,11 +33,11 @@ fn unselected(fault: PairsFault, request: &Request) -> Option<&[u8]> {
 }
 
 /// Returns why there are no pairs of these names.
-fn of_pairs<'a>(alloc: Global, fault: PairsFault, request: &Request) -> Failure<'a> {
+fn of_pairs<'a>(alloc: Global, fault: PairsFault, request: &Comparing) -> Failure<'a> {
     let Some(name) = unselected(fault, request) else {
         return Failure::OutOfMemory;
     };
-    Failure::of_name(alloc, name, ": selects nothing")
+    Failure::of_name(alloc, name)
 }
 
 /// Fails if the dump has ended before the first time at which values were to be compared.
@@ -69,7 +62,7 @@ fn put_count<W: Sink>(count: usize, out: &mut W) -> Result<(), WriteFailed>
 /// fault, and if the dump ends too early.
 fn compare_body<'a, S: Source, W: Sink>(
     alloc: Global,
-    request: &Request,
+    request: &Comparing,
     name: &'a str,
     head: &Head,
     feed: &mut Feed<'_, '_, '_, '_, S>,
@@ -121,7 +114,7 @@ fn compare_body<'a, S: Source, W: Sink>(
 /// out.
 pub(crate) fn compared<'a, S: Source, W: Sink, B: BuildHasher>(
     alloc: Global,
-    request: &Request,
+    request: &Comparing,
     name: &'a str,
     reader: &mut S,
     out: &mut W,

@@ -1,0 +1,3 @@
+mod CommandRows
+pub mod Cited
+pub mod NamesLemmas
