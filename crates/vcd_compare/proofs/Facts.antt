@@ -9,7 +9,7 @@ pub use Rattle.vcd_compare.proofs.MatchLemmas.{match_self}
 pub use Rattle.vcd_compare.proofs.PairLoops.{AloneBefore, HeldBefore, HeldNames, alone_all, alone_one, alone_same, few_kept, held_all, held_next, names_next, places_before}
 pub use Rattle.vcd_compare.proofs.PairSteps.{fits_as, held_alone, held_unlike, kind_apart, kind_same, named_row, pair_more, path_number, place_both, place_missing, shown_name}
 pub use Rattle.vcd_compare.proofs.PathTexts.{IsEntering, entering_more, number_within, path_entered, text_entered, text_found}
-pub use Rattle.vcd_compare.proofs.PlaceLemmas.{and_next, climbs_back, climbs_none, climbs_on, keys_of, listed_below, listed_variables, looked_next, lone_both, lone_place, only_is, only_none, paths_within, placed_at, places_found, placing_first, placing_next, ranged_first, ranged_place, same_len, zip_from}
+pub use Rattle.vcd_compare.proofs.PlaceLemmas.{and_next, climbs_back, climbs_none, climbs_on, empty_is, keys_of, listed_below, listed_variables, looked_next, lone_both, lone_place, only_is, only_none, paths_within, placed_at, places_found, placing_first, placing_next, range_number, ranged_first, ranged_place, same_len, text_is, zip_from}
 pub use Rattle.vcd_compare.proofs.SliceLemmas.{slice_entered, slices_none, zip_at}
 pub use Rattle.vcd_compare.proofs.RowPaths.{NumbersSome, around_at, around_joined, names_more, ok_then, some_row, texts_stay, zip_stays}
 pub use Rattle.vcd_compare.proofs.RunEnds.{not_ended}

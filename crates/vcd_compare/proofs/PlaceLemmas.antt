@@ -1,5 +1,5 @@
 -- What has another name in place of a first one: paths, and variables.
-use Rattle.vcd_compare.proofs.Cited.{◌≡◌, ◌≢◌, ℕ, suc, ◌+◌, ◌<◌, ◌≤◌, ◌==◌, ◌&&◌, ◌||◌, not, nat_eq, Bool, true, false, cond, List, [], ◌∷◌, ◌++◌, length, drop, set, get_or, slice_get, filter, find, position, bytes_eq, cases_lt, Option, Some, None, inl, inr, refl, sym, ap, subst, ◌∙◌, arith, option_map, AllZip, list_any, position_or_len, find_at, take_all, eq-eqb, eqb-false, eqb-true, ne_eqb, false_from_ne_true, and_parts, length-append, length-set, get_or-set_other, get_or-set_same, get_or_from_slice_get, same_Some, slice_get-get_or, slice_get_past, slice_get_within, bytes_eq-Decides, ◌⊎◌, Header, selects_path, Asked, Named, all_named, Names, bytes_flip, there, selected_begins, ArePlaces, AreSelected, AreWithin, FindPlaces, IsCounterpart, IsFound, IsNth, IsPlace, with_range, without_range, ap₂, is_empty, is_some, first_of, lacks_range, lone, only_at, range_of, the_only, IsSlice, Slices, texts_in, AreUsers, IsPathOf, Users, index_in, slice_of, looked_up, place_of_node, replaced, selected_in, AreApart, AreTexts, IsNumberOf, has_dot, joined, both_names, chosen, is_inside, is_kept, is_one_of, lists_in, AreVariables, IsKeyOf, same_key, HasSelected, Paths, Variables, Vec, AreCounterparts, Climbs, IsBelow, IsPlacing, IsReady, IsSettled, Settles, StaySettled, node_at, Places, min, ◌-◌}
+use Rattle.vcd_compare.proofs.Cited.{◌≡◌, ◌≢◌, ℕ, suc, ◌+◌, ◌<◌, ◌≤◌, ◌==◌, ◌&&◌, ◌||◌, not, nat_eq, Bool, true, false, cond, List, [], ◌∷◌, ◌++◌, length, drop, set, get_or, slice_get, filter, find, position, bytes_eq, cases_lt, Option, Some, None, inl, inr, refl, sym, ap, subst, ◌∙◌, arith, option_map, AllZip, list_any, position_or_len, find_at, take_all, map, slice_get-map, eq-eqb, eqb-false, eqb-true, ne_eqb, false_from_ne_true, and_parts, length-append, length-set, get_or-set_other, get_or-set_same, get_or_from_slice_get, same_Some, slice_get-get_or, slice_get_past, slice_get_within, bytes_eq-Decides, ◌⊎◌, Header, selects_path, Asked, Named, all_named, Names, bytes_flip, there, selected_begins, ArePlaces, AreSelected, AreWithin, FindPlaces, IsCounterpart, IsFound, IsNth, IsPlace, with_range, without_range, ap₂, is_empty, is_some, first_of, lacks_range, lone, only_at, range_of, the_only, IsSlice, Slices, texts_in, AreUsers, IsPathOf, Users, index_in, slice_of, looked_up, place_of_node, replaced, selected_in, AreApart, AreTexts, IsNumberOf, has_dot, joined, both_names, chosen, is_inside, is_kept, is_one_of, lists_in, AreVariables, IsKeyOf, same_key, HasSelected, Paths, Variables, Vec, AreCounterparts, Climbs, IsBelow, IsPlacing, IsReady, IsSettled, Settles, StaySettled, node_at, Places, min, ◌-◌}
 use Rattle.std.proofs.Common.{zero}
 use Rattle.vcd_compare.specs.declared.variables.Users.TheVariants as Users
 use Rattle.std.proofs.lemmas.List.{append_assoc, append-nil, drop-append-le}
@@ -298,6 +298,15 @@ module _ (h : Header) (texts : List (List ℕ)) (vs : Variables) (are : AreVaria
         path_is = is.0.1 ∙ ap suc (apart is.0.0 number.0 v.path is.0.2 number.2) ∙ sym number.1;
       }
 
+  -- the number of its range
+  pub range_number : (index : ℕ) (v : Named) (key slice : ℕ × ℕ) → IsNth h index v → key ≡ get_or vs.keys.keys index (0, 0) → slice ≡ get_or vs.slices.pairs.keys key.0 (0, 0) → slice_get (texts_in vs.slices.ranges) slice.1 ≡ Some (range_of v.variable)
+  range_number index v key slice nth key_at slice_at =
+      let k = zip_at (IsKeyOf are.list) vs.keys.keys (all_named h) index v are.keys nth in
+      let key_is : key ≡ k.0 = key_at ∙ get_or_from_slice_get vs.keys.keys index k.0 (0, 0) k.1 in
+      let s = zip_at (IsSlice texts (texts_in vs.slices.ranges)) vs.slices.pairs.keys are.list k.0.0 (slice_of v) are.slices.each k.2.slice in
+      let slice_is : slice ≡ s.0 = slice_at ∙ ap (λ (x : ℕ × ℕ). get_or vs.slices.pairs.keys x.0 (0, 0)) key_is ∙ get_or_from_slice_get vs.slices.pairs.keys k.0.0 s.0 (0, 0) s.1 in
+      ap (λ (x : ℕ × ℕ). slice_get (texts_in vs.slices.ranges) x.1) slice_is ∙ s.2.1
+
   -- the only variable of a path
   pub only_is : (n : ℕ) (t : List ℕ) (u : Users) → IsNumberOf texts n t → u ≡ get_or vs.users.items n Users.None → IsFound h (only_at (all_named h) t) (index_in u)
   only_is n t u number e = by_users u (subst (AreUsers (all_named h) t) (sym e) (are.users n t number))
@@ -344,6 +353,15 @@ ranged_first h n v i a = (a.0, ap (λ o. first_of o (without_range h n v)) a.1, 
 -- and then what has no range
 pub lone_place : (h : Header) (n : Names) (v : Named) (other : Option ℕ) → with_range h n v ≡ None → IsFound h (without_range h n v) other → IsPlace h n v other
 lone_place h n v other a b = subst (λ o. IsFound h o other) (sym (ap (λ o. first_of o (without_range h n v)) a)) b
+
+-- a text of no length
+pub empty_is : (t : List ℕ) → (length t == 0) ≡ is_empty t
+empty_is [] = refl
+empty_is (b ∷ t) = ne_eqb (length (b ∷ t)) 0 (λ e. omega (arith, e))
+
+-- the text at an index
+pub text_is : (keys : List (Vec ℕ)) (i : ℕ) (v : Vec ℕ) (t : List ℕ) → slice_get keys i ≡ Some v → slice_get (map (λ (v : Vec ℕ). v.items) keys) i ≡ Some t → v.items ≡ t
+text_is keys i v t at there = same_Some v.items t (sym (ap (option_map (λ (v : Vec ℕ). v.items)) at) ∙ sym (slice_get-map (λ (v : Vec ℕ). v.items) keys i) ∙ there)
 
 -- there is an index of what is there
 pub found_some : (h : Header) (o : Option Named) (i : Option ℕ) → IsFound h o i → is_some o ≡ is_some i

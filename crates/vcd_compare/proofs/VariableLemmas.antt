@@ -205,7 +205,7 @@ some_same h texts row vs counts d at differs s =
       list = s.list;
       slices = s.slices;
       keys = subst (AllZip (IsKeyOf s.list) vs.keys.keys) same s.keys;
-      users = subst (λ vs. HasUsers texts vs _) same s.users;
+      users = subst (λ (ns : List Named). HasUsers texts ns vs.users.items) same s.users;
       counted = s.counted;
       room = s.room;
     }

@@ -6,7 +6,7 @@ ghost use Rattle.vcd_model.specs.Header.{Header};
 ghost use Rattle.vcd_model.specs.Within.{Names};
 ghost use Rattle.vcd_compare.specs.Counterparts.{ArePlaces, AreSelected, Climbs, FindPlaces, IsFound, IsBelow, IsCounterpart, IsNth, IsPlace, IsPlacing, IsReady, IsSettled, Settles, StaySettled, looked_up, place_of_node, replaced, selected_in, with_range, without_range};
 ghost use Rattle.vcd_compare.specs.Pairs.{named_by};
-ghost use Rattle.vcd_compare.specs.Paths.{HasTexts, IsNumberOf};
+ghost use Rattle.vcd_compare.specs.Paths.{HasTexts, IsNumberOf, texts_in};
 ghost use Rattle.vcd_compare.specs.Variables.{AreVariables, index_in};
 
 use crate::paths::{Paths, key_at, node_at};
@@ -214,11 +214,7 @@ fn same_range(variables: &Variables, places: &[Option<usize>], index: usize) -> 
 
 /// Returns the only variable of the path, if the variable at this index is the only one of its path
 /// too, and one of the two has no range.
-fn lone_counterpart(
-    variables: &Variables,
-    places: &[Option<usize>],
-    index: usize,
-) -> Option<usize>
+fn lone_counterpart(variables: &Variables, places: &[Option<usize>], index: usize) -> Option<usize>
     ensures { (q : Asked) (h : Header) (n : Names) (texts : List (List ℕ)) (j : ℕ) (v : Named)
         → FindPlaces q h n texts variables.now places.now → IsNth h index v
         → slice_get (selected_in q h n) j ≡ Some v → IsFound h (without_range h n v) result }
@@ -302,8 +298,15 @@ fn lacks_range(variables: &Variables, index: usize) -> bool
 {
     let (slice, _) = key_at(&variables.keys, index);
     let (_, range) = key_at(&variables.slices.pairs, slice);
-    match variables.slices.ranges.as_slice().get(range) {
-        Some(range) => range.is_empty(),
+    is_empty_at(&variables.slices.ranges, range)
+}
+
+/// Returns whether the text at this index is empty.
+fn is_empty_at(texts: &IndexSet<Vec<u8>, CodeSeed>, index: usize) -> bool
+    ensures { (t : List ℕ) → slice_get (texts_in texts.now) index ≡ Some t → result ≡ is_empty t }
+{
+    match texts.as_slice().get(index) {
+        Some(text) => text.is_empty(),
         None => true,
     }
 }

@@ -102,7 +102,7 @@ fn put_name<W: Sink>(
 
 /// Returns what stands behind the name of the variable at index `row` in its reference if `ranged`
 /// says so, otherwise nothing.
-fn shown_tail(view: HeadView<'_>, row: usize, ranged: bool) -> &[u8]
+fn shown_tail<'a>(view: HeadView<'a>, row: usize, ranged: bool) -> &'a [u8]
     ensures { AnyVariable view.entry row (λ _ v. result.now ≡ cond ranged (tail_of v) []) }
 {
     if ranged { tail_of(view, row) } else { &[] }

@@ -1,5 +1,5 @@
 // Paths with ranges, by number: several variables of one path may have different ranges.
-ghost use Rattle.std.specs.Prelude.{◌≡◌, ◌++◌, ◌∷◌, [], ℕ, List, IfOk};
+ghost use Rattle.std.specs.Prelude.{◌≡◌, ◌++◌, ◌∷◌, [], ℕ, List, drop, length, IfOk};
 ghost use Rattle.vcd_model.specs.Compare.{range_of};
 ghost use Rattle.vcd_view.specs.Over.{AnyVariable};
 ghost use Rattle.vcd_compare.specs.Paths.{AreApart, IsNumberOf};
@@ -51,12 +51,17 @@ pub(crate) fn enter_slice(
 }
 
 /// Returns what stands behind the name of the variable at index `row` in its reference.
-pub(crate) fn tail_of(view: HeadView<'_>, row: usize) -> &[u8]
+pub(crate) fn tail_of<'a>(view: HeadView<'a>, row: usize) -> &'a [u8]
     ensures { AnyVariable view.entry row (λ _ v. result.now ≡ tail_of v) }
 {
-    let reference = view.reference_of(row);
-    let name = view.name_of(row);
-    reference.get(name.len()..).unwrap_or(&[])
+    behind(view.reference_of(row), view.name_of(row))
+}
+
+/// Returns what stands behind so many bytes of a text as `front` has; no bytes if there are fewer.
+fn behind<'a>(text: &'a [u8], front: &[u8]) -> &'a [u8]
+    ensures { result.now ≡ drop (length front.now) text.now }
+{
+    text.get(front.len()..).unwrap_or(&[])
 }
 
 /// Returns the range of the variable at index `row`: what stands behind its name, without blanks.

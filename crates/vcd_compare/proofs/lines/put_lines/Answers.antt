@@ -1,4 +1,4 @@
-use Rattle.vcd_compare.proofs.Cited.{◌≡◌, ◌≤◌, ◌<◌, ◌∙◌, ◌++◌, ℕ, List, [], ◌∷◌, Some, Err, flat_map, length, get_or, slice_get, take, sym, ap, subst, arith, rules, Appends, AppendsSome, AllZip, take_all, AllZip-long, Pair, value_line, side, appends-none, append-nil, counted, slice_get-get_or, slice_get_past, ltb-false}
+use Rattle.vcd_compare.proofs.Cited.{◌≡◌, ◌≤◌, ◌<◌, ◌∙◌, ◌++◌, ℕ, false, List, [], ◌∷◌, Some, Err, flat_map, length, get_or, slice_get, take, sym, ap, subst, arith, rules, Appends, AppendsSome, AllZip, take_all, AllZip-long, Pair, value_line, side, appends-none, append-nil, counted, slice_get-get_or, slice_get_past, ltb-false}
 use Rattle.std.proofs.lemmas.List.{get_or-take, length-take-le}
 use Rattle.vcd_compare.proofs.Facts.{lines_cut, lines_more, zip_get}
 use Rattle.vcd_compare.specs.LineTexts.{line_at}
@@ -26,7 +26,7 @@ returns-in_err-put_line g c = counted (search rules) (λ h items ps views curren
     let row = c.number_at-row.result in
     let line = λ (row : ℕ). line_at items c.args.time (slice_get ps row) in
     let pair = c.in-Some.ensures.lookup in
-    let p = pair_at (IsPairAt h now.current.pairs.now.ends.items) now.current.pairs.now.rows.items c.deref.result.now ps row c.in-Some.pair.now (record { row = 0; class = 0 }) all c.deref.ensures.value pair.3.0 (pair.3.1 (record { row = 0; class = 0 })) in
+    let p = pair_at (IsPairAt h now.current.pairs.now.ends.items) now.current.pairs.now.rows.items c.deref.result.now ps row c.in-Some.pair.now (record { row = 0; ranged = false; class = 0 }) all c.deref.ensures.value pair.3.0 (pair.3.1 (record { row = 0; ranged = false; class = 0 })) in
     let text : value_line (side items) (side items) p.0 c.args.time ≡ flat_map line (row ∷ []) = sym (ap (λ o. line_at items c.args.time o ++ []) p.1 ∙ append-nil _) in
     let e : c.from_residual.result ≡ Err c.in_err-put_line.field-0.0 = search rules in
     rw e (lines_cut line _ _ _ rows c.loop-index.index row (row_at now.due.now c.args.count c.loop-index.index row c.loop-index-test.true c.requires.within c.number_at-row.ensures) (c.loop-index.invariant.lines h items ps views current late all)
@@ -45,7 +45,7 @@ loop-index-preserved g c =
             lines = λ h items ps views current late all.
                 let line = λ (row : ℕ). line_at items c.args.time (slice_get ps row) in
                 let pair = w.in-Some.ensures.lookup in
-                let p = pair_at (IsPairAt h now.current.pairs.now.ends.items) now.current.pairs.now.rows.items c.deref.result.now ps row w.in-Some.pair.now (record { row = 0; class = 0 }) all c.deref.ensures.value pair.3.0 (pair.3.1 (record { row = 0; class = 0 })) in
+                let p = pair_at (IsPairAt h now.current.pairs.now.ends.items) now.current.pairs.now.rows.items c.deref.result.now ps row w.in-Some.pair.now (record { row = 0; ranged = false; class = 0 }) all c.deref.ensures.value pair.3.0 (pair.3.1 (record { row = 0; ranged = false; class = 0 })) in
                 let text : value_line (side items) (side items) p.0 c.args.time ≡ flat_map line (row ∷ []) = sym (ap (λ o. line_at items c.args.time o ++ []) p.1 ∙ append-nil _) in
                 lines_more line _ _ _ rows c.loop-index.index row at (c.loop-index.invariant.lines h items ps views current late all)
                 (subst (λ (l : List ℕ). Appends (g.W.Sink.device c.loop-index.out).held (g.W.Sink.device w.put_line.new.out).held l) text (w.in_ok-put_line.ensures.0 h items p.0 views current p.2 late));

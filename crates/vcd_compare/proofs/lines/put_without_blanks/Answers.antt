@@ -4,12 +4,12 @@ use Rattle.vcd_compare.proofs.lines.put_without_blanks.Goals as goal
 
 pub returns-in_err-put_no_blank : goal.returns-in_err-put_no_blank
 returns-in_err-put_no_blank g c = counted (search rules) (
-  let text = c.args.text.now in
-  let i = c.loop-byte.byte-index in
-  let b = get_or text i 0 in
-  let e : c.from_residual.result ≡ Err c.in_err-put_no_blank.field-0.0 = search rules in
-  rw e (subst (AppendsSome _ _) (bytes_of text) (lines_cut byte_of _ _ _ text i b (slice_get-get_or text i 0 (omega arith)) c.loop-byte.invariant.lines (subst (AppendsSome _ _) (sym (append-nil (byte_of b))) c.in_err-put_no_blank.ensures.0)))
-)
+    let text = c.args.text.now in
+    let i = c.loop-byte.byte-index in
+    let b = get_or text i 0 in
+    let e : c.from_residual.result ≡ Err c.in_err-put_no_blank.field-0.0 = search rules in
+    rw e (subst (AppendsSome _ _) (bytes_of text) (lines_cut byte_of _ _ _ text i b (slice_get-get_or text i 0 (omega arith)) c.loop-byte.invariant.lines (subst (AppendsSome _ _) (sym (append-nil (byte_of b))) c.in_err-put_no_blank.ensures.0)))
+    )
 
 pub loop-byte-preserved : goal.loop-byte-preserved
 loop-byte-preserved g c =

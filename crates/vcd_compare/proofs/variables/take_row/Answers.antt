@@ -20,10 +20,10 @@ returns-in-Up c = λ h d texts view apart at number s.
     let k = c.in-Up.is in
     some_same h texts c.args.row c.args.variables.now c.args.counts.now.items d at (not_variable c.args.view.text.now h.codes (take c.args.row h.declarations) c.in-Some.declared d row (λ e. cc)) s
 
-pub returns-in-Var : goal.returns-in-Var
-returns-in-Var c = ok_then c.add_variable.result _ _ (λ _ adds h d texts view apart at number s.
+pub returns-in_ok-range-in-Var : goal.returns-in_ok-range-in-Var
+returns-in_ok-range-in-Var c = ok_then c.add_variable.result _ _ (λ _ adds h d texts view apart at number s.
     let row = row_of (parts c.args.view) h c.args.row c.in-Some.declared d view (sym c.row_at.ensures ∙ c.in-Some.is) at in
     let v = is_variable c.args.view.text.now h.codes (take c.args.row h.declarations) c.in-Some.declared d row c.in-Var.is in
-    let range = c.deref.ensures.value ∙ c.in_ok-range.ensures h v.0 view (at ∙ ap Some v.1) in
+    let range = c.deref.ensures.value ∙ c.in_ok-range-in-Var.ensures h v.0 view (at ∙ ap Some v.1) in
     some_more h texts c.args.row c.args.path c.args.variables.now c.add_variable.new.variables c.args.counts.now.items c.add_variable.new.counts.items c.deref.result.now v.0 apart (at ∙ ap Some v.1)
     (subst (λ x. IsNumberOf texts c.args.path (path_of (take c.args.row h.declarations) x)) v.1 number) range adds s) c.add_variable.ensures
