@@ -54,7 +54,8 @@ module _ (q : Asked) (h : Header) (ns : List Names) where
   module _ (name : List ℕ) where
     kept : KeepOutput (ways_within q h ns name)
     kept = record {
-      well = λ lines. (count_line (length (compared_in q h ns)), refl);
+      early = λ lines. (count_line (length (compared_in q h ns)), refl);
+      well = λ items lines. (count_line (length (compared_in q h ns)), refl);
       faulty = λ lines f. fault_output lines name f;
     }
 

@@ -23,7 +23,7 @@ use Rattle.vcd_compare.specs.declared.whole.Answer.{Answer}
 -- The outcome by the lines that were written, of the one input, which has this name. After a run
 -- that did not fail, it has one more line, which says how many pairs were compared.
 abbrev pub ways_within : ModelAsked → Header → List Names → List ℕ → Ways
-ways_within q h ns name = record { well = answer_in q h ns; faulty = λ lines fault. fault_after lines name fault }
+ways_within q h ns name = record { early = answer_in q h ns; well = λ items lines. answer_in q h ns lines; faulty = λ lines fault. fault_after lines name fault }
 
 -- What a run over a body leaves belongs to the outcome of its input, if these first tokens are its
 -- header.

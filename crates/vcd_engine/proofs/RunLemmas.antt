@@ -47,13 +47,13 @@ sound_plan t h valid limit i front rest items more tokens are = grows_with t h v
 
 -- an outcome of a request, by its output
 abbrev ways : List ℕ → Ways
-ways name = record { well = clean_outcome; faulty = λ text f. fault_outcome text name f }
+ways name = record { early = clean_outcome; well = λ items text. clean_outcome text; faulty = λ text f. fault_outcome text name f }
 
 keep_output : (name : List ℕ) → KeepOutput (ways name)
-keep_output name = record { well = λ text. ([], sym (append-nil text)); faulty = λ text f. fault_output text name f }
+keep_output name = record { early = λ text. ([], sym (append-nil text)); well = λ items text. ([], sym (append-nil text)); faulty = λ text f. fault_output text name f }
 
 -- the outcome of the plan is that of the request
-over_same : (t : Request) (h : Header) (items : List BodyItem) (name : List ℕ) (fault : Option Fault) → over_plan (plan_of t h) (ways name) items fault ≡ over_body t h items name fault
+pub over_same : (t : Request) (h : Header) (items : List BodyItem) (name : List ℕ) (fault : Option Fault) → over_plan (plan_of t h) (ways name) items fault ≡ over_body t h items name fault
 unfolding over_plan over_body
 over_same t h items name fault = by_end (list_any (ends_early t) items) refl
   where
@@ -90,7 +90,8 @@ due_same (Request.Edges names) h can ts = ap (λ place. due_of_body place (Reque
 due_same Request.Merge h can ts = refl
 
 belongs_to : (t : Request) (o : Outcome) (name : List ℕ) (out out' : Device) (result : Result Done Stop) → PlanBelongs (λ _ _. ⊤) (ways name) o out out' result → Belongs t o name out out' result
-belongs_to t o name out out' (Ok done) (items, text, is, written, told) = subst (λ (x : Outcome). (x ≡ clean_outcome x.output) × Writes out out' x.output) (sym is) (refl, written)
+belongs_to t o name out out' (Ok Whole) (items, text, is, written, told) = subst (λ (x : Outcome). (x ≡ clean_outcome x.output) × Writes out out' x.output) (sym is) (refl, written)
+belongs_to t o name out out' (Ok Early) (items, text, is, written, told) = subst (λ (x : Outcome). (x ≡ clean_outcome x.output) × Writes out out' x.output) (sym is) (refl, written)
 belongs_to t o name out out' (Err (Dump input line fault)) (text, first, other, is, written) =
     let f : Fault = record { number = fault; line = line } in
     let e = fault_output text name f in

@@ -19,11 +19,11 @@ use Rattle.vcd_run.specs.Plan.{Plan}
 use Rattle.vcd_run.specs.Run.{BodyGives, left_of}
 
 module _ (p : Plan) (w : Ways) (kept : KeepOutput w) where
-  over_ended : (items : List BodyItem) (fault : Option Fault) → p.ends items ≡ true → over_plan p w items fault ≡ w.well (p.opens items)
+  over_ended : (items : List BodyItem) (fault : Option Fault) → p.ends items ≡ true → over_plan p w items fault ≡ w.early (p.opens items)
   unfolding over_plan
   over_ended items fault ends = rw (ends, over_plan) refl
 
-  over_clean : (items : List BodyItem) → p.ends items ≡ false → over_plan p w items None ≡ w.well (p.opens items ++ p.closes items)
+  over_clean : (items : List BodyItem) → p.ends items ≡ false → over_plan p w items None ≡ w.well items (p.opens items ++ p.closes items)
   unfolding over_plan
   over_clean items on = rw (on, over_plan) refl
 
@@ -37,12 +37,12 @@ module _ (p : Plan) (w : Ways) (kept : KeepOutput w) where
     where
       by_fault : (f : Option Fault) → p.ends items ≡ false → IsPrefixOf (p.opens items) (over_plan p w items f).output
       by_fault None on =
-          let more = kept.well (p.opens items ++ p.closes items) in
+          let more = kept.well items (p.opens items ++ p.closes items) in
           (p.closes items ++ more.0, ap (λ (o : Outcome). o.output) (over_clean items on) ∙ more.1 ∙ append_assoc (p.opens items) (p.closes items) more.0)
       by_fault (Some f) on = ([], ap (λ (o : Outcome). o.output) (over_faulty items f on) ∙ kept.faulty (p.opens items) f ∙ sym (append-nil (p.opens items)))
 
       by_end : (b : Bool) → p.ends items ≡ b → IsPrefixOf (p.opens items) (over_plan p w items fault).output
-      by_end true e = let more = kept.well (p.opens items) in (more.0, ap (λ (o : Outcome). o.output) (over_ended items fault e) ∙ more.1)
+      by_end true e = let more = kept.early (p.opens items) in (more.0, ap (λ (o : Outcome). o.output) (over_ended items fault e) ∙ more.1)
       by_end false e = by_fault fault e
 
   module _ (told : List BodyItem → List ℕ → Type 0) (h : Header) (sound : IsSound p h.codes) (i : Input) (front : List Token) (limit read : ℕ) (out out' : Device) where
@@ -65,7 +65,7 @@ module _ (p : Plan) (w : Ways) (kept : KeepOutput w) where
         record {
           rest = b.rest;
           tokens = b.tokens;
-          belongs = (items, p.opens items, ap (λ l. over_plan p w l (body_fault_of (stream_of limit i) (read_body h.codes b.rest))) b.begins.1 ∙ over_ended (items ++ b.begins.0) _ both.0 ∙ ap w.well both.1, written, is);
+          belongs = (items, p.opens items, ap (λ l. over_plan p w l (body_fault_of (stream_of limit i) (read_body h.codes b.rest))) b.begins.1 ∙ over_ended (items ++ b.begins.0) _ both.0 ∙ ap w.early both.1, written, is);
           early = ap p.ends b.begins.1 ∙ both.0;
         }
     gives_outcome (Err (Dump input line fault)) (items, is, other, has, on, written) = record {
@@ -92,7 +92,7 @@ module _ (p : Plan) (w : Ways) (kept : KeepOutput w) where
           early = tt;
         }
     gives_outcome (Err Write) (inr (items, has, on, some)) =
-        let more = kept.well (p.opens items ++ p.closes items) in
+        let more = kept.well items (p.opens items ++ p.closes items) in
         record {
           rest = has.rest;
           tokens = has.tokens;

@@ -16,20 +16,23 @@ use Rattle.vcd_body.specs.declared.answer.Stop.{Stop}
 use Rattle.vcd_body.specs.declared.answer.Stop.TheVariants.{Dump, Read, Write, Unmatched}
 use Rattle.vcd_run.specs.Plan.{Plan}
 
--- an outcome by what was written: of a run that ended well, and of one that met a fault
+-- an outcome by what was written: of a run that an item ended; of one over all of these items; and
+-- of one that met a fault
 pub record Ways : Type 0 where
-  pub well : List ℕ → Outcome
+  pub early : List ℕ → Outcome
+  pub well : List BodyItem → List ℕ → Outcome
   pub faulty : List ℕ → Fault → Outcome
 
 -- an outcome has what was written as its output, and behind it nothing but what a run writes at its
 -- end
 pub record KeepOutput (w : Ways) : Type 0 where
-  pub well : (text : List ℕ) → IsPrefixOf text (w.well text).output
+  pub early : (text : List ℕ) → IsPrefixOf text (w.early text).output
+  pub well : (items : List BodyItem) (text : List ℕ) → IsPrefixOf text (w.well items text).output
   pub faulty : (text : List ℕ) (f : Fault) → (w.faulty text f).output ≡ text
 
 -- the outcome of a body with these items and this fault
 unfoldable pub over_plan : Plan → Ways → List BodyItem → Option Fault → Outcome
-over_plan p w items fault = cond (p.ends items) (w.well (p.opens items)) (elim fault [ Some f ↦ w.faulty (p.opens items) f | None ↦ w.well (p.opens items ++ p.closes items) ])
+over_plan p w items fault = cond (p.ends items) (w.early (p.opens items)) (elim fault [ Some f ↦ w.faulty (p.opens items) f | None ↦ w.well items (p.opens items ++ p.closes items) ])
 
 -- No item of a body takes back what was due before it, and none behind those that end a run counts.
 abbrev pub IsSound : Plan → List IdCode → Type 0
@@ -38,7 +41,8 @@ IsSound p codes = (limit : ℕ) (i : Input) (front rest : List Token) (items mor
 
 -- the answer and the output belong to this outcome
 abbrev pub Belongs : (told : List BodyItem → List ℕ → Type 0) → Ways → Outcome → Device → Device → Result Done Stop → Type 0
-Belongs told w o out out' (Ok done) = (items : List BodyItem) × (text : List ℕ) × (o ≡ w.well text) × Writes out out' text × told items text
+Belongs told w o out out' (Ok Whole) = (items : List BodyItem) × (text : List ℕ) × (o ≡ w.well items text) × Writes out out' text × told items text
+Belongs told w o out out' (Ok Early) = (items : List BodyItem) × (text : List ℕ) × (o ≡ w.early text) × Writes out out' text × told items text
 Belongs told w o out out' (Err (Dump input line fault)) = (text : List ℕ) × (input ≡ 0) × ((fault == 31) ≡ false) × (o ≡ w.faulty text (record { number = fault; line = line })) × Writes out out' text
 Belongs told w o out out' (Err (Read input)) = (text : List ℕ) × (line : ℕ) × (input ≡ 0) × (o ≡ w.faulty text (record { number = 31; line = line })) × Writes out out' text
 Belongs told w o out out' (Err Write) = WritesSome out out' o.output
