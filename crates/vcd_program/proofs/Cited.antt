@@ -48,6 +48,7 @@ pub use Rattle.vcd_words.specs.Words.{AsksFor, IsFaultOf, job_asked, parse_statu
 pub use Rattle.vcd_words.specs.declared.job.UseFault.{UseFault}
 pub use Rattle.vcdkit.proofs.Statuses.{end-low}
 pub use Rattle.vcdkit.specs.Calls.{AreReaders, AreWithin}
-pub use Rattle.vcdkit.specs.Message.{Shows, Tells, program_name, unopened_outcome, use_outcome}
+pub use Rattle.vcdkit.specs.Message.{Shows, Tells, unopened_outcome, use_outcome}
+pub use Rattle.vcdkit.specs.Work.{program_name}
 pub use Rattle.vcdkit.specs.Run.{AreRead, HasRun, IsOutcome, header_behind}
-pub use Rattle.vcdkit.specs.Run.IsOutcome.{Part, Whole}
+pub use Rattle.vcdkit.specs.Ends.IsOutcome.{Part, Whole}

@@ -13,8 +13,12 @@ use Rattle.vcd_words.specs.Job.{model_want}
 use Rattle.vcd_words.specs.Words.{AsksFor, IsFaultOf, job_asked, words_used}
 use Rattle.vcd_words.specs.declared.job.Job.{Job}
 use Rattle.vcd_words.specs.declared.job.UseFault.{UseFault}
-use Rattle.vcdkit.specs.Failure.{CountsReads, EndsAtReadOf, writes_failed}
-use Rattle.vcdkit.specs.Message.{Tells, end_message, end_status, program_name}
+use Rattle.vcdkit.specs.Calls.{speech_with}
+use Rattle.vcdkit.specs.Calls.{Answers}
+use Rattle.vcdkit.specs.Ends.{end_message, end_status}
+use Rattle.vcdkit.specs.Failure.{CountsReads, EndsAtReadOf, failure_of, writes_failed}
+use Rattle.vcdkit.specs.Message.{Tells}
+use Rattle.vcdkit.specs.Work.{program_name}
 use Rattle.vcdkit.specs.Run.{AreInTurn, AreNeeded, AreRead}
 
 -- the words ask for this job, or have this fault
@@ -37,8 +41,8 @@ names_wanted want = []
 -- read of the input that is named failed, its last one, and none of another; likewise for a write.
 abbrev pub EndsAsked : (asked names : List Text) → (before after : List ℕ) → (last_failed : List Bool) → (out out' err err' : Device) → (status : ℕ) → Type 0
 EndsAsked asked names before after last_failed out out' err err' status =
-    (why : _) × CountsReads before after why × (failures_then (writes_failed why) out' ≡ out.failures + writes_failed why) × (status ≡ end_status why) × Tells program_name err err' (end_message names asked why)
-    × EndsAtReadOf last_failed why
+    (end : _) × Answers (λ n. n ≡ 0) end × CountsReads before after (failure_of end) × (failures_then (writes_failed (failure_of end)) out' ≡ out.failures + writes_failed (failure_of end))
+    × (status ≡ end_status (speech_with asked) names end) × Tells program_name err err' (end_message (speech_with asked) names end) × EndsAtReadOf last_failed (failure_of end)
 
 abbrev pub EndsSo : Job → (names : List Text) → (before after : List ℕ) → (last_failed : List Bool) → (out out' err err' : Device) → (status : ℕ) → Type 0
 EndsSo job names before after last_failed out out' err err' status = EndsAsked (names_wanted (model_want job.task)) names before after last_failed out out' err err' status

@@ -11,7 +11,7 @@ use Rattle.vcd_words.specs.declared.job.UseFault.TheVariants as use_fault
 use Rattle.vcd_text.proofs.Writes.{appends-none}
 use Rattle.vcdkit.specs.Message.{Tells, use_outcome}
 use Rattle.vcdkit.specs.Run.{IsOutcome}
-use Rattle.vcdkit.specs.Run.IsOutcome.{Part, Whole}
+use Rattle.vcdkit.specs.Ends.IsOutcome.{Part, Whole}
 use Rattle.vcd_program.specs.Leaves.{IsRefusal, Leaves}
 use Rattle.vcd_program_tests.specs.Echo.{Asks, echo_name, outcome_of, word_of}
 use Rattle.vcd_program_tests.specs.declared.echo.Line.{Line}

@@ -26,7 +26,7 @@ use Rattle.vcd_words.specs.Words.{words_used}
 use Rattle.vcd_words.specs.declared.job.UseFault.{UseFault}
 use Rattle.vcd_words.specs.declared.job.UseFault.TheVariants as use_fault
 use Rattle.vcdkit.specs.Inputs.{AreBegun, Stops, headers_in}
-use Rattle.vcdkit.specs.Message.{program_name}
+use Rattle.vcdkit.specs.Work.{program_name}
 use Rattle.vcdkit.specs.Run.{AreInTurn, AreMergedInTurn, AreRead, IsOutcome}
 use Rattle.vcd_host.specs.declared.host.OpenFault.{OpenFault}
 use Rattle.vcd_host.specs.declared.host.OpenFault.TheVariants.{Unopened, OutOfMemory}

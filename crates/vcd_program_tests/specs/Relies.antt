@@ -29,9 +29,11 @@ use Rattle.vcd_merge.specs.MergeRun.{BeginsWith, NoneBefore}
 use Rattle.vcd_merge.specs.Seat.{Lane, ReadsNoMore}
 use Rattle.vcd_words.specs.Words.{program_app, words_used}
 use Rattle.vcd_words.specs.declared.job.UseFault.{UseFault}
-use Rattle.vcdkit.specs.Failure.{CountsReads, EndsAtReadOf, writes_failed}
+use Rattle.vcdkit.specs.Calls.{Answers as EndsWell, speech_with}
+use Rattle.vcdkit.specs.Ends.{end_message, end_status}
+use Rattle.vcdkit.specs.Failure.{CountsReads, EndsAtReadOf, failure_of, writes_failed}
 use Rattle.vcdkit.specs.Inputs.{AreBegun, Stops, headers_in}
-use Rattle.vcdkit.specs.Message.{end_message, end_status, unopened_outcome, use_outcome}
+use Rattle.vcdkit.specs.Message.{unopened_outcome, use_outcome}
 use Rattle.vcdkit.specs.Run.{AreRead}
 use Rattle.vcd_host.specs.Asked.{inputs_asked}
 use Rattle.vcd_host.specs.Opens.{Opens, OpensSome, OpensUpTo, called}
@@ -116,8 +118,8 @@ pub record Over (want : Want) (limit : ℕ) (outcome_of : List Input → Outcome
 -- whose texts are known the outcome of the words. If a read failed, nothing is kept back.
 pub data Relies {H I : Type 0} (words : List Text) (opens : H → Option Text → Result I OpenFault → H → Type 0) (rest : I → Option (List ℕ)) (failures : I → ℕ) (last_failed : I → Bool) (host host' : H) (out out' err err' : Device) (kept kept' : ℕ) (status : ℕ) : Type 0 where
   Ran : (matches : ArgMatches) (are : HasMatchesOf program_app words matches) (want : Want) (limit : ℕ) (is : job_of (words_used matches) ≡ Ok (record { want = want; limit = limit })) (readers after : List I) (opened : Opens opens host (inputs_asked matches) readers host')
-      (ends : (why : _) × CountsReads (map failures readers) (map failures after) why × (failures_then (writes_failed why) out' ≡ out.failures + writes_failed why) × (status ≡ end_status why) × Says err err' (end_message (map called (inputs_asked matches)) (names_wanted want) why)
-      × EndsAtReadOf (map last_failed after) why)
+      (ends : (end : _) × EndsWell (λ n. n ≡ 0) end × CountsReads (map failures readers) (map failures after) (failure_of end) × (failures_then (writes_failed (failure_of end)) out' ≡ out.failures + writes_failed (failure_of end))
+      × (status ≡ end_status (speech_with (names_wanted want)) (map called (inputs_asked matches)) end) × Says err err' (end_message (speech_with (names_wanted want)) (map called (inputs_asked matches)) end) × EndsAtReadOf (map last_failed after) (failure_of end))
       (gives : (texts : List Text) → map rest readers ≡ map (λ text. Some text) texts
       → Over want limit (command_outcome (words_used matches) (map called (inputs_asked matches))) out out' err err' status texts (map (supply rest failures) readers) (map (supply rest failures) after))
       (passed_on : map failures after ≢ map failures readers → kept ≡ 0 → kept' ≡ 0) → Relies words opens rest failures last_failed host host' out out' err err' kept kept' status

@@ -89,15 +89,20 @@ pub use Rattle.vcd_words.specs.declared.job.Job.{Job}
 pub use Rattle.vcd_words.specs.declared.job.Want.TheVariants.{Sample}
 pub use Rattle.vcd_words.specs.declared.refusal.Refusal.{Refusal}
 pub use Rattle.vcdkit.specs.Calls.{AreWithin, IsLimitFor, Narrows, supplies}
-pub use Rattle.vcdkit.specs.Failure.{CountsRead, CountsReads, CountsReadsOf, EndsAtRead, EndsAtReadOf, HasPassedOn, end_of, failure_of, head_failure, merge_end}
-pub use Rattle.vcdkit.specs.Inputs.{AreBegun, AreParked, AreShown, Begins, BeginsAt, HasFailed, HaveBegun, IsBegun, IsNew, IsWhy, SameParts, Stops, headers_in, place_of}
-pub use Rattle.vcdkit.specs.Lent.{AreLentWithin}
-pub use Rattle.vcdkit.specs.Message.{Shows, Tells, end_message, end_status, program_name, refusal_status}
-pub use Rattle.vcdkit.specs.Run.{AreInTurn, AreMergedInTurn, AreNeeded, AreRead, Ends, EndsAll, HasRun, IsAfter, IsOfJob, IsOutcome, Leaves, LeavesAll, OneKeepsUp, header_behind, known, settled_for, settles_among}
+pub use Rattle.vcd_job.specs.Calls.{Answers}
+pub use Rattle.vcd_job.specs.Failure.{CountsRead, CountsReads, CountsReadsOf, EndsAtRead, EndsAtReadOf, HasPassedOn, failure_of, merge_end}
+pub use Rattle.vcd_job.specs.Inputs.{AreBegun, AreParked, AreShown, Begins, BeginsAt, HasFailed, HaveBegun, IsBegun, IsNew, IsWhy, SameParts, Stops, headers_in, place_of}
+pub use Rattle.vcd_job.specs.Lent.{AreLentWithin}
+pub use Rattle.vcd_job.specs.Message.{Shows, Tells, failure_message, failure_status}
+pub use Rattle.vcd_job.specs.Ends.{Ends, IsAfter, IsOutcome, Leaves, Speech, end_message, end_status, settled_for}
+pub use Rattle.vcd_job.specs.Work.{due_by, over_header, settled_by}
+pub use Rattle.vcdkit.specs.Run.{AreInTurn, AreMergedInTurn, AreNeeded, AreRead, EndsAll, HasRun, LeavesAll, OneKeepsUp, header_behind, known, settles_among}
 pub use Rattle.vcdkit.specs.Run.AreMergedInTurn.{InBodies, InHeaders}
 pub use Rattle.vcdkit.specs.Run.HasRun.{NoMemory, WithOutcome}
-pub use Rattle.vcdkit.specs.Run.IsOutcome.{Part, Whole}
+pub use Rattle.vcd_job.specs.Ends.IsOutcome.{Part, Whole}
 pub use Rattle.vcdkit.specs.Tasks.{request_for, task_request, taskless}
-pub use Rattle.vcdkit.specs.declared.failure.Failure.{Failure}
-pub use Rattle.vcdkit.specs.declared.failure.Failure.TheVariants.{OutOfMemory, Refused, Stopped}
-pub use Rattle.vcdkit.specs.declared.inputs.BegunInput.{BegunInput}
+pub use Rattle.vcdkit.specs.Work.{answer_end, course_by, course_if, course_of, program_name, refusal_of, ways_of, work_of}
+pub use Rattle.vcd_job.specs.declared.answer.Answer.{Answer}
+pub use Rattle.vcd_job.specs.declared.answer.Answer.TheVariants.{Refused, Status}
+pub use Rattle.vcd_job.specs.declared.failure.Failure.{Failure}
+pub use Rattle.vcd_job.specs.declared.failure.Failure.TheVariants.{OutOfMemory, Stopped}

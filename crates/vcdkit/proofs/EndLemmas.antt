@@ -1,11 +1,11 @@
 -- How a run over its inputs ends, and what it leaves then.
-use Rattle.vcdkit.proofs.Cited.{◌≡◌, ◌==◌, ℕ, ◌+◌, ◌*◌, ◌/◌, ◌<◌, ◌≤◌, Bool, true, false, inl, List, [], length, map, Option, Some, Result, Ok, Err, refl, sym, ap, subst, ◌∙◌, arith, add-zero, get_or, slice_set, set-get_or, mul-div_cancel_left, mul-le, map_map, Head, AreParts, part_len, Seat, Input, Want, refusal_outcome, is_header_over, is_settled, Opened, Outcome, dumps_of, fault_outcome, merge_outcome, name_at, open_from, Fault, Token, Device, Supply, Writes, supply, appends-none, NamesInput, MergeIsWithinBound, windows_size, AreLentWithin, failures_with, Lane, Done, Stop, Dump, Read, Write, Unmatched, Windows, Failure, Stopped, Refused, OutOfMemory, Refusal, failure_of, merge_end, CountsReads, CountsReadsOf, model_refusal, AreBegun, AreParked, AreShown, HaveBegun, Stops, end_message, end_status, refusal_status, program_name, Shows, Tells, AreNeeded, EndsAll, HasRun, LeavesAll, InBodies, InHeaders, WithOutcome, NoMemory, Whole, Part}
+use Rattle.vcdkit.proofs.Cited.{◌≡◌, ◌==◌, ℕ, ◌+◌, ◌*◌, ◌/◌, ◌<◌, ◌≤◌, Bool, true, false, inl, List, [], length, map, Option, Some, Result, Ok, Err, refl, sym, ap, subst, ◌∙◌, arith, add-zero, get_or, slice_set, set-get_or, mul-div_cancel_left, mul-le, map_map, Head, AreParts, part_len, Seat, Input, Want, is_header_over, is_settled, Opened, Outcome, dumps_of, fault_outcome, merge_outcome, name_at, open_from, Fault, Token, Device, Supply, Writes, supply, appends-none, NamesInput, MergeIsWithinBound, windows_size, AreLentWithin, failures_with, Lane, Done, Stop, Dump, Read, Write, Unmatched, Windows, Failure, Stopped, OutOfMemory, failure_of, merge_end, CountsReads, CountsReadsOf, AreBegun, AreParked, AreShown, HaveBegun, Stops, failure_message, failure_status, program_name, Shows, Tells, AreNeeded, EndsAll, HasRun, LeavesAll, InBodies, InHeaders, WithOutcome, NoMemory, Whole, Part, is_merge, names_asked, model_want}
 use Rattle.vcd_model.specs.Job.{outcome, request_of}
 use Rattle.vcd_merge.specs.MergeRun.{Belongs, Follows}
 use Rattle.vcd_body.specs.declared.answer.Done.TheVariants as done
-use Rattle.vcd_words.specs.declared.refusal.Refusal.TheVariants as refusal
-use Rattle.vcdkit.proofs.HeaderLemmas.{unsettled_header}
-use Rattle.vcdkit.proofs.InputsLemmas.{HaveStopped, merged_read, stops_read}
+use Rattle.vcdkit.proofs.InputsLemmas.{HaveStopped, merged_read, stops_read, unsettled_header}
+use Rattle.vcd_words.specs.declared.job.Want as words
+use Rattle.vcdkit.proofs.WorkLemmas.{merge_wanted}
 use Rattle.vcdkit.proofs.NeededLemmas.{merge_needed, needed_all, none_passed}
 
 writes-none : (out : Device) → Writes out out []
@@ -13,18 +13,14 @@ writes-none out = (appends-none out.held, refl)
 
 -- ---- what is said
 
--- the status of times that are refused, and that they leave no output
-refused_status : (name : List ℕ) (why : Refusal) → (refusal_outcome name (model_refusal why)).status ≡ refusal_status why
-refused_status name refusal.NoTimescale = refl
-refused_status name refusal.OutOfRange = refl
-refused_status name refusal.FromAboveTo = refl
-refused_status name refusal.NotRising = refl
+-- the message and the status of a merge
+abbrev pub said : (names asked : List (List ℕ)) → Result Done Failure → List ℕ
+said names asked (Ok done) = []
+said names asked (Err failure) = failure_message names asked failure
 
-refused_output : (name : List ℕ) (why : Refusal) → (refusal_outcome name (model_refusal why)).output ≡ []
-refused_output name refusal.NoTimescale = refl
-refused_output name refusal.OutOfRange = refl
-refused_output name refusal.FromAboveTo = refl
-refused_output name refusal.NotRising = refl
+abbrev pub exits : Result Done Failure → ℕ
+exits (Ok done) = 0
+exits (Err failure) = failure_status 1 failure
 
 -- a run that ends so, and whose line and status these are, leaves the outcome of its inputs
 module _ (want : Want) (asked : List (List ℕ)) (limit chunk : ℕ) (names texts : List (List ℕ)) (old new : List Supply) (out out' err err' : Device) (status : ℕ) where
@@ -32,7 +28,7 @@ module _ (want : Want) (asked : List (List ℕ)) (limit chunk : ℕ) (names text
   Ends end = EndsAll want asked limit chunk names texts old new out out' end
 
   abbrev Says : Result Done Failure → Type 0
-  Says end = Tells program_name err err' (end_message names asked (failure_of end))
+  Says end = Tells program_name err err' (said names asked end)
 
   abbrev Runs : Type 0
   Runs = HasRun want limit chunk names texts old new out out' err err' status
@@ -43,36 +39,35 @@ module _ (want : Want) (asked : List (List ℕ)) (limit chunk : ℕ) (names text
   abbrev due : (end : Result Done Failure) → Ends end → Outcome
   due end e = outcome want limit names e.lefts
 
-  pub has_run : (end : Result Done Failure) → Ends end → Counts end → status ≡ end_status (failure_of end) → Says end → Runs
+  pub has_run : (end : Result Done Failure) → Ends end → Counts end → status ≡ exits end → Says end → Runs
   has_run (Ok d) e n k s =
       let o = due (Ok d) e in
       WithOutcome e.lefts e.read e.needed e.in_turn (Whole e.leaves.1 (subst (λ (l : List ℕ). Tells program_name err err' l) (sym (ap (λ (o : Outcome). o.message) e.leaves.0)) s) (k ∙ sym (ap (λ (o : Outcome). o.status) e.leaves.0)))
   has_run (Err (Stopped (Dump input line fault))) e n k s =
       let o = due (Err (Stopped (Dump input line fault))) e in
-      let message : o.message ≡ end_message names asked (Some (Stopped (Dump input line fault))) = ap (λ (o : Outcome). o.message) e.leaves.0 ∙ rw (e.leaves.1, fault_outcome) refl in
+      let message : o.message ≡ said names asked (Err (Stopped (Dump input line fault))) = ap (λ (o : Outcome). o.message) e.leaves.0 ∙ rw (e.leaves.1, fault_outcome) refl in
       let is : o.status ≡ 1 = ap (λ (o : Outcome). o.status) e.leaves.0 ∙ rw (e.leaves.1, fault_outcome) refl in
       WithOutcome e.lefts e.read e.needed e.in_turn (Whole e.leaves.2 (subst (λ (l : List ℕ). Tells program_name err err' l) (sym message) s) (k ∙ sym is))
   has_run (Err (Stopped (Read input))) e n k s =
       let o = due (Err (Stopped (Read input))) e in
-      let message : o.message ≡ end_message names asked (Some (Stopped (Read input))) = ap (λ (o : Outcome). o.message) e.leaves.0.1 in
+      let message : o.message ≡ said names asked (Err (Stopped (Read input))) = ap (λ (o : Outcome). o.message) e.leaves.0.1 in
       WithOutcome e.lefts e.read e.needed e.in_turn (Whole e.leaves.1 (subst (λ (l : List ℕ). Tells program_name err err' l) (sym message) s) (k ∙ sym (ap (λ (o : Outcome). o.status) e.leaves.0.1)))
   has_run (Err (Stopped Write)) e n k s = WithOutcome e.lefts e.read e.needed e.in_turn (Part e.leaves s k)
   has_run (Err (Stopped (Unmatched place))) e n k s =
       WithOutcome e.lefts e.read e.needed e.in_turn (Whole e.leaves.1 (subst (λ (l : List ℕ). Tells program_name err err' l) (sym (ap (λ (o : Outcome). o.message) e.leaves.0)) s) (k ∙ sym (ap (λ (o : Outcome). o.status) e.leaves.0)))
-  has_run (Err (Refused why)) e n k s =
-      let o = due (Err (Refused why)) e in
-      let output : o.output ≡ [] = ap (λ (o : Outcome). o.output) e.leaves.0 ∙ refused_output (name_at names 0) why in
-      WithOutcome e.lefts e.read e.needed e.in_turn (Whole (subst (λ (l : List ℕ). Writes out out' l) (sym output) e.leaves.1) (subst (λ (l : List ℕ). Tells program_name err err' l) (sym (ap (λ (o : Outcome). o.message) e.leaves.0)) s)
-      (k ∙ sym (ap (λ (o : Outcome). o.status) e.leaves.0 ∙ refused_status (name_at names 0) why)))
   has_run (Err OutOfMemory) e n k s = NoMemory e.lefts e.read e.needed e.in_turn n e.leaves s k
+
+-- a merge that ends so
+pub merged_run : (wanted : words.Want) → is_merge wanted ≡ true → (limit chunk : ℕ) (names texts : List (List ℕ)) (old new : List Supply) (out out' err err' : Device) (status : ℕ) (end : Result Done Failure) → EndsAll Want.Merge [] limit chunk names texts old new out out' end
+    → CountsReadsOf (λ (s : Supply). s.failures) old new (failure_of end) → status ≡ exits end → Tells program_name err err' (said names (names_asked wanted) end) → HasRun (model_want wanted) limit chunk names texts old new out out' err err' status
+merged_run wanted is limit chunk names texts old new out out' err err' status end ends counts k says =
+    let merge = merge_wanted wanted is in
+    subst (λ (w : Want). HasRun w limit chunk names texts old new out out' err err' status) (sym merge.0)
+    (has_run Want.Merge [] limit chunk names texts old new out out' err err' status end ends counts k (subst (λ (asked : List (List ℕ)). Tells program_name err err' (said names asked end)) merge.1 says))
 
 -- the failed reads of readers are counted by what is supplied
 pub counted_reads : {X : Type 0} (rest : X → Option (List ℕ)) (failures : X → ℕ) (old new : List X) (why : Option Failure) → CountsReadsOf failures old new why → CountsReadsOf (λ (s : Supply). s.failures) (map (supply rest failures) old) (map (supply rest failures) new) why
 counted_reads rest failures old new why counts = rw (map_map (supply rest failures) (λ (s : Supply). s.failures) old, map_map (supply rest failures) (λ (s : Supply). s.failures) new) counts
-
--- nothing is said
-pub shows_nothing : (err : Device) → Shows err err []
-shows_nothing err = inl (writes-none err)
 
 -- ---- headers that end a run
 
@@ -112,7 +107,6 @@ module _ (limit chunk : ℕ) (names texts : List (List ℕ)) (old new : List Sup
       record { lefts = s.lefts; read = s.read; needed = needed _ _ s; in_turn = InHeaders _ h; leaves = ((s.first.0, o.0), o.1) }
   stopped (Stopped Write) h = let s = stops (is_settled Want.Merge) (unsettled_header Want.Merge) _ h in absurd s.first
   stopped (Stopped (Unmatched place)) h = let s = stops (is_settled Want.Merge) (unsettled_header Want.Merge) _ h in absurd s.first
-  stopped (Refused why) h = let s = stops (is_settled Want.Merge) (unsettled_header Want.Merge) _ h in absurd s.first
   stopped OutOfMemory h =
       let s = stops is_header_over (λ most ts e. e) _ h in
       record { lefts = s.lefts; read = s.read; needed = needed _ _ s; in_turn = InHeaders _ h; leaves = writes-none out }

@@ -1,39 +1,28 @@
 -- The headers of inputs in order: what was read of each input, and how the definitions open them.
-use Rattle.vcdkit.proofs.Cited.{◌≡◌, ◌==◌, ℕ, suc, ◌+◌, Bool, false, ◌++◌, inl, inr, List, [], ◌∷◌, length, map, Some, None, Ok, Err, refl, sym, ap, ap₂, subst, ◌∙◌, arith, append_assoc, append-nil, length-append, length_push, Input, Want, is_header_over, is_settled, is_settled_behind, is_settled_by, Header, header_fault_of, read_header, Opened, Request, allowed_after, with_opened, Fault, Token, stream_of, whole, Supply, Nothing, AreLeft, AreOpened, IsLeft, Lane, Dump, Read, Write, Unmatched, Failure, Stopped, Refused, OutOfMemory, AreBegun, HasFailed, IsBegun, IsWhy, Stops, headers_in, AreRead, header_behind}
+use Rattle.vcdkit.proofs.Cited.{is_over, is_settled_at, HeaderPhrase, header_of, header_grammar, phrases_of, reading_of, Ending, Reading, Placed, AtFault, AtEnd, AtLast, IsWhole, whole-more, ◌≡◌, ◌==◌, ℕ, suc, ◌+◌, Bool, false, ◌++◌, inl, inr, List, [], ◌∷◌, length, map, Some, None, Ok, Err, refl, sym, ap, ap₂, subst, ◌∙◌, arith, append_assoc, append-nil, length-append, length_push, Input, Want, is_settled_behind, is_settled_by, Header, header_fault_of, read_header, Opened, Request, allowed_after, with_opened, Fault, Token, stream_of, whole, Supply, Nothing, AreLeft, AreOpened, IsLeft, Lane, Dump, Read, Write, Unmatched, Failure, Stopped, OutOfMemory, AreBegun, HasFailed, IsBegun, IsWhy, Stops, headers_in, AreRead, header_behind}
 use Rattle.vcd_model.specs.Job.{request_of}
+use Rattle.vcd_model.specs.Settled.{is_header_over, is_settled}
 use Rattle.vcd_model.specs.Outcome.{open_from}
 use Rattle.vcdkit.proofs.NeededLemmas.{AreNeededFrom, ArePassed, header_needed, needed_before, passed_more, shifted, unread_needed}
-use Rattle.vcdkit.proofs.HeaderLemmas.{all_read, header_only, header_read, left_since, no_fault, reads_for, rest_read, settled_run, unsettled_header}
+use Rattle.vcd_job.proofs.HeaderLemmas.{all_read, header_only, header_read, left_since, no_fault, reads_for, rest_read}
 
--- ---- one input more
+-- ---- what settles a run
 
--- the header of one more input was read
-pub begun_more : (limit chunk : ℕ) (earlier : List Header) (texts : List (List ℕ)) (old new : List Supply) (lanes : List Lane) (text : List ℕ) (s t : Supply) (l : Lane) → AreBegun limit chunk earlier texts old new lanes
-    → IsBegun (allowed_after (earlier ++ headers_in lanes)) limit chunk (whole text) l s t → AreBegun limit chunk earlier (texts ++ text ∷ []) (old ++ s ∷ []) (new ++ t ∷ []) (lanes ++ l ∷ [])
-begun_more limit chunk earlier [] [] [] [] text s t l b one = (subst (λ hs. IsBegun (allowed_after hs) limit chunk (whole text) l s t) (append-nil earlier) one, tt)
-begun_more limit chunk earlier (u ∷ texts) (a ∷ old) (c ∷ new) (m ∷ lanes) text s t l b one = (
-  b.0,
-  begun_more limit chunk (earlier ++ m.header ∷ []) texts old new lanes text s t l b.1
-      (subst (λ hs. IsBegun (allowed_after hs) limit chunk (whole text) l s t) (sym (append_assoc earlier (m.header ∷ []) (headers_in lanes))) one),
-)
-begun_more limit chunk earlier texts old new lanes text s t l b one = absurd b
+settled_going : (wanted : Want) (r : Reading HeaderPhrase) (x : Ending) → is_over x ≡ false → is_settled_at wanted r x ≡ false
+settled_going wanted r (AtFault fault) e = cc
+settled_going wanted r AtEnd e = refl
+settled_going wanted r AtLast e = cc
 
--- or it ended the run, before any after it was read
-pub stops_at : (limit chunk place : ℕ) (earlier : List Header) (texts more : List (List ℕ)) (old new behind : List Supply) (lanes : List Lane) (text : List ℕ) (s t : Supply) (at : ℕ) (why : Failure) → AreBegun limit chunk earlier texts old new lanes
-    → at ≡ place + length texts → length behind ≡ length more → HasFailed (allowed_after (earlier ++ headers_in lanes)) limit chunk at (whole text) s t why
-    → Stops limit chunk place earlier (texts ++ text ∷ more) (old ++ s ∷ behind) (new ++ t ∷ behind) why
-stops_at limit chunk place earlier [] more [] [] behind [] text s t at why b here long one =
-    let e : at ≡ place = omega arith in
-    inl (subst (λ n. HasFailed (allowed_after earlier) limit chunk n (whole text) s t why) e (subst (λ hs. HasFailed (allowed_after hs) limit chunk at (whole text) s t why) (append-nil earlier) one), refl, long)
-stops_at limit chunk place earlier (u ∷ texts) more (a ∷ old) (c ∷ new) behind (m ∷ lanes) text s t at why b here long one =
-    let e : at ≡ suc place + length texts = omega arith in
-    inr (
-      m,
-      b.0,
-      stops_at limit chunk (suc place) (earlier ++ m.header ∷ []) texts more old new behind lanes text s t at why b.1 e long
-          (subst (λ hs. HasFailed (allowed_after hs) limit chunk at (whole text) s t why) (sym (append_assoc earlier (m.header ∷ []) (headers_in lanes))) one),
-    )
-stops_at limit chunk place earlier texts more old new behind lanes text s t at why b here long one = absurd b
+-- and settles no run
+pub unsettled_header : (wanted : Want) (most : ℕ) (given : List Token) → is_header_over most given ≡ false → is_settled wanted most given ≡ false
+unfolding is_header_over is_settled
+unsettled_header wanted most given e = settled_going wanted (reading_of (header_grammar most) given) (reading_of (header_grammar most) given).ending e
+
+-- a whole header leaves it to the tokens after it
+pub settled_run : (wanted : Want) (most : ℕ) (given ts : List Token) (placed : List (Placed HeaderPhrase)) → IsWhole (header_grammar most) given placed
+    → is_settled wanted most (given ++ ts) ≡ is_settled_by (request_of (header_of (phrases_of placed)).scale wanted) (header_of (phrases_of placed)) ts
+unfolding is_settled
+settled_run wanted most given ts placed w = rw (whole-more (header_grammar most) given placed ts w) refl
 
 -- ---- how the definitions open an input
 
@@ -85,7 +74,6 @@ IsFirst limit earlier inputs (Stopped (Dump input line fault)) = ((fault == 31) 
 IsFirst limit earlier inputs (Stopped (Read input)) = (line : ℕ) × (open_from limit earlier inputs ≡ Err (input, record { number = 31; line = line }))
 IsFirst limit earlier inputs (Stopped Write) = ⊥
 IsFirst limit earlier inputs (Stopped (Unmatched name)) = ⊥
-IsFirst limit earlier inputs (Refused why) = ⊥
 IsFirst limit earlier inputs OutOfMemory = Unit {0}
 
 -- it is that of this input
@@ -94,7 +82,6 @@ first_here limit earlier i inputs (Stopped (Dump input line fault)) w = (w.1, no
 first_here limit earlier i inputs (Stopped (Read input)) w = (w.1, not_opened limit earlier i inputs _ w.2 ∙ ap (λ n. Err (n, record { number = 31; line = w.1 })) (sym w.0))
 first_here limit earlier i inputs (Stopped Write) w = absurd w
 first_here limit earlier i inputs (Stopped (Unmatched name)) w = absurd w
-first_here limit earlier i inputs (Refused why) w = absurd w
 first_here limit earlier i inputs OutOfMemory w = tt
 
 -- or of one after it
@@ -105,7 +92,6 @@ first_behind limit chunk earlier i inputs l s t (Stopped (Read input)) b f =
     (f.0, opens limit chunk earlier i i inputs l s t b.given_first.0 b b.given_first.1 ∙ ap (with_opened (record { header = l.header; stream = stream_of limit i; rest = b.given_first.0 })) f.1)
 first_behind limit chunk earlier i inputs l s t (Stopped Write) b f = absurd f
 first_behind limit chunk earlier i inputs l s t (Stopped (Unmatched name)) b f = absurd f
-first_behind limit chunk earlier i inputs l s t (Refused why) b f = absurd f
 first_behind limit chunk earlier i inputs l s t OutOfMemory b f = tt
 
 -- what is left of inputs whose headers ended the run

@@ -1,11 +1,8 @@
-mod MessageLemmas
-mod OutcomeLemmas
-pub mod HeaderLemmas
 pub mod NeededLemmas
 pub mod TurnLemmas
 mod InputsLemmas
-pub mod OpenLemmas
 mod EndLemmas
+mod WorkLemmas
 mod RunLemmas
 pub mod Statuses
 mod WithinLemmas

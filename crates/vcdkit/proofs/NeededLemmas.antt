@@ -7,7 +7,7 @@ use Rattle.vcd_model.specs.SettledMerge.SeenHeaders.{Whole}
 use Rattle.vcd_merge.specs.MergeRun as merge
 use Rattle.vcd_words.specs.declared.job.Want as words
 use Rattle.vcd_words.specs.declared.job.Want.TheVariants as want
-use Rattle.vcdkit.proofs.HeaderLemmas.{all_read, reads_for}
+use Rattle.vcd_job.proofs.HeaderLemmas.{all_read, reads_for}
 
 -- ---- lists
 

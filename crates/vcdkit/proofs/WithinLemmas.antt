@@ -1,11 +1,11 @@
 -- A run is the same under two token limits, where no input is longer than either.
-use Rattle.vcdkit.proofs.Cited.{◌≡◌, ℕ, ◌≤◌, Bool, false, inl, inr, zero, suc, ◌⊎◌, List, [], ◌∷◌, ◌++◌, filter, length, drop, map, slice_get, take, Option, Some, None, Result, Ok, Err, refl, sym, ap, subst, ◌∙◌, arith, IfSome, nat_lt, option_map, slice_set, AllByRecursion, position_or_len, reduce, nat_tests, length-drop, length-take, is_white_space, body_fault_of, read_body, due, Header, header_of, header_fault_of, read_header, Input, BodyItem, Want, over_opened, dump_of, factor, Opened, Outcome, allowed_after, declarations_allowed, fault_outcome, name_at, with_opened, Fault, phrases_of, Seen, is_settled_merge, HaltPlace, Stream, Token, comes_before, earlier_halt, end_at, failed_read, halt_place, run_at, stream_until, token_places, too_long_tokens, too_much_input, IsPrefixOf, is_header_over, is_settled, whole, Device, Supply, Near, ReadsAsNeeded, Nothing, ToToken, ToEnd, from_all, all_weaker, HasFault, IsLeft, is_more_due, Read, Write, Unmatched, AreReadOnTurn, HasEnded, ReadOnTurn, OnTurn, Unread, HasDump, Lane, Job, AreWithin, IsLimitFor, Narrows, AreBegun, IsBegun, IsWhy, Stops, headers_in, AreInTurn, AreMergedInTurn, AreNeeded, AreRead, HasRun, IsOutcome, program_name, OneKeepsUp, header_behind, known, settles_among, InBodies, InHeaders, Failure, Stopped, Refused, OutOfMemory, WithOutcome, NoMemory}
+use Rattle.vcdkit.proofs.Cited.{◌≡◌, ℕ, ◌≤◌, Bool, false, inl, inr, zero, suc, ◌⊎◌, List, [], ◌∷◌, ◌++◌, filter, length, drop, map, slice_get, take, Option, Some, None, Result, Ok, Err, refl, sym, ap, subst, ◌∙◌, arith, IfSome, nat_lt, option_map, slice_set, AllByRecursion, position_or_len, reduce, nat_tests, length-drop, length-take, is_white_space, body_fault_of, read_body, due, Header, header_of, header_fault_of, read_header, Input, BodyItem, Want, over_opened, dump_of, factor, Opened, Outcome, allowed_after, declarations_allowed, fault_outcome, name_at, with_opened, Fault, phrases_of, Seen, is_settled_merge, HaltPlace, Stream, Token, comes_before, earlier_halt, end_at, failed_read, halt_place, run_at, stream_until, token_places, too_long_tokens, too_much_input, IsPrefixOf, is_header_over, is_settled, whole, Device, Supply, Near, ReadsAsNeeded, Nothing, ToToken, ToEnd, from_all, all_weaker, HasFault, IsLeft, is_more_due, Read, Write, Unmatched, AreReadOnTurn, HasEnded, ReadOnTurn, OnTurn, Unread, HasDump, Lane, Job, AreWithin, IsLimitFor, Narrows, AreBegun, IsBegun, IsWhy, Stops, headers_in, AreInTurn, AreMergedInTurn, AreNeeded, AreRead, HasRun, IsOutcome, program_name, OneKeepsUp, header_behind, known, settles_among, InBodies, InHeaders, Failure, Stopped, OutOfMemory, WithOutcome, NoMemory}
 use Rattle.vcd_model.specs.Job.{outcome}
 use Rattle.vcd_model.specs.Merge.{Dump}
 use Rattle.vcd_model.specs.Outcome.{open_from}
 use Rattle.vcd_model.specs.Tokens.{first_halt, given_places, stream_of}
 use Rattle.vcd_body.specs.declared.answer.Stop.TheVariants.{Dump as Faulty}
-use Rattle.vcdkit.proofs.HeaderLemmas.{reads_for}
+use Rattle.vcd_job.proofs.HeaderLemmas.{reads_for}
 
 -- ---- an input
 
@@ -183,7 +183,6 @@ module _ (a b c d : ℕ) (le : c ≤ d) where
   why_within most place left (Stopped (Read input)) short w = (w.0, w.1, fault_within most left 31 w.1 short w.2)
   why_within most place left (Stopped Write) short w = absurd w
   why_within most place left (Stopped (Unmatched name)) short w = absurd w
-  why_within most place left (Refused why) short w = absurd w
   why_within most place left OutOfMemory short w = w
 
   stops_within : (place : ℕ) (earlier : List Header) (texts : List (List ℕ)) (old new : List Supply) (why : Failure) → AllByRecursion (IsShort a b) texts → Stops a c place earlier texts old new why → Stops b d place earlier texts old new why

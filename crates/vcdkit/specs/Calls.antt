@@ -1,54 +1,47 @@
 -- What the calls of a run promise, as far as readers and writers describe themselves.
-use Rattle.std.specs.Prelude.{◌≡◌, ℕ, ◌+◌, ◌-◌, ◌^◌, ◌<◌, ◌≤◌, ◌⊎◌, true, All, IfSome, List, [], length, map, Option, Some, Result}
-use Rattle.vcd_model.specs.Due.{due, due_of_request}
-use Rattle.vcd_model.specs.Header.{Header}
-use Rattle.vcd_model.specs.Input.{Input}
-use Rattle.vcd_model.specs.Job.{Want as ModelWant, request_of}
-use Rattle.vcd_model.specs.Outcome.{declarations_allowed}
-use Rattle.vcd_model.specs.Settled.{is_header_over, is_settled, is_settled_by}
-use Rattle.vcd_model.specs.Tokens.{Token}
-use Rattle.vcd_text.specs.Answer.{whole}
+use Rattle.std.specs.Prelude.{◌≡◌, ℕ, ◌-◌, ◌^◌, ◌<◌, ◌≤◌, ◌⊎◌, All, IfSome, List, [], length, map, Option, Some, Result}
+use Rattle.vcd_model.specs.Job.{Want as ModelWant}
 use Rattle.vcd_text.specs.Device.{Supply, supply}
-use Rattle.vcd_text.specs.Feed.{HasGiven, chunk_len_of, limit_of, supply_of}
 use Rattle.vcd_text.specs.declared.device.Sink.{Ghosts as Sinks}
 use Rattle.vcd_text.specs.declared.device.Source.{Ghosts}
 use Rattle.vcd_text.specs.declared.feed.Feed.{Feed}
-use Rattle.vcd_view.specs.Views.{IsViewOf}
 use Rattle.vcd_view.specs.declared.view.HeadView.{HeadView}
 use Rattle.vcd_body.specs.declared.answer.Done.{Done}
 use Rattle.vcd_words.specs.Job.{model_want, names_asked}
 use Rattle.vcd_words.specs.declared.job.Job.{Job}
 use Rattle.vcd_words.specs.declared.job.Want.{Want}
-use Rattle.vcdkit.specs.Failure.{CountsReadsOf, CountsWrites, EndsAtReadOf, writes_failed}
-use Rattle.vcdkit.specs.Message.{Tells, end_message, end_status, program_name}
-use Rattle.vcdkit.specs.Run.{Ends, EndsAll, HasRun, IsAfter, IsOfJob, settled_for}
-use Rattle.vcdkit.specs.declared.failure.Failure.{Failure}
+use Rattle.vcd_words.specs.declared.refusal.Refusal.{Refusal}
+use Rattle.vcd_job.specs.Calls.{BodyEnds}
+pub use Rattle.vcd_job.specs.Calls.{Answers, MayFailOnce}
+pub use Rattle.vcd_job.specs.OneRun.{FailOnce}
+use Rattle.vcd_job.specs.Failure.{CountsReadsOf, CountsWrites, EndsAtReadOf, failure_of, writes_failed}
+use Rattle.vcd_job.specs.Message.{Tells}
+use Rattle.vcd_job.specs.Ends.{Speech, end_message, end_status}
+use Rattle.vcd_job.specs.declared.answer.Answer.{Answer}
+use Rattle.vcd_job.specs.declared.failure.Failure.{Failure}
+use Rattle.vcdkit.specs.Run.{EndsAll, HasRun}
+use Rattle.vcdkit.specs.Work.{program_name, refusal_of, work_of}
+
+-- how a command speaks that was asked for these names
+abbrev pub speech_with : List (List ℕ) → Speech Refusal
+speech_with asked = record { asked = asked; refusal = refusal_of; faulty = 1 }
+
+abbrev pub speech_of : Want → Speech Refusal
+speech_of want = speech_with (names_asked want)
 
 -- what is wanted was run over the body after the header that is shown, of a feed that had given
 -- some tokens
-abbrev pub WantEnds : {X W : Type 0} {g : Ghosts X} → Sinks W → HeadView → Want → (old new : Feed X g) → (out out' : W) → Result Done Failure → Type 0
-WantEnds w view want old new out out' result = (h : Header) (i : Input) (front : List Token) (name : List ℕ) → IsViewOf view h → HasGiven i front old
-    → Ends (names_asked want) (IsAfter (model_want want) (limit_of old) front h name) (limit_of old) (chunk_len_of old) i name front
-    (settled_for result (is_settled_by (request_of h.scale (model_want want)) h) (λ _. true)) (due_of_request (request_of h.scale (model_want want)) h) (supply_of old) (supply_of new) (w.device out) (w.device out') result
-
--- a job with one input was run over its reader
-abbrev pub InputEnds : {X W : Type 0} → Ghosts X → Sinks W → Job → (old new : X) → (out out' : W) → Result Done Failure → Type 0
-InputEnds g w job old new out out' result = (text name : List ℕ) → g.rest old ≡ Some text
-    → Ends (names_asked job.task) (IsOfJob (model_want job.task) job.limit name) job.limit job.chunk (whole text) name []
-    (settled_for result (is_settled (model_want job.task) declarations_allowed) (is_header_over declarations_allowed)) (due (model_want job.task) declarations_allowed) (supply g.rest g.failures old) (supply g.rest g.failures new) (w.device out) (w.device out') result
+abbrev pub WantEnds : {X W : Type 0} {g : Ghosts X} → Sinks W → HeadView → Want → (old new : Feed X g) → (out out' : W) → Result (Answer Refusal) Failure → Type 0
+WantEnds w view want old new out out' result = BodyEnds w (work_of (model_want want)) (speech_of want) view old new out out' result
 
 -- what readers are
 abbrev pub supplies : {X : Type 0} → Ghosts X → List X → List Supply
 supplies g readers = map (supply g.rest g.failures) readers
 
--- a merge was run over readers, and any job over its readers
+-- a merge was run over readers
 abbrev pub Merges : {X W : Type 0} → Ghosts X → Sinks W → Job → (old new : List X) → (out out' : W) → Result Done Failure → Type 0
 Merges g w job old new out out' result = (texts names : List (List ℕ)) → map g.rest old ≡ map (λ text. Some text) texts
     → EndsAll ModelWant.Merge [] job.limit job.chunk names texts (supplies g old) (supplies g new) (w.device out) (w.device out') result
-
-abbrev pub JobEnds : {X W : Type 0} → Ghosts X → Sinks W → Job → (old new : List X) → (out out' : W) → Result Done Failure → Type 0
-JobEnds g w job old new out out' result = (texts names : List (List ℕ)) → map g.rest old ≡ map (λ text. Some text) texts → length names ≡ length old
-    → EndsAll (model_want job.task) (names_asked job.task) job.limit job.chunk names texts (supplies g old) (supplies g new) (w.device out) (w.device out') result
 
 -- There are readers, at most as many as a merge may have, and one more failure of each can be
 -- counted.
@@ -79,22 +72,13 @@ pub record Narrows (longest : Option ℕ) (wide narrow : Job) : Type 0 where
 
 -- ---- a run and its message
 
--- one more failed write of each sink can be counted
-pub record MayFailOnce {W E : Type 0} (w : Sinks W) (e : Sinks E) (out : W) (err : E) : Type 0 where
-  pub out_low : (w.device out).failures < 2 ^ 64 - 1
-  pub err_low : (e.device err).failures < 2 ^ 64 - 1
-
--- at most one write of each sink failed
-abbrev pub FailOnce : {W E : Type 0} → Sinks W → Sinks E → (out out' : W) → (err err' : E) → Type 0
-FailOnce w e out out' err err' = ((w.device out').failures ≤ (w.device out).failures + 1) × ((e.device err').failures ≤ (e.device err).failures + 1)
-
 -- a job over inputs with these names succeeded or failed, and its status and its line say which; a
 -- failed read was the last one of its reader
 abbrev pub EndsSo : {X W E : Type 0} → Ghosts X → Sinks W → Sinks E → Job → List (List ℕ) → (old new : List X) → (out out' : W) → (err err' : E) → ℕ → Type 0
-EndsSo g w e job names old new out out' err err' status = (why : Option Failure)
-    × CountsReadsOf g.failures old new why × CountsWrites w.device out out' (writes_failed why)
-    × (status ≡ end_status why) × Tells program_name (e.device err) (e.device err') (end_message names (names_asked job.task) why)
-    × EndsAtReadOf (map g.last_failed new) why
+EndsSo g w e job names old new out out' err err' status = (end : Result (Answer Refusal) Failure) × Answers (λ n. n ≡ 0) end
+    × CountsReadsOf g.failures old new (failure_of end) × CountsWrites w.device out out' (writes_failed (failure_of end))
+    × (status ≡ end_status (speech_of job.task) names end) × Tells program_name (e.device err) (e.device err') (end_message (speech_of job.task) names end)
+    × EndsAtReadOf (map g.last_failed new) (failure_of end)
 
 -- if the bytes of the readers are known, it ended as the definitions say
 abbrev pub RunsJob : {X W E : Type 0} → Ghosts X → Sinks W → Sinks E → Job → List (List ℕ) → (old new : List X) → (out out' : W) → (err err' : E) → ℕ → Type 0

@@ -1,10 +1,12 @@
 pub mod Tasks
-pub mod Failure
-pub mod Inputs
-pub mod Message
+pub mod Work
 pub mod Run
 pub mod Calls
-pub mod Lent
+-- what any job leaves
+pub use Rattle.vcd_job.specs.Failure
+pub use Rattle.vcd_job.specs.Ends
+pub use Rattle.vcd_job.specs.Inputs
+pub use Rattle.vcd_job.specs.Message
 -- the words, and the job that they ask for
 pub use Rattle.vcd_words.specs.Job
 pub use Rattle.vcd_words.specs.Refusal

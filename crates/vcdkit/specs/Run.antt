@@ -13,57 +13,19 @@ use Rattle.vcd_model.specs.SettledMerge.{Seen, is_settled_merge}
 use Rattle.vcd_text.specs.Answer.{whole}
 use Rattle.vcd_text.specs.Device.{Device, Supply, Writes, WritesSome}
 use Rattle.vcd_text.specs.ReadAhead.{ReadsAsNeeded}
-use Rattle.vcd_engine.specs.TaskRun.{Belongs}
 use Rattle.vcd_body.specs.Answer.{IsLeft}
 use Rattle.vcd_body.specs.Pace.{KeepsUp}
 use Rattle.vcd_body.specs.declared.answer.Done.{Done}
 use Rattle.vcd_body.specs.declared.answer.Stop.TheVariants.{Dump, Read, Write, Unmatched}
 use Rattle.vcd_merge.specs.MergeRun.{AreReadOnTurn}
 use Rattle.vcd_merge.specs.Seat.{Lane}
-use Rattle.vcdkit.specs.Inputs.{AreBegun, Stops, headers_in}
-use Rattle.vcdkit.specs.declared.failure.Failure.{Failure}
-use Rattle.vcdkit.specs.declared.failure.Failure.TheVariants.{Stopped, Refused, OutOfMemory}
-use Rattle.vcd_words.specs.Refusal.{model_refusal}
-use Rattle.vcdkit.specs.Message.{Tells, program_name}
-
--- ---- one input
-
--- the output of a run that was asked for these names, returns this and has this outcome; if memory
--- ran out it leaves nothing
-abbrev pub Leaves : (asked : List (List ℕ)) → Outcome → List ℕ → Device → Device → Result Done Failure → Type 0
-Leaves asked o name out out' (Ok done) = (o ≡ clean_outcome o.output) × Writes out out' o.output
-Leaves asked o name out out' (Err (Stopped stop)) = (task : Request) × (names_of task ≡ asked) × Belongs task o name out out' (Err stop)
-Leaves asked o name out out' (Err (Refused why)) = (o ≡ model.refusal_outcome name (model_refusal why)) × Writes out out' []
-Leaves asked o name out out' (Err OutOfMemory) = Writes out out' []
-
--- which first tokens settle a run; if memory ran out, those that settle the header
-abbrev pub settled_for : Result Done Failure → (run header : List Token → Bool) → List Token → Bool
-settled_for (Ok done) run header = run
-settled_for (Err (Stopped stop)) run header = run
-settled_for (Err (Refused why)) run header = run
-settled_for (Err OutOfMemory) run header = header
-
--- How a run that was asked for these names ends over an input with this name, of which these tokens
--- were given: with an outcome that is due for what is left of the input. No more was read than what
--- settles it, and the output keeps up with the text that is due with the tokens after those.
-pub record Ends (asked : List (List ℕ)) (IsDue : Input → Outcome → Type 0) (limit chunk : ℕ) (i : Input) (name : List ℕ) (front : List Token) (settled : List Token → Bool) (text_due : List Token → List ℕ) (old new : Supply) (out out' : Device) (result : Result Done Failure) : Type 0 where
-  pub left : Input
-  pub is_left : IsLeft i old new left
-  pub read : ReadsAsNeeded limit chunk old new left front settled
-  pub keeps_up : KeepsUp text_due limit chunk left front old new out out'
-  pub due : Outcome
-  pub is_due : IsDue left due
-  pub leaves : Leaves asked due name out out' result
-
--- the outcome of a job whose only input is this
-abbrev pub IsOfJob : model.Want → ℕ → List ℕ → Input → Outcome → Type 0
-IsOfJob want limit name left o = o ≡ model.outcome want limit (name ∷ []) (left ∷ [])
-
--- the outcome after these tokens, which are those of this header
-abbrev pub IsAfter : model.Want → ℕ → List Token → Header → List ℕ → Input → Outcome → Type 0
-IsAfter want limit front h name left o =
-    (rest : List Token) × ((stream_of limit left).tokens ≡ front ++ rest)
-    × (o ≡ model.over_opened want (name ∷ []) (record { header = h; stream = stream_of limit left; rest = rest } ∷ []))
+use Rattle.vcd_job.specs.Inputs.{AreBegun, Stops, headers_in}
+use Rattle.vcd_job.specs.declared.failure.Failure.{Failure}
+use Rattle.vcd_job.specs.declared.failure.Failure.TheVariants.{Stopped, OutOfMemory}
+use Rattle.vcd_job.specs.Message.{Tells}
+use Rattle.vcd_job.specs.Ends.{settled_for}
+pub use Rattle.vcd_job.specs.Ends.{IsOutcome}
+use Rattle.vcdkit.specs.Work.{program_name}
 
 -- ---- all inputs
 
@@ -93,7 +55,6 @@ LeavesAll names asked o out out' (Err (Stopped (Dump input line fault))) = (o �
 LeavesAll names asked o out out' (Err (Stopped (Read input))) = ((line : ℕ) × (o ≡ fault_outcome o.output (name_at names input) (record { number = 31; line = line }))) × Writes out out' o.output
 LeavesAll names asked o out out' (Err (Stopped Write)) = WritesSome out out' o.output
 LeavesAll names asked o out out' (Err (Stopped (Unmatched place))) = (o ≡ unmatched_outcome (name_at asked place)) × Writes out out' o.output
-LeavesAll names asked o out out' (Err (Refused why)) = (o ≡ model.refusal_outcome (name_at names 0) (model_refusal why)) × Writes out out' []
 LeavesAll names asked o out out' (Err OutOfMemory) = Writes out out' []
 
 -- all that these inputs are
@@ -133,14 +94,6 @@ pub record EndsAll (want : model.Want) (asked : List (List ℕ)) (limit chunk : 
   pub needed : AreNeeded want limit chunk old new lefts
   pub in_turn : AreInTurn want limit chunk texts old new lefts out out'
   pub leaves : LeavesAll names asked (model.outcome want limit names lefts) out out' result
-
--- a run leaves this outcome on its output, on the error stream and in its status, as far as its
--- devices allow; the program has this name
-pub data IsOutcome (program : List ℕ) (o : Outcome) (out out' err err' : Device) (status : ℕ) : Type 0 where
-  -- all of the outcome
-  Whole : (written : Writes out out' o.output) (shown : Tells program err err' o.message) (status_is : status ≡ o.status) → IsOutcome program o out out' err err' status
-  -- a prefix of the output, if a write of it failed
-  Part : (written : WritesSome out out' o.output) (shown : Tells program err err' (codes "write failed")) (status_is : status ≡ 3) → IsOutcome program o out out' err err' status
 
 -- no read of these readers failed
 abbrev pub NoneFailed : (old new : List Supply) → Type 0

@@ -11,16 +11,13 @@
 //!
 //! - `tasks`: what is wanted, as a task over the items of a body, its times in ticks, and the
 //!   memory of its room
-//! - `inputs`: the memory of windows; the header of an input, and those of several in order
-//! - `whole_run`: a job over readers: windows, headers, then `list` over the view or `run_task` or
-//!   `merge` in room that is taken for it
-//! - `again`: devices whose interrupted calls are made again
-//! - `failure`: why a run ends before it is done
-//! - `message`: the lines on the error stream, and the statuses
+//! - `commands`: a command over one input, as a job of `vcd_job`: `list` over the view, or `run_task`
+//!   in room that is taken for it
+//! - `whole_run`: a job over readers: `run_one` of `vcd_job`, or `merge`
 //!
-//! In `specs/`: `Calls`, what a call promises of a run; `Run`, what that ends with; `Inputs`, how
-//! far its inputs were read; `Tasks`; `Failure`; `Message`; of the words `Job`, `Words`, `Ticks`
-//! and `Refusal`; and the definitions that these cite, as `Model`.
+//! In `specs/`: `Calls`, what a call promises of a run; `Run`, what that ends with; `Work`, what a
+//! command over one input is; `Tasks`; of the words `Job`, `Words`, `Ticks` and `Refusal`; and the
+//! definitions that these cite, as `Model`.
 //!
 //! # Limits
 //!
@@ -29,15 +26,12 @@
 //! error stream is ignored. `run` does not flush.
 #![tactic(auto)]
 
-mod again;
-mod failure;
-mod inputs;
-mod message;
+mod commands;
 mod tasks;
 mod whole_run;
 
-pub use again::Again;
-pub use message::{PROGRAM, open_fault, use_fault, write_fault};
+pub use commands::PROGRAM;
+pub use vcd_job::{Again, open_fault, use_fault, write_fault};
 pub use vcd_words::{
     Job, MAX_FILES, UseFault, Want, command_of, files_of, input_of, job_of, parse_status,
 };

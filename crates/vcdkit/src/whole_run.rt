@@ -1,30 +1,15 @@
 //! A job, from its readers to its output, its message and its status.
-ghost use Rattle.std.specs.Prelude.{◌≡◌, ◌+◌, ◌-◌, ◌^◌, ◌<◌, ◌≤◌, map, length, string_bytes, true, false, IfSome};
-ghost use Rattle.vcdkit.specs.Names.{AreReaders, AreWithin, AreWithinBound, chunk_len_of, CountsAt, CountsReadsOf, CountsWrites, Does, end_of, EndsAtRead, EndsAtReadOf, EndsAtStop, EndsSo, FailOnce, failure_of, HasNotFailed, HasPassedOn, HasPassedOnAt, InputEnds, is_asked, is_merge, IsEnough, IsLentWithin, IsValid, JobEnds, limit_of, MayFailOnce, merge_end, Merges, names_asked, Narrows, PassesOn, reads_failed, request_for, request_of_task, room_size, RunsJob, SameLoans, source_of, stop_writes, WantEnds, writes_failed};
+ghost use Rattle.std.specs.Prelude.{◌≡◌, ◌-◌, ◌^◌, ◌<◌, map, length, string_bytes, false, true};
+ghost use Rattle.vcdkit.specs.Names.{AreReaders, AreWithin, CountsReadsOf, CountsWrites, EndsAtReadOf, EndsSo, FailOnce, failure_of, HasPassedOn, is_merge, MayFailOnce, merge_end, Merges, Narrows, PassesOn, RunsJob, writes_failed};
 
-use crate::failure::Failure;
-use crate::inputs::{MAX_DECLARATIONS, Reading, read_head_of, read_heads, windows_for};
-use crate::message::{PROGRAM, report};
-use crate::tasks::{need_of, room_for, task_of};
+use crate::commands::{Commands, PROGRAM};
 use std::alloc::Global;
 use std::hash::{BuildHasher, BuildHasherDefault, FoldHasher};
 use vcd_body::{Done, Stop};
-use vcd_engine::{Room, Task, list, run_task};
+use vcd_job::{Failure, Lengths, read_heads, report, run_one, windows_for};
 use vcd_merge::{Windows, merge};
-use vcd_text::{Feed, Sink, Source};
-use vcd_view::HeadView;
-use vcd_words::{Job, Want};
-
-/// Returns how a run ended if its task returned `answer`. `input` is the index of the task's input
-/// among all, which a stop gets when it becomes a failure.
-fn ended(answer: Result<Done, Stop>, input: usize) -> Result<Done, Failure>
-    ensures { result ≡ end_of answer input }
-{
-    match answer {
-        Ok(done) => Ok(done),
-        Err(stop) => Err(Failure::of_stop(stop, input)),
-    }
-}
+use vcd_text::{Sink, Source};
+use vcd_words::Job;
 
 /// Returns how a run ended if its merge returned `answer`: a stop becomes a failure.
 fn merged(answer: Result<Done, Stop>) -> Result<Done, Failure>
@@ -34,114 +19,6 @@ fn merged(answer: Result<Done, Stop>) -> Result<Done, Failure>
         Ok(done) => Ok(done),
         Err(stop) => Err(Failure::Stopped(stop)),
     }
-}
-
-/// Runs the task over the body that follows the header of `view`, in this room, which has the
-/// lengths that `need_of` returns, or writes the list of variables if `task` is `None`. Returns
-/// what ended it. Fails if the task or the list does. It gets no allocator, so it takes no memory,
-/// and all that it is lent is within the bound.
-fn run_in<S: Source, W: Sink>(
-    task: Option<Task<'_>>,
-    view: HeadView<'_>,
-    feed: &mut Feed<'_, '_, '_, '_, S>,
-    room: Room<'_>,
-    out: &mut W,
-) -> Result<Done, Stop>
-    requires feed_failures { S.failures (source_of feed.old) < 2 ^ 64 - 1 }
-    requires out_failures { (W.device out.old).failures < 2 ^ 64 - 1 }
-    requires open { HasNotFailed feed.old }
-    requires valid { IfSome task (λ some. IsValid (request_of_task some)) }
-    requires room { IsEnough task view room }
-    requires bound { AreWithinBound (limit_of feed.old) (chunk_len_of feed.old) view
-        (room_size room) }
-    ensures bound { IsLentWithin feed.old view.entry (room_size room.entry) }
-    ensures gives { Does (request_for task.entry) view.entry feed.old feed.new
-        (W.device out.old) (W.device out.new) result }
-    ensures reads { S.failures (source_of feed.new)
-        ≡ S.failures (source_of feed.old) + reads_failed result }
-    ensures writes { CountsWrites W.device out.old out.new (stop_writes result) }
-    ensures last { EndsAtStop (S.last_failed (source_of feed.new)) result }
-    ensures passed_on { HasPassedOnAt (W.kept_back out.new) result }
-    ensures loans { SameLoans feed.old feed.new }
-{
-    match task {
-        Some(task) => run_task(task, view, feed, room, out),
-        None => list(view, out),
-    }
-}
-
-/// Runs what is wanted over the body that follows the header of `view`: converts the times of a
-/// `sample` in `want` to ticks, takes memory, and then calls `run_in`, which takes no more. Returns
-/// what ended it. Fails if the times are refused, if memory runs out, or if `run_in` fails.
-fn run_want<S: Source, W: Sink>(
-    alloc: Global,
-    want: &mut Want,
-    view: HeadView<'_>,
-    feed: &mut Feed<'_, '_, '_, '_, S>,
-    out: &mut W,
-) -> Result<Done, Failure>
-    requires one { is_merge want.old ≡ false }
-    requires asked { is_asked want.old ≡ true }
-    requires feed_failures { S.failures (source_of feed.old) < 2 ^ 64 - 1 }
-    requires out_failures { (W.device out.old).failures < 2 ^ 64 - 1 }
-    requires open { HasNotFailed feed.old }
-    requires chunk { chunk_len_of feed.old ≤ 65536 }
-    ensures ends { WantEnds W.Sink view.entry want.old feed.old feed.new out.old out.new result }
-    ensures reads { CountsAt S.failures 0 (source_of feed.old) (source_of feed.new) result }
-    ensures writes { CountsWrites W.device out.old out.new (writes_failed (failure_of result)) }
-    ensures last { EndsAtRead (S.last_failed (source_of feed.new)) (failure_of result) }
-    ensures passed_on { HasPassedOn W.kept_back out.old out.new (failure_of result) }
-    ensures loans { SameLoans feed.old feed.new }
-    ensures names { names_asked want.new ≡ names_asked want.old }
-    ensures asked { is_asked want.new ≡ true }
-{
-    want.write_ticks(view)?;
-    let task = task_of(want, view)?;
-    let need = need_of(task, view);
-    let mut memory = room_for(alloc, need)?;
-    let room = Room {
-        values: &mut memory.values,
-        slots: &mut memory.slots,
-        shares: &mut memory.shares,
-        marks: &mut memory.marks,
-    };
-    ended(run_in(task, view, feed, room, out), 0)
-}
-
-/// Runs a job, which is no merge, over one input: takes its buffers, reads its header, and then
-/// runs what is wanted. Returns what ended it. Fails at a fault of the input, if a read or a write
-/// fails, if times or names are refused, or if memory runs out.
-fn run_input<S: Source, W: Sink, B: BuildHasher>(
-    alloc: Global,
-    job: &mut Job,
-    reader: &mut S,
-    out: &mut W,
-    hasher: &B,
-) -> Result<Done, Failure>
-    requires one { is_merge job.old.task ≡ false }
-    requires reader_failures { S.failures reader.old < 2 ^ 64 - 1 }
-    requires out_failures { (W.device out.old).failures < 2 ^ 64 - 1 }
-    ensures ends { InputEnds S.Source W.Sink job.old reader.old reader.new out.old out.new result }
-    ensures reads { CountsAt S.failures 0 reader.old reader.new result }
-    ensures writes { CountsWrites W.device out.old out.new (writes_failed (failure_of result)) }
-    ensures last { EndsAtRead (S.last_failed reader.new) (failure_of result) }
-    ensures passed_on { HasPassedOn W.kept_back out.old out.new (failure_of result) }
-    ensures names { names_asked job.new.task ≡ names_asked job.old.task }
-{
-    let mut memory = windows_for(alloc, job, 1)?;
-    let mut feed = Feed::new(
-        reader,
-        &mut memory.chunks,
-        &mut memory.tokens,
-        &mut memory.values,
-    );
-    let reading = Reading {
-        alloc,
-        hasher,
-        most: MAX_DECLARATIONS,
-    };
-    let head = read_head_of(&reading, 0, &mut feed)?;
-    run_want(alloc, &mut job.task, head.view(), &mut feed, out)
 }
 
 /// Runs the merge `job` over these inputs, 1 to 64: takes their buffers, reads their headers in
@@ -162,7 +39,11 @@ fn run_merge<S: Source, W: Sink, B: BuildHasher>(
     ensures last { EndsAtReadOf (map S.last_failed readers.new) (failure_of result) }
     ensures passed_on { HasPassedOn W.kept_back out.old out.new (failure_of result) }
 {
-    let mut memory = windows_for(alloc, job, readers.len())?;
+    let lengths = Lengths {
+        limit: job.limit,
+        chunk: job.chunk,
+    };
+    let mut memory = windows_for(alloc, lengths, readers.len())?;
     let mut windows = Windows {
         chunks: &mut memory.chunks,
         tokens: &mut memory.tokens,
@@ -172,30 +53,32 @@ fn run_merge<S: Source, W: Sink, B: BuildHasher>(
     merged(merge(&inputs.heads, readers, &mut windows, &mut inputs.seats, out))
 }
 
-/// Runs a job over its readers: over all of them if it is a merge, otherwise over the only one.
-/// Returns what ended it. Fails at a fault of an input, if a read or a write fails, if times or
-/// names are refused, or if memory runs out.
-fn run_readers<S: Source, W: Sink, B: BuildHasher>(
+/// Runs a merge over the readers, 1 to 64, and returns the exit status, as `run_with_hasher` does.
+fn run_many<S: Source, W: Sink, E: Sink, B: BuildHasher>(
     alloc: Global,
-    job: &mut Job,
+    job: Job,
+    names: &[String],
     readers: &mut [S],
     out: &mut W,
+    err: &mut E,
     hasher: &B,
-) -> Result<Done, Failure>
+) -> u8
+    requires merge { is_merge job.task ≡ true }
+    requires names { length names.now ≡ length readers.old }
     requires readers { AreReaders S.failures readers.old }
-    requires alone { is_merge job.old.task ≡ false → length readers.old ≡ 1 }
-    requires out_failures { (W.device out.old).failures < 2 ^ 64 - 1 }
-    ensures ends { JobEnds S.Source W.Sink job.old readers.old readers.new out.old out.new result }
-    ensures reads { CountsReadsOf S.failures readers.old readers.new (failure_of result) }
-    ensures writes { CountsWrites W.device out.old out.new (writes_failed (failure_of result)) }
-    ensures last { EndsAtReadOf (map S.last_failed readers.new) (failure_of result) }
-    ensures passed_on { HasPassedOn W.kept_back out.old out.new (failure_of result) }
-    ensures names { names_asked job.new.task ≡ names_asked job.old.task }
+    requires sinks { MayFailOnce W.Sink E.Sink out.old err.old }
+    ensures failures { FailOnce W.Sink E.Sink out.old out.new err.old err.new }
+    ensures ends { EndsSo S.Source W.Sink E.Sink job (map string_bytes names.now)
+        readers.old readers.new out.old out.new err.old err.new result }
+    ensures passed_on { PassesOn S.failures W.kept_back
+        readers.old readers.new out.old out.new }
+    ensures gives { RunsJob S.Source W.Sink E.Sink job (map string_bytes names.now)
+        readers.old readers.new out.old out.new err.old err.new result }
 {
-    if job.task.is_merge() {
-        return run_merge(alloc, job, readers, out, hasher);
+    match run_merge(alloc, &job, readers, out, hasher) {
+        Ok(_) => 0,
+        Err(failure) => report(PROGRAM, failure, names, job.task.names(), 1, err),
     }
-    run_input(alloc, job, &mut readers[0], out, hasher)
 }
 
 /// Runs a job over the readers, and returns the exit status. `names` are the names of the readers
@@ -214,7 +97,7 @@ fn run_readers<S: Source, W: Sink, B: BuildHasher>(
 /// takes long to find.
 pub fn run_with_hasher<S: Source, W: Sink, E: Sink, B: BuildHasher>(
     alloc: Global,
-    mut job: Job,
+    job: Job,
     names: &[String],
     readers: &mut [S],
     out: &mut W,
@@ -242,10 +125,10 @@ pub fn run_with_hasher<S: Source, W: Sink, E: Sink, B: BuildHasher>(
     ensures gives { RunsJob S.Source W.Sink E.Sink job (map string_bytes names.now)
         readers.old readers.new out.old out.new err.old err.new result }
 {
-    match run_readers(alloc, &mut job, readers, out, hasher) {
-        Ok(_) => 0,
-        Err(failure) => report(PROGRAM, failure, names, job.task.names(), err),
+    if job.task.is_merge() {
+        return run_many(alloc, job, names, readers, out, err, hasher);
     }
+    run_one::<Commands, S, W, E, B>(alloc, job, names, &mut readers[0], out, err, hasher)
 }
 
 /// How long a window is at least after it was shortened. A shorter one would save nothing.

@@ -130,6 +130,9 @@ pub(crate) fn report<E: Sink>(failure: Failure<'_>, err: &mut E) -> u8
 {
     let _ = match &failure {
         Failure::Refused(text) => put(err, text.as_bytes()),
+        Failure::Words(UseFault::BadArgument(first, second)) => {
+            put_both(err, first.as_bytes(), second.as_bytes())
+        }
         Failure::Words(fault) => return use_fault("vcdkit-compare", *fault, err),
         Failure::Unselected(name) => put_both(err, name, b": selects nothing"),
         Failure::Late(from, last) => put_late(err, *from, *last),

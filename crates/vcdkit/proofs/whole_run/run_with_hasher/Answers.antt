@@ -1,31 +1,33 @@
-use Rattle.vcdkit.proofs.Cited.{◌≡◌, ◌∙◌, length, map, Ok, Err, None, Some, refl, string_bytes, length-map, model_want, names_asked}
-use Rattle.vcdkit.proofs.Facts.{counted_reads, has_run, shows_nothing, few_writes, most_one, shown_once}
-use Rattle.vcdkit.specs.Failure.{writes_failed}
-use Rattle.vcdkit.proofs.RunLemmas.{failed_read}
+use Rattle.vcdkit.proofs.Cited.{◌≡◌, ◌∙◌, arith, failure_of, get_or, length, length-map, map, string_bytes, sym}
+use Rattle.vcdkit.proofs.Facts.{counts_alone, one_last, one_of, passes_alone, ran_one, set_one}
 use Rattle.vcdkit.proofs.whole_run.run_with_hasher.Goals as goal
 
-pub returns-in-Ok-clause-gives : goal.returns-in-Ok-clause-gives
-returns-in-Ok-clause-gives g c = λ texts h.
-    let many : length (map string_bytes c.args.names.now) ≡ length c.args.readers.now = length-map c.args.names.now string_bytes ∙ c.requires.names in
-    has_run (model_want c.args.job.task) (names_asked c.args.job.task) c.args.job.limit c.args.job.chunk (map string_bytes c.args.names.now) texts _ _ _ _ _ _ 0 (Ok c.in-Ok.field-0)
-    (c.in-Ok.ensures.ends texts (map string_bytes c.args.names.now) h many) (counted_reads g.S.Source.rest g.S.Source.failures _ _ None c.in-Ok.ensures.reads) refl (shows_nothing (g.E.Sink.device _))
+pub returns-clause-ends : goal.returns-clause-ends
+returns-clause-ends g c =
+    let alone : length c.args.readers.now ≡ 1 = c.requires.alone (sym c.is_merge.ensures ∙ c.if-is_merge.false) in
+    let readers = c.args.readers.now in
+    let after = c.run_one.new.reader in
+    let e = c.run_one.ensures.ends in (
+      e.0,
+      e.1,
+      counts_alone g.S.Source.failures readers _ (get_or readers 0 c.index-readers-0.result) after (one_of readers c.index-readers-0.result alone) (set_one readers after alone) (failure_of e.0) e.2,
+      e.3,
+      e.4,
+      e.5,
+      one_last g.S.Source.last_failed readers 0 _ _ after _ (omega arith) e.2 e.6,
+    )
+
+pub returns-clause-passed_on : goal.returns-clause-passed_on
+returns-clause-passed_on g c =
+    let alone : length c.args.readers.now ≡ 1 = c.requires.alone (sym c.is_merge.ensures ∙ c.if-is_merge.false) in
+    let readers = c.args.readers.now in
+    passes_alone g.S.Source.failures readers _ (get_or readers 0 c.index-readers-0.result) c.run_one.new.reader (one_of readers c.index-readers-0.result alone) (set_one readers c.run_one.new.reader alone) g.W.Sink.kept_back c.args.out.now c.run_one.new.out c.run_one.ensures.passed_on
 
 pub returns-clause-gives : goal.returns-clause-gives
 returns-clause-gives g c = λ texts h.
-    let many : length (map string_bytes c.args.names.now) ≡ length c.args.readers.now = length-map c.args.names.now string_bytes ∙ c.requires.names in
-    has_run (model_want c.args.job.task) (names_asked c.args.job.task) c.args.job.limit c.args.job.chunk (map string_bytes c.args.names.now) texts _ _ _ _ _ _ c.report.result (Err c.in-Err.failure)
-    (c.in-Err.ensures.ends texts (map string_bytes c.args.names.now) h many) (counted_reads g.S.Source.rest g.S.Source.failures _ _ (Some c.in-Err.failure) c.in-Err.ensures.reads) c.report.ensures.status (rw (c.names.ensures, c.run_readers.ensures.names) at c.report.ensures.line)
-
-pub returns-clause-failures : goal.returns-clause-failures
-returns-clause-failures g c = (
-  most_one (writes_failed (Some c.in-Err.failure)) (g.W.Sink.device c.args.out.now) (g.W.Sink.device c.run_readers.new.out) (few_writes (Some c.in-Err.failure)) c.in-Err.ensures.writes,
-  shown_once (g.E.Sink.device c.args.err.now) (g.E.Sink.device c.report.new.err) _ c.report.ensures.line,
-)
-
-pub returns-in-Ok-clause-passed_on : goal.returns-in-Ok-clause-passed_on
-returns-in-Ok-clause-passed_on g c = λ more before. absurd (more c.in-Ok.ensures.reads)
-
-pub returns-clause-passed_on : goal.returns-clause-passed_on
-returns-clause-passed_on g c = λ more before.
-    let at = failed_read _ _ (Some c.in-Err.failure) c.in-Err.ensures.reads more in
-    c.in-Err.ensures.passed_on at.0 at.1 before
+    let one = sym c.is_merge.ensures ∙ c.if-is_merge.false in
+    let alone : length c.args.readers.now ≡ 1 = c.requires.alone one in
+    let readers = c.args.readers.now in
+    let after = c.run_one.new.reader in
+    ran_one c.args.job.task one c.args.job.limit c.args.job.chunk _ _ _ _ c.run_one.result g.S.Source.rest g.S.Source.failures (get_or readers 0 c.index-readers-0.result) after (map string_bytes c.args.names.now) readers _
+    (one_of readers c.index-readers-0.result alone) (set_one readers after alone) (length-map c.args.names.now string_bytes ∙ c.requires.names ∙ alone) c.run_one.ensures.gives texts h

@@ -1,4 +1,4 @@
-use Rattle.vcd_program.proofs.Cited.{◌∙◌, arith, end-low, length, length-map, map, model_want, string_bytes}
+use Rattle.vcd_program.proofs.Cited.{◌∙◌, arith, end-low, length, length-map, map, model_want, names_asked, string_bytes}
 use Rattle.vcd_program.proofs.Facts.{are-readers, ends-by, is-alone, leaves-by}
 use Rattle.vcd_program.proofs.vcdkit_program.VcdkitProgram.run_within.Goals as goal
 
@@ -16,7 +16,7 @@ pub returns-clause-failures : goal.returns-clause-failures
 returns-clause-failures g c = c.run_within.ensures.failures.1
 
 pub returns-clause-low : goal.returns-clause-low
-returns-clause-low g c = let ends = c.run_within.ensures.ends in omega (arith, ends.3, end-low ends.0)
+returns-clause-low g c = let ends = c.run_within.ensures.ends in let low = end-low (names_asked c.args.job.task) (map string_bytes c.args.names.now) ends.0 ends.1 in let is = ends.4 in omega (arith, is, low)
 
 pub returns-clause-ends : goal.returns-clause-ends
 returns-clause-ends g c =

@@ -1,0 +1,5 @@
+use Rattle.vcd_job.proofs.Cited.{Keeps}
+use Rattle.vcd_job.proofs.again.AgainWrite.flush.Given as goal
+
+abbrev pub invariant-loop : goal.invariant-loop
+invariant-loop g l = Keeps (g.D.Write.contents l.fn.self.device) (g.D.Write.contents l.self.device)

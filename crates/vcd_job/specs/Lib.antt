@@ -1,0 +1,10 @@
+pub mod Work
+pub mod Failure
+pub mod Inputs
+pub mod Message
+pub mod Ends
+pub mod Calls
+pub mod OneRun
+pub mod Lent
+pub mod Parts
+pub mod Names

@@ -1,5 +1,0 @@
-use Rattle.vcdkit.proofs.Cited.{Keeps}
-use Rattle.vcdkit.proofs.again.AgainRead.read.Given as goal
-
-abbrev pub invariant-loop : goal.invariant-loop
-invariant-loop g l = Keeps (g.D.Read.remaining l.fn.self.device) (g.D.Read.remaining l.self.device)

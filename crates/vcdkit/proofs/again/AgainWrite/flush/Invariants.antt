@@ -1,5 +1,0 @@
-use Rattle.vcdkit.proofs.Cited.{Keeps}
-use Rattle.vcdkit.proofs.again.AgainWrite.flush.Given as goal
-
-abbrev pub invariant-loop : goal.invariant-loop
-invariant-loop g l = Keeps (g.D.Write.contents l.fn.self.device) (g.D.Write.contents l.self.device)

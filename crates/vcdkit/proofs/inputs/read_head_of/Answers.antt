@@ -1,6 +1,0 @@
-use Rattle.vcdkit.proofs.Cited.{Err, ap, HeadFault}
-use Rattle.vcdkit.proofs.Facts.{head_last}
-use Rattle.vcdkit.proofs.inputs.read_head_of.Goals as goal
-
-pub returns-in-Err-clause-last : goal.returns-in-Err-clause-last
-returns-in-Err-clause-last g c = rw c.of_head.ensures (head_last _ c.in-Err.fault c.args.input c.line.result (λ e. c.in-Err.ensures.last c.requires.«open» (ap (λ (f : HeadFault). Err f) e)))

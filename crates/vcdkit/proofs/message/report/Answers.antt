@@ -1,4 +1,0 @@
-use Rattle.vcdkit.proofs.message.report.Goals as goal
-
-pub returns-in-OutOfMemory : goal.returns-in-OutOfMemory
-returns-in-OutOfMemory g c = rw c.in-OutOfMemory.is c.say.ensures
