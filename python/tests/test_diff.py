@@ -87,8 +87,8 @@ def written(of, variables, changes, codes, scale):
 
 
 def read(text):
-    """The variables of a dump, a path, type, size and code, its changes, a time, a section, a code
-    and a value, and its last time."""
+    """The variables of a dump, a path, type, size, code and range, its changes, a time, a section,
+    a code and a value, and its last time."""
     head, _, body = text.partition("$enddefinitions $end\n")
     scopes, variables = [], []
     for line in head.splitlines():
@@ -98,7 +98,8 @@ def read(text):
         elif words[0] == "$upscope":
             scopes.pop()
         elif words[0] == "$var":
-            variables.append((".".join(scopes + words[4:5]), words[1], int(words[2]), words[3]))
+            variables.append((".".join(scopes + words[4:5]), words[1], int(words[2]), words[3],
+                              "".join(words[5:-1])))
     sizes, events = {one[3]: one[2] for one in variables}, {
         one[3] for one in variables if one[1] == "event"}
     words, found, now, last, section = iter(body.split()), [], 0, None, ("", 0)
@@ -178,17 +179,27 @@ def groups_of(sides):
     return exact
 
 
-def alone(side, others, common):
+def partners(mine, its):
+    """Pairs of variables of one path, as places: those with the same range, the first with the
+    first; and two that are alone there, if one of them has no range."""
+    keys = [[(one[4], sum(other[4] == one[4] for other in side[:at]))
+             for at, one in enumerate(side)] for side in (mine, its)]
+    found = [(at, keys[1].index(key)) for at, key in enumerate(keys[0]) if key in keys[1]]
+    is_lone = len(mine) == len(its) == 1 and "" in (mine[0][4], its[0][4])
+    return found or [(0, 0)] * is_lone
+
+
+def alone(names, others):
     """What one has and the other has not, each with its count: the outermost scope or path that is
     none of those of the other one."""
-    known = {path[:at] for path in (one + "." for one in [*common, *(one[0] for one in others)])
+    known = {path[:at] for path in (one + "." for one in others)
              for at, letter in enumerate(path) if letter == "."}
     lines = {}
-    for path in dict.fromkeys(one[0] for one in side if one[0] not in common):
+    for path in names:
         fronts = [path[:at] for at, letter in enumerate(path)
                   if letter == "." and "\\" not in path[:at]]  # a dot behind it is no scope's
         name = next((front for front in fronts if front not in known), path)
-        lines.setdefault(name, []).extend(one for one in side if one[0] == path)
+        lines[name] = lines.get(name, 0) + 1
     return lines
 
 
@@ -254,23 +265,33 @@ def expected(texts, scales, asked):
              for side, its, others in zip(every, selected(every, asked["names"]),
                                           selected(every, asked["except"]))]
     groups = groups_of(sides)
-    lines, pairs = [], []
-    if not asked["common"]:
-        lines += ["timescale %s %s" % tuple(scales)] * (scales[0] != scales[1])
-        for letter, side, others, common in zip("AB", sides, every[::-1], zip(*groups) if groups
-                                                else ((), ())):
-            lines += ["alone %s %s %d" % (letter, name, len(paths))
-                      for name, paths in alone(side, others, common).items()]
-    for one, other in groups:
+    lines, pairs, sizes, lone = [], [], [], [[], []]
+    written = [{one[0]: one[0] for one in side} for side in every]
+    written[1].update((other, one) for one, other in groups)
+    for one, other in [*groups, *((path, "") for path in written[0] if path not in [
+            one for one, _ in groups]), *(("", path) for path in written[1] if path not in [
+                other for _, other in groups])]:
         mine, its = ([signal for signal in side if signal[0] == path]
                      for side, path in zip(sides, (one, other)))
-        kinds = [[signal[1] if signal[1] in ("real", "event") else signal[2] for signal in of]
-                 for of in (mine, its)]
-        if kinds[0] != kinds[1]:
-            lines.append("size %s %s %s" % (one, kinds[0][0], kinds[1][0]))
-        else:
-            pairs += [(one, a[1] if a[1] in ("real", "event") else "", (a[3], b[3]))
-                      for a, b in zip(mine, its)]
+        if one and other and one != other and bare(other) != other and bare(one) == one:
+            its = [(*signal[:4], signal[0][len(bare(other)):]) for signal in its]
+        found = partners(mine, its)
+        for at, (names, of, path) in enumerate(zip(lone, (mine, its), (one, written[1].get(other)))):
+            names += [path + signal[4] * (len(of) > 1) for number, signal in enumerate(of)
+                      if number not in [pair[at] for pair in found]]
+        for a, b in found:
+            kinds = [signal[1] if signal[1] in ("real", "event") else signal[2]
+                     for signal in (mine[a], its[b])]
+            if kinds[0] != kinds[1]:
+                sizes.append("size %s %s %s" % (one, kinds[0], kinds[1]))
+            else:
+                pairs.append((one, kinds[0] if kinds[0] in ("real", "event") else "",
+                              (mine[a][3], its[b][3])))
+    if not asked["common"]:
+        lines += ["timescale %s %s" % tuple(scales)] * (scales[0] != scales[1])
+        for letter, names, others in zip("AB", lone, (written[1].values(), written[0].values())):
+            lines += ["alone %s %s %d" % (letter, *one) for one in alone(names, others).items()]
+    lines += sizes
     spans = [{"1ns": 10, "100ps": 1, "10ns": 100}[scale] for scale in scales]
     factors = [span // math.gcd(*spans) for span in spans]
     clocks = [next((one[3] for one in side if plain(one[0]) == "t.c"), "") for side in every]
@@ -338,6 +359,12 @@ def said(words):
     return (out.buffer.getvalue().decode(), text.buffer.getvalue().decode(errors="replace"), status)
 
 
+def ordered(lines):
+    """Lines of which those about headers are in some order."""
+    return sorted(lines, key=lambda line: (1, "") if (line or "-")[:5] not in ("alone", "size ")
+                  else (0, line))
+
+
 def wrong(seed):
     of = random.Random("%s %d" % (os.environ.get("SEED", 1), seed))
     is_other, is_top = of.choice([0, 0, .05, .3]), of.random() < .3
@@ -375,8 +402,8 @@ def wrong(seed):
             file.write(text)
             file.flush()
         out, _, status = said([*words, *(file.name for file in files), *asked["names"]])
-    got = (out.splitlines(), status)
-    lines = expected(texts, scales, asked)
+    got = (ordered(out.splitlines()), status)
+    lines = ordered(expected(texts, scales, asked))
     if got == (lines, int(bool(lines))) or (lines[-1:], got) == ([None], (lines[:-1], 2)):
         return []
     return [("%s %s" % (words, asked["names"]), "".join(texts), lines, got)]
@@ -456,7 +483,7 @@ MERGES = ["exit 3", "kill -9 $$", *("'%s' \"$@\" | head -c %d; %s" % (REAL, leng
                                   for length in (9, 100, 180, 9999)
                                   for end in ("exit 1", "kill -9 $$"))]
 COMPARES = ["exit 0", "kill -9 $$", *("echo compared %d; exit" % count for count in (0, 2, 9)),
-            "echo alone A in1.p0; echo compared 2; exit 1", "cat > /dev/null; kill -9 $$",
+            "echo alone A in1.t.c; echo compared 2; exit 1", "cat > /dev/null; kill -9 $$",
             "'%s-compare' \"$@\"; kill -9 $$" % REAL, "'%s-compare' \"$@\"; exit 3" % REAL]
 
 

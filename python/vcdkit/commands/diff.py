@@ -23,7 +23,8 @@ from ..forms.differences import Lines, part_in, say_ends, say_headers, say_value
 from ..forms.text import counted
 from ..model.times import amount_of
 from ..questions.compare import ALWAYS, EACH_PAIR, FIRST, Comparison, same_within
-from ..questions.sides import in_common, sides_of
+from ..questions.rows import clock_of
+from ..questions.sides import sides_of
 from ..reading.files import check_outputs, write
 from . import (FAULT, command, dump_of, is_part, natural, parser, parts_of_both, question, times_of,
                window_of_both)
@@ -35,25 +36,26 @@ def compare(asked: argparse.Namespace, report: Lines) -> None:
     if is_part(asked):
         dumps = parts_of_both(dumps, asked.begin, asked.end, bool(asked.rise or asked.fall))
     sides = sides_of(dumps, asked.maps, asked.names, asked.exceptions)
-    report.times = [times_of(side.dump, asked) for side in sides]
+    report.times = [times_of(side.dump, asked, side.scale) for side in sides]
     spans = [side.dump.ticks(asked.context) for side in sides] if asked.context else []
     name = asked.rise or asked.fall
-    clocks = [side.clock(name) for side in sides] if name else []
-    pairs, apart = in_common(sides)
-    if asked.common and not pairs and not apart:
-        raise UsageError("the dumps have no path in common: --map OLD=NEW renames a scope")
-    say_headers(report, sides, apart, asked.common)
-    report.compared = "compared %s (A has %d, B has %d)" % (
-        counted(len(pairs), "signal"), len(sides[0].signals), len(sides[1].signals))
-    if len(pairs) < asked.least:
-        raise UsageError("%s: --at-least asks for %d" % (report.compared, asked.least))
+    clocks = [clock_of(side.named, name) for side in sides] if name else []
     same = same_within(asked.tolerance, asked.x_matches)
-    comparison = Comparison(sides, pairs, same, asked.extent, clocks,
+    comparison = Comparison(sides, same, asked.extent, clocks,
                             (b"0", b"1") if asked.rise else (b"1", b"0"))
     scales = [side.scale for side in sides if side.scale]
     if is_part(asked) and len(set(scales)) > 1:
         comparison.window = window_of_both(scales, asked.begin, asked.end)
-    found = say_values(report, asked, comparison)
+    comparison.start()
+    pairs = comparison.compared
+    if asked.common and not pairs and not comparison.sizes:
+        raise UsageError("the dumps have no path in common: --map OLD=NEW renames a scope")
+    say_headers(report, sides, comparison, asked.common)
+    report.compared = "compared %s (A has %d, B has %d)" % (
+        counted(pairs, "signal"), len(sides[0].places), len(sides[1].places))
+    if pairs < asked.least:
+        raise UsageError("%s: --at-least asks for %d" % (report.compared, asked.least))
+    found = say_values(report, asked, sides, comparison)
     if clocks and pairs and not any(comparison.counts):
         raise UsageError("in both dumps, %s never %s%s" % (
             name, "rises" if asked.rise else "falls", " in this window" * is_part(asked)))

@@ -6,10 +6,9 @@ import sys
 from typing import Any, Callable, Dict, Iterable, List, Optional, Sequence, Tuple
 
 from ..errors import failing
-from ..model.signals import Signal
 from ..model.values import Cell, value_in
 from ..questions.compare import FIRST, Comparison, Difference
-from ..questions.sides import Pair, Sides, kind
+from ..questions.sides import Side, Sides
 from ..reading.files import write
 from .junit import Test, write_tests
 from .text import FORMS, in_json, shown, write_json
@@ -28,7 +27,7 @@ class Lines:
 
     def __init__(self, asked: argparse.Namespace):
         self._asked = asked
-        self.times: Sequence[Callable[[int], str]] = (str, str)  # what shows ticks of each
+        self.times: List[Callable[[int], str]] = [str, str]  # what shows ticks of each
         self.lines: Dict[str, List[str]] = {}
         self.fault = self.compared = ""
 
@@ -92,30 +91,30 @@ class Lines:
         write_tests(self._asked.junit, "vcdkit-diff", tests)
 
 
-def cell_of(value: Optional[bytes], signal: Signal) -> Cell:
+def cell_of(value: Optional[bytes], is_event: bool) -> Cell:
     """Returns a value of a line; of an event whether it is triggered."""
-    if signal.type == "event":
+    if is_event:
         return "triggered" if value else "-"
-    return None if value is None else value_in(value, signal.size)
+    return None if value is None else value_in(value, len(value))
 
 
-def lines_of(differences: Iterable[Difference]) -> List[Line]:
-    """Returns the lines of differences of one time, in the order of their names; those of one name
-    in the order of declaration."""
-    return [("differs", one.times[0], one.pair.name,
-             *(cell_of(value, signal) for value, signal in zip(one.values, one.pair.signals)))
-            for one in sorted(differences, key=lambda one: (one.pair.name, one.pair.places))]
+def lines_of(differences: Iterable[Difference], side: Side) -> List[Line]:
+    """Returns the lines of differences of one time, in the order of their names."""
+    return [("differs", one.times[0], one.name, *(cell_of(value, any(
+        side.types[at] == "event" for at in side.of_name.get(one.name, ()))) for value in one.values))
+            for one in sorted(differences, key=lambda one: one.name)]
 
 
-def say_headers(report: Lines, sides: Sides, apart: Sequence[Pair], is_common: bool) -> None:
+def say_headers(report: Lines, sides: Sides, comparison: Comparison, is_common: bool) -> None:
     """Says what the headers do not have in common."""
     if not is_common:
         scales = [side.scale for side in sides]
         texts = [str(scale) if scale else None for scale in scales]
         report.say("timescale", [("timescale", *texts)] if scales[0] != scales[1] else [])
-        for letter, side, other in zip("AB", sides, sides[::-1]):
-            report.say_some("alone", [("alone", letter, *one) for one in side.alone(other)])
-    report.say("size", [("size", pair.name, *map(kind, pair.signals)) for pair in apart])
+        for letter, names, side, other in zip("AB", comparison.alone, sides, sides[::-1]):
+            report.say_some("alone", [("alone", letter, *one) for one in side.alone(names, other)])
+    report.say("size", [("size", name, *(int(its) if its.isdigit() else its for its in kinds))
+                        for name, *kinds in comparison.sizes])
 
 
 def say_ends(report: Lines, sides: Sides, comparison: Comparison, has_clock: bool) -> None:
@@ -146,15 +145,15 @@ def write_parts(report: Lines, sides: Sides, times: Sequence[int], spans: Sequen
         report.put("window " + path, kind="window", file=path)
 
 
-def say_values(report: Lines, asked: argparse.Namespace, comparison: Comparison
+def say_values(report: Lines, asked: argparse.Namespace, sides: Sides, comparison: Comparison
                ) -> List[Difference]:
-    """Says where values differ, and returns the first difference of each pair."""
-    first: Dict[Tuple[int, int], Difference] = {}
+    """Says where values differ, and returns the first difference of each name."""
+    first: Dict[str, Difference] = {}
     with contextlib.closing(comparison.differences()) as differences:
         for found in differences:
             for one in found:
-                first.setdefault(one.pair.places, one)
-            report.say_some("differs", lines_of(found))
+                first.setdefault(one.name, one)
+            report.say_some("differs", lines_of(found, sides[0]))
             if asked.extent == FIRST:
                 break
     report.say("differs", [])

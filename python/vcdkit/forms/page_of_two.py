@@ -7,7 +7,7 @@ from typing import List, Optional, Sequence, Tuple
 from ..model.signals import Signal
 from ..model.times import Window
 from ..questions.compare import Difference, Same
-from ..questions.sides import Sides, kind
+from ..questions.sides import Sides
 from ..questions.streams import Reader, TooMuch, differences
 from . import page
 from .page import Page, PageRow
@@ -51,11 +51,11 @@ def rows_of(window: Surroundings, sides: Sides, pairs: Sequence[Named], same: Sa
     reader, streams = Reader(keeps_texts=True), []
     for at, side in enumerate(sides):
         signals = [its[at] for _, its in pairs]
-        part = side.picked([one.path for one in signals]) or side.dump
+        part = side.picked([one.path for one in signals])
         streams.append(reader.read(part, signals, window.parts[at], partial(window.time, at)))
     rows = []
     for (name, both), *its in zip(pairs, *streams):
-        is_event = kind(both[0]) == "event"
+        is_event = both[0].type == "event"
         differs = differences(its, is_event, min(window.ends), same)
         rows += [PageRow(signal._replace(path=name), stream, letter, differs)
                  for letter, signal, stream in zip("AB", both, its)]
@@ -86,10 +86,12 @@ def texts_of(sides: Sides, factors: Tuple[int, int], found: Sequence[Difference]
     """Returns the text of a page with the signals that differ, and the clocks, in parts. Without a
     span, it has as much time as there is room for."""
     pairs: List[Named] = [(clocks[0].path, (clocks[0], clocks[1]))] if clocks else []
-    pairs += sorted((one.pair.name, one.pair.signals) for one in found)
+    names = sorted(one.name for one in found)
+    pairs += [(name, (one, other)) for name in names for one, other in zip(
+        *(side.signals(name) for side in sides))]
     # That of the first line: the first name of those that differ at the first time.
-    row = 2 * pairs.index(min((one.pair.name, one.pair.signals) for one in found
-                              if one.times == found[0].times))
+    first = min(one.name for one in found if one.times == found[0].times)
+    row = 2 * [name for name, _ in pairs[len(clocks[:1]):]].index(first) + 2 * bool(clocks)
     tried = max((side.report.last or 0) * factor for side, factor in zip(sides, factors))
     while True:
         window = Surroundings(sides, factors, found[0], tried if span is None else span)

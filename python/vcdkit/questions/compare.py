@@ -1,25 +1,30 @@
 """Where the values of two dumps differ, for vcdkit-diff.
 
-A value is as a body has it: the fewest digits, or r and a real number. So equal values of one size
-have equal digits."""
+A value is as vcdkit-compare writes it: all digits, or r and a real number. So equal values of one
+size have equal digits."""
 import functools
 import itertools
 import re
+from array import array
 from math import gcd, isclose, isnan
 from operator import itemgetter
-from typing import (Callable, Dict, Generator, Iterator, List, NamedTuple, Optional, Sequence, Set,
-                    Tuple)
+from typing import (TYPE_CHECKING, Callable, Dict, Generator, Iterator, List, NamedTuple, Optional,
+                    Sequence, Set, Tuple)
 
-from ..errors import UsageError
+from ..errors import RunFailed, UsageError
+from ..model.signals import is_real
 from ..model.times import LAST_TICK, Timescale
 from ..model.values import full, real_of
-from ..reading import body, header
-from ..reading.comparing import Line, differing
-from ..reading.texts import Headed
+from ..reading import body
+from ..reading.comparing import are_alike, lines, renamed
+from ..reading.source import merge
+from ..reading.texts import Headed, Text
 from .rows import Clock
-from .sides import Pair, Sides, kind
+from .sides import Sides
 
-BLOCK = 1 << 18
+if TYPE_CHECKING:
+    from .condition import Conditions
+
 # Which differences are due, as vcdkit-compare calls it; the second is the first one of each pair.
 FIRST, EACH_PAIR, ALWAYS = "--first", "", "--always"
 Values = Tuple[Optional[bytes], Optional[bytes]]
@@ -27,14 +32,12 @@ Same = Callable[[Optional[bytes], Optional[bytes]], bool]
 
 
 class Difference(NamedTuple):
-    """The values of a pair, None if there is none yet, and the time of each dump, in ticks."""
+    """The name and the values of a pair, None if there is none yet, or if an event is not
+    triggered; and the time of each dump, in ticks."""
 
     times: Tuple[int, int]
-    pair: Pair
+    name: str
     values: Values
-
-
-Found = Tuple[Tuple[int, int], List[Tuple[int, Values]]]  # times, and the pairs that differ then
 
 
 def factors_of(scales: Sequence[Optional[Timescale]]) -> Tuple[int, int]:
@@ -65,55 +68,97 @@ def same_within(tolerance: float, x_matches: bool = False) -> Same:
 
 
 class Comparison:
-    """The comparison of pairs: at each time, or at the edges of a clock that both have."""
+    """The comparison of two dumps by vcdkit-compare: at each time, or at the edges of a clock that
+    both have, at which a condition holds. `alone` are the variables that only one of them has,
+    `sizes` those that cannot be compared."""
 
-    def __init__(self, sides: Sides, pairs: List[Pair], same: Same, extent: str,
-                 clocks: Sequence[Clock] = (), edge: Tuple[bytes, bytes] = (b"", b"")):
-        self._sides, self._pairs, self._same, self._extent = sides, pairs, same, extent
-        self._clocks, self._edge = clocks, edge
+    def __init__(self, sides: Sides, same: Same, extent: str, clocks: Sequence[Clock] = (),
+                 edge: Tuple[bytes, bytes] = (b"", b""), only: Sequence["Conditions"] = ()):
+        self._sides, self._same, self._extent = sides, same, extent
+        self._clocks, self._edge, self._only = clocks, edge, only
         self.factors = factors_of([side.scale for side in sides])
         self.counts = [0, 0]  # of edges, up to now
+        self._times = array("Q"), array("Q")  # of the edges that both have
         self.window = (0, LAST_TICK)  # without a clock, in ticks of both
+        self.alone: Tuple[List[str], List[str]] = ([], [])
+        self.sizes: List[Tuple[str, str, str]] = []
+        self._lines: Optional[Iterator[List[bytes]]] = None  # without them, nothing differs
+
+    def start(self) -> None:
+        """Finds what the headers do not have in common, and how many pairs are compared."""
+        places = [side.places for side in self._sides]
+        if not all(places):
+            for names, its, side in zip(self.alone, places, self._sides):
+                names += [side.names[at] for at in its]
+        elif self._clocks or self.factors[0] != self.factors[1] or not are_alike(
+                *(side.dump for side in self._sides)):
+            self._lines = self._written(places)
+        for line in self._lines or ():
+            if line[0] == b"alone":
+                is_of_b = line[1] == b"B"
+                self.alone[is_of_b].append(self._called(line[2], is_of_b))
+            elif line[0] == b"size":
+                self.sizes.append((self._called(line[1]), line[2].decode(), line[3].decode()))
+            else:
+                self._lines = itertools.chain([line], self._lines or ())
+                break
+        counts = [len(its) - len(names) - len(self.sizes) for its, names in zip(places, self.alone)]
+        self.compared = counts[0]
+        if counts[0] != counts[1]:
+            raise RunFailed("vcdkit-compare pairs %d signals with %d" % (counts[0], counts[1]))
+
+    def _called(self, path: bytes, at: int = 0) -> str:
+        """Returns the name of a variable of a dump in a line."""
+        return self._sides[at].called(path.decode("utf-8", "surrogateescape").partition(".")[2])
 
     def differences(self) -> Generator[List[Difference], None, None]:
         """Returns the differences of each time together."""
-        if not self._pairs:
-            return
-        left = set(range(len(self._pairs)))
-        for times, its in self._at_edges() if self._clocks else self._at_times():
-            found = [one for one in its if one[0] in left]
+        done: Set[Tuple[str, int]] = set()
+        for _, its in itertools.groupby(self._differing(), itemgetter(0)):
+            found = [one for one in its if _key(one) not in done]
             if self._extent != ALWAYS:
-                left.difference_update(number for number, _ in found)
+                done.update(map(_key, found))
             if found:
-                yield [Difference(times, self._pairs[number], values) for number, values in found]
+                yield found
 
-    def _at_times(self) -> Iterator[Found]:
-        lines = () if self._is_one_body() else self._lines()
-        for at, its in itertools.groupby(lines, itemgetter(0)):
-            yield (at // self.factors[0], at // self.factors[1]), [line[1:] for line in its]
+    def _differing(self) -> Iterator[Difference]:
+        """Returns the differences of all pairs. Fails unless all were compared."""
+        count = 0
+        for what, *words in self._lines or ():
+            if what == b"compared":
+                count = int(words[0])
+                continue
+            at, path = int(words[0]), words[1]
+            one, other = (None if value == b"-" else value for value in words[2:])
+            if not self._same(one, other):
+                first, second = (its[at] for its in self._times) if self._clocks else (
+                    at // factor for factor in self.factors)
+                yield Difference((first, second), self._called(path), (one, other))
+        if self._lines and count != self.compared:
+            raise RunFailed("vcdkit-compare has compared %d of %d pairs" % (count, self.compared))
 
-    def _is_one_body(self) -> bool:
-        """Whether both dumps have one body, byte for byte, and each pair has one code in it: then
-        no value differs. It is much faster than to look at the values."""
-        if self.factors[0] != self.factors[1] or any(
-                one != other for one, other in (pair.codes for pair in self._pairs)):
-            return False
-        with self._sides[0].dump.open() as one, self._sides[1].dump.open() as other:
-            blocks = (iter(functools.partial(text.read, BLOCK), b"") for text in (one, other))
-            return header.BODY in one and header.BODY in other and all(
-                mine == its for mine, its in itertools.zip_longest(*blocks))
-
-    def _lines(self) -> Iterator[Line]:
-        """Returns the lines of all pairs. If values that are not equal may be the same, it looks at
-        each time at which they are not equal."""
+    def _written(self, places: Sequence[Sequence[int]]) -> Iterator[List[bytes]]:
+        """Returns what vcdkit-compare writes. If values that are not equal may be the same, it
+        looks at each time at which they are not equal."""
+        one, other = self._sides
         is_loose = self._same(b"x", b"1") or any(
-            kind(pair.signals[0]) == "real" for pair in self._pairs)
+            is_real(name) for name in {one.types[at] for at in places[0]})
+        words = [ALWAYS if is_loose else self._extent] * bool(is_loose or self._extent)
+        names = {**one.moved(), **other.moved()}
+        front: Callable[[bytes], bytes] = functools.partial(renamed, names)
+        if self._clocks:
+            return lines(words, Headed(front, merge(one.dump, other.dump).text, self._at_edges))
+        text, begin, end = self._merged(places)
+        words += ["--from", str(begin), "--to", str(end)]
+        return lines(words, Headed(front, text) if names else text)
+
+    def _merged(self, places: Sequence[Sequence[int]]) -> Tuple[Text, int, int]:
+        """Returns a merge of both, and the window in which they are compared."""
         dumps, (begin, end) = [], self.window
         for at, (side, factor) in enumerate(zip(self._sides, self.factors)):
             # To pick most signals takes longer than to merge all.
-            part = (side.picked([pair.signals[at].path for pair in self._pairs])
-                    if 2 * len(self._pairs) < len(side.signals) else None)
-            dumps.append(part or side.dump)
+            dumps.append(side.picked([side.paths[place] for place in places[at]])
+                         if 2 * len(places[at]) < len(side.paths) else side.dump)
             # A merge takes a dump without a time scale for one of seconds.
             if side.scale and not self._sides[1 - at].scale:
                 dumps[at] = dumps[at].like(Headed(lambda text: re.sub(
@@ -123,39 +168,49 @@ class Comparison:
                 raise UsageError("%s: its last time is 2^64 ticks or more in the time scale of the "
                                  "other dump: give --to" % side.dump.name)
             end = min(end, last)
-        keys = [[side.keys[place] for side, place in zip(self._sides, pair.places)]
-                for pair in self._pairs]
-        words = [*filter(None, [ALWAYS if is_loose else self._extent]), "--from", str(begin),
-                 "--to", str(end)]
-        return (line for line in differing(dumps, keys, words) if not self._same(*line[2]))
+        return merge(*dumps).text, begin, end
 
-    def _edges_of(self, at: int) -> Iterator[Tuple[int, body.Changes, int]]:
-        side, (clock, place) = self._sides[at], self._clocks[at]
-        part = side.picked([*(pair.signals[at].path for pair in self._pairs), clock.path])
-        return body.at_clocks(part or side.dump, [], {pair.codes[at] for pair in self._pairs},
-                              {(clock.code.encode(), place, *self._edge): 1})
-
-    def _at_edges(self) -> Iterator[Found]:
-        codes = [pair.codes for pair in self._pairs]
-        events = [kind(pair.signals[0]) == "event" for pair in self._pairs]
-        tables: List[Dict[bytes, List[int]]] = [{}, {}]  # of each code its pairs
-        for number, pair in enumerate(codes):
-            for table, code in zip(tables, pair):
-                table.setdefault(code, []).append(number)
-        states: List[Dict[bytes, bytes]] = [{}, {}]
+    def _at_edges(self) -> Generator[bytes, None, None]:
+        """Returns the body of a merge whose times are the numbers of the edges that both have."""
         for edges in itertools.zip_longest(self._edges_of(0), self._edges_of(1)):
             self.counts = [count + bool(edge) for count, edge in zip(self.counts, edges)]
             if None in edges:
                 continue
-            changes = [dict(its) for _, its, _ in edges]
-            touched: Set[int] = set()
-            for its, table, state in zip(changes, tables, states):
-                state.update(its)
-                touched.update(*(table.get(code, ()) for code in its))
-            found = []
-            for number in touched:
-                one, other = changes if events[number] else states
-                values = one.get(codes[number][0]), other.get(codes[number][1])
-                if not self._same(*values):
-                    found.append((number, values))
-            yield (edges[0][0], edges[1][0]), found
+            number = len(self._times[0])
+            for times, (time, _) in zip(self._times, edges):
+                times.append(time)
+            yield b"#%d\n" % number + b"".join(
+                b"%b%b %b\n" % (b"b" * (value[:1] != b"r"), value, code)
+                for _, its in edges for code, value in its)
+
+    def _edges_of(self, at: int) -> Iterator[Tuple[int, body.Changes]]:
+        """Returns the times of the edges of a dump at which the condition holds, and what changed
+        since the one before, with the codes of the merge. An event is over at the next edge."""
+        side, (clock, place) = self._sides[at], self._clocks[at]
+        only = self._only[at] if self._only else None
+        _, types, _, codes = side.dump.signals.columns()
+        its = {codes[one].encode(): side.codes[one].encode() for one in side.places}
+        events = {code.encode() for name, code in zip(types, codes) if name == "event"}
+        edges = {(clock.code.encode(), place, *self._edge): 1}
+        part = side.named if only else side.picked([
+            side.paths[one] for one in [*side.places, side.of_name[clock.path][0]]])
+        holds = only.compiled() if only else None
+        if only:
+            only.look_back([], edges)
+        left: Dict[bytes, bytes] = {}
+        for time, changes, _ in body.at_clocks(part, [], {*its, *(only.over if only else ())}, edges):
+            left.update(changes)
+            if only:
+                only.take(changes)
+            if holds is None or holds():
+                yield time, [(its[code], value) for code, value in left.items() if code in its]
+                left = {}
+            for code in events.intersection(left):
+                del left[code]
+            if only:
+                only.end()
+
+
+def _key(one: Difference) -> Tuple[str, int]:
+    """Returns what tells a pair from others: two of one name may have different sizes."""
+    return one.name, max(len(value) * (value[:1] != b"r") for value in one.values if value)

@@ -1,34 +1,20 @@
-"""Two dumps side by side, for vcdkit-diff: which signals both have."""
-import itertools
-import threading
-from typing import Any, Dict, Iterator, List, NamedTuple, Optional, Sequence, Set, Tuple, Union
+"""Two dumps side by side, for vcdkit-diff: what their variables are called, and which are asked
+for. Which of them belong together, vcdkit-compare says: by their names and ranges."""
+import functools
+from typing import Any, Dict, List, Sequence, Set, Tuple
 
 from ..errors import UnknownName, UsageError
-from ..model.names import FIELD, bare, fronts, full_names, hint, names_for, places_of, plain
+from ..model.names import (FIELD, RANGE, bare, field_of, fronts, full_names, hint, names_for,
+                           places_of, plain)
 from ..model.signals import Signal
-from ..reading.comparing import keys_in
+from ..model.values import Report
+from ..reading import header
+from ..reading.comparing import header_of, raw_header, renamed, reports_of
 from ..reading.source import Source
+from ..reading.texts import Headed, Made, Text
 from .picked import MAX_NAMES
-from .rows import Clock, clock_of
 
 Map = Tuple[str, str]  # the path of a scope or a signal, and what it becomes
-
-
-class Pair(NamedTuple):
-    """A signal that both have: its name, the two, and their places among all of their dumps."""
-
-    name: str
-    signals: Tuple[Signal, Signal]
-    places: Tuple[int, int]
-
-    @property
-    def codes(self) -> Tuple[bytes, bytes]:
-        return self.signals[0].code.encode(), self.signals[1].code.encode()
-
-
-def kind(signal: Signal) -> Union[str, int]:
-    """Returns what values of two signals have to have in common."""
-    return "event" if signal.type == "event" else "real" if signal.is_real else signal.size
 
 
 def originals(maps: Sequence[Map], paths: Sequence[Sequence[str]]) -> List[Map]:
@@ -54,89 +40,101 @@ def _put_before(front: str, rest: str) -> str:
 
 
 class Side:
-    """One of the dumps. Its names are the paths, of which maps replace the front; `found` has those
-    of the names that were asked for that select something, and `mapped` the maps that fit."""
+    """One of the dumps, and its scope in the merge of both, which has its variables in the same
+    order, with other codes. `names` are their paths, of which maps replace the front, as A writes
+    them; `mapped` has the maps that fit, and `places` those of the variables that are compared."""
 
-    def __init__(self, dump: Source, maps: Sequence[Tuple[str, str]]):
-        self.dump = dump
-        self.report, self.scale = self.dump.check(), self.dump.timescale
-        self.signals = list(self.dump.signals)
-        self.keys = list(keys_in(one.path for one in self.signals))
-        self.found: Set[str] = set()
+    def __init__(self, dump: Source, report: Report, scope: str, columns: Sequence[List[Any]]):
+        self.dump, self.report, self._scope = dump, report, scope
+        self.scale = header.facts(raw_header(dump)).timescale
+        paths, self.types, _, self.codes = columns
+        self.paths = [path[len(scope) + 1:] for path in paths]
         self.mapped: Set[str] = set()
-        # Those of no scope are for what has a range too.
-        self._bare = {front for front, _ in maps if not any(
-            one.path.startswith(front + ".") for one in self.signals)}
-        self.names = [self._mapped(one.path, maps) for one in self.signals]
-        self._known, self._maps = frozenset(self.names), maps
-        self.of_name: Dict[str, List[int]] = {}  # the places of each name
-        for at, name in enumerate(self.names):
-            self.of_name.setdefault(name, []).append(at)
-        self.common: Set[str] = set()
 
-    def _mapped(self, path: str, maps: Sequence[Tuple[str, str]]) -> str:
+    def spell(self, maps: Sequence[Map]) -> None:
+        """Gives its variables names."""
+        # Those of no scope are for what has a range too.
+        no_scope = {front for front, _ in maps if not any(
+            path.startswith(front + ".") for path in self.paths)}
+        self.spelled = [self._mapped(path, maps, no_scope) for path in self.paths
+                        ] if maps else self.paths
+
+    def _mapped(self, path: str, maps: Sequence[Map], no_scope: Set[str]) -> str:
         its = [one for one in maps if one[0] == path or path.startswith(one[0] + ".")
-               or one[0] == bare(path) and one[0] in self._bare]
+               or one[0] == bare(path) and one[0] in no_scope]
         self.mapped.update(front for front, _ in its)
         if not its:
             return path
         front, new = its[0]
-        return new + path[len(front):] if new else path[len(front) + 1:]
+        return new + path[len(front):] if new else path[len(front) + 1:] or path
 
-    def _scopes(self, at: int) -> List[str]:
-        """Returns the scopes around a signal, the innermost first, as maps name them."""
-        found = [self._mapped(one.path, self._maps) for one in self.dump.declarations[at].scopes]
-        return [one for one in reversed(found) if self.names[at].startswith(one + ".")]
+    def write_as(self, names: Dict[str, str]) -> None:
+        """Lets names be written as the other dump writes them."""
+        self.names = [names.get(name, name) for name in self.spelled] if names else self.spelled
+        self.of_name: Dict[str, List[int]] = {}  # the places of each name
+        for at, name in enumerate(self.names):
+            self.of_name.setdefault(name, []).append(at)
+        self.choose({*self.of_name})
+
+    def choose(self, names: Set[str]) -> None:
+        """Lets only variables of some names be compared."""
+        self.chosen = names
+        self.places = [at for at, name in enumerate(self.names) if name in names]
+
+    def moved(self) -> Dict[str, str]:
+        """Returns the variables that get other names in the merge, and these: what is not compared
+        is in a scope of its own."""
+        return {"%s.%s" % (self._scope, path): "%s.%s" % (
+            self._scope if name in self.chosen else "other", name)
+            for path, name in zip(self.paths, self.names) if path != name or name not in self.chosen}
+
+    @functools.cached_property
+    def named(self) -> Source:
+        """The dump with these names."""
+        names = {path: name for path, name in zip(self.paths, self.names) if path != name}
+        whole = self.dump.like(self.dump.whole("cut"))
+        text: Text = Headed(functools.partial(renamed, names), whole.cut().text)
+        if isinstance(self.dump.text, Made):
+            text = self.dump.text._replace(of=(text,))
+        return self.dump.like(text) if names else self.dump
+
+    def picked(self, paths: Sequence[str]) -> Source:
+        """Returns a dump that has these paths, and only these if their names are UTF-8 and a command
+        line has room for them."""
+        names = names_for(paths, self.paths)
+        is_all = len({*paths}) == len({*self.paths}) or sum(map(len, names)) > MAX_NAMES
+        return self.dump if is_all else self.dump.part(names)
 
     def selected(self, asked: Sequence[str]) -> Dict[str, Set[str]]:
-        """Returns of each name that is asked for the names of the signals that it selects."""
-        full = full_names(asked, self.names, self._known)
-        places = places_of(full.values(), self.names) if asked else {}
+        """Returns of each name that is asked for the names of the variables that it selects."""
+        full = full_names(asked, self.spelled, frozenset(self.spelled)) if asked else {}
+        places = places_of(full.values(), self.spelled) if asked else {}
         return {name: {self.names[at] for at in places[path]} for name, path in full.items()}
 
-    def unknown(self, name: str) -> UnknownName:
-        """Returns the exception for a name that is not there."""
-        return UnknownName("%s: %s" % (self.dump.name, name), hint(name, self.names))
+    def called(self, path: str) -> str:
+        """Returns the name of a variable that vcdkit-compare calls by a path, which has its range
+        if that tells it from others."""
+        name = path if path in self.of_name else FIELD.sub("", path)
+        return name if len(self.of_name.get(name, ())) == 1 else path
 
-    def _having(self, name: str) -> List[Signal]:
-        """Returns the signals that have a name."""
-        full = full_names([name], self.names, self._known)[name]
-        pairs: List[Tuple[Signal, str]] = list(zip(self.signals, self.names))
-        return ([signal for signal, its in pairs if its == full]
-                or [signal for signal, its in pairs if plain(its) == plain(name)])
+    def signals(self, name: str) -> List[Signal]:
+        """Returns the signals that lines call by a name."""
+        near = self.of_name.get(name) or self.of_name[FIELD.sub("", name)]
+        its = [at for at in near if name in self.of_name or
+               self.dump.declarations[at].declared == field_of(name)]
+        return [self.dump.signals[at] for at in its or near]
 
-    def clock(self, name: str) -> Clock:
-        """Returns the signal of one bit that has a name, or the vector and the place of its bit."""
-        its, vector = self._having(name), FIELD.sub("", name)
-        for one in [] if its else self._having(vector):
-            return clock_of(self.dump, bare(one.path) + name[len(vector):])
-        if not its:
-            raise self.unknown(name)
-        if len({one.code for one in its}) > 1 or kind(its[0]) != 1:
-            raise UsageError("%s: %s is not a one-bit clock" % (self.dump.name, name))
-        return its[0], 0
-
-    def alone(self, other: "Side") -> List[Tuple[str, int]]:
-        """Returns the names of what the other one does not have, and how many signals each has. A
-        name is a path, or the outermost scope around it of which the other one has nothing."""
-        paths = [name for name in self.of_name if name not in self.common]
-        names = [*other.names, *self.common] if paths else []
-        has = {one for name in names for one in fronts(name)}
+    def alone(self, names: Sequence[str], other: "Side") -> List[Tuple[str, int]]:
+        """Returns what the other one does not have, of the variables that it lacks: their names, or
+        the outermost scopes around them of which it has nothing; and how many are there."""
+        has = {one for name in other.names for one in fronts(name)} if names else set()
         count: Dict[str, int] = {}
-        for path in paths:
-            alone = itertools.takewhile(lambda scope: scope not in has,
-                                        self._scopes(self.of_name[path][0]))
-            name = [path, *alone][-1]
-            count[name] = count.get(name, 0) + len(self.of_name[path])
+        for path in names:
+            around = [one for one in fronts(path.partition("\\")[0].rpartition(".")[0])
+                      if one not in has]
+            name = [path, *around][-1]
+            count[name] = count.get(name, 0) + 1
         return list(count.items())
-
-    def picked(self, paths: Sequence[str]) -> Optional[Source]:
-        """Returns a dump that has these paths, and only these if their names are UTF-8; None if a
-        command line has no room for the names."""
-        if len(set(paths)) == len({one.path for one in self.signals}):
-            return self.dump
-        names = names_for(paths, (one.path for one in self.signals))
-        return self.dump.part(names) if sum(map(len, names)) <= MAX_NAMES else None
 
 
 Sides = Tuple[Side, Side]
@@ -144,101 +142,57 @@ Sides = Tuple[Side, Side]
 
 def sides_of(dumps: Sequence[Source], maps: Sequence[Map], names: Sequence[str],
              exceptions: Sequence[str]) -> Sides:
-    """Reads both dumps, at the same time, and chooses the signals that names select, as choose().
-    Fails if a dump lacks a name, or if both lack what a map or an exception names."""
+    """Reads both dumps, and chooses the variables that names select, as choose(). Fails if both lack
+    what a map names."""
+    reports = reports_of(*dumps)
+    columns: Sequence[List[Any]] = header.columns(header_of(dumps))
+    count = sum(path.startswith("in1.") for path in columns[0])
+    one, other = (Side(dump, report, scope, [its[part] for its in columns]) for dump, report, scope,
+                  part in zip(dumps, reports, ("in1", "in2"), (slice(count), slice(count, None))))
     if len(maps) > 1:
-        maps = originals(maps, [dump.signals.columns()[0] for dump in dumps])
-    found: List[Any] = [None, None]
-
-    def read(at: int) -> None:
-        try:
-            found[at] = Side(dumps[at], maps)
-        except BaseException as error:  # pylint: disable=broad-except
-            found[at] = error
-
-    thread = threading.Thread(target=read, args=[1])
-    thread.start()
-    read(0)
-    thread.join()
-    for error in found:
-        if isinstance(error, BaseException):
-            raise error
-    one, other = found
+        maps = originals(maps, [one.paths, other.paths])
+    for side in one, other:
+        side.spell(maps)
+    one.write_as({})
+    other.write_as(_respelled({*one.spelled}, {*other.spelled}))
+    for front, _ in maps:
+        if front not in one.mapped | other.mapped:
+            _refuse(front, [*one.paths, *other.paths, *one.spelled, *other.spelled])
     choose((one, other), names, exceptions)
-    for side, name in itertools.product(found, names):
-        if name not in side.found:
-            raise side.unknown(name)
-    known = [*one.names, *other.names]
-    paths = [its.path for side in found for its in side.signals]
-    lacking = [(front, [*paths, *known]) for front, _ in maps
-               if front not in one.mapped | other.mapped]
-    lacking += [(name, known) for name in exceptions if name not in one.found | other.found]
-    for name, near in lacking:
-        raise UsageError("neither dump has %s%s" % (name, hint(name, [*dict.fromkeys(near)])))
     return one, other
 
 
-def _groups(sides: Sides) -> Iterator[Tuple[str, str]]:
-    """Returns the names that both have; of those that one alone has, names that differ only in how
-    a range or an escaped name is written."""
-    yield from ((name, name) for name in sides[0].of_name if name in sides[1].of_name)
+def _refuse(name: str, near: Sequence[str]) -> None:
+    """Fails for a name that neither dump has."""
+    raise UsageError("neither dump has %s%s" % (name, hint(name, [*dict.fromkeys(near)])))
+
+
+def _respelled(ours: Set[str], theirs: Set[str]) -> Dict[str, str]:
+    """Returns the names of B that A writes in another way, and these: they differ only in whether a
+    range is in the name, or in how a path with escaped names is written."""
     loose: List[Dict[str, List[str]]] = [{}, {}]
-    for found, side, other in zip(loose, sides, sides[::-1]):
-        for name in side.of_name:
-            if name not in other.of_name:
-                found.setdefault(plain(name), []).append(name)
-    for name, mine in loose[0].items():
-        its = loose[1].get(name, [])
-        if len(mine) == len(its) == 1:
-            yield mine[0], its[0]
+    for found, names in zip(loose, (ours - theirs, theirs - ours)):
+        for name in names:
+            found.setdefault(plain(name), []).append(name)
+    pairs = [(*its, *loose[1][name]) for name, its in loose[0].items()
+             if len(its) == len(loose[1].get(name, ())) == 1]
+    return {other: one for one, other in pairs if len({
+        its.group() for its in map(RANGE.search, (one, other)) if its}) < 2}
 
 
 def choose(sides: Sides, names: Sequence[str], exceptions: Sequence[str]) -> None:
-    """Takes the signals that names select, all without names, but for the exceptions. If a name
-    selects a signal in one dump, it also selects what this is compared with in the other one."""
-    asked = [*names, *exceptions]
-    found = [side.selected(asked) for side in sides]
-    other = dict(_groups(sides)) if asked else {}
-    one = {its: mine for mine, its in other.items()}
-    for name, mine in found[0].items():
-        its = found[1][name]
-        mine.update(one[path] for path in its if path in one)
-        its.update(other[path] for path in mine if path in other)
-    for side, of in zip(sides, found):
-        side.found.update(name for name in asked if of[name])
-        chosen = set().union(*map(of.__getitem__, names)) if names else side.of_name.keys()
-        others = set().union(*map(of.__getitem__, exceptions))
-        side.of_name = {name: its for name, its in side.of_name.items()
-                        if name in chosen and name not in others}
-
-
-def _in_order(sides: Sides, places: Tuple[List[int], List[int]]) -> Sequence[List[int]]:
-    """Returns the places of the variables of one path, so that each has its partner: by the ranges
-    that they declare if these are the same on both sides, each once, else by their order."""
-    if len(places[0]) == len(places[1]) == 1:
-        return places
-    by_range = [{side.dump.declarations[at].declared: at for at in its}
-                for side, its in zip(sides, places)]
-    if by_range[0].keys() != by_range[1].keys() or any(
-            len(one) < len(its) for one, its in zip(by_range, places)):
-        return places
-    return [[one[key] for key in by_range[0]] for one in by_range]
-
-
-def in_common(sides: Sides) -> Tuple[List[Pair], List[Pair]]:
-    """Returns the signals that both have, and those that cannot be compared."""
-    pairs, apart = [], []
-    for name, other in _groups(sides):
-        sides[0].common.add(name)
-        sides[1].common.add(other)
-        mine, its = _in_order(sides, (sides[0].of_name[name], sides[1].of_name[other]))
-        made = [Pair(name, (sides[0].signals[a], sides[1].signals[b]), (a, b))
-                for a, b in zip(mine, its)]
-        fit = len(mine) == len(its) and all(kind(a) == kind(b) for _, (a, b), _ in made)
-        if fit:
-            pairs += made
-        else:
-            apart.append(made[0])
-    return pairs, apart
-
-
+    """Takes the variables that names select, all without names, but for the exceptions. What a name
+    selects in one dump, it selects in the other one too. Fails if a dump lacks a name, or if both
+    lack an exception."""
+    found = [side.selected([*names, *exceptions]) for side in sides]
+    both = {name: its | found[1][name] for name, its in found[0].items()}
+    for side in sides:
+        for name in names:
+            if not both[name] & side.of_name.keys():
+                raise UnknownName("%s: %s" % (side.dump.name, name), hint(name, side.spelled))
+    for name in exceptions:
+        if not both[name]:
+            _refuse(name, [*sides[0].spelled, *sides[1].spelled])
+    for side in sides if both else ():
+        some = set().union(*map(both.__getitem__, names)) if names else side.chosen
+        side.choose((side.chosen & some).difference(*map(both.__getitem__, exceptions)))

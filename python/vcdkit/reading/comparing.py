@@ -1,61 +1,87 @@
-"""The differences between two dumps, as `vcdkit merge A B | vcdkit-compare in1=in2` finds them.
-
-On the way, the merge gets another header: both variables of a pair have its number as their name
-there, and all others are in a scope of their own."""
+"""What differs between two dumps, as `vcdkit merge A B | vcdkit-compare in1=in2` finds it. On the
+way, variables of the merge may get other names."""
 import functools
-from typing import Dict, Iterable, Iterator, List, Optional, Sequence, Tuple
+from typing import BinaryIO, Dict, Iterator, List, Sequence
 
-from ..errors import RunFailed
-from ..model.signals import each
+from ..model.names import RANGE
+from ..model.values import Report
 from . import header, program
-from .source import Source, merge
-from .texts import Headed, Made, Text
+from .source import Source, merge, report_in
+from .texts import Made, Text
 
-Key = Tuple[str, int]  # of a variable: its path, and how many variables before it have that
-# A time in ticks of both dumps, the number of a pair, and its values: `None` if there is none yet,
-# or if an event is not triggered.
-Line = Tuple[int, int, Tuple[Optional[bytes], Optional[bytes]]]
+BLOCK = 1 << 18
 
 
-def keys_in(paths: Iterable[str]) -> Iterator[Key]:
-    """Returns the keys of all variables."""
-    counts: Dict[str, int] = {}
-    for path in paths:
-        counts[path] = counts.get(path, -1) + 1
-        yield path, counts[path]
+def reports_of(one: Source, other: Source) -> List[Report]:
+    """Returns the counts of two dumps, which are read at the same time."""
+    with other.made("check", ()).open() as its, one.made("check", ()).open() as mine:
+        texts = [mine.read(), its.read()]
+    return [report_in(text.decode()) for text in texts]
 
 
-def lines(words: Sequence[str], merged: Text) -> Iterator[bytes]:
-    """Returns the lines that vcdkit-compare writes of the dumps in1 and in2 of a merge."""
+def header_of(dumps: Sequence[Source]) -> bytes:
+    """Returns the header of the merge of some dumps."""
+    with merge(*dumps).open() as out:
+        text = header.front(out)
+        if text:
+            out.close()  # else there is a fault in a header
+    return text
+
+
+def raw_header(dump: Source) -> bytes:
+    """Returns a text that begins with the header of a valid dump, as another program wrote it."""
+    text = b""
+    with dump.like(dump.whole("cut")).open() as file:
+        for block in iter(functools.partial(file.read, BLOCK), b""):
+            text += block
+            if header.LAST in text:
+                break
+    return text
+
+
+def renamed(names: Dict[str, str], text: bytes) -> bytes:
+    """Returns a header that vcdkit writes, in which variables get other paths: these come last. A
+    new path with a range has that of the variable; else a range in the old one comes after it."""
+    fronts, kept, moved = [""], [], []
+    for line in text.decode("utf-8", "surrogateescape").split("\n"):
+        words = line.split(" ")
+        if words[0] == "$scope":
+            fronts.append(fronts[-1] + words[2] + ".")
+        elif words[0] == "$upscope":
+            fronts.pop()
+        new = names.get(fronts[-1] + words[4]) if words[0] == "$var" else None
+        if new is None:
+            kept.append(line)
+            continue
+        was, declared = RANGE.search(words[4]), words[5:-1]
+        if RANGE.search(new):
+            declared = []
+        elif was and not declared:
+            declared = [was.group()]
+        moved.append(" ".join([*words[:4], new, *declared, "$end"]))
+    return "\n".join([*kept[:-2], *moved, *kept[-2:]]).encode("utf-8", "surrogateescape")
+
+
+def lines(words: Sequence[str], merged: Text) -> Iterator[List[bytes]]:
+    """Returns the words of each line that vcdkit-compare writes of the dumps in a merge."""
     with program.opened(Made("compare", (*words, "in1=in2"), (merged,))) as out:
-        yield from out
+        for line in out:
+            yield line[:-1].split(b" ")
 
 
-def differing(dumps: Sequence[Source], pairs: Sequence[Sequence[Key]], words: Sequence[str]
-              ) -> Iterator[Line]:
-    """Returns the lines of vcdkit-compare, by time. Fails unless all pairs were compared."""
-    count = 0
-    for line in lines(words, Headed(functools.partial(_header, pairs), merge(*dumps).text)):
-        what, *rest = line.split()
-        if what == b"differs":
-            one, other = (None if value == b"-" else value for value in rest[2:])
-            yield int(rest[0]), int(rest[1][len(b"in1.p"):]), (one, other)
-        else:
-            count = int(rest[0]) if what == b"compared" else 0
-    if count != len(pairs):
-        raise RunFailed("vcdkit-compare has compared %d of %d pairs" % (count, len(pairs)))
+def are_alike(one: Source, other: Source) -> bool:
+    """Whether two dumps have the same bytes from their first scope or variable on. To look at the
+    values would take several times as long."""
+    with one.open() as mine, other.open() as its:
+        if _declared(mine) != _declared(its):
+            return False
+        both = [iter(functools.partial(text.read, BLOCK), b"") for text in (mine, its)]
+        return all(block == next(both[1], b"") for block in both[0]) and not next(both[1], b"")
 
 
-def _header(pairs: Sequence[Sequence[Key]], text: bytes) -> bytes:
-    """Returns the header of a merge, in which both variables of a pair have its name."""
-    names = {("%s.%s" % (scope, path), nth): (scope, number) for number, pair in enumerate(pairs)
-             for scope, (path, nth) in zip(("in1", "in2"), pair)}
-    rows: Dict[str, List[str]] = {"in1": [], "in2": [], "other": []}
-    columns = header.columns(text)
-    for key, one in zip(keys_in(columns[0]), each(columns)):
-        scope, number = names.get(key, ("other", 0))
-        rows[scope].append("$var %s %d %s p%d $end\n" % (
-            "real" if one.is_real else one.type, one.size, one.code, number))
-    made = "".join("$scope module %s $end\n%s$upscope $end\n" % (scope, "".join(its))
-                   for scope, its in rows.items())
-    return made.encode("utf-8", "surrogateescape") + header.BODY
+def _declared(file: BinaryIO) -> bytes:
+    """Reads a block from the first scope or variable on."""
+    text = file.read(BLOCK)
+    begin = next((one.begin for one in header.commands(text)
+                  if one.keyword in (b"$scope", b"$var")), len(text))
+    return text[begin:] + file.read(begin)

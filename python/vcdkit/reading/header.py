@@ -59,10 +59,11 @@ def front(file: Iterable[bytes]) -> bytes:
 
 
 def facts(text: bytes) -> Header:
-    """Returns what a header says before its first scope or variable."""
+    """Returns what a header says before its first scope or variable, or its last time scale."""
     texts: Dict[bytes, str] = {}
-    for keyword, words, *_ in commands(text):
-        if keyword in (b"$scope", b"$var"):
+    last = text.rfind(b"$timescale")
+    for keyword, words, begin, _ in commands(text):
+        if keyword in (b"$scope", b"$var") and begin > last:
             break
         texts[keyword] = b" ".join(words).decode(errors="backslashreplace")
     scale = amount_in(texts.get(b"$timescale", ""))

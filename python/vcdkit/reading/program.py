@@ -199,12 +199,16 @@ class _Pipe:
         return cast(BinaryIO, os.fdopen(reader, "rb"))
 
     def _pass_on(self, text: Headed, file: BinaryIO, to: BinaryIO) -> None:
-        """Writes the other header and what is behind a file's own; then a fault if that fails."""
+        """Writes the other header and the body; then a fault if that fails."""
         with contextlib.suppress(BrokenPipeError), file, to:
             try:
                 front = header.front(file)
                 to.write(text.front(front) if front else FAULT)
-                shutil.copyfileobj(file, to, 1 << 16)
+                if text.body:
+                    with contextlib.closing(text.body()) as blocks:  # type: ignore[type-var]
+                        to.writelines(blocks)
+                else:
+                    shutil.copyfileobj(file, to, 1 << 16)
             except BrokenPipeError:
                 raise
             except Exception as error:  # pylint: disable=broad-except
@@ -236,13 +240,13 @@ class _Pipe:
         """Raises the error of the one nearest to the files, if there is one."""
         for file in self.files:
             file.check()
+        for error in self.errors:
+            raise error
         for at, part in enumerate(self.parts):
             is_last = at == len(self.parts) - 1
             has_failed = not 0 <= part.status <= part.answer
             if has_failed and (is_last or not part.ended_early()):
                 raise part.error()
-        for error in self.errors:
-            raise error
 
 
 @contextlib.contextmanager

@@ -4,7 +4,7 @@ import shutil
 import stat
 import sys
 import threading
-from typing import BinaryIO, Callable, List, NamedTuple, Optional, Tuple, Union, cast
+from typing import BinaryIO, Callable, Iterator, List, NamedTuple, Optional, Tuple, Union, cast
 
 from ..errors import RunFailed
 from .formats import FRONT, FST, format_of
@@ -182,11 +182,12 @@ class Made(NamedTuple):
 
 
 class Headed(NamedTuple):
-    """A text that vcdkit writes, with another header, which is made of its own one. Both go to the
-    end of their last lines."""
+    """A text that vcdkit writes, with another header, which is made of its own one, and maybe with
+    another body. Both headers go to the end of their last lines."""
 
     front: Callable[[bytes], bytes]
     of: "Text"
+    body: Optional[Callable[[], Iterator[bytes]]] = None
 
     @property
     def name(self) -> str:
