@@ -58,6 +58,7 @@ class Variable(NamedTuple):
     left: int
     right: int
     is_numbered: bool  # it declares a range or an index
+    range: str  # what stands behind its name
 
     @property
     def path(self) -> str:
@@ -209,7 +210,7 @@ class Dump:
             if abs(first - last) + 1 == size:
                 left, right, is_numbered = first, last, True
         self.variables.append(Variable(len(self.variables), tuple(chain), words[3], words[0], size,
-                                       words[2], left, right, is_numbered))
+                                       words[2], left, right, is_numbered, "".join(words[4:])))
 
     def _read_body(self, words: Sequence[str], at: int) -> None:
         """Reads the body from a place on."""

@@ -52,12 +52,10 @@ class Sides:
         self.dumps, self.asked = dumps, asked
         self.of_name: List[Dict[str, List[Variable]]] = [{}, {}]
         self.all_names: List[Set[str]] = [set(), set()]
-        self.all_scopes: List[Set[str]] = [set(), set()]
         for at, dump in enumerate(dumps):
             for one in dump.variables:
                 name = asked.renamed(one.path)
                 self.all_names[at].add(name)
-                self.all_scopes[at].update(self._scopes(one))
                 self.of_name[at].setdefault(name, []).append(one)
         self.factors = factors_of(*dumps)
         self.window = self._window()
@@ -66,8 +64,9 @@ class Sides:
         self.groups = self._groups()
         self.pairs: List[Pair] = []
         self.sizes: List[str] = []
+        self.paired: Set[Tuple[int, int]] = set()  # a dump, and the place of a variable
         for name, other in self.groups:
-            self._pair(name, self.of_name[0][name], self.of_name[1][other])
+            self._pair(name, other)
 
     def _window(self) -> Tuple[int, int]:
         """Returns the first and the last common tick that are compared. Ticks are those of A."""
@@ -105,13 +104,6 @@ class Sides:
                 if (not names or any(name in one[at] for one in names))
                 and not any(name in one[at] for one in others)}
 
-    def _scopes(self, of: Variable) -> List[str]:
-        """Returns the scopes around a variable, the outermost first, with their new names. A dot
-        may be in a name too."""
-        found = [self.asked.renamed(".".join(of.chain[:depth + 1]))
-                 for depth in range(len(of.chain))]
-        return [one for one in found if self.asked.renamed(of.path).startswith(one + ".")]
-
     def _groups(self) -> List[Tuple[str, str]]:
         """Returns the names that belong together: equal ones, and two that differ only by a range
         or escaped names, if each dump has only one of these."""
@@ -122,22 +114,37 @@ class Sides:
             for name in mine:
                 if name not in theirs:
                     its.setdefault(plain(name), []).append(name)
-        return found + [(rest[0][name][0], rest[1][name][0]) for name in rest[0]
-                        if len(rest[0][name]) == len(rest[1].get(name, ())) == 1]
+        loose = [(rest[0][name][0], rest[1][name][0]) for name in rest[0]
+                 if len(rest[0][name]) == len(rest[1].get(name, ())) == 1]
+        return found + [pair for pair in loose if len({name[len(bare(name)):] for name in pair
+                                                       if name != bare(name)}) < 2]
 
-    def _pair(self, name: str, one: List[Variable], other: List[Variable]) -> None:
-        """Pairs the variables of a name; which of several belong together, their ranges say."""
-        ranges = [[(its.left, its.right) if its.is_numbered else None for its in side]
-                  for side in (one, other)]
-        if len(one) > 1 or len(other) > 1:
-            if len({*ranges[0]}) < len(one) or {*ranges[0]} != {*ranges[1]} or (
-                    len(one) != len(other)):
-                raise Skip
-            other = [other[ranges[1].index(each)] for each in ranges[0]]
-        if [its.kind for its in one] == [its.kind for its in other]:
-            self.pairs += [(name, *both) for both in zip(one, other)]
-        else:
-            self.sizes.append(name)
+    def _pair(self, name: str, written: str) -> None:
+        """Pairs the variables of a name, which B writes in its way: those of one range, the first
+        with the first; and two that are alone, if one of them has no range."""
+        one, other = self.of_name[0][name], self.of_name[1][written]
+        ranges = [[its.range for its in side] for side in (one, other)]
+        if name != written and name != bare(name):
+            ranges[1] = [""] * len(other)
+        elif name != written and written != bare(written):
+            ranges[1] = [its or written[len(bare(written)):] for its in ranges[1]]
+        keys = [[(its, side[:at].count(its)) for at, its in enumerate(side)] for side in ranges]
+        found = [(at, keys[1].index(key)) for at, key in enumerate(keys[0]) if key in keys[1]]
+        if not found and len(one) == len(other) == 1 and "" in (ranges[0][0], ranges[1][0]):
+            found = [(0, 0)]
+        for at, place in found:
+            mine, its = one[at], other[place]
+            self.paired |= {(0, mine.place), (1, its.place)}
+            shown_name = self.name_in(0, mine)
+            if mine.kind == its.kind:
+                self.pairs.append((shown_name, mine, its))
+            else:
+                self.sizes.append(shown_name)
+
+    def name_in(self, at: int, of: Variable) -> str:
+        """Returns what a line calls a variable: its range tells it from others of its path."""
+        name = self.asked.renamed(of.path)
+        return name + of.range * (len(self.of_name[at][name]) > 1)
 
     def clocks(self) -> List[Pair]:
         """Returns the pairs of which the name can be that of a clock."""
@@ -145,21 +152,22 @@ class Sides:
             return all(sum(plain(other) == plain(name) or other.startswith(name + ".")
                            for other in names) == 1 for names in self.all_names)
         return [pair for pair in self.pairs if pair[1].kind == 1 and is_clear(pair[0])
-                and len(self.of_name[0][pair[0]]) == 1]
+                and len(self.of_name[0].get(pair[0], ())) == 1]
 
     def alone(self) -> List[Tuple[str, str, int]]:
-        """Returns what only one dump has: the outermost scope that the other has not, else the
-        path; and how many variables it has there."""
+        """Returns what only one dump has: what is before the first dot of a path with which the
+        other has nothing, else the path; and how many variables it has there."""
         found: Dict[Tuple[str, str], int] = {}
         for at, letter in enumerate("AB"):
-            paired = {group[at] for group in self.groups}
-            theirs = _fronts(self.all_names[1 - at]) | self.all_scopes[1 - at] | paired | {
-                scope for name in paired for one in self.of_name[at][name]
-                for scope in self._scopes(one)}
-            for one in [one for name, its in self.of_name[at].items() if name not in paired
-                        for one in its]:
-                name = next((scope for scope in self._scopes(one) if scope not in theirs),
-                            self.asked.renamed(one.path))
+            theirs = self.all_names[0] if at else {
+                dict((other, one) for one, other in self.groups).get(name, name)
+                for name in self.all_names[1]}
+            theirs = _fronts(theirs)
+            for one in [one for its in self.of_name[at].values() for one in its
+                        if (at, one.place) not in self.paired]:
+                path = self.name_in(at, one)
+                name = next((front for front in sorted(_fronts({path}), key=len)
+                             if front not in theirs), path)
                 found[letter, name] = found.get((letter, name), 0) + 1
         return [(*key, count) for key, count in found.items()]
 

@@ -295,12 +295,8 @@ def parts_of_both(dumps: Sequence["Dump"], begin: str, end: str, has_clock: bool
     return parts
 
 
-def times_of(dump: "Source", asked: argparse.Namespace, scale: Optional[Timescale] = None
-             ) -> Callable[[int], str]:
-    """Returns what shows ticks as a time, also in the unit of --unit, which needs a scale. `scale`
-    is that of the dump if it is known."""
-    if asked.unit is None and scale:
-        return scale.text
+def times_of(dump: "Source", asked: argparse.Namespace) -> Callable[[int], str]:
+    """Returns what shows ticks as a time, also in the unit of --unit, which needs a scale."""
     if asked.unit not in (None, "tick"):
         dump.ticks("0" + asked.unit)
     return functools.partial(dump.time, unit=asked.unit or "")

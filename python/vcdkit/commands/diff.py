@@ -23,7 +23,7 @@ from ..forms.differences import Lines, part_in, say_ends, say_headers, say_value
 from ..forms.text import counted
 from ..model.times import amount_of
 from ..questions.compare import ALWAYS, EACH_PAIR, FIRST, Comparison, same_within
-from ..questions.rows import clock_of
+from ..questions.rows import FALL, RISE, clock_of
 from ..questions.sides import sides_of
 from ..reading.files import check_outputs, write
 from . import (FAULT, command, dump_of, is_part, natural, parser, parts_of_both, question, times_of,
@@ -36,13 +36,15 @@ def compare(asked: argparse.Namespace, report: Lines) -> None:
     if is_part(asked):
         dumps = parts_of_both(dumps, asked.begin, asked.end, bool(asked.rise or asked.fall))
     sides = sides_of(dumps, asked.maps, asked.names, asked.exceptions)
-    report.times = [times_of(side.dump, asked, side.scale) for side in sides]
+    report.times = [times_of(side.dump, asked) for side in sides]
     spans = [side.dump.ticks(asked.context) for side in sides] if asked.context else []
     name = asked.rise or asked.fall
     clocks = [clock_of(side.named, name) for side in sides] if name else []
     same = same_within(asked.tolerance, asked.x_matches)
-    comparison = Comparison(sides, same, asked.extent, clocks,
-                            (b"0", b"1") if asked.rise else (b"1", b"0"))
+    comparison = Comparison(sides, same, asked.extent, clocks, RISE if asked.rise else FALL)
+    if asked.condition is not None:
+        from ..questions.when import state
+        comparison.only = [state(side.named, asked.condition, True) for side in sides]
     scales = [side.scale for side in sides if side.scale]
     if is_part(asked) and len(set(scales)) > 1:
         comparison.window = window_of_both(scales, asked.begin, asked.end)
@@ -57,8 +59,9 @@ def compare(asked: argparse.Namespace, report: Lines) -> None:
         raise UsageError("%s: --at-least asks for %d" % (report.compared, asked.least))
     found = say_values(report, asked, sides, comparison)
     if clocks and pairs and not any(comparison.counts):
-        raise UsageError("in both dumps, %s never %s%s" % (
-            name, "rises" if asked.rise else "falls", " in this window" * is_part(asked)))
+        raise UsageError("in both dumps, %s never %s%s%s" % (
+            name, "rises" if asked.rise else "falls", " where --if holds" * bool(asked.condition),
+            " in this window" * is_part(asked)))
     is_idle = clocks and not all(comparison.counts)  # then nothing was compared
     if is_idle or not asked.common and not (clocks and found):
         say_ends(report, sides, comparison, bool(clocks))
@@ -102,6 +105,8 @@ def words_of(words: List[str]) -> argparse.Namespace:
                          help="let a digit that is x or z match any digit")
     options.add("--from", "--to")
     options.clock("compare at the %s edges of this signal", is_one=True)
+    options.add_argument("--if", dest="condition", metavar="CONDITION",
+                         help="compare only edges at which this holds")
     extent = options.add_mutually_exclusive_group()
     extent.add_argument("--every", dest="extent", action="store_const", const=EACH_PAIR,
                         default=FIRST, help="show the first difference of each signal")
@@ -125,6 +130,8 @@ def words_of(words: List[str]) -> argparse.Namespace:
         options.error("--real-tolerance takes a number from 0, such as 1e-9")
     if asked.one == asked.other == "-":
         options.error("standard input twice")
+    if asked.condition is not None and not (asked.rise or asked.fall):
+        options.error("--if goes with --rise or --fall")
     if asked.into is not None and not asked.context:
         options.error("--into is for the files of --context")
     if asked.context is not None:

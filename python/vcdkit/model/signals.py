@@ -8,11 +8,6 @@ from .times import Timescale
 Columns = Tuple[List[str], List[str], List[int], List[str]]  # paths, types, sizes and codes
 
 
-def is_real(type_name: str) -> bool:
-    """Whether the values of a type are real numbers."""
-    return type_name.startswith("real") or type_name == "shortreal"
-
-
 class Signal(NamedTuple):
     """A variable of a header: its path, its type (`wire`, `reg`, `real`, ..), its size in bits and
     its identifier code. Two signals with the same code are two names of one value."""
@@ -26,7 +21,7 @@ class Signal(NamedTuple):
     def is_real(self) -> bool:
         """Whether its values are real numbers. `vcdkit` takes a real number for any variable, so
         this goes by the type: `real`, `realtime`, `real_parameter` of Verilator, `shortreal`."""
-        return is_real(self.type)
+        return self.type.startswith("real") or self.type == "shortreal"
 
 
 class Scope(NamedTuple):

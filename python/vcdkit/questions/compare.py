@@ -12,7 +12,7 @@ from typing import (TYPE_CHECKING, Callable, Dict, Generator, Iterator, List, Na
                     Sequence, Set, Tuple)
 
 from ..errors import RunFailed, UsageError
-from ..model.signals import is_real
+from ..model.signals import Signal
 from ..model.times import LAST_TICK, Timescale
 from ..model.values import full, real_of
 from ..reading import body
@@ -72,17 +72,19 @@ class Comparison:
     both have, at which a condition holds. `alone` are the variables that only one of them has,
     `sizes` those that cannot be compared."""
 
-    def __init__(self, sides: Sides, same: Same, extent: str, clocks: Sequence[Clock] = (),
-                 edge: Tuple[bytes, bytes] = (b"", b""), only: Sequence["Conditions"] = ()):
+    def __init__(self, sides: Sides, same: Same, extent: str, clocks: Sequence[Clock],
+                 edge: Tuple[bytes, bytes]):
         self._sides, self._same, self._extent = sides, same, extent
-        self._clocks, self._edge, self._only = clocks, edge, only
+        self._clocks, self._edge = clocks, edge
+        self.only: List[Optional["Conditions"]] = [None, None]  # of a clock, for each dump
         self.factors = factors_of([side.scale for side in sides])
         self.counts = [0, 0]  # of edges, up to now
         self._times = array("Q"), array("Q")  # of the edges that both have
         self.window = (0, LAST_TICK)  # without a clock, in ticks of both
         self.alone: Tuple[List[str], List[str]] = ([], [])
-        self.sizes: List[Tuple[str, str, str]] = []
-        self._lines: Optional[Iterator[List[bytes]]] = None  # without them, nothing differs
+        self.sizes: List[Tuple[str, ...]] = []
+        self._lines: Iterator[List[bytes]] = iter(())
+        self._is_done = True  # without vcdkit-compare
 
     def start(self) -> None:
         """Finds what the headers do not have in common, and how many pairs are compared."""
@@ -92,15 +94,15 @@ class Comparison:
                 names += [side.names[at] for at in its]
         elif self._clocks or self.factors[0] != self.factors[1] or not are_alike(
                 *(side.dump for side in self._sides)):
-            self._lines = self._written(places)
-        for line in self._lines or ():
-            if line[0] == b"alone":
-                is_of_b = line[1] == b"B"
-                self.alone[is_of_b].append(self._called(line[2], is_of_b))
-            elif line[0] == b"size":
-                self.sizes.append((self._called(line[1]), line[2].decode(), line[3].decode()))
+            self._lines, self._is_done = self._written(places), False
+        for what, *words in self._lines:
+            if what == b"alone":
+                is_of_b = words[0] == b"B"
+                self.alone[is_of_b].append(self._called(words[1], is_of_b))
+            elif what == b"size":
+                self.sizes.append((self._called(words[0]), *map(bytes.decode, words[1:])))
             else:
-                self._lines = itertools.chain([line], self._lines or ())
+                self._lines = itertools.chain([[what, *words]], self._lines)
                 break
         counts = [len(its) - len(names) - len(self.sizes) for its, names in zip(places, self.alone)]
         self.compared = counts[0]
@@ -123,8 +125,8 @@ class Comparison:
 
     def _differing(self) -> Iterator[Difference]:
         """Returns the differences of all pairs. Fails unless all were compared."""
-        count = 0
-        for what, *words in self._lines or ():
+        count = self.compared if self._is_done else 0
+        for what, *words in self._lines:
             if what == b"compared":
                 count = int(words[0])
                 continue
@@ -134,7 +136,7 @@ class Comparison:
                 first, second = (its[at] for its in self._times) if self._clocks else (
                     at // factor for factor in self.factors)
                 yield Difference((first, second), self._called(path), (one, other))
-        if self._lines and count != self.compared:
+        if count != self.compared:
             raise RunFailed("vcdkit-compare has compared %d of %d pairs" % (count, self.compared))
 
     def _written(self, places: Sequence[Sequence[int]]) -> Iterator[List[bytes]]:
@@ -142,7 +144,7 @@ class Comparison:
         looks at each time at which they are not equal."""
         one, other = self._sides
         is_loose = self._same(b"x", b"1") or any(
-            is_real(name) for name in {one.types[at] for at in places[0]})
+            Signal("", name, 0, "").is_real for name in {one.types[at] for at in places[0]})
         words = [ALWAYS if is_loose else self._extent] * bool(is_loose or self._extent)
         names = {**one.moved(), **other.moved()}
         front: Callable[[bytes], bytes] = functools.partial(renamed, names)
@@ -185,28 +187,24 @@ class Comparison:
 
     def _edges_of(self, at: int) -> Iterator[Tuple[int, body.Changes]]:
         """Returns the times of the edges of a dump at which the condition holds, and what changed
-        since the one before, with the codes of the merge. An event is over at the next edge."""
-        side, (clock, place) = self._sides[at], self._clocks[at]
-        only = self._only[at] if self._only else None
-        _, types, _, codes = side.dump.signals.columns()
+        since the one before, with the codes of the merge."""
+        side, (clock, place), only = self._sides[at], self._clocks[at], self.only[at]
+        codes = side.dump.signals.columns()[3]
         its = {codes[one].encode(): side.codes[one].encode() for one in side.places}
-        events = {code.encode() for name, code in zip(types, codes) if name == "event"}
         edges = {(clock.code.encode(), place, *self._edge): 1}
         part = side.named if only else side.picked([
             side.paths[one] for one in [*side.places, side.of_name[clock.path][0]]])
         holds = only.compiled() if only else None
         if only:
             only.look_back([], edges)
-        left: Dict[bytes, bytes] = {}
+        found: Dict[bytes, bytes] = {}
         for time, changes, _ in body.at_clocks(part, [], {*its, *(only.over if only else ())}, edges):
-            left.update(changes)
+            found.update(changes)
             if only:
                 only.take(changes)
             if holds is None or holds():
-                yield time, [(its[code], value) for code, value in left.items() if code in its]
-                left = {}
-            for code in events.intersection(left):
-                del left[code]
+                yield time, [(its[code], value) for code, value in found.items() if code in its]
+                found = {}
             if only:
                 only.end()
 

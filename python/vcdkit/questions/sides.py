@@ -17,28 +17,6 @@ from .picked import MAX_NAMES
 Map = Tuple[str, str]  # the path of a scope or a signal, and what it becomes
 
 
-def originals(maps: Sequence[Map], paths: Sequence[Sequence[str]]) -> List[Map]:
-    """Returns maps, the longest first, in which each path that a map replaces is one of a dump. Of
-    one that no dump has, it takes the one path that becomes it by the other maps. `paths` has the
-    paths of each dump."""
-    def is_there(name: str) -> bool:
-        return any(path.startswith(name) and (path[len(name):][:1] in ("", ".") or
-                                              bare(path) == name) for its in paths for path in its)
-
-    def original(name: str) -> str:
-        made = {_put_before(front, name[len(new):].lstrip(".")) for front, new in maps
-                if not new or name == new or name.startswith(new + ".")}
-        made = set() if is_there(name) else {one for one in made if is_there(one)}
-        return made.pop() if len(made) == 1 else name
-
-    return sorted(((original(front), new) for front, new in maps), key=lambda one: -len(one[0]))
-
-
-def _put_before(front: str, rest: str) -> str:
-    """Returns the path of what is in a scope, or the scope."""
-    return front + "." + rest if rest else front
-
-
 class Side:
     """One of the dumps, and its scope in the merge of both, which has its variables in the same
     order, with other codes. `names` are their paths, of which maps replace the front, as A writes
@@ -46,27 +24,27 @@ class Side:
 
     def __init__(self, dump: Source, report: Report, scope: str, columns: Sequence[List[Any]]):
         self.dump, self.report, self._scope = dump, report, scope
-        self.scale = header.facts(raw_header(dump)).timescale
+        self.scale = dump.known_scale = header.facts(raw_header(dump)).timescale
         paths, self.types, _, self.codes = columns
         self.paths = [path[len(scope) + 1:] for path in paths]
         self.mapped: Set[str] = set()
 
-    def spell(self, maps: Sequence[Map]) -> None:
-        """Gives its variables names."""
+    def spell(self, maps: Sequence[Sequence[Map]]) -> None:
+        """Gives its variables names, which maps make of the paths, some after the others."""
         # Those of no scope are for what has a range too.
-        no_scope = {front for front, _ in maps if not any(
+        no_scope = {front for its in maps for front, _ in its if not any(
             path.startswith(front + ".") for path in self.paths)}
         self.spelled = [self._mapped(path, maps, no_scope) for path in self.paths
                         ] if maps else self.paths
 
-    def _mapped(self, path: str, maps: Sequence[Map], no_scope: Set[str]) -> str:
-        its = [one for one in maps if one[0] == path or path.startswith(one[0] + ".")
-               or one[0] == bare(path) and one[0] in no_scope]
-        self.mapped.update(front for front, _ in its)
-        if not its:
-            return path
-        front, new = its[0]
-        return new + path[len(front):] if new else path[len(front) + 1:] or path
+    def _mapped(self, name: str, maps: Sequence[Sequence[Map]], no_scope: Set[str]) -> str:
+        for some in maps:
+            its = [one for one in some if one[0] == name or name.startswith(one[0] + ".")
+                   or one[0] == bare(name) and one[0] in no_scope]
+            self.mapped.update(front for front, _ in its)
+            for front, new in its[:1]:
+                name = new + name[len(front):] if new else name[len(front) + 1:] or name
+        return name
 
     def write_as(self, names: Dict[str, str]) -> None:
         """Lets names be written as the other dump writes them."""
@@ -119,20 +97,19 @@ class Side:
 
     def signals(self, name: str) -> List[Signal]:
         """Returns the signals that lines call by a name."""
-        near = self.of_name.get(name) or self.of_name[FIELD.sub("", name)]
-        its = [at for at in near if name in self.of_name or
-               self.dump.declarations[at].declared == field_of(name)]
+        own = name if name in self.of_name else FIELD.sub("", name)
+        near = self.of_name[own]
+        its = [at for at in near if len(near) > 1 and
+               self.dump.declarations[at].declared == field_of(name[len(own):])]
         return [self.dump.signals[at] for at in its or near]
 
     def alone(self, names: Sequence[str], other: "Side") -> List[Tuple[str, int]]:
         """Returns what the other one does not have, of the variables that it lacks: their names, or
-        the outermost scopes around them of which it has nothing; and how many are there."""
+        what is before the first dot of them of which it has nothing; and how many are there."""
         has = {one for name in other.names for one in fronts(name)} if names else set()
         count: Dict[str, int] = {}
         for path in names:
-            around = [one for one in fronts(path.partition("\\")[0].rpartition(".")[0])
-                      if one not in has]
-            name = [path, *around][-1]
+            name = [path, *(one for one in fronts(path) if one not in has)][-1]
             count[name] = count.get(name, 0) + 1
         return list(count.items())
 
@@ -147,12 +124,14 @@ def sides_of(dumps: Sequence[Source], maps: Sequence[Map], names: Sequence[str],
     reports = reports_of(*dumps)
     columns: Sequence[List[Any]] = header.columns(header_of(dumps))
     count = sum(path.startswith("in1.") for path in columns[0])
-    one, other = (Side(dump, report, scope, [its[part] for its in columns]) for dump, report, scope,
-                  part in zip(dumps, reports, ("in1", "in2"), (slice(count), slice(count, None))))
-    if len(maps) > 1:
-        maps = originals(maps, [one.paths, other.paths])
+    one = Side(dumps[0], reports[0], "in1", [its[:count] for its in columns])
+    other = Side(dumps[1], reports[1], "in2", [its[count:] for its in columns])
+    # A map of what no dump has takes what the others have made.
+    known = {name for side in (one, other) for path in side.paths * bool(maps)
+             for name in (bare(path), *fronts(path))}
     for side in one, other:
-        side.spell(maps)
+        side.spell([[its for its in maps if (its[0] in known) == is_known]
+                    for is_known in (True, False) if maps])
     one.write_as({})
     other.write_as(_respelled({*one.spelled}, {*other.spelled}))
     for front, _ in maps:

@@ -1,6 +1,7 @@
 """What differs between two dumps, as `vcdkit merge A B | vcdkit-compare in1=in2` finds it. On the
 way, variables of the merge may get other names."""
 import functools
+import itertools
 from typing import BinaryIO, Dict, Iterator, List, Sequence
 
 from ..model.names import RANGE
@@ -73,10 +74,9 @@ def are_alike(one: Source, other: Source) -> bool:
     """Whether two dumps have the same bytes from their first scope or variable on. To look at the
     values would take several times as long."""
     with one.open() as mine, other.open() as its:
-        if _declared(mine) != _declared(its):
-            return False
-        both = [iter(functools.partial(text.read, BLOCK), b"") for text in (mine, its)]
-        return all(block == next(both[1], b"") for block in both[0]) and not next(both[1], b"")
+        blocks = (itertools.chain([_declared(text)], iter(functools.partial(text.read, BLOCK), b""))
+                  for text in (mine, its))
+        return all(its == other for its, other in itertools.zip_longest(*blocks))
 
 
 def _declared(file: BinaryIO) -> bytes:

@@ -36,6 +36,8 @@ def way() -> ModuleType:
 class Source:
     """What can be read of a dump, and of parts of it."""
 
+    known_scale: Optional[Timescale] = None  # so that no header has to be read for it
+
     def __init__(self, text: Text, options: Tuple[str, ...] = (),
                  heads: Optional[Dict[Text, header.Head]] = None):
         """`options` are those of the program with which it is read. `heads` are the headers that
@@ -141,7 +143,7 @@ class Source:
     @property
     def timescale(self) -> Optional[Timescale]:
         """How long a tick is, as str() shows it: `100ps`. `None` if the header does not say."""
-        return self.header.timescale
+        return self.known_scale or self.header.timescale
 
     @property
     def tree(self) -> Scope:
