@@ -190,13 +190,14 @@ def partners(mine, its):
 
 
 def alone(names, others):
-    """What one has and the other has not, each with its count: the path, or what is before its first
-    dot with which no path of the other one goes on."""
+    """What one has and the other has not, each with its count: the outermost scope or path that is
+    none of those of the other one."""
     known = {path[:at] for path in (one + "." for one in others)
              for at, letter in enumerate(path) if letter == "."}
     lines = {}
     for path in names:
-        fronts = [path[:at] for at, letter in enumerate(path) if letter == "."]
+        fronts = [path[:at] for at, letter in enumerate(path)
+                  if letter == "." and "\\" not in path[:at]]  # no scope has a backslash
         name = next((front for front in fronts if front not in known), path)
         lines[name] = lines.get(name, 0) + 1
     return lines

@@ -946,11 +946,11 @@ class Declared(Case):
         other = self.file("b.vcd",
                           head + b"$var wire 1 \" w [0] $end $var wire 1 ! w [1] $end " + body)
         self.assertEqual(said("vcdkit-diff", one, other), ["status 0"])
-        # If the ranges are others, it is by their order.
+        # Other ranges have no partner.
         other = self.file("c.vcd",
                           head + b"$var wire 1 \" w [7] $end $var wire 1 ! w [1] $end " + body)
         self.assertEqual(said("vcdkit-diff", one, other), [
-            "differs 0ns w 1 0", "differs 0ns w 0 1", "status 1"])
+            "alone A w[0] 1", "alone B w[7] 1", "status 1"])
 
     def test_a_dot_in_a_name_makes_no_scope(self):
         head = (b"$scope module t $end $var wire 1 # x $end %s$upscope $end $enddefinitions $end "

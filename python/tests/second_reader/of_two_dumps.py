@@ -155,8 +155,8 @@ class Sides:
                 and len(self.of_name[0].get(pair[0], ())) == 1]
 
     def alone(self) -> List[Tuple[str, str, int]]:
-        """Returns what only one dump has: what is before the first dot of a path with which the
-        other has nothing, else the path; and how many variables it has there."""
+        """Returns what only one dump has: the outermost scope that the other has not, else the
+        path; and how many variables it has there. No scope has a backslash."""
         found: Dict[Tuple[str, str], int] = {}
         for at, letter in enumerate("AB"):
             theirs = self.all_names[0] if at else {
@@ -167,7 +167,7 @@ class Sides:
                         if (at, one.place) not in self.paired]:
                 path = self.name_in(at, one)
                 name = next((front for front in sorted(_fronts({path}), key=len)
-                             if front not in theirs), path)
+                             if front not in theirs and "\\" not in front), path)
                 found[letter, name] = found.get((letter, name), 0) + 1
         return [(*key, count) for key, count in found.items()]
 

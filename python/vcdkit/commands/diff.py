@@ -54,7 +54,7 @@ def compare(asked: argparse.Namespace, report: Lines) -> None:
         raise UsageError("the dumps have no path in common: --map OLD=NEW renames a scope")
     say_headers(report, sides, comparison, asked.common)
     report.compared = "compared %s (A has %d, B has %d)" % (
-        counted(pairs, "signal"), len(sides[0].places), len(sides[1].places))
+        counted(pairs, "signal"), len(sides[0].paths), len(sides[1].paths))
     if pairs < asked.least:
         raise UsageError("%s: --at-least asks for %d" % (report.compared, asked.least))
     found = say_values(report, asked, sides, comparison)

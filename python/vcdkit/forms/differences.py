@@ -113,8 +113,7 @@ def say_headers(report: Lines, sides: Sides, comparison: Comparison, is_common: 
         report.say("timescale", [("timescale", *texts)] if scales[0] != scales[1] else [])
         for letter, names, side, other in zip("AB", comparison.alone, sides, sides[::-1]):
             report.say_some("alone", [("alone", letter, *one) for one in side.alone(names, other)])
-    report.say("size", [("size", name, *(int(its) if its.isdigit() else its for its in kinds))
-                        for name, *kinds in comparison.sizes])
+    report.say("size", [("size", *one) for one in comparison.sizes])
 
 
 def say_ends(report: Lines, sides: Sides, comparison: Comparison, has_clock: bool) -> None:

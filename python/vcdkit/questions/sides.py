@@ -1,6 +1,7 @@
 """Two dumps side by side, for vcdkit-diff: what their variables are called, and which are asked
 for. Which of them belong together, vcdkit-compare says: by their names and ranges."""
 import functools
+from concurrent.futures import ThreadPoolExecutor
 from typing import Any, Dict, List, Sequence, Set, Tuple
 
 from ..errors import UnknownName, UsageError
@@ -9,7 +10,7 @@ from ..model.names import (FIELD, RANGE, bare, field_of, fronts, full_names, hin
 from ..model.signals import Signal
 from ..model.values import Report
 from ..reading import header
-from ..reading.comparing import header_of, raw_header, renamed, reports_of
+from ..reading.comparing import header_of, raw_header, renamed
 from ..reading.source import Source
 from ..reading.texts import Headed, Made, Text
 from .picked import MAX_NAMES
@@ -105,11 +106,11 @@ class Side:
 
     def alone(self, names: Sequence[str], other: "Side") -> List[Tuple[str, int]]:
         """Returns what the other one does not have, of the variables that it lacks: their names, or
-        what is before the first dot of them of which it has nothing; and how many are there."""
+        the outermost scopes around them of which it has nothing; and how many are there."""
         has = {one for name in other.names for one in fronts(name)} if names else set()
         count: Dict[str, int] = {}
         for path in names:
-            name = [path, *(one for one in fronts(path) if one not in has)][-1]
+            name = [path, *(one for one in fronts(path) if one not in has and "\\" not in one)][-1]
             count[name] = count.get(name, 0) + 1
         return list(count.items())
 
@@ -119,31 +120,28 @@ Sides = Tuple[Side, Side]
 
 def sides_of(dumps: Sequence[Source], maps: Sequence[Map], names: Sequence[str],
              exceptions: Sequence[str]) -> Sides:
-    """Reads both dumps, and chooses the variables that names select, as choose(). Fails if both lack
-    what a map names."""
-    reports = reports_of(*dumps)
+    """Reads both dumps, at the same time, and chooses the variables that names select, as choose().
+    Fails if both lack what a map or an exception names."""
+    with ThreadPoolExecutor() as pool:
+        reports = [*pool.map(Source.check, dumps)]
     columns: Sequence[List[Any]] = header.columns(header_of(dumps))
     count = sum(path.startswith("in1.") for path in columns[0])
     one = Side(dumps[0], reports[0], "in1", [its[:count] for its in columns])
     other = Side(dumps[1], reports[1], "in2", [its[count:] for its in columns])
-    # A map of what no dump has takes what the others have made.
-    known = {name for side in (one, other) for path in side.paths * bool(maps)
+    # One of several maps, of what no dump has, takes what the others have made.
+    known = {name for path in [*one.paths, *other.paths] * (len(maps) > 1)
              for name in (bare(path), *fronts(path))}
     for side in one, other:
         side.spell([[its for its in maps if (its[0] in known) == is_known]
-                    for is_known in (True, False) if maps])
+                    for is_known in (True, False)] if maps else [])
     one.write_as({})
     other.write_as(_respelled({*one.spelled}, {*other.spelled}))
-    for front, _ in maps:
-        if front not in one.mapped | other.mapped:
-            _refuse(front, [*one.paths, *other.paths, *one.spelled, *other.spelled])
-    choose((one, other), names, exceptions)
+    lacking = choose((one, other), names, exceptions)
+    lacking += [front for front, _ in maps if front not in one.mapped | other.mapped]
+    for name in lacking:
+        raise UsageError("neither dump has %s%s" % (name, hint(name, [*dict.fromkeys(
+            [*one.paths, *other.paths, *one.spelled, *other.spelled])])))
     return one, other
-
-
-def _refuse(name: str, near: Sequence[str]) -> None:
-    """Fails for a name that neither dump has."""
-    raise UsageError("neither dump has %s%s" % (name, hint(name, [*dict.fromkeys(near)])))
 
 
 def _respelled(ours: Set[str], theirs: Set[str]) -> Dict[str, str]:
@@ -159,19 +157,17 @@ def _respelled(ours: Set[str], theirs: Set[str]) -> Dict[str, str]:
         its.group() for its in map(RANGE.search, (one, other)) if its}) < 2}
 
 
-def choose(sides: Sides, names: Sequence[str], exceptions: Sequence[str]) -> None:
+def choose(sides: Sides, names: Sequence[str], exceptions: Sequence[str]) -> List[str]:
     """Takes the variables that names select, all without names, but for the exceptions. What a name
-    selects in one dump, it selects in the other one too. Fails if a dump lacks a name, or if both
-    lack an exception."""
+    selects in one dump, it selects in the other one too. Fails if a dump lacks a name, and returns
+    the exceptions that both lack."""
     found = [side.selected([*names, *exceptions]) for side in sides]
     both = {name: its | found[1][name] for name, its in found[0].items()}
     for side in sides:
         for name in names:
             if not both[name] & side.of_name.keys():
                 raise UnknownName("%s: %s" % (side.dump.name, name), hint(name, side.spelled))
-    for name in exceptions:
-        if not both[name]:
-            _refuse(name, [*sides[0].spelled, *sides[1].spelled])
     for side in sides if both else ():
         some = set().union(*map(both.__getitem__, names)) if names else side.chosen
         side.choose((side.chosen & some).difference(*map(both.__getitem__, exceptions)))
+    return [name for name in exceptions if not both[name]]

@@ -5,19 +5,11 @@ import itertools
 from typing import BinaryIO, Dict, Iterator, List, Sequence
 
 from ..model.names import RANGE
-from ..model.values import Report
 from . import header, program
-from .source import Source, merge, report_in
+from .source import Source, merge
 from .texts import Made, Text
 
 BLOCK = 1 << 18
-
-
-def reports_of(one: Source, other: Source) -> List[Report]:
-    """Returns the counts of two dumps, which are read at the same time."""
-    with other.made("check", ()).open() as its, one.made("check", ()).open() as mine:
-        texts = [mine.read(), its.read()]
-    return [report_in(text.decode()) for text in texts]
 
 
 def header_of(dumps: Sequence[Source]) -> bytes:

@@ -204,11 +204,7 @@ class _Pipe:
             try:
                 front = header.front(file)
                 to.write(text.front(front) if front else FAULT)
-                if text.body:
-                    with contextlib.closing(text.body()) as blocks:  # type: ignore[type-var]
-                        to.writelines(blocks)
-                else:
-                    shutil.copyfileobj(file, to, 1 << 16)
+                to.writelines(text.body() if text.body else iter(lambda: file.read(1 << 16), b""))
             except BrokenPipeError:
                 raise
             except Exception as error:  # pylint: disable=broad-except

@@ -106,7 +106,8 @@ class Source:
 
     def check(self) -> Report:
         """Reads the whole dump, and returns its counts. Raises DumpFault if it has a fault."""
-        return report_in(self.answer("check"))
+        return Report._make(None if number == "-" else int(number)
+                            for number in words_of(self.answer("check"))[1::2])
 
     # The header.
 
@@ -316,12 +317,6 @@ def merge(*dumps: Its) -> Its:
         if not isinstance(one, Source):
             raise UsageError("merge() takes Dumps, and %r is none: write Dump(..)" % (one,))
     return dumps[0].made("merge", [], tuple(one.text for one in dumps))
-
-
-def report_in(text: str) -> Report:
-    """Returns the counts in the lines of `check`."""
-    return Report._make(None if number == "-" else int(number)
-                        for number in words_of(text)[1::2])
 
 
 def texts_of(names: Names) -> List[str]:
