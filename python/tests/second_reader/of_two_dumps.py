@@ -8,6 +8,7 @@ from typing import Any, Dict, List, NamedTuple, Optional, Sequence, Set, Tuple
 import xml.etree.ElementTree as xml
 
 from asker import Asker, Said, Skip, Window, run
+from conditions import Test
 from dumps import LAST, Dump, Value, Variable, bare, is_inside, plain
 from faulty_dumps import read
 from looks import Edges, Look, looks_at_edges
@@ -294,6 +295,36 @@ def factors_of(one: Dump, other: Dump) -> List[int]:
     return [one.tick // common, other.tick // common]
 
 
+def condition_of_both(of: Asker, sides: Sides) -> Optional[Tuple[str, List[Test]]]:
+    """Returns a condition that means the same in both dumps, and what tests it in each."""
+    of.conditions.reset()
+    condition = of.conditions.make()
+    alike = {one.code: its.code for _, one, its in sides.pairs
+             if (one.left, one.right) == (its.left, its.right)}
+    if not condition or not (of.conditions.codes | of.conditions.events) <= {*alike} or any(
+            sides.asked.renamed(one.path) != one.path for one in of.dump.variables):
+        return None
+
+    def as_one(look: Look) -> Look:
+        """Returns a look at the other dump with the codes of the first."""
+        return Look(look.time, {code: look.values[its] for code, its in alike.items()
+                                if its in look.values},
+                    {code for code, its in alike.items() if its in look.events})
+
+    return condition.text, [condition.test, lambda look: condition.test(as_one(look))]
+
+
+def kept(looks: List[Look], test: Test) -> List[Look]:
+    """Returns the looks at which a condition holds. An event counts at the next one of these."""
+    found, events = [], set()  # type: List[Look], Set[str]
+    for look in looks:
+        events = events | look.events
+        if test(look):
+            found.append(look._replace(events=events))
+            events = set()
+    return found
+
+
 def ask_diff(of: Asker) -> None:
     """Asks what differs between a dump and another one."""
     of.need_whole()
@@ -313,6 +344,10 @@ def ask_diff(of: Asker) -> None:
         words += [edge[0], name]
         both = [looks_at_edges(dump, {(code, edge[1], edge[2])}, *window) for dump, code, window in
                 zip(sides.dumps, (one.code, its.code), sides.windows(True))]
+        only = condition_of_both(of, sides) if of.happens(.6) else None
+        if only:
+            words.append("--if=" + only[0])  # it may begin with -
+            both = [kept(each, test) for each, test in zip(both, only[1])]
         looks = [(mine, its) for mine, its in zip(*both)]
         counts = [len(each) for each in both]
     words += [*asked.window.words, *["--common"] * asked.is_common, *["--every"] * asked.every,

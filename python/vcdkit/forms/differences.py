@@ -100,7 +100,7 @@ def cell_of(value: Optional[bytes], is_event: bool) -> Cell:
 
 def lines_of(differences: Iterable[Difference], side: Side) -> List[Line]:
     """Returns the lines of differences of one time, in the order of their names."""
-    return [("differs", one.times[0], one.name, *(cell_of(value, any(
+    return [("differs", one.times[0], one.name, *(cell_of(value, None in one.values and any(
         side.types[at] == "event" for at in side.of_name.get(one.name, ()))) for value in one.values))
             for one in sorted(differences, key=lambda one: one.name)]
 
