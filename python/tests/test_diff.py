@@ -233,20 +233,20 @@ def differs(pairs, looks, until, factors, asked):
     """The lines of values, and whether there are some."""
     times = sorted(set(looks[0]) & set(looks[1]) if asked["edge"] else
                    {at for its in looks for at in its if at <= until})
-    lines, done = [], set()
+    lines, done = [], set()  # of the names that have a line
     for at in times:
         both = [values_at(its, at) for its in looks]
         found = []
-        for number, (name, kind, codes) in enumerate(pairs):
+        for name, kind, codes in pairs:
             values = [(events >= {code} or None) if kind == "event" else values.get(code)
                       for code, (values, events) in zip(codes, both)]
             is_same = (values[0] == values[1] if kind == "event" else
                        same(*values, asked["tolerance"]))
-            if number not in done and not is_same:
-                done.add(number)
+            if name not in done and not is_same:
                 time = looks[0][at][0] if at in looks[0] else at // factors[0]
                 found.append("differs %s %s %s %s" % (
                     asked["time"](time), name, *(shown(value, kind) for value in values)))
+        done.update(line.split(" ")[2] for line in found)
         # Those of one path stay in the order of declaration.
         lines += sorted(found, key=lambda line: line.split(" ")[2])
         if found and not asked["all"]:
@@ -276,7 +276,8 @@ def expected(texts, scales, asked):
         if one and other and one != other and bare(other) != other and bare(one) == one:
             its = [(*signal[:4], signal[0][len(bare(other)):]) for signal in its]
         found = partners(mine, its)
-        for at, (names, of, path) in enumerate(zip(lone, (mine, its), (one, written[1].get(other)))):
+        paths = one, written[1].get(other)
+        for at, (names, of, path) in enumerate(zip(lone, (mine, its), paths)):
             names += [path + signal[4] * (len(of) > 1) for number, signal in enumerate(of)
                       if number not in [pair[at] for pair in found]]
         for a, b in found:

@@ -271,7 +271,7 @@ def events_of(dump: Dump, time: int, factor: int) -> Set[str]:
 
 
 def differences(sides: Sides, looks: Sequence[Tuple[Look, Look]], factor: int) -> List[Difference]:
-    """Returns the first difference of each pair, those of one time in the order of their names."""
+    """Returns the first differences of each name, those of one time in the order of their names."""
     found = []
     for name, one, other in sides.pairs:
         for mark, (mine, its) in enumerate(looks):
@@ -284,7 +284,10 @@ def differences(sides: Sides, looks: Sequence[Tuple[Look, Look]], factor: int) -
             if not is_alike:
                 found.append(Difference(mark, mine.time // factor, name, one.is_event, values))
                 break
-    return sorted(found, key=lambda one: (one.mark, one.name))
+    first = {name: min(one.mark for one in found if one.name == name)
+             for name in {one.name for one in found}}
+    return sorted((one for one in found if one.mark == first[one.name]),
+                  key=lambda one: (one.mark, one.name))
 
 
 def factors_of(one: Dump, other: Dump) -> List[int]:

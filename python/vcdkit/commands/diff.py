@@ -23,7 +23,7 @@ from ..forms.differences import Lines, part_in, say_ends, say_headers, say_value
 from ..forms.text import counted
 from ..model.times import amount_of
 from ..questions.compare import ALWAYS, EACH_PAIR, FIRST, Comparison, same_within
-from ..questions.rows import FALL, RISE, clock_of
+from ..questions.rows import FALL, RISE
 from ..questions.sides import sides_of
 from ..reading.files import check_outputs, write
 from . import (FAULT, command, dump_of, is_part, natural, parser, parts_of_both, question, times_of,
@@ -39,7 +39,7 @@ def compare(asked: argparse.Namespace, report: Lines) -> None:
     report.times = [times_of(side.dump, asked) for side in sides]
     spans = [side.dump.ticks(asked.context) for side in sides] if asked.context else []
     name = asked.rise or asked.fall
-    clocks = [clock_of(side.named, name) for side in sides] if name else []
+    clocks = [side.clock(name) for side in sides] if name else []
     same = same_within(asked.tolerance, asked.x_matches)
     comparison = Comparison(sides, same, asked.extent, clocks, RISE if asked.rise else FALL)
     if asked.condition is not None:

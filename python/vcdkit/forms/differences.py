@@ -100,17 +100,16 @@ def cell_of(value: Optional[bytes], is_event: bool) -> Cell:
 
 def lines_of(differences: Iterable[Difference], side: Side) -> List[Line]:
     """Returns the lines of differences of one time, in the order of their names."""
-    return [("differs", one.times[0], one.name, *(cell_of(value, None in one.values and any(
-        side.types[at] == "event" for at in side.of_name.get(one.name, ()))) for value in one.values))
+    return [("differs", one.times[0], one.name, *(cell_of(its, None in one.values and any(
+        side.types[at] == "event" for at in side.of_name.get(one.name, ()))) for its in one.values))
             for one in sorted(differences, key=lambda one: one.name)]
 
 
 def say_headers(report: Lines, sides: Sides, comparison: Comparison, is_common: bool) -> None:
     """Says what the headers do not have in common."""
     if not is_common:
-        scales = [side.scale for side in sides]
-        texts = [str(scale) if scale else None for scale in scales]
-        report.say("timescale", [("timescale", *texts)] if scales[0] != scales[1] else [])
+        scales = [str(side.scale) if side.scale else None for side in sides]
+        report.say("timescale", [("timescale", *scales)] if scales[0] != scales[1] else [])
         for letter, names, side, other in zip("AB", comparison.alone, sides, sides[::-1]):
             report.say_some("alone", [("alone", letter, *one) for one in side.alone(names, other)])
     report.say("size", [("size", *one) for one in comparison.sizes])

@@ -86,12 +86,11 @@ def texts_of(sides: Sides, factors: Tuple[int, int], found: Sequence[Difference]
     """Returns the text of a page with the signals that differ, and the clocks, in parts. Without a
     span, it has as much time as there is room for."""
     pairs: List[Named] = [(clocks[0].path, (clocks[0], clocks[1]))] if clocks else []
-    names = sorted(one.name for one in found)
-    pairs += [(name, (one, other)) for name in names for one, other in zip(
-        *(side.signals(name) for side in sides))]
+    pairs += [(name, (one, other)) for name in sorted(one.name for one in found)
+              for one, other in zip(*(side.signals(name) for side in sides))]
     # That of the first line: the first name of those that differ at the first time.
     first = min(one.name for one in found if one.times == found[0].times)
-    row = 2 * [name for name, _ in pairs[len(clocks[:1]):]].index(first) + 2 * bool(clocks)
+    row = 2 * [name for name, _ in pairs].index(first, bool(clocks))
     tried = max((side.report.last or 0) * factor for side, factor in zip(sides, factors))
     while True:
         window = Surroundings(sides, factors, found[0], tried if span is None else span)

@@ -1,7 +1,4 @@
-"""Where the values of two dumps differ, for vcdkit-diff.
-
-A value is as vcdkit-compare writes it: all digits, or r and a real number. So equal values of one
-size have equal digits."""
+"""Where the values of two dumps differ, for vcdkit-diff. They are as vcdkit-compare writes them."""
 import functools
 import itertools
 import re
@@ -13,7 +10,7 @@ from typing import (TYPE_CHECKING, Callable, Dict, Generator, Iterator, List, Na
 
 from ..errors import RunFailed, UsageError
 from ..model.signals import Signal
-from ..model.times import LAST_TICK, Timescale
+from ..model.times import LAST_TICK
 from ..model.values import full, real_of
 from ..reading import body
 from ..reading.comparing import are_alike, lines, renamed
@@ -27,7 +24,6 @@ if TYPE_CHECKING:
 
 # Which differences are due, as vcdkit-compare calls it; the second is the first one of each pair.
 FIRST, EACH_PAIR, ALWAYS = "--first", "", "--always"
-Values = Tuple[Optional[bytes], Optional[bytes]]
 Same = Callable[[Optional[bytes], Optional[bytes]], bool]
 
 
@@ -37,15 +33,7 @@ class Difference(NamedTuple):
 
     times: Tuple[int, int]
     name: str
-    values: Values
-
-
-def factors_of(scales: Sequence[Optional[Timescale]]) -> Tuple[int, int]:
-    """Returns by what to multiply the ticks of each, so that they are those of both."""
-    if scales[0] is None or scales[1] is None:
-        return 1, 1
-    one, other = scales[0].femtoseconds, scales[1].femtoseconds
-    return one // gcd(one, other), other // gcd(one, other)
+    values: Tuple[Optional[bytes], Optional[bytes]]
 
 
 def same_within(tolerance: float, x_matches: bool = False) -> Same:
@@ -77,7 +65,9 @@ class Comparison:
         self._sides, self._same, self._extent = sides, same, extent
         self._clocks, self._edge = clocks, edge
         self.only: List[Optional["Conditions"]] = [None, None]  # of a clock, for each dump
-        self.factors = factors_of([side.scale for side in sides])
+        spans = [side.scale.femtoseconds if side.scale else 0 for side in sides]
+        one, other = (span // gcd(*spans) if all(spans) else 1 for span in spans)
+        self.factors = one, other  # by which the ticks of each become those of both
         self.counts = [0, 0]  # of edges, up to now
         self._times = array("Q"), array("Q")  # of the edges that both have
         self.window = (0, LAST_TICK)  # without a clock, in ticks of both
@@ -112,12 +102,12 @@ class Comparison:
         return self._sides[at].called(path.decode("utf-8", "surrogateescape").partition(".")[2])
 
     def differences(self) -> Generator[List[Difference], None, None]:
-        """Returns the differences of each time together."""
-        done: Set[Tuple[str, int]] = set()
+        """Returns the differences of each time together, unless ALWAYS only the first of a name."""
+        done: Set[str] = set()
         for _, its in itertools.groupby(self._differing(), itemgetter(0)):
-            found = [one for one in its if _key(one) not in done]
+            found = [one for one in its if one.name not in done]
             if self._extent != ALWAYS:
-                done.update(map(_key, found))
+                done.update(one.name for one in found)
             if found:
                 yield found
 
@@ -191,12 +181,13 @@ class Comparison:
         its = {codes[one].encode(): side.codes[one].encode() for one in side.places}
         edges = {(clock.code.encode(), place, *self._edge): 1}
         part = side.named if only else side.picked([
-            side.paths[one] for one in [*side.places, side.of_name[clock.path][0]]])
+            *(side.paths[one] for one in side.places), clock.path])
         holds = only.compiled() if only else None
         if only:
             only.look_back([], edges)
         found: Dict[bytes, bytes] = {}
-        for time, changes, _ in body.at_clocks(part, [], {*its, *(only.over if only else ())}, edges):
+        over = only.over if only else ()
+        for time, changes, _ in body.at_clocks(part, [], {*its, *over}, edges):
             found.update(changes)
             if only:
                 only.take(changes)
@@ -205,8 +196,3 @@ class Comparison:
                 found = {}
             if only:
                 only.end()
-
-
-def _key(one: Difference) -> Tuple[str, int]:
-    """Returns what tells a pair from others: two of one name may have different sizes."""
-    return one.name, max(len(value) * (value[:1] != b"r") for value in one.values if value)

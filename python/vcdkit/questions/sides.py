@@ -14,6 +14,7 @@ from ..reading.comparing import header_of, raw_header, renamed
 from ..reading.source import Source
 from ..reading.texts import Headed, Made, Text
 from .picked import MAX_NAMES
+from .rows import Clock, clock_of
 
 Map = Tuple[str, str]  # the path of a scope or a signal, and what it becomes
 
@@ -65,7 +66,8 @@ class Side:
         is in a scope of its own."""
         return {"%s.%s" % (self._scope, path): "%s.%s" % (
             self._scope if name in self.chosen else "other", name)
-            for path, name in zip(self.paths, self.names) if path != name or name not in self.chosen}
+            for path, name in zip(self.paths, self.names)
+            if path != name or name not in self.chosen}
 
     @functools.cached_property
     def named(self) -> Source:
@@ -78,8 +80,8 @@ class Side:
         return self.dump.like(text) if names else self.dump
 
     def picked(self, paths: Sequence[str]) -> Source:
-        """Returns a dump that has these paths, and only these if their names are UTF-8 and a command
-        line has room for them."""
+        """Returns a dump that has these paths; it may have others if not all names are UTF-8, or if
+        a command line has no room for them."""
         names = names_for(paths, self.paths)
         is_all = len({*paths}) == len({*self.paths}) or sum(map(len, names)) > MAX_NAMES
         return self.dump if is_all else self.dump.part(names)
@@ -103,6 +105,11 @@ class Side:
         its = [at for at in near if len(near) > 1 and
                self.dump.declarations[at].declared == field_of(name[len(own):])]
         return [self.dump.signals[at] for at in its or near]
+
+    def clock(self, name: str) -> Clock:
+        """Returns the clock that a name selects."""
+        clock, place = clock_of(self.named, name)
+        return self.dump.signals[self.of_name[clock.path][0]], place
 
     def alone(self, names: Sequence[str], other: "Side") -> List[Tuple[str, int]]:
         """Returns what the other one does not have, of the variables that it lacks: their names, or
@@ -147,14 +154,12 @@ def sides_of(dumps: Sequence[Source], maps: Sequence[Map], names: Sequence[str],
 def _respelled(ours: Set[str], theirs: Set[str]) -> Dict[str, str]:
     """Returns the names of B that A writes in another way, and these: they differ only in whether a
     range is in the name, or in how a path with escaped names is written."""
-    loose: List[Dict[str, List[str]]] = [{}, {}]
-    for found, names in zip(loose, (ours - theirs, theirs - ours)):
+    loose: Dict[str, Tuple[List[str], List[str]]] = {}
+    for at, names in enumerate((ours - theirs, theirs - ours)):
         for name in names:
-            found.setdefault(plain(name), []).append(name)
-    pairs = [(*its, *loose[1][name]) for name, its in loose[0].items()
-             if len(its) == len(loose[1].get(name, ())) == 1]
-    return {other: one for one, other in pairs if len({
-        its.group() for its in map(RANGE.search, (one, other)) if its}) < 2}
+            loose.setdefault(plain(name), ([], []))[at].append(name)
+    return {other[0]: one[0] for one, other in loose.values() if len(one) == len(other) == 1
+            and len({its.group() for its in map(RANGE.search, one + other) if its}) < 2}
 
 
 def choose(sides: Sides, names: Sequence[str], exceptions: Sequence[str]) -> List[str]:

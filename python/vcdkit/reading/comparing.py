@@ -4,7 +4,7 @@ import functools
 import itertools
 from typing import BinaryIO, Dict, Iterator, List, Sequence
 
-from ..model.names import RANGE
+from ..model.names import RANGE, bare
 from . import header, program
 from .source import Source, merge
 from .texts import Made, Text
@@ -46,12 +46,8 @@ def renamed(names: Dict[str, str], text: bytes) -> bytes:
         if new is None:
             kept.append(line)
             continue
-        was, declared = RANGE.search(words[4]), words[5:-1]
-        if RANGE.search(new):
-            declared = []
-        elif was and not declared:
-            declared = [was.group()]
-        moved.append(" ".join([*words[:4], new, *declared, "$end"]))
+        declared = [] if RANGE.search(new) else words[5:-1] or [words[4][len(bare(words[4])):]]
+        moved.append(" ".join(filter(None, [*words[:4], new, *declared, "$end"])))
     return "\n".join([*kept[:-2], *moved, *kept[-2:]]).encode("utf-8", "surrogateescape")
 
 

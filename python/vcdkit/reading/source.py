@@ -36,14 +36,13 @@ def way() -> ModuleType:
 class Source:
     """What can be read of a dump, and of parts of it."""
 
-    known_scale: Optional[Timescale] = None  # so that no header has to be read for it
-
     def __init__(self, text: Text, options: Tuple[str, ...] = (),
                  heads: Optional[Dict[Text, header.Head]] = None):
         """`options` are those of the program with which it is read. `heads` are the headers that
         were read, of texts without cuts, which have the same header."""
         self.text, self.options, self._heads = text, options, {} if heads is None else heads
         self._last: Tuple[List[str], Dict[int, Signal]] = [], {}  # names, and what they select
+        self.known_scale: Optional[Timescale] = None  # so that no header has to be read for it
 
     def like(self: Its, text: Text) -> Its:
         """Returns what can be read of another text, with the same options."""
