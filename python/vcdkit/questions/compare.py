@@ -95,7 +95,10 @@ class Comparison:
             else:
                 self._lines = itertools.chain([[what, *words]], self._lines)
                 break
-        self.compared = len(places[0]) - len(self.alone[0]) - len(self.sizes)
+        counts = [len(its) - len(names) - len(self.sizes) for its, names in zip(places, self.alone)]
+        self.compared = counts[0]
+        if counts[0] != counts[1]:
+            raise RunFailed("vcdkit-compare pairs %d signals with %d" % (counts[0], counts[1]))
 
     def _called(self, path: bytes, at: int = 0) -> str:
         """Returns the name of a variable of a dump in a line."""

@@ -108,7 +108,10 @@ class Side:
 
     def clock(self, name: str) -> Clock:
         """Returns the clock that a name selects."""
-        clock, place = clock_of(self.named, name)
+        try:
+            clock, place = clock_of(self.named, name)
+        except UnknownName:
+            raise UnknownName("%s: %s" % (self.dump.name, name), hint(name, self.names)) from None
         return self.dump.signals[self.of_name[clock.path][0]], place
 
     def alone(self, names: Sequence[str], other: "Side") -> List[Tuple[str, int]]:

@@ -54,8 +54,7 @@ def renamed(names: Dict[str, str], text: bytes) -> bytes:
 def lines(words: Sequence[str], merged: Text) -> Iterator[List[bytes]]:
     """Returns the words of each line that vcdkit-compare writes of the dumps in a merge."""
     with program.opened(Made("compare", (*words, "in1=in2"), (merged,))) as out:
-        for line in out:
-            yield line[:-1].split(b" ")
+        yield from (line[:-1].split(b" ") for line in out)
 
 
 def are_alike(one: Source, other: Source) -> bool:
