@@ -4,9 +4,9 @@ from typing import Any, Dict, Iterator, List, Optional, Sequence, Tuple
 
 from faulty_dumps import evaluator
 from reference import comparison  # type: ignore[import]
-from vcdkit.questions import dump
-from vcdkit.reading import comparing, library, program, source
-from vcdkit.reading.texts import Text, library_path, program_path
+from vcdkit.questions import compare, dump
+from vcdkit.reading import header, library, program, source
+from vcdkit.reading.texts import Headed, Text, library_path, program_path
 
 MOST = 1000  # answers that are kept
 
@@ -58,14 +58,21 @@ class Evaluator:
         return done
 
 
-def compared(words: Sequence[str], merged: Text) -> Iterator[bytes]:
+def compared(words: Sequence[str], merged: Text) -> Iterator[List[bytes]]:
     """Stands for vcdkit-compare, as vcdkit.reading.comparing.lines."""
-    asked = comparison.Asked(end=int(words[words.index("--to") + 1]), extent={
-        "--first": comparison.FIRST, "--always": comparison.ALWAYS}.get(
-            words[0], comparison.EACH_PAIR))
-    with library.opened(merged) as text:
-        out: bytes = comparison.within(asked, [(b"in1", b"in2")], b"(stdin)", text.read())[0]
-    yield from out.splitlines()
+    extent, times = {"--first": comparison.FIRST, "--always": comparison.ALWAYS}, iter(words)
+    asked = comparison.Asked(extent=extent.get("".join(words[:1]), comparison.EACH_PAIR))
+    for word in times:
+        if word == "--from":
+            asked.begin = int(next(times))
+        elif word == "--to":
+            asked.end = int(next(times))
+    with library.opened(merged) as file:
+        text = file.read()
+    if isinstance(merged, Headed) and merged.body:
+        text = b"".join([*text.partition(header.BODY)[:2], *merged.body()])
+    out: bytes = comparison.within(asked, [(b"in1", b"in2")], b"(stdin)", text)[0]
+    yield from (line.split(b" ") for line in out.splitlines())
 
 
 def moment_of(time: str) -> Tuple[int, Optional[int]]:
@@ -81,7 +88,7 @@ class Ways:
     def __init__(self) -> None:
         evaluator.read_head = Heads()
         self._evaluator = Evaluator()
-        self._library, self._lines = (library.run, library.changes), comparing.lines
+        self._library, self._lines = (library.run, library.changes), compare.lines
         self.others = [program] if program_path() else []
         if library_path():
             self.others.append(library)
@@ -91,5 +98,5 @@ class Ways:
         """Lets one of them answer, the evaluator if none is named."""
         library.run, library.changes = self._library if way is library else (
             self._evaluator.run, lambda *_: None)
-        comparing.lines = self._lines if way else compared
+        compare.lines = self._lines if way else compared
         source.way = dump.way = lambda: way or library  # type: ignore[assignment]

@@ -60,14 +60,14 @@ class Sides:
                 self.of_name[at].setdefault(name, []).append(one)
         self.factors = factors_of(*dumps)
         self.window = self._window()
-        self.all_groups = self._groups()
-        self._choose()
         self.groups = self._groups()
+        self._choose()
         self.pairs: List[Pair] = []
         self.sizes: List[str] = []
         self.paired: Set[Tuple[int, int]] = set()  # a dump, and the place of a variable
         for name, other in self.groups:
-            self._pair(name, other)
+            if name in self.of_name[0]:
+                self._pair(name, other)
 
     def _window(self) -> Tuple[int, int]:
         """Returns the first and the last common tick that are compared. Ticks are those of A."""
@@ -91,7 +91,7 @@ class Sides:
             its = {one for one in names if is_inside(one, name)}
             ranged = {one for one in names if bare(one) == name}
             found.append(its or (ranged if len(ranged) == 1 else set()))
-        both = [pair for pair in self.all_groups if pair[0] in found[0] or pair[1] in found[1]]
+        both = [pair for pair in self.groups if pair[0] in found[0] or pair[1] in found[1]]
         return [its | {pair[at] for pair in both} for at, its in enumerate(found)]
 
     def _choose(self) -> None:
