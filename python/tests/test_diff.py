@@ -267,7 +267,7 @@ def expected(texts, scales, asked):
     groups = groups_of(sides)
     lines, pairs, sizes, lone = [], [], [], [[], []]
     written = [{one[0]: one[0] for one in side} for side in every]
-    written[1].update((other, one) for one, other in groups)
+    written[1].update((other, one) for one, other in groups_of(every))
     for one, other in [*groups, *((path, "") for path in written[0] if path not in [
             one for one, _ in groups]), *(("", path) for path in written[1] if path not in [
                 other for _, other in groups])]:
