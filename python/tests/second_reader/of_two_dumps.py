@@ -304,7 +304,9 @@ def condition_of_both(of: Asker, sides: Sides) -> Optional[Tuple[str, List[Test]
     condition = of.conditions.make()
     alike = {one.code: its.code for _, one, its in sides.pairs
              if (one.left, one.right) == (its.left, its.right)}
-    if not condition or not (of.conditions.codes | of.conditions.events) <= {*alike} or any(
+    lone = {one.code for one in of.dump.variables if (0, one.place) not in sides.paired}
+    codes = of.conditions.codes | of.conditions.events
+    if not condition or not codes <= {*alike} - lone or any(
             sides.asked.renamed(one.path) != one.path for one in of.dump.variables):
         return None
 
