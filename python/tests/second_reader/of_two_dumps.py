@@ -398,7 +398,9 @@ def same_lines(of: Asker, words: List[str], said: Said, sides: Sides, found: Lis
         scales = ["%d%s" % dump.scale if dump.scale else None for dump in (one, other)]
         wanted += [["timescale", *scales]] * (scales[0] != scales[1])
         wanted += [["alone", *each] for each in sides.alone()]
-        lasts = [last_of(*each) for each in zip((one, other), sides.windows(bool(counts)))]
+        is_all = asked.window.words in ([], ["--from", "0"])  # then a dump may lack a timestamp
+        lasts = [dump.last if is_all else dump.end_of(*window)
+                 for dump, window in zip((one, other), sides.windows(bool(counts)))]
         moments = [min((last or 0) * factor, sides.window[1])
                    for last, factor in zip(lasts, sides.factors)]
         if counts and 0 not in counts:
@@ -436,11 +438,6 @@ def same_lines(of: Asker, words: List[str], said: Said, sides: Sides, found: Lis
     of.same("diff", words, (said.status, sorted(got, key=key), bool(said.message)),
             (2 if is_refused else int(bool(wanted)), sorted(wanted, key=key),
              is_refused or asked.is_common and not wanted))
-
-
-def last_of(dump: Dump, window: Tuple[int, int]) -> Optional[int]:
-    """Returns the last timestamp of a window; None if there is none. All of a dump is no window."""
-    return dump.last if window == (0, LAST) else dump.end_of(*window)
 
 
 # ---- The windows around the first difference.
