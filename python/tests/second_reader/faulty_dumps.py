@@ -57,7 +57,7 @@ def before(text: bytes, end: int) -> bytes:
 def with_fault(text: bytes, random: Any) -> bytes:
     """Returns a dump that is cut off, or has a line that most often is a fault."""
     place = body_place(text)
-    lines = text[place:].split(b"\n")
+    lines = text[place:].split(b"\n") + [b""] * (b"\n" not in text[place:])  # all in one line
     at = random.randrange(1, len(lines))
     inside = [place for place in range(1, len(lines)) if is_open_before(lines, place)]
     if inside and random.random() < .3:
