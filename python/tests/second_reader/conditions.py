@@ -131,6 +131,7 @@ class Conditions:
                 self.codes = before | {one.of.code for one in its
                                        if _names(found.text, one.expression().text)}
                 return Condition(found)
+            self.codes = before
         one = self._any(depth)
         return Condition(one) if one else None
 
