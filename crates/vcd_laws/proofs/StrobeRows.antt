@@ -1,16 +1,27 @@
 -- `strobe`: worked rows. `;` stands for a line feed.
-use Rattle.vcd_laws.proofs.Cited.{◌≡◌, ℕ, List, [], ◌∷◌, ◌++◌, codes, refl, true, false, String, Mark, Outcome, Want, outcome}
+use Rattle.vcd_laws.proofs.Cited.{◌≡◌, ℕ, List, [], ◌∷◌, ◌++◌, codes, refl, true, false, String, Some, None, Mark, Outcome, Want, outcome}
 use Rattle.vcd_laws.proofs.Computing.{model}
 use Rattle.vcd_laws.proofs.RowText.{at, dump, limit, written}
 use Rattle.vcd_model.specs.Strobe.{ClockName, strobe}
 
+-- the rising edges of a variable, and its falling edges
+abbrev rise_of : String → ClockName
+rise_of path = record { path = codes path; place = None; falls = false }
+
+abbrev fall_of : String → ClockName
+fall_of path = record { path = codes path; place = None; falls = true }
+
 -- the rising edges of t.c
 abbrev rise : List ClockName
-rise = (codes "t.c", false) ∷ []
+rise = rise_of "t.c" ∷ []
 
 -- its falling edges
 abbrev fall : List ClockName
-fall = (codes "t.c", true) ∷ []
+fall = fall_of "t.c" ∷ []
+
+-- the rising edges of a bit of t.q
+abbrev bit : ℕ → List ClockName
+bit place = record { path = codes "t.q"; place = Some place; falls = false } ∷ []
 
 -- what `strobe` gives for a dump on standard input
 abbrev of : List ClockName → String → String → String → Outcome
@@ -117,17 +128,31 @@ falling : of fall "t.q" front "#0;0!;b0 \";#5;1!;#10;0!;b1 \";#15;1!;" ≡ q_giv
 unfolding model
 falling = refl
 
-both : of ((codes "t.c", false) ∷ (codes "t.c", true) ∷ []) "t.q" front "#0;0!;b0 \";#5;1!;b1 \";#10;0!;#15;1!;" ≡ q_gives "#1;b101 !!;b0 \";#2;b1010 !!;b1 \";#3;b1111 !!;"
+both : of (rise_of "t.c" ∷ fall_of "t.c" ∷ []) "t.q" front "#0;0!;b0 \";#5;1!;b1 \";#10;0!;#15;1!;" ≡ q_gives "#1;b101 !!;b0 \";#2;b1010 !!;b1 \";#3;b1111 !!;"
 unfolding model
 both = refl
 
 -- two clocks: edges at one time are one
-two_clocks : of ((codes "t.c", false) ∷ (codes "t.d", false) ∷ []) "t.q" front "#0;0!;0%;b0 \";#5;1!;b1 \";1%;#7;0%;#8;1%;" ≡ q_gives "#1;b101 !!;b0 \";#2;b1000 !!;b1 \";"
+two_clocks : of (rise_of "t.c" ∷ rise_of "t.d" ∷ []) "t.q" front "#0;0!;0%;b0 \";#5;1!;b1 \";1%;#7;0%;#8;1%;" ≡ q_gives "#1;b101 !!;b0 \";#2;b1000 !!;b1 \";"
 unfolding model
 two_clocks = refl
 
+-- a bit of a vector: from 0 to 1 only, the digits on the left extended, whatever the others do
+one_bit : of (bit 2) "t.q" front "#0;b1 \";#5;b100 \";#10;b111 \";#15;bx \";#20;b100 \";#25;b0 \";#30;b1100 \";" ≡ gives q_head "#1;b101 !!;b1 \";#2;b11110 !!;b0 \";" "" 0
+unfolding model
+one_bit = refl
+
+extended_bit : of (bit 3) "t.q" front "#0;bz1 \";#5;b1 \";#10;b1000 \";#15;bx \";" ≡ gives q_head "#1;b1010 !!;b1 \";" "" 0
+unfolding model
+extended_bit = refl
+
+-- no place of a bit is beyond the size
+no_such_bit : of (bit 4) "t.q" front "#0;" ≡ gives "" "" "no clock of one bit: t.q" 2
+unfolding model
+no_such_bit = refl
+
 -- an alias is the same clock
-alias : of ((codes "t.also", false) ∷ []) "t.q" front "#0;0!;b0 \";#5;1!;" ≡ q_gives "#1;b101 !!;b0 \";"
+alias : of (rise_of "t.also" ∷ []) "t.q" front "#0;0!;b0 \";#5;1!;" ≡ q_gives "#1;b101 !!;b0 \";"
 unfolding model
 alias = refl
 
@@ -182,11 +207,11 @@ unfolding model
 greatest = refl
 
 -- no clock: of several bits, an event, of no such name
-no_clock : of ((codes "t.q", false) ∷ []) "t.q" front "#0;" ≡ gives "" "" "no clock of one bit: t.q" 2
+no_clock : of (rise_of "t.q" ∷ []) "t.q" front "#0;" ≡ gives "" "" "no clock of one bit: t.q" 2
 unfolding model
 no_clock = refl
 
-no_such : of ((codes "t.x", false) ∷ []) "t.q" front "#0;" ≡ gives "" "" "no clock of one bit: t.x" 2
+no_such : of (rise_of "t.x" ∷ []) "t.q" front "#0;" ≡ gives "" "" "no clock of one bit: t.x" 2
 unfolding model
 no_such = refl
 

@@ -5,7 +5,7 @@ use Rattle.vcd_model.specs.Items.{marks, time_after}
 use Rattle.vcd_model.specs.Sample.{is_settled}
 use Rattle.vcd_model.specs.Compare.{Named, Pair, alone_lines, answer, changes_at, differs, ends_with, fault_after, full_name, is_due, is_fit, kind_of, kind_shown, lines_at, state_at, unlike_lines, value_line}
 use Rattle.vcd_model.specs.Compare.Extent.{First, EachPair, Always}
-use Rattle.vcd_model.specs.Within.{alone_in, comparison, compared_in, ends_run, from_dump, lines_where, pairs_in, refused, side, times_in, turned, unlike_in, unselected, within, within_dump, within_head, within_open}
+use Rattle.vcd_model.specs.Within.{alone_in, comparison, compared_in, ends_run, from_dump, lines_where, outermost, pairs_in, refused, side, times_in, turned, unlike_in, unselected, within, within_dump, within_head, within_open}
 use Rattle.vcd_model.specs.Input.{Input}
 use Rattle.vcd_laws.specs.KeptValues.{Opens}
 use Rattle.vcd_laws.specs.Matching.{AllMatch, ComparisonIsWithin, IsReached, SuccessIsAMatch}
@@ -391,7 +391,7 @@ module _ (q : Asked) (ns : List Names) (name : List ℕ) (o : Opened) where
 -- the outcome of an input, by what selects nothing
 abbrev outcome_by : Asked → List Names → List ℕ → Opened → Option (List ℕ) → Outcome
 outcome_by q ns name o (Some one) = refused one
-outcome_by q ns name o None = from_dump q ns name o
+outcome_by q ns name o None = from_dump q (outermost ns) name o
 
 comparison_opened : (q : Asked) (limit : ℕ) (ns : List Names) (name : List ℕ) (input : Input) (o : Opened)
     → Opens limit input o → comparison q limit ns name input ≡ outcome_by q ns name o (unselected q o.header ns)
@@ -401,7 +401,7 @@ comparison_opened q limit ns name input o opens = rw (opens, comparison) refl
 pub comparison_is_within : ComparisonIsWithin
 comparison_is_within q limit ns name input o opens none reached =
     comparison_opened q limit ns name input o opens ∙ ap (outcome_by q ns name o) none
-    ∙ reached_same q ns name o reached ∙ sym (within_opened q limit ns name input o opens)
+    ∙ reached_same q (outermost ns) name o reached ∙ sym (within_opened q limit (outermost ns) name input o opens)
 
 -- the same of `within`
 pub within_is_a_match : (q : Asked) (limit : ℕ) (ns : List Names) (name : List ℕ) (input : Input) (o : Opened) → Opens limit input o
@@ -417,10 +417,10 @@ success_is_a_match q limit ns name input o opens = (
   λ good. by_name (unselected q o.header ns) refl
       (sym (ap (λ (x : Outcome). x.status) (comparison_opened q limit ns name input o opens)) ∙ good),
   λ all. ap (λ (x : Outcome). x.status) (comparison_opened q limit ns name input o opens ∙ ap (outcome_by q ns name o) all.0)
-      ∙ reached_to q ns name o all.1 all.2,
+      ∙ reached_to q (outermost ns) name o all.1 all.2,
 )
   where
     by_name : (one : Option (List ℕ)) → unselected q o.header ns ≡ one → (outcome_by q ns name o one).status ≡ 0
-        → (unselected q o.header ns ≡ None) × IsReached q o × Matches q ns o
-    by_name None e good = let f = reached_from q ns name o good in (e, f.0, f.1)
+        → (unselected q o.header ns ≡ None) × IsReached q o × Matches q (outermost ns) o
+    by_name None e good = let f = reached_from q (outermost ns) name o good in (e, f.0, f.1)
     by_name (Some x) e good = cc

@@ -55,6 +55,26 @@ several : within all limit ((codes "t.a.q", codes "t.b.q") ∷ (codes "t.b", cod
 unfolding model
 several = refl
 
+-- names inside others, and equal ones: each pair once, where the outermost names have it
+abbrev asked_for : List Names → String → Outcome
+asked_for ns body = comparison all limit ns (codes "(stdin)") (dump two body)
+
+once : asked_for ((codes "t.a.q", codes "t.b.q") ∷ (codes "t.a", codes "t.b") ∷ (codes "t.a.c", codes "t.b.c") ∷ (codes "t.a", codes "t.b") ∷ []) "#0;b0 !;b1 $;1\";1%;"
+    ≡ gives "alone A t.a.n;differs 0 t.a.q 0000 0001;compared 2;" "" 1
+unfolding model
+once = refl
+
+-- names of other pairs, and of the same ones the other way round
+each_way : asked_for ((codes "t.a", codes "t.b") ∷ (codes "t.a.c", codes "t.b.q") ∷ (codes "t.b.q", codes "t.a.q") ∷ []) "#0;b0 !;b1 $;1\";1%;"
+    ≡ gives "alone A t.a.n;size t.a.c 1 4;differs 0 t.a.q 0000 0001;differs 0 t.b.q 0001 0000;compared 3;" "" 1
+unfolding model
+each_way = refl
+
+-- a name inside another one that selects nothing
+nothing_inside : asked_for ((codes "t.a", codes "t.b") ∷ (codes "t.a.x", codes "t.b.x") ∷ []) "#0;" ≡ gives "" "t.a.x: selects nothing" 2
+unfolding model
+nothing_inside = refl
+
 -- what ends early sees no fault that comes later
 early : on_two (record all { extent = Extent.First }) "#0;1\";1%;#3;0\";#4;1\";0%;?" ≡ gives "alone A t.a.n;differs 3 t.a.c 0 1;compared 2;" "" 1
 unfolding model

@@ -7,7 +7,7 @@ use Rattle.vcd_model.specs.Cut.{is_mark_above}
 use Rattle.vcd_model.specs.Outcome.{Opened, fault_in, items_in}
 use Rattle.vcd_model.specs.Job.{Want, outcome}
 use Rattle.vcd_model.specs.Compare.{Asked, Named, Pair, Rule, Side, alone, differs, pairs, unlike}
-use Rattle.vcd_model.specs.Within.{Names, alone_in, compared_in, side, comparison, turned, unlike_in, unselected, within}
+use Rattle.vcd_model.specs.Within.{Names, alone_in, compared_in, side, comparison, outermost, turned, unlike_in, unselected, within}
 use Rattle.vcd_laws.specs.KeptValues.{Opens}
 use Rattle.vcd_laws.specs.Dumps.{AreReadable, input_of}
 use Rattle.vcd_laws.specs.CompareMerged.{asked_of_merge, both_inputs, side_of}
@@ -35,15 +35,16 @@ SuccessIsAMatch = (q : Asked) (limit : ℕ) (ns : List Names) (name : List ℕ) 
     (o : Opened) → Opens limit input o
     → ((comparison q limit ns name input).status ≡ 0)
     ↔ ((unselected q o.header ns ≡ None) × IsReached q o
-    × AllMatch q.rule (side (items_in o)) (side (items_in o)) (compared_in q o.header ns)
-    (flat_map (λ n. alone_in q o.header n ++ alone_in q o.header (turned n)) ns)
-    (unlike_in q o.header ns) q.from q.to)
+    × AllMatch q.rule (side (items_in o)) (side (items_in o)) (compared_in q o.header (outermost ns))
+    (flat_map (λ n. alone_in q o.header n ++ alone_in q o.header (turned n)) (outermost ns))
+    (unlike_in q o.header (outermost ns)) q.from q.to)
 
--- A comparison whose names all select something, and which reaches its first time, is `within`.
+-- A comparison whose names all select something, and which reaches its first time, is `within` of
+-- the outermost names.
 abbrev pub ComparisonIsWithin : Type 0
 ComparisonIsWithin = (q : Asked) (limit : ℕ) (ns : List Names) (name : List ℕ) (input : Input)
     (o : Opened) → Opens limit input o → unselected q o.header ns ≡ None → IsReached q o
-    → comparison q limit ns name input ≡ within q limit ns name input
+    → comparison q limit ns name input ≡ within q limit (outermost ns) name input
 
 -- The comparison of two inputs in what `merge` wrote has status 0 if and only if all of the inputs
 -- matches. Times are in ticks of both, up to the end of the shorter input.

@@ -2,7 +2,7 @@
 -- on the items before it, in their order: a `$dumpvars` gives values from before its time only to
 -- edges that come after it, and an edge is there even if its time has a fault later. What `merge`
 -- wrote has no `$dumpvars`, so a strobe comes before a merge.
-use Rattle.std.specs.Prelude.{ℕ, zero, suc, ◌+◌, ◌/◌, ◌%◌, ◌^◌, max, fold, Bool, true, false, not, cond, ◌&&◌, ◌==◌, nat_le, nat_lt, is_none, List, [], ◌∷◌, ◌++◌, length, replicate, map, flat_map, filter, codes, bytes_eq, Option, Some, None, option_map, unwrap_or, Ok, Err}
+use Rattle.std.specs.Prelude.{ℕ, zero, suc, ◌+◌, ◌/◌, ◌%◌, ◌^◌, max, fold, Bool, true, false, not, cond, ◌&&◌, ◌==◌, nat_le, nat_lt, is_none, List, [], ◌∷◌, ◌++◌, length, reverse, slice_get, replicate, map, flat_map, filter, codes, bytes_eq, Option, Some, None, option_map, unwrap_or, Ok, Err}
 use Rattle.std.specs.List.{list_any, concat, last_or}
 use Rattle.std.specs.Str.{byte}
 use Rattle.vcd_model.specs.Bytes.{as_line, is_empty}
@@ -23,16 +23,18 @@ use Rattle.vcd_model.specs.Compare.{fault_after}
 
 -- ---- edges
 
--- a clock: a code of one bit, and whether its falling edges count, not its rising ones
+-- a clock: one bit of a code, by its place from the right, counted from 0; and whether its falling
+-- edges count, not its rising ones
 pub record Clock : Type 0 where
   pub code : IdCode
+  pub place : ℕ
   pub falls : Bool
 
--- the value is this digit
-abbrev pub is_digit : ℕ → Option Value → Bool
-is_digit d (Some (Value.Bits ds)) = bytes_eq ds (d ∷ [])
-is_digit d (Some (Value.Real text)) = false
-is_digit d None = false
+-- the value has this digit at this place from the right
+abbrev pub has_digit : ℕ → ℕ → Option Value → Bool
+has_digit place d (Some (Value.Bits ds)) = elim (slice_get (reverse ds) place) [ Some digit ↦ digit == d | None ↦ false ]
+has_digit place d (Some (Value.Real text)) = false
+has_digit place d None = false
 
 -- what a clock has before an edge, and after it
 abbrev pub digit_before : Clock → ℕ
@@ -43,7 +45,7 @@ digit_after k = cond k.falls (byte "0") (byte "1")
 
 -- an item that takes a clock from the one digit to the other, as the next value that it is given
 abbrev pub is_turn_of : Clock → List BodyItem → BodyItem → Bool
-is_turn_of k earlier (BodyItem.Changes c) = same_code k.code c.code && is_digit (digit_before k) (final_value earlier k.code) && is_digit (digit_after k) (Some (value_of c))
+is_turn_of k earlier (BodyItem.Changes c) = same_code k.code c.code && has_digit k.place (digit_before k) (final_value earlier k.code) && has_digit k.place (digit_after k) (Some (value_of c))
 is_turn_of k earlier item = false
 
 -- an item that does so with one of some clocks
@@ -154,21 +156,30 @@ strobe_open ks h names items = strobe_head h names ++ concat (each (edge_text h 
 
 -- ---- the outcome
 
--- a path, and whether the falling edges of what it selects count
-abbrev pub ClockName : Type 0
-ClockName = List ℕ × Bool
+-- what names a clock: the path of a variable; the place of one of its bits from the right, counted
+-- from 0, unless it has only one; and whether its falling edges count
+pub record ClockName : Type 0 where
+  pub path : List ℕ
+  pub place : Option ℕ
+  pub falls : Bool
 
 -- what is asked for: clocks, and names
 pub record Strobe : Type 0 where
   pub clocks : List ClockName
   pub names : List (List ℕ)
 
--- the one code that is selected, if it has one bit
+-- a code of this size has a bit at the place; without a place, it has only one
+abbrev pub has_bit : ℕ → Option ℕ → Bool
+has_bit size None = size == 1
+has_bit size (Some place) = nat_lt place size
+
+-- the bit of the one code that is selected
 abbrev pub clock_of : Header → ClockName → Option Clock
 clock_of h name =
-    elim (strobe_codes h (name.0 ∷ [])) [
+    elim (strobe_codes h (name.path ∷ [])) [
       | [] ↦ None
-      | c ∷ cs ↦ cond (is_empty cs && c.size == 1 && not c.event) (Some (record { code = c; falls = name.1 })) None
+      | c ∷ cs ↦ cond (is_empty cs && has_bit c.size name.place && not c.event)
+          (Some (record { code = c; place = unwrap_or name.place 0; falls = name.falls })) None
     ]
 
 -- the clocks of names
@@ -178,7 +189,7 @@ clocks_of h names = each_some (λ earlier name. clock_of h name) names
 -- the first name that selects no clock
 abbrev pub no_clock : Header → List ClockName → Option (List ℕ)
 no_clock h [] = None
-no_clock h (name ∷ names) = elim (clock_of h name) [ Some k ↦ no_clock h names | None ↦ Some name.0 ]
+no_clock h (name ∷ names) = elim (clock_of h name) [ Some k ↦ no_clock h names | None ↦ Some name.path ]
 
 -- the outcome of a dump whose header is read
 unfoldable pub strobe_dump : Strobe → List ℕ → Opened → Outcome

@@ -1,6 +1,7 @@
 -- Two parts of one dump compared, such as the two inputs in what `merge` writes (profile).
-use Rattle.std.specs.Prelude.{ℕ, Bool, true, not, cond, ◌&&◌, ◌||◌, nat_le, nat_lt, is_none, List, [], ◌∷◌, ◌++◌, length, decimal, drop, flat_map, filter, filter_map, find, codes, Option, Some, None, option_map, Ok, Err}
+use Rattle.std.specs.Prelude.{ℕ, Bool, true, false, not, cond, ◌&&◌, ◌||◌, nat_le, nat_lt, is_none, bytes_eq, List, [], ◌∷◌, ◌++◌, length, decimal, drop, flat_map, filter, filter_map, find, codes, Option, Some, None, option_map, Ok, Err}
 use Rattle.std.specs.List.{list_any}
+use Rattle.vcd_model.specs.Backward.{each_some}
 use Rattle.vcd_model.specs.Input.{Input}
 use Rattle.vcd_model.specs.Header.{Header}
 use Rattle.vcd_model.specs.Items.{BodyItem, marks, time_after}
@@ -115,7 +116,20 @@ within q limit ns name input =
     over [] = answer 0 []
     over (o ∷ os) = within_dump q ns name o
 
--- ---- what is refused
+-- ---- what is asked for twice, and what is refused
+
+-- all that the other two names select these select too, as parts of the same pairs: the same follows
+-- both
+abbrev pub covers : Names → Names → Bool
+covers m n = elim (rest_of m.0 n.0) [ Some r ↦ bytes_eq n.1 (m.1 ++ r) | None ↦ false ]
+
+-- two names that have these before them, unless others of all cover them: of equal ones the first
+abbrev pub if_outermost : List Names → List Names → Names → Option Names
+if_outermost all earlier n = cond (list_any (λ m. covers m n) earlier || list_any (λ m. covers m n && not (covers n m)) all) None (Some n)
+
+-- the names that select each pair once
+unfoldable pub outermost : List Names → List Names
+outermost ns = each_some (if_outermost ns) ns
 
 -- the name selects a variable
 abbrev pub selects_some : Header → List ℕ → Bool
@@ -148,7 +162,8 @@ from_dump q ns name o =
       | None ↦ at_end q h ns items (within_open q h ns items ++ within_close q h ns items)
     ])
 
--- `within`, unless a name selects nothing, or the first time is after the end: what the program gives
+-- `within` of the outermost names, unless a name selects nothing, or the first time is after the end:
+-- what the program gives
 unfoldable pub comparison : Asked → ℕ → List Names → List ℕ → Input → Outcome
 comparison q limit ns name input =
     elim (open_from limit [] (input ∷ [])) [
@@ -158,4 +173,4 @@ comparison q limit ns name input =
   where
     over : List Opened → Outcome
     over [] = answer 0 []
-    over (o ∷ os) = elim (unselected q o.header ns) [ Some one ↦ refused one | None ↦ from_dump q ns name o ]
+    over (o ∷ os) = elim (unselected q o.header ns) [ Some one ↦ refused one | None ↦ from_dump q (outermost ns) name o ]
