@@ -1,9 +1,9 @@
 -- A table of current values when it is new, and with one item more.
-use Rattle.vcd_body.proofs.Cited.{◌≡◌, ◌≢◌, ℕ, zero, suc, ◌≤◌, ◌<◌, ◌==◌, ◌&&◌, Bool, true, false, List, [], ◌∷◌, ◌++◌, length, drop, slice_get, list_all, length-map, length-drop, to_ascii_lowercase, str_to_ascii_lowercase, is_value_digit, Value, extend, short, short_is_shortest, Option, Some, refl, sym, ap, subst, ◌∙◌, arith, option_map, unwrap_or, eqb-true, eqb-false, bytes_eq-Decides, IdCode, same_code, Header, final_value, gives_to, BodyItem, value_with, final_new, final_other, parts, IsViewOf, Code, HeadView, same_sum, sum_fits, HasBits, binary_digits, ChangesCode, IsLaidOut, held_at, kept_at, HasGoodText, IsText, model_form, Held, Kept, unset, value_at_size, with_text, room_of, share_of, Bits, Form, Vector, Item, Time, Begin, End, Change, Finish, Table, IsItem, AreHeld, HasShares, table_bytes, same_Some}
+use Rattle.vcd_body.proofs.Cited.{◌≡◌, ◌≢◌, ℕ, zero, suc, ◌≤◌, ◌<◌, ◌==◌, ◌&&◌, Bool, true, false, List, [], ◌∷◌, ◌++◌, length, drop, slice_get, list_all, length-map, length-drop, to_ascii_lowercase, str_to_ascii_lowercase, is_value_digit, Value, extend, short, short_is_shortest, Option, Some, refl, sym, ap, subst, ◌∙◌, arith, option_map, unwrap_or, eqb-true, eqb-false, bytes_eq-Decides, IdCode, same_code, Header, final_value, gives_to, BodyItem, value_with, final_new, final_other, parts, IsViewOf, Code, HeadView, same_sum, sum_fits, HasBits, binary_digits, ChangesCode, SetsCode, IsLaidOut, held_at, kept_at, HasGoodText, IsText, model_form, Held, Kept, unset, value_at_size, with_text, room_of, share_of, Bits, Form, Vector, Item, Time, Begin, End, Change, Finish, Table, IsItem, AreHeld, HasShares, table_bytes, same_Some}
 use Rattle.vcd_view.proofs.LookUpLemmas.{same_place}
 use Rattle.vcd_view.proofs.RowLemmas.{code_at}
 use Rattle.vcd_body.specs.Changes.{extended}
-use Rattle.vcd_body.specs.Current.{GivesSame}
+use Rattle.vcd_body.specs.Current.{GivesSame, HoldsOneMore}
 use Rattle.vcd_body.proofs.CompareLemmas.{length_extended}
 use Rattle.vcd_body.proofs.Shortest.{not_empty}
 use Rattle.vcd_body.proofs.TableLemmas.{room_needed}
@@ -159,6 +159,19 @@ pub good_text : (codes : List Code) (text : List ℕ) (place : ℕ) (form : Form
 good_text codes text place form d good there =
     let same : good.0 ≡ d = same_Some good.0 d (sym good.1 ∙ there) in
     subst (λ (y : Code). IsText form y text) same good.2
+
+-- a change sets a text of the same value
+pub text_holds : (item : Item) (place : ℕ) (form : Form) (text other : List ℕ) (old new : Table) → item ≡ Change place form → GivesSame form text other
+    → SetsCode place (with_text form other) old new → (IsLaidOut old → SetsValue form other place old new) → HoldsOneMore old new item text
+text_holds item place form text other old new is same sets value view h items x views good read held =
+    let codes = view.codes.now in
+    let change = subst (λ (i : Item). IsItem h.codes text i x) is read in
+    let sound = subst (λ (i : Item). HasGoodText codes text i) is good in
+    let fits : (d : Code) → slice_get codes place ≡ Some d → IsText form d text = λ d there. good_text codes text place form d sound there in
+    let laid = held.values.laid in
+    subst (λ (y : BodyItem). AreHeld new h (items ++ y ∷ [])) (sym change.2)
+    (change_holds view h old new items place form text change.0 views change.1 held (with_text form other) (λ k. refl) (sets.changes laid) (sets.keeps.laid laid) fits
+    (gives_same form text other place old new same (value laid)))
 
 -- what is read gives no value where it is no change
 pub other_gives : (codes : List IdCode) (text : List ℕ) (item : Item) (x : BodyItem) → IsItem codes text item x → ((place : ℕ) (form : Form) → item ≢ Change place form) → (c : IdCode) → gives_to c x ≡ false

@@ -6,7 +6,7 @@ pub use Rattle.vcd_body.proofs.ChangeLine.{all_line, bit_line, vector_line}
 pub use Rattle.vcd_body.proofs.CodeLanes.{codes_of_lanes, four_lanes, four_long, places_of_lanes}
 pub use Rattle.vcd_body.proofs.CommentLemmas.{OpensComment, comment_passes, passed_on, passes_both, same_place, word_passes, words_more, words_on}
 pub use Rattle.vcd_body.proofs.CompareLemmas.{SameFrom, length_extended, differ_at_longest, differ_for, differ_where_as_many, fewer_differ, last_number, other_sizes, same_at_longest, last_of_state, last_packed}
-pub use Rattle.vcd_body.proofs.CurrentLemmas.{bits_hold, change_holds, gives_same, good_text, short_gives, held_still, other_gives}
+pub use Rattle.vcd_body.proofs.CurrentLemmas.{bits_hold, short_gives, held_still, other_gives, text_holds}
 pub use Rattle.vcd_body.proofs.EndLemmas.{end_digit, ends_same}
 pub use Rattle.vcd_body.proofs.FindLemmas.{none_spelled, spelled_time, time_if_spelled, time_spelled, time_whole}
 pub use Rattle.vcd_body.proofs.FollowLemmas.{bit_is, change_as, change_as_text, change_gives, change_twice, digit_there, keeps_twice, kept_flips, kept_stays, kept_steps, nothing_changes, number_alone, number_and_counted, number_as_text, one_text, other_bit, same_again, set_and_counted, sets_text, sets_value, step_put, way_flips}

@@ -34,7 +34,7 @@ IsPlain text (Change position form) = Unit {0}
 IsPlain text Finish = ⊥
 IsPlain text item = text ≡ []
 
--- a change's code is one of these and has this size, as a look-up tells it; no other item has one
+-- a change's code is one of these and has this size, as a look-up returns it; no other item has one
 abbrev pub IsSizedItem : List Code → Item → ℕ → Type 0
 IsSizedItem codes (Change position form) most = IsSized codes (record { position = position; size_or_zero = most })
 IsSizedItem codes item most = most ≡ 0
@@ -63,7 +63,8 @@ GivesBoth codes form first second found = (c : IdCode) × (slice_get codes found
 abbrev pub ReadsOn : List IdCode → List BodyItem → List Token → List (Placed BodyPhrase) → Type 0
 ReadsOn codes before tokens placed = (given : List Token) (earlier : List (Placed BodyPhrase)) → items_of (phrases_of earlier) ≡ before → IsSoFar (body_grammar codes) given earlier [] → IsSoFar (body_grammar codes) (given ++ tokens) (earlier ++ placed) []
 
--- After these items one more lies ahead: its phrase ends with the last of the first of these tokens.
+-- After these items one more lies ahead: its phrase ends with the last of some first ones of these
+-- tokens.
 pub record EndsAhead (codes : List IdCode) (limit lines : ℕ) (bytes : List ℕ) (before items : List BodyItem) (x : BodyItem) (tokens : List Token) : Type 0 where
   pub end : ℕ
   pub some : 0 < end

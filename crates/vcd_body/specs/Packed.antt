@@ -4,7 +4,8 @@ use Rattle.std.specs.Prelude.{◌≡◌, ◌<◌, ℕ, ◌/◌, ◌%◌, ◌+◌
 use Rattle.std.specs.List.{range_with_len}
 use Rattle.std.specs.Str.{byte}
 
--- a digit as a number below 4; any other byte counts as the digit with its lowest four bits, or as z
+-- a digit as a number below 4; any other byte counts as the digit with its lowest four bits, or as
+-- z
 abbrev pub two_bits_of : ℕ → ℕ
 two_bits_of d = cond (d % 16 == 0) 0 (cond (d % 16 == 1) 1 (cond (d % 16 == 8) 3 2))
 

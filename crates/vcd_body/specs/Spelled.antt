@@ -49,9 +49,9 @@ pub record HasTimestamp (bytes : List ℕ) (from to at time : ℕ) : Type 0 wher
   pub value : decimal_value (slice_range bytes at (to - 1)) ≡ time
   pub fits : time < 2 ^ 64
 
--- the bytes of an item, from its first one up to its end, are a change with its text and its code at
--- its offsets; or the digits of a timestamp; of a section's keyword only the order of its offsets is
--- said
+-- the bytes of an item, from its first one up to its end, are a change with its text and its code
+-- at its offsets; or the digits of a timestamp; of a section's keyword only the order of its offsets
+-- is said
 abbrev pub IsSpelledAs : HeadView → ScannedItem → Item → Type 0
 IsSpelledAs v p (Time time) = HasTimestamp p.bytes.now p.begin p.end p.at time
 IsSpelledAs v p (Change position form) = (code : List ℕ) × HasChange p.bytes.now p.begin p.end form p.text.now code × Names v position code × HasPlaces p.bytes.now p.begin p.end p.at p.code_at p.text.now code

@@ -56,8 +56,8 @@
 //! - `words`: what a token is, by its first byte, and which bytes are digits
 //! - `item`, `fault`: `Item`, `Form`, `Section`, `Regs`; `BodyFault`
 //!
-//! `values` has the table, which keeps values; `current`: `set_item`, the values of codes with one
-//! more item.
+//! `values` has the table, which keeps values; `current`: `set_item` and `set_shortest`, the values
+//! of codes with one more item.
 //!
 //! Lines are written:
 //!
@@ -108,7 +108,7 @@ mod words;
 
 pub use ahead::{ScannedItem, item_comes, pass_items, pass_on_before_read};
 pub use answer::{Done, More, Stop};
-pub use current::set_item;
+pub use current::{set_item, set_shortest};
 pub use fault::BodyFault;
 pub use id::Id;
 pub use item::{Form, Item, Regs, Section};

@@ -16,7 +16,7 @@ use crate::current::{Current, note_trigger};
 use crate::flags::{Flags, mark};
 use crate::pairs::End;
 use crate::rows::{Links, sort_front, take_due};
-use vcd_body::{Bits, Item, Regs, ScannedItem, Visit, set_item};
+use vcd_body::{Bits, Item, Regs, ScannedItem, Visit, set_shortest};
 use vcd_text::{Sink, WriteFailed};
 use vcd_view::{Code, HeadView};
 
@@ -129,7 +129,7 @@ impl Comparison<'_, '_> {
         let Item::Change { code, .. } = item else {
             return watched.differing;
         };
-        set_item(&mut self.current.table, item, text, bits);
+        set_shortest(&mut self.current.table, item, text, bits);
         let Some(declared) = view.code_at(code) else {
             return watched.differing;
         };

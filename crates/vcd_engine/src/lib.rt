@@ -39,9 +39,9 @@
 //!   to the next
 //!
 //! In `specs/` callers read `TaskRun` (`MayRun`, `RunsTask`, `Follows`), `Engine`, `Step`
-//! (`MayStep`, `Steps`, `StepsOver`) and `Room` (`BeginsAs`). `Plan` says by which plan of `vcd_run`
-//! a task goes on. How a run ends, `Done`, `More` and
-//! `Stop`, is in `vcd_body`. `Names` collects what the contracts cite under one path.
+//! (`MayStep`, `Steps`, `StepsOver`) and `Room` (`BeginsAs`). `Plan` says by which plan of
+//! `vcd_run` a task goes on. How a run ends, `Done`, `More` and `Stop`, is in `vcd_body`. `Names`
+//! collects what the contracts cite under one path.
 //!
 //! # Limits
 //!

@@ -23,7 +23,7 @@ pub record Ways : Type 0 where
   pub well : List BodyItem → List ℕ → Outcome
   pub faulty : List ℕ → Fault → Outcome
 
--- an outcome has what was written as its output, and behind it nothing but what a run writes at its
+-- an outcome has what was written as its output, and after it nothing but what a run writes at its
 -- end
 pub record KeepOutput (w : Ways) : Type 0 where
   pub early : (text : List ℕ) → IsPrefixOf text (w.early text).output
@@ -34,7 +34,7 @@ pub record KeepOutput (w : Ways) : Type 0 where
 unfoldable pub over_plan : Plan → Ways → List BodyItem → Option Fault → Outcome
 over_plan p w items fault = cond (p.ends items) (w.early (p.opens items)) (elim fault [ Some f ↦ w.faulty (p.opens items) f | None ↦ w.well items (p.opens items ++ p.closes items) ])
 
--- No item of a body takes back what was due before it, and none behind those that end a run counts.
+-- No item of a body takes back what was due before it, and none after those that end a run counts.
 abbrev pub IsSound : Plan → List IdCode → Type 0
 IsSound p codes = (limit : ℕ) (i : Input) (front rest : List Token) (items more : List BodyItem) → (stream_of limit i).tokens ≡ front ++ rest → body_items (read_body codes rest) ≡ items ++ more
     → IsPrefixOf (p.opens items) (p.opens (items ++ more)) × (p.ends items ≡ true → (p.ends (items ++ more) ≡ true) × (p.opens (items ++ more) ≡ p.opens items))

@@ -72,7 +72,8 @@ module _ {T X : Type 0} {g : Ghosts X} (keeps : T → Plan → Header → List B
       ⊎ (GaveAll h.codes i front items f regs × WritesSome out out' (p.closes items))
   StepGives tells items task regs f out out' (Err (Unmatched name)) = ⊥
 
-  -- what the items that lie ahead leave: they were taken, or a write of what is due with them failed
+  -- what the items that lie ahead leave: they were taken, or a write of what is due with them
+  -- failed
   abbrev pub AheadGives : {A E : Type 0} → List BodyItem → T → Regs → Feed X g → (out out' : Device) → Result A E → List BodyItem → Type 0
   AheadGives items task regs f out out' (Ok v) more = HasTaken (items ++ more) task regs f × Grows out out' (p.opens items) (p.opens (items ++ more))
   AheadGives items task regs f out out' (Err e) more = GaveItems h.codes i front (items ++ more) f regs × GrowsSome out out' (p.opens items) (p.opens (items ++ more))

@@ -28,7 +28,7 @@ pub trait Task: Drop {
     // Whether it has taken these items of a body with this header, and goes on by this plan.
     ghost keeps: { Self → Plan → Header → List BodyItem → Type 0 };
 
-    // What it tells of the items and of all that was written, once it has ended.
+    // What it says of the items and of all that was written, once it has ended.
     ghost tells: { Self → List BodyItem → List ℕ → Type 0 };
 
     // Whether it can be called: this holds before each call.
