@@ -37,8 +37,8 @@ def prefix(r, path):
 
 
 def names_of(r, paths, whole):
-    """Both parts, or names of some paths, with what is as far in the other part or elsewhere; few
-    of them are the same, or select nothing."""
+    """Both parts, or names of some paths, with what is as far in the other part or elsewhere, and
+    at times both parts, or names, once more; few of them are the same, or select nothing."""
     if r.random() < 0.6 or not paths:
         return [whole]
     found = []
@@ -49,6 +49,9 @@ def names_of(r, paths, whole):
             other = b"nowhere" if r.random() < 0.1 else prefix(r, r.choice(paths))
         if b"=" not in one + other:
             found.append((one, other))
+    if r.random() < 0.2:
+        found.append(r.choice([whole, *found]))
+        r.shuffle(found)
     return found or [whole]
 
 

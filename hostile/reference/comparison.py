@@ -245,9 +245,22 @@ def refused(name, what):
     return b"", b"vcdkit: %s: %s\n" % (name, what), 2
 
 
+def covers(ones, others):
+    """Whether all pairs that the other names select are pairs of these too."""
+    rest = others[0][len(ones[0]):]
+    return selects(others[0], ones[0]) and others[1] == ones[1] + rest
+
+
+def outermost(names):
+    """The names without those that others cover; of equal ones the first."""
+    return [one for at, one in enumerate(names)
+            if not any(covers(its, one) for its in names[:at])
+            and not any(covers(its, one) and not covers(one, its) for its in names)]
+
+
 def answered(asked, names, name, text, limit=1_048_576):
-    """The outcome of two parts of one dump, unless both are the same, a name selects nothing, or
-    the dump ends before the window."""
+    """The outcome of two parts of one dump, each pair once, unless both are the same, a name
+    selects nothing, or the dump ends before the window."""
     for one, other in names:
         if one == other:
             return refused(one, b"is compared with itself")
@@ -261,7 +274,7 @@ def answered(asked, names, name, text, limit=1_048_576):
             return refused(one, b"selects nothing")
     items, fault = read_items(tokens, head.codes)
     last = max(marks(items), default=0)
-    output, message, status = within(asked, names, name, text, limit)
+    output, message, status = within(asked, outermost(names), name, text, limit)
     if not fault and last < asked.begin:
         return (output[:output.rindex(b"compared ")], b"vcdkit: --from: %d is after the end of the "
                 b"dump, %d\n" % (asked.begin, last), 2)
