@@ -1,7 +1,8 @@
 -- How much was read of an input for its header, and why a header ends a run.
-use Rattle.vcd_job.proofs.Cited.{◌≡◌, ◌≢◌, ◌==◌, ℕ, ◌+◌, Bool, true, false, nat_lt, ◌++◌, inl, inr, List, [], ◌∷◌, length, Some, None, Err, refl, sym, ap, subst, ◌∙◌, arith, IfSome, nat_tests, append-nil, Input, Work, due_at, due_by, settled_at, settled_by, IsPrefixOf, is_over, IsWhole, HeaderPhrase, header_of, header_fault_of, header_grammar, Ending, Reading, Placed, phrases_of, reading_of, AtFault, AtEnd, AtLast, Token, end_of_tokens, halt_place, stream_of, body_grammar, so_far-nothing, whole-more, failed_after, Supply, Near, ReadsAsNeeded, Nothing, ToToken, ToEnd, HasGiven, HasGivenParked, chunk_len_of, limit_of, parked_answer, parked_of, supply_of, token_of, seen, Parked, AreRegsAfter, Head, Seat, Ghosts, Feed, Fails, FailsAtEnd, FailsAtToken, GivesHead, HasFault, HasReadToShown, IsGoing, HeadShown, shown, HeadFault, TokenTooLong, EndOfInput, UnknownCommand, OutOfPlace, BadTimescale, BadScope, BadVariable, CodeDiffers, NoScope, TooDeep, TooMany, InputTooLong, ReadFailed, IsLeft, is_more_due, Fits, HasNotFailed, IsSeated, Lane, Dump, Failure, head_failure, CountsRead, EndsAtRead, Begins, HasFailed, IsBegun, IsNew}
+use Rattle.vcd_job.proofs.Cited.{◌≡◌, ◌≢◌, ◌==◌, ℕ, ◌+◌, Bool, true, false, nat_lt, ◌++◌, inl, inr, List, [], ◌∷◌, length, Some, None, Err, refl, sym, ap, subst, ◌∙◌, arith, IfSome, nat_tests, append-nil, Input, Work, due_at, due_by, settled_at, settled_by, IsPrefixOf, is_over, IsWhole, HeaderPhrase, header_of, header_fault_of, header_grammar, Ending, Reading, Placed, phrases_of, reading_of, AtEnd, AtLast, Token, end_of_tokens, halt_place, stream_of, body_grammar, so_far-nothing, whole-more, failed_after, Supply, Near, ReadsAsNeeded, Nothing, ToToken, ToEnd, HasGiven, HasGivenParked, chunk_len_of, limit_of, parked_answer, parked_of, supply_of, token_of, seen, Parked, AreRegsAfter, Head, Seat, Ghosts, Feed, Fails, FailsAtEnd, FailsAtToken, GivesHead, HasFault, HasReadToShown, IsGoing, HeadShown, shown, HeadFault, TokenTooLong, EndOfInput, InputTooLong, ReadFailed, IsLeft, is_more_due, Fits, HasNotFailed, IsSeated, Lane, Dump, Failure, head_failure, CountsRead, EndsAtRead, Begins, HasFailed, IsBegun, IsNew}
 use Rattle.vcd_model.specs.Settled.{is_header_over}
 use Rattle.vcd_model.specs.HeaderReading.{read_header}
+use Rattle.vcd_head.specs.Fault.{fault_number}
 use Rattle.vcd_head.specs.declared.fault.HeadFault.TheVariants.{OutOfMemory}
 use Rattle.vcd_text.specs.declared.answer.Halt.TheVariants as halt
 use Rattle.vcd_job.specs.Work.{due_of, settled_of}
@@ -15,9 +16,8 @@ unfolding is_header_over
 going_header most given e = rw e refl
 
 settled_going : (w : Work) (name : List ℕ) (r : Reading HeaderPhrase) (x : Ending) → is_over x ≡ false → settled_at w name r x ≡ false
-settled_going w name r (AtFault fault) e = cc
 settled_going w name r AtEnd e = refl
-settled_going w name r AtLast e = cc
+settled_going w name r x e = cc
 
 -- and settles no run
 pub unsettled_header : (w : Work) (name : List ℕ) (most : ℕ) (given : List Token) → is_header_over most given ≡ false → settled_of w name most given ≡ false
@@ -36,9 +36,8 @@ settled_header most given ts placed w = rw (whole-more (header_grammar most) giv
 
 -- nothing is due before a header is whole
 undue_going : (w : Work) (name : List ℕ) (r : Reading HeaderPhrase) (x : Ending) → is_over x ≡ false → due_at w name r x ≡ []
-undue_going w name r (AtFault fault) e = refl
-undue_going w name r AtEnd e = refl
 undue_going w name r AtLast e = cc
+undue_going w name r x e = refl
 
 pub undue_header : (w : Work) (name : List ℕ) (most written : ℕ) (given : List Token) → is_header_over most given ≡ false → is_more_due (due_of w name most) written given ≡ false
 unfolding is_header_over due_of
@@ -167,16 +166,8 @@ module _ {X : Type 0} {x : Ghosts X} (most limit chunk : ℕ) (i : Input) (befor
     }
     ended TokenTooLong counted f = at_end 1 refl counted f
     ended EndOfInput counted f = at_end 2 refl counted f
-    ended UnknownCommand counted f = at_token 3 refl counted f
-    ended OutOfPlace counted f = at_token 4 refl counted f
-    ended BadTimescale counted f = at_token 5 refl counted f
-    ended BadScope counted f = at_token 6 refl counted f
-    ended BadVariable counted f = at_token 7 refl counted f
-    ended CodeDiffers counted f = at_token 8 refl counted f
-    ended NoScope counted f = at_token 9 refl counted f
-    ended TooDeep counted f = at_token 10 refl counted f
-    ended TooMany counted f = at_token 11 refl counted f
     ended InputTooLong counted f = at_end 21 refl counted f
+    ended fault counted f = at_token (fault_number fault) refl counted f
 
   -- the same of the failure that was answered
   pub failed : (place : ℕ) (why : Failure) → CountsRead place before.failures (supply_of feed).failures (Some why)
@@ -189,19 +180,7 @@ module _ {X : Type 0} {x : Ghosts X} (most limit chunk : ℕ) (i : Input) (befor
 -- a read that a header ended with was the last one of its reader
 pub head_last : (last_failed : Bool) (fault : HeadFault) (place line : ℕ) → (fault ≡ ReadFailed → last_failed ≡ true) → EndsAtRead last_failed (Some (head_failure fault place line))
 head_last last_failed ReadFailed place line e = λ input is. e refl
-head_last last_failed OutOfMemory place line e = λ input is. absurd (cc)
-head_last last_failed TokenTooLong place line e = λ input is. absurd (cc)
-head_last last_failed EndOfInput place line e = λ input is. absurd (cc)
-head_last last_failed UnknownCommand place line e = λ input is. absurd (cc)
-head_last last_failed OutOfPlace place line e = λ input is. absurd (cc)
-head_last last_failed BadTimescale place line e = λ input is. absurd (cc)
-head_last last_failed BadScope place line e = λ input is. absurd (cc)
-head_last last_failed BadVariable place line e = λ input is. absurd (cc)
-head_last last_failed CodeDiffers place line e = λ input is. absurd (cc)
-head_last last_failed NoScope place line e = λ input is. absurd (cc)
-head_last last_failed TooDeep place line e = λ input is. absurd (cc)
-head_last last_failed TooMany place line e = λ input is. absurd (cc)
-head_last last_failed InputTooLong place line e = λ input is. absurd (cc)
+head_last last_failed fault place line e = λ input is. absurd (cc)
 
 -- memory ran out before anything was read
 pub none_read : (most limit chunk place : ℕ) (i : Input) (before : Supply) → HasFailed most limit chunk place i before before failure.OutOfMemory

@@ -1,5 +1,5 @@
 -- The loop that reads the headers of inputs in order.
-use Rattle.vcd_job.proofs.Cited.{◌≡◌, ◌≢◌, ℕ, zero, suc, ◌+◌, ◌-◌, ◌/◌, ◌<◌, ◌≤◌, ◌⊎◌, inl, inr, List, [], ◌∷◌, ◌++◌, length, map, slice_get, slice_set, Option, Some, None, Result, Ok, Err, refl, sym, ap, ap₂, subst, ◌∙◌, arith, append_assoc, All, MatchResult, get_or, slice_index, sum_by, append-nil, length-append, length-map, map-append, AllZip, All-push, sum_by-append, get_or-map, length-set, set-append_seam, Header, allowed_after, declarations_allowed, whole, Supply, supply, shown, Views, Head, all_zip_push, there, rows_len, part, part_len, SameLengths, GaveParked, IsSeated, Lane, Spot, Windows, Dump, Read, Write, Unmatched, Seat, map_set, Failure, Stopped, OutOfMemory, failure_of, CountsRead, CountsReads, BegunInput, AreBegun, AreParked, AreShown, Begins, BeginsAt, HasFailed, HaveBegun, IsBegun, IsNew, SameParts, Stops, headers_in, place_of, get_other, get_set, slice_get_within}
+use Rattle.vcd_job.proofs.Cited.{◌≡◌, ◌≢◌, ℕ, zero, suc, ◌+◌, ◌-◌, ◌/◌, ◌<◌, ◌≤◌, ◌⊎◌, inl, inr, List, [], ◌∷◌, ◌++◌, length, map, slice_get, slice_set, Option, Some, Result, Ok, Err, refl, sym, ap, ap₂, subst, ◌∙◌, arith, append_assoc, All, MatchResult, get_or, slice_index, sum_by, append-nil, length-append, length-map, map-append, AllZip, All-push, sum_by-append, get_or-map, length-set, set-append_seam, Header, allowed_after, declarations_allowed, whole, Supply, supply, shown, Views, Head, all_zip_push, there, rows_len, part, part_len, SameLengths, GaveParked, IsSeated, Lane, Spot, Windows, Read, Seat, map_set, Failure, Stopped, OutOfMemory, failure_of, CountsRead, CountsReads, BegunInput, AreBegun, AreParked, AreShown, Begins, BeginsAt, HasFailed, HaveBegun, IsBegun, IsNew, SameParts, Stops, headers_in, place_of, get_other, get_set, slice_get_within}
 use Rattle.vcd_job.proofs.HeaderLemmas.{begun_only, none_read}
 
 -- ---- one input more
@@ -71,17 +71,13 @@ read_at f (z ∷ xs) (suc k) x at = read_at f xs k x at
 
 -- a read of the reader at an index failed, and of no other
 pub counts_at : {X : Type 0} (f : X → ℕ) (old xs : List X) (k : ℕ) (x y : X) (why : Option Failure) → map f xs ≡ map f old → slice_get xs k ≡ Some x → CountsRead k (f x) (f y) why → CountsReads (map f old) (map f (slice_set xs k y)) why
-counts_at f old xs k x y None same at c = set_own f xs k x y at c ∙ same
-counts_at f old xs k x y (Some (Stopped (Dump input line fault))) same at c = set_own f xs k x y at c ∙ same
 counts_at f old xs k x y (Some (Stopped (Read input))) same at c =
     let within = slice_get_within xs k x at in
     let long : length (map f old) ≡ length xs = ap length (sym same) ∙ length-map xs f in
     let here = c.0 in
     let e : f y ≡ slice_index (map f old) input + 1 = c.1 ∙ ap (λ n. n + 1) (sym (read_at f xs k x at) ∙ ap₂ slice_index same (sym here)) in
     (omega arith, map_set f xs k y ∙ ap₂ (λ l n. slice_set l k n) same e ∙ ap (λ p. slice_set (map f old) p (slice_index (map f old) input + 1)) (sym here))
-counts_at f old xs k x y (Some (Stopped Write)) same at c = set_own f xs k x y at c ∙ same
-counts_at f old xs k x y (Some (Stopped (Unmatched name))) same at c = set_own f xs k x y at c ∙ same
-counts_at f old xs k x y (Some OutOfMemory) same at c = set_own f xs k x y at c ∙ same
+counts_at f old xs k x y why same at c = set_own f xs k x y at c ∙ same
 
 -- none failed
 pub none_failed : {X : Type 0} (f : X → ℕ) (old xs : List X) (k : ℕ) (x y : X) → map f xs ≡ map f old → slice_get xs k ≡ Some x → f y ≡ f x → map f (slice_set xs k y) ≡ map f old

@@ -1,5 +1,5 @@
 -- The outcome of a run over one input, by its header and the tokens after it.
-use Rattle.vcd_job.proofs.Cited.{◌≡◌, ℕ, List, [], ◌∷◌, ◌++◌, Option, Some, None, Result, Ok, Err, refl, ap, ◌∙◌, Input, Token, stream_of, header_of, HeaderPhrase, header_grammar, header_fault_of, Opened, declarations_allowed, Fault, Placed, Reading, reading_of, phrases_of, AtLast, IsWhole, whole-more, Work, fault_as, over_header}
+use Rattle.vcd_job.proofs.Cited.{◌≡◌, ℕ, List, [], ◌∷◌, ◌++◌, Some, None, Ok, Err, refl, ap, ◌∙◌, Input, Token, stream_of, header_of, HeaderPhrase, header_grammar, header_fault_of, Opened, declarations_allowed, Fault, Placed, Reading, reading_of, phrases_of, AtLast, IsWhole, whole-more, Work, fault_as, over_header}
 use Rattle.vcd_model.specs.HeaderReading.{read_header}
 use Rattle.vcd_model.specs.Outcome.{open_from}
 use Rattle.vcd_job.specs.Work.{outcome_of}

@@ -1,5 +1,5 @@
 -- How a run over one input ends, and what it leaves.
-use Rattle.vcd_job.proofs.Cited.{◌≡◌, ◌≢◌, ◌==◌, ℕ, Bool, true, false, cond, zero, suc, ◌+◌, ◌<◌, ◌≤◌, ◌++◌, inl, inr, List, [], ◌∷◌, length, nat_lt, map, slice_set, Option, None, Some, Result, Ok, Err, refl, sym, ap, subst, ◌∙◌, arith, Input, is_header_over, IsWhole, HeaderPhrase, Header, header_of, header_grammar, codes, decimal, name_at, Outcome, fault_outcome, declarations_allowed, Fault, Placed, phrases_of, Token, stream_of, Device, failures_then, Supply, Writes, ReadsAsNeeded, Nothing, appends-none, KeepsUp, is_more_due, Dump, Read, Write, Unmatched, Failure, Stopped, OutOfMemory, CountsRead, EndsAtRead, EndsAtReadOf, failure_status, whole, Shows, Tells, HasFailed, IsBegun, Lane, set_last, failure_of, Answer, Status, Refused, Work, Speech, Ends, HasRun, IsOutcome, IsAfter, IsOfWork, Leaves, end_message, end_status, settled_for, settled_by, settled_of, due_by, due_of, fault_as, outcome_of, over_header, NoMemory, WithOutcome, Part, Whole}
+use Rattle.vcd_job.proofs.Cited.{◌≡◌, ◌≢◌, ◌==◌, ℕ, Bool, true, false, cond, zero, suc, ◌+◌, ◌<◌, ◌≤◌, ◌++◌, inl, inr, List, [], ◌∷◌, length, nat_lt, map, slice_set, Option, Some, Result, Err, refl, sym, ap, subst, ◌∙◌, arith, Input, is_header_over, IsWhole, HeaderPhrase, Header, header_of, header_grammar, codes, decimal, name_at, Outcome, fault_outcome, declarations_allowed, Fault, Placed, phrases_of, Token, stream_of, Device, failures_then, Supply, Writes, ReadsAsNeeded, Nothing, appends-none, KeepsUp, is_more_due, Dump, Read, Write, Unmatched, Failure, Stopped, OutOfMemory, CountsRead, EndsAtRead, EndsAtReadOf, failure_status, whole, Shows, Tells, HasFailed, HasFault, Stop, IsBegun, Lane, set_last, failure_of, Answer, Work, Speech, Ends, HasRun, IsOutcome, IsAfter, IsOfWork, Leaves, end_message, end_status, settled_for, settled_by, settled_of, due_by, due_of, fault_as, outcome_of, over_header, NoMemory, WithOutcome, Part, Whole}
 use Rattle.vcd_job.specs.Failure.{writes_failed}
 use Rattle.vcd_model.specs.Outcome.{fault_text}
 use Rattle.vcd_job.proofs.HeaderLemmas.{all_read, due_run, left_since, reads_for, settled_header, settled_run, undue_header, unsettled_header}
@@ -22,12 +22,8 @@ most_one (suc n) old new few e = by_flag new.last_failed e
     by_flag false is = absurd (omega (arith, is))
 
 pub few_writes : (why : Option Failure) → writes_failed why ≤ 1
-few_writes None = omega arith
-few_writes (Some (Stopped (Dump input line fault))) = omega arith
-few_writes (Some (Stopped (Read input))) = omega arith
 few_writes (Some (Stopped Write)) = omega arith
-few_writes (Some (Stopped (Unmatched name))) = omega arith
-few_writes (Some OutOfMemory) = omega arith
+few_writes why = omega arith
 
 -- a line counts one failure at most
 pub shown_once : (old new : Device) (line : List ℕ) → Shows old new line → new.failures ≤ old.failures + 1
@@ -42,12 +38,8 @@ one_last f xs k before after x why within counts e = λ input is.
 
 -- if a count of failed reads grew, a failed read ended the run
 pub failed_read : (before after : ℕ) (why : Option Failure) → CountsRead 0 before after why → after ≢ before → (input : ℕ) × why ≡ Some (Stopped (Read input))
-failed_read before after None counts more = absurd (more counts)
 failed_read before after (Some (Stopped (Read input))) counts more = (input, refl)
-failed_read before after (Some (Stopped (Dump input line fault))) counts more = absurd (more counts)
-failed_read before after (Some (Stopped Write)) counts more = absurd (more counts)
-failed_read before after (Some (Stopped (Unmatched name))) counts more = absurd (more counts)
-failed_read before after (Some OutOfMemory) counts more = absurd (more counts)
+failed_read before after why counts more = absurd (more counts)
 
 module _ {R : Type 0} (w : Work) (s : Speech R) (same : s.faulty ≡ w.faulty) (limit chunk : ℕ) (i : Input) (name : List ℕ) where
   -- ---- the header
@@ -89,27 +81,22 @@ module _ {R : Type 0} (w : Work) (s : Speech R) (same : s.faulty ≡ w.faulty) (
   header_keeps_up left before after out read =
       ([], appends-none out.held, reads_for limit chunk before after left [] (is_header_over declarations_allowed) (is_more_due (due_of w name declarations_allowed) 0) (undue_header w name declarations_allowed 0) read)
 
+  faulted : (before after : Supply) (out : Device) (stop : Stop) (h : HasFailed declarations_allowed limit chunk 0 i before after (Stopped stop)) (f : Fault) → HasFault declarations_allowed limit h.left f.number f.line
+      → Leaves s (fault_as w.faulty [] name f) name out out (Err (Stopped stop)) → InputEnds before after out out (Err (Stopped stop))
+  faulted before after out stop h f fault leaves = record {
+    left = h.left;
+    is_left = h.is_left;
+    read = reads_for limit chunk before after h.left [] (is_header_over declarations_allowed) (settled_of w name declarations_allowed) (unsettled_header w name declarations_allowed) h.read;
+    keeps_up = header_keeps_up h.left before after out h.read;
+    due = fault_as w.faulty [] name f;
+    is_due = sym (at_header w limit name h.left f fault);
+    leaves = leaves;
+  }
+
   pub refused : (before after : Supply) (out : Device) (why : Failure) → HasFailed declarations_allowed limit chunk 0 i before after why → InputEnds before after out out (Err why)
-  refused before after out (Stopped (Dump input line n)) h = record {
-    left = h.left;
-    is_left = h.is_left;
-    read = reads_for limit chunk before after h.left [] (is_header_over declarations_allowed) (settled_of w name declarations_allowed) (unsettled_header w name declarations_allowed) h.read;
-    keeps_up = header_keeps_up h.left before after out h.read;
-    due = fault_as w.faulty [] name (record { number = n; line = line });
-    is_due = sym (at_header w limit name h.left (record { number = n; line = line }) h.is_why.2);
-    leaves = dump_leaves input n line out h.is_why.0 h.is_why.1;
-  }
-  refused before after out (Stopped (Read input)) h = record {
-    left = h.left;
-    is_left = h.is_left;
-    read = reads_for limit chunk before after h.left [] (is_header_over declarations_allowed) (settled_of w name declarations_allowed) (unsettled_header w name declarations_allowed) h.read;
-    keeps_up = header_keeps_up h.left before after out h.read;
-    due = fault_as w.faulty [] name (record { number = 31; line = h.is_why.1 });
-    is_due = sym (at_header w limit name h.left (record { number = 31; line = h.is_why.1 }) h.is_why.2);
-    leaves = read_leaves input h.is_why.1 out h.is_why.0;
-  }
-  refused before after out (Stopped Write) h = absurd h.is_why
-  refused before after out (Stopped (Unmatched place)) h = absurd h.is_why
+  refused before after out (Stopped (Dump input line n)) h = faulted before after out (Dump input line n) h (record { number = n; line = line }) h.is_why.2 (dump_leaves input n line out h.is_why.0 h.is_why.1)
+  refused before after out (Stopped (Read input)) h = faulted before after out (Read input) h (record { number = 31; line = h.is_why.1 }) h.is_why.2 (read_leaves input h.is_why.1 out h.is_why.0)
+  refused before after out (Stopped stop) h = absurd h.is_why
   refused before after out OutOfMemory h = record {
     left = h.left;
     is_left = h.is_left;
@@ -124,9 +111,8 @@ module _ {R : Type 0} (w : Work) (s : Speech R) (same : s.faulty ≡ w.faulty) (
 
   -- a header that is not over settles nothing
   going : (r : Result (Answer R) Failure) (ts : List Token) → is_header_over declarations_allowed ts ≡ false → settles r ts ≡ false
-  going (Ok answer) ts e = unsettled_header w name declarations_allowed ts e
-  going (Err (Stopped stop)) ts e = unsettled_header w name declarations_allowed ts e
   going (Err OutOfMemory) ts e = e
+  going r ts e = unsettled_header w name declarations_allowed ts e
 
   -- what settles a run after its header
   abbrev behind : Result (Answer R) Failure → Header → List Token → Bool
@@ -134,9 +120,8 @@ module _ {R : Type 0} (w : Work) (s : Speech R) (same : s.faulty ≡ w.faulty) (
 
   -- it settles the run
   settled_both : (r : Result (Answer R) Failure) (given ts : List Token) (placed : List (Placed HeaderPhrase)) → IsWhole (header_grammar declarations_allowed) given placed → settles r (given ++ ts) ≡ behind r (header_of (phrases_of placed)) ts
-  settled_both (Ok answer) given ts placed is = settled_run w name declarations_allowed given ts placed is
-  settled_both (Err (Stopped stop)) given ts placed is = settled_run w name declarations_allowed given ts placed is
   settled_both (Err OutOfMemory) given ts placed is = settled_header declarations_allowed given ts placed is
+  settled_both r given ts placed is = settled_run w name declarations_allowed given ts placed is
 
   -- how a run ends after the header
   abbrev pub EndsAfter : (limit chunk : ℕ) → List Token → Header → (old new : Supply) → (out out' : Device) → Result (Answer R) Failure → Type 0
@@ -196,8 +181,6 @@ module _ {R : Type 0} (program : List ℕ) (w : Work) (s : Speech R) (limit chun
   at_first input line first = ap (λ n. name_at (name ∷ []) n ++ line) first ∙ ap (λ n. name_at names n ++ line) (sym first)
 
   pub has_run : (end : Result (Answer R) Failure) → EndsWith end → CountsRead 0 old.failures new.failures (failure_of end) → status ≡ end_status s names end → Says end → Runs
-  has_run (Ok (Status n)) e k are says = WithOutcome e.left e.is_left e.read e.keeps_up (all_of e.left e.due [] e.is_due e.leaves.0 (e.leaves.1 ∙ sym are) e.leaves.2 says)
-  has_run (Ok (Refused why)) e k are says = WithOutcome e.left e.is_left e.read e.keeps_up (all_of e.left e.due _ e.is_due e.leaves.0 (e.leaves.1 ∙ sym are) e.leaves.2 says)
   has_run (Err (Stopped (Dump input line n))) e k are says =
       let (first, message, is, written) = e.leaves in
       let same : name_at (name ∷ []) input ++ codes ":" ++ decimal line ++ codes ": " ++ fault_text n ≡ name_at names input ++ codes ":" ++ decimal line ++ codes ": " ++ fault_text n =
@@ -206,14 +189,12 @@ module _ {R : Type 0} (program : List ℕ) (w : Work) (s : Speech R) (limit chun
   has_run (Err (Stopped (Read input))) e k are says =
       let (first, message, is, written) = e.leaves in
       WithOutcome e.left e.is_left e.read e.keeps_up (all_of e.left e.due _ e.is_due (message ∙ at_first input (codes ": read failed") first) (is ∙ sym are) written says)
-  has_run (Err (Stopped (Unmatched place))) e k are says = WithOutcome e.left e.is_left e.read e.keeps_up (all_of e.left e.due _ e.is_due e.leaves.0 (e.leaves.1 ∙ sym are) e.leaves.2 says)
   has_run (Err (Stopped Write)) e k are says = WithOutcome e.left e.is_left e.read e.keeps_up (subst (λ (x : Outcome). IsOutcome program x out out' err err' status) e.is_due (Part e.leaves says are))
   has_run (Err OutOfMemory) e k are says = NoMemory e.left e.is_left e.read e.keeps_up k e.leaves says are
+  has_run end e k are says = WithOutcome e.left e.is_left e.read e.keeps_up (all_of e.left e.due _ e.is_due e.leaves.0 (e.leaves.1 ∙ sym are) e.leaves.2 says)
 
 -- no end has a status above 3
 pub end_low : {R : Type 0} (s : Speech R) (failure : Failure) → s.faulty ≤ 3 → failure_status s.faulty failure ≤ 3
 end_low s (Stopped (Dump input line n)) low = low
-end_low s (Stopped (Read input)) low = omega arith
-end_low s (Stopped Write) low = omega arith
 end_low s (Stopped (Unmatched place)) low = low
-end_low s OutOfMemory low = omega arith
+end_low s failure low = omega arith

@@ -1,22 +1,10 @@
 -- What the calls of a run over one input promise, as far as reader and writer describe themselves.
-use Rattle.std.specs.Prelude.{◌≡◌, ℕ, ◌+◌, ◌-◌, ◌^◌, ◌<◌, ◌≤◌, Bool, true, List, [], Option, Some, Result, IfOk, Ok}
-use Rattle.vcd_model.specs.Header.{Header}
-use Rattle.vcd_model.specs.Input.{Input}
-use Rattle.vcd_model.specs.Outcome.{Outcome, declarations_allowed}
-use Rattle.vcd_model.specs.Settled.{is_header_over}
-use Rattle.vcd_model.specs.Tokens.{Token}
-use Rattle.vcd_text.specs.Answer.{whole}
-use Rattle.vcd_text.specs.Device.{supply}
-use Rattle.vcd_text.specs.Feed.{HasGiven, chunk_len_of, limit_of, supply_of}
+use Rattle.vcd_job.specs.Cited.{◌≡◌, ℕ, ◌-◌, ◌^◌, ◌<◌, ◌≤◌, true, List, [], Some, Result, Ok, Header, Input, Outcome, declarations_allowed, is_header_over, Token, whole, supply, HasGiven, chunk_len_of, limit_of, supply_of, Ghosts, Feed, IsViewOf, HeadView}
 use Rattle.vcd_text.specs.declared.device.Sink.{Ghosts as Sinks}
-use Rattle.vcd_text.specs.declared.device.Source.{Ghosts}
-use Rattle.vcd_text.specs.declared.feed.Feed.{Feed}
-use Rattle.vcd_view.specs.Views.{IsViewOf}
-use Rattle.vcd_view.specs.declared.view.HeadView.{HeadView}
 use Rattle.vcd_job.specs.Ends.{Ends, IsAfter, IsOfWork, Speech, settled_for}
 use Rattle.vcd_job.specs.Work.{Work, due_by, due_of, settled_by, settled_of}
 use Rattle.vcd_job.specs.declared.answer.Answer.{Answer}
-use Rattle.vcd_job.specs.declared.answer.Answer.TheVariants.{Status, Refused}
+use Rattle.vcd_job.specs.declared.answer.Answer.TheVariants.{Status}
 use Rattle.vcd_job.specs.declared.failure.Failure.{Failure}
 
 -- how a job speaks

@@ -1,16 +1,5 @@
 -- What a run over one input leaves, whatever its job.
-use Rattle.std.specs.Prelude.{◌≡◌, ℕ, Bool, List, [], ◌∷◌, ◌++◌, codes, Option, Some, None, Result, Ok, Err}
-use Rattle.vcd_model.specs.Header.{Header}
-use Rattle.vcd_model.specs.Input.{Input}
-use Rattle.vcd_model.specs.Outcome.{Outcome, declarations_allowed, name_at}
-use Rattle.vcd_model.specs.Settled.{is_header_over}
-use Rattle.vcd_model.specs.Tokens.{Token, stream_of}
-use Rattle.vcd_text.specs.Answer.{whole}
-use Rattle.vcd_text.specs.Device.{Device, Supply, Writes, WritesSome}
-use Rattle.vcd_text.specs.ReadAhead.{ReadsAsNeeded}
-use Rattle.vcd_body.specs.Answer.{IsLeft}
-use Rattle.vcd_body.specs.Pace.{KeepsUp}
-use Rattle.vcd_body.specs.declared.answer.Stop.TheVariants.{Dump, Read, Write, Unmatched}
+use Rattle.vcd_job.specs.Cited.{◌≡◌, ℕ, Bool, List, [], ◌∷◌, ◌++◌, codes, Result, Ok, Err, Header, Input, Outcome, declarations_allowed, name_at, is_header_over, Token, stream_of, whole, Device, Supply, Writes, WritesSome, ReadsAsNeeded, IsLeft, KeepsUp, Dump, Read, Write, Unmatched}
 use Rattle.vcd_job.specs.Message.{Tells, failure_message, failure_status}
 use Rattle.vcd_job.specs.Work.{Work, due_of, outcome_of, over_header, settled_of}
 use Rattle.vcd_job.specs.declared.failure.Failure.{Failure}

@@ -1,14 +1,8 @@
 -- Why a run ends before it is done, and which calls of its devices failed.
-use Rattle.std.specs.Prelude.{◌≡◌, ◌≢◌, ℕ, ◌+◌, ◌<◌, Bool, true, List, length, map, slice_get, slice_set, slice_index, Option, Some, None, Result, Ok, Err}
-use Rattle.vcd_text.specs.Device.{Device, failures_then}
-use Rattle.vcd_head.specs.Fault.{fault_number}
-use Rattle.vcd_head.specs.declared.fault.HeadFault.{HeadFault}
-use Rattle.vcd_head.specs.declared.fault.HeadFault.TheVariants as head_fault
-use Rattle.vcd_body.specs.declared.answer.Done.{Done}
-use Rattle.vcd_body.specs.declared.answer.Stop.{Stop}
-use Rattle.vcd_body.specs.declared.answer.Stop.TheVariants.{Dump, Read, Write}
+use Rattle.vcd_job.specs.Cited.{◌≡◌, ◌≢◌, ℕ, ◌+◌, ◌<◌, Bool, true, List, length, map, slice_get, slice_set, slice_index, Option, Some, None, Result, Ok, Err, Device, failures_then, fault_number, HeadFault, Done, Stop, Dump, Read, Write}
 use Rattle.vcd_job.specs.declared.failure.Failure.{Failure}
 use Rattle.vcd_job.specs.declared.failure.Failure.TheVariants.{Stopped, OutOfMemory}
+use Rattle.vcd_head.specs.declared.fault.HeadFault.TheVariants as head_fault
 
 -- the fault of the header of the input at this index, at this line
 abbrev pub head_failure : HeadFault → ℕ → ℕ → Failure

@@ -1,34 +1,6 @@
 -- The inputs of a run while their headers are read: what was read of each, and why one of them ends
 -- the run.
-use Rattle.std.specs.Prelude.{◌≡◌, ◌==◌, ◌⊎◌, ℕ, suc, false, List, [], ◌∷◌, ◌++◌, length, map, Option, Some, None, Result, MatchResult, slice_get, slice_set, option_map}
-use Rattle.std.specs.List.{AllZip}
-use Rattle.vcd_model.specs.Input.{Input}
-use Rattle.vcd_model.specs.Tokens.{Token, end_of_tokens, stream_of}
-use Rattle.vcd_model.specs.Header.{Header, header_of}
-use Rattle.vcd_model.specs.HeaderPhrases.{HeaderPhrase}
-use Rattle.vcd_model.specs.HeaderReading.{header_grammar}
-use Rattle.vcd_model.specs.Laws.{IsPrefixOf}
-use Rattle.vcd_model.specs.Outcome.{allowed_after}
-use Rattle.vcd_model.specs.Reading.{Placed, phrases_of}
-use Rattle.vcd_model.specs.Settled.{is_header_over}
-use Rattle.vcd_model.specs.SoFar.{IsWhole}
-use Rattle.vcd_text.specs.Answer.{whole}
-use Rattle.vcd_text.specs.Device.{Supply, supply}
-use Rattle.vcd_text.specs.Feed.{HasGiven, token_of}
-use Rattle.vcd_text.specs.ReadAhead.{Near, ReadsAsNeeded}
-use Rattle.vcd_text.specs.declared.device.Source.{Ghosts}
-use Rattle.vcd_text.specs.declared.feed.Feed.{Feed}
-use Rattle.vcd_head.specs.Reads.{Fails, GivesHead, HasFault, IsGoing}
-use Rattle.vcd_head.specs.Shown.{shown}
-use Rattle.vcd_view.specs.Views.{Views}
-use Rattle.vcd_head.specs.declared.fault.HeadFault.{HeadFault}
-use Rattle.vcd_head.specs.declared.head.Head.{Head}
-use Rattle.vcd_merge.specs.MergeParts.{AreParts, part, part_len, spot_of}
-use Rattle.vcd_body.specs.Answer.{IsLeft}
-use Rattle.vcd_merge.specs.Seat.{GaveParked, IsSeated, Lane, Spot}
-use Rattle.vcd_body.specs.declared.answer.Stop.TheVariants.{Dump, Read}
-use Rattle.vcd_merge.specs.declared.seat.Seat.{Seat}
-use Rattle.vcd_merge.specs.declared.windows.Windows.{Windows}
+use Rattle.vcd_job.specs.Cited.{◌≡◌, ◌==◌, ◌⊎◌, ℕ, suc, false, List, [], ◌∷◌, ◌++◌, length, map, Option, Some, None, Result, MatchResult, slice_get, slice_set, option_map, AllZip, Input, Token, end_of_tokens, stream_of, Header, header_of, HeaderPhrase, header_grammar, IsPrefixOf, allowed_after, Placed, phrases_of, is_header_over, IsWhole, whole, Supply, supply, HasGiven, token_of, Near, ReadsAsNeeded, Ghosts, Feed, Fails, GivesHead, HasFault, IsGoing, shown, Views, HeadFault, Head, AreParts, part, part_len, spot_of, IsLeft, GaveParked, IsSeated, Lane, Spot, Dump, Read, Seat, Windows}
 use Rattle.vcd_job.specs.Failure.{failure_of, head_failure, CountsRead}
 use Rattle.vcd_job.specs.declared.inputs.BegunInput.{BegunInput}
 use Rattle.vcd_job.specs.declared.inputs.Inputs.{Inputs}

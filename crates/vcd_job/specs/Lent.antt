@@ -1,18 +1,5 @@
 -- All that is lent while a body is read counts at most the bound.
-use Rattle.std.specs.Prelude.{ℕ, List}
-use Rattle.vcd_model.specs.Bound.{AreAllWindows, FitsBound, FitsInput, RoomSize, no_room}
-use Rattle.vcd_model.specs.Header.{Header}
-use Rattle.vcd_text.specs.Feed.{chunk_len_of, limit_of}
-use Rattle.vcd_text.specs.declared.device.Source.{Ghosts}
-use Rattle.vcd_text.specs.declared.feed.Feed.{Feed}
-use Rattle.vcd_view.specs.Needs.{view_size}
-use Rattle.vcd_view.specs.Shown.{parts}
-use Rattle.vcd_view.specs.Views.{IsViewOf}
-use Rattle.vcd_view.specs.declared.view.HeadView.{HeadView}
-use Rattle.vcd_head.specs.Merged.{ShowHeaders}
-use Rattle.vcd_head.specs.declared.head.Head.{Head}
-use Rattle.vcd_merge.specs.MergeRoom.{kept_in, windows_size}
-use Rattle.vcd_merge.specs.declared.windows.Windows.{Windows}
+use Rattle.vcd_job.specs.Cited.{ℕ, List, AreAllWindows, FitsBound, FitsInput, RoomSize, no_room, Header, chunk_len_of, limit_of, Ghosts, Feed, view_size, parts, IsViewOf, HeadView, ShowHeaders, Head, kept_in, windows_size, Windows}
 
 -- For one input, the windows of its feed, what its header keeps and this room count at most the
 -- bound of the header.

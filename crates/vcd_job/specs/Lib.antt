@@ -1,3 +1,4 @@
+pub mod Cited
 pub mod Work
 pub mod Failure
 pub mod Inputs

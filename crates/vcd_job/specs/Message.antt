@@ -1,13 +1,7 @@
 -- What is written on the error stream at each end, and the exit status.
-use Rattle.std.specs.Prelude.{◌≡◌, ◌⊎◌, ℕ, List, [], ◌++◌, codes, decimal, Option, Some, None}
-use Rattle.vcd_model.specs.Outcome.{Outcome, name_at, shown_message, fault_text}
-use Rattle.vcd_model.specs.Words as model
-use Rattle.vcd_text.specs.Device.{Device, Writes, WritesSome}
-use Rattle.vcd_body.specs.declared.answer.Stop.{Stop}
-use Rattle.vcd_body.specs.declared.answer.Stop.TheVariants.{Dump, Read, Write, Unmatched}
+use Rattle.vcd_job.specs.Cited.{◌≡◌, ◌⊎◌, ℕ, List, [], ◌++◌, codes, decimal, Outcome, name_at, shown_message, fault_text, Device, Writes, WritesSome, Stop, Dump, Read, Write, Unmatched, UseFault, use_text}
 use Rattle.vcd_job.specs.declared.failure.Failure.{Failure}
 use Rattle.vcd_job.specs.declared.failure.Failure.TheVariants.{Stopped, OutOfMemory}
-use Rattle.vcd_words.specs.declared.job.UseFault.{UseFault}
 use Rattle.vcd_words.specs.declared.job.UseFault.TheVariants as use_fault
 
 -- the stream took the whole text, or failed once after a prefix of it; that failure is ignored
@@ -56,15 +50,8 @@ failure_status faulty OutOfMemory = 3
 
 -- why there is no job
 abbrev pub use_outcome : UseFault → Outcome
-use_outcome use_fault.BadWords = model.use_outcome model.UseFault.BadWords
-use_outcome (use_fault.BadLimit word) = model.use_outcome (model.UseFault.BadLimit word.now)
-use_outcome (use_fault.BadTime word) = model.use_outcome (model.UseFault.BadTime word.now)
-use_outcome use_fault.FromAboveTo = model.use_outcome model.UseFault.FromAboveTo
-use_outcome use_fault.NotRising = model.use_outcome model.UseFault.NotRising
-use_outcome use_fault.TooManyFiles = model.use_outcome model.UseFault.TooManyFiles
-use_outcome use_fault.InputTwice = model.use_outcome model.UseFault.InputTwice
-use_outcome (use_fault.BadArgument first second) = model.use_outcome model.UseFault.BadWords
 use_outcome use_fault.OutOfMemory = record { output = []; message = fault_text 32; status = 3 }
+use_outcome fault = record { output = []; message = use_text fault; status = 2 }
 
 -- the file of this name cannot be opened
 abbrev pub unopened_outcome : List ℕ → Outcome

@@ -1,15 +1,5 @@
 -- A job over one input, whatever it is: what its header makes of it, and what comes of that.
-use Rattle.std.specs.Prelude.{ℕ, Bool, true, false, cond, ◌==◌, List, [], ◌∷◌, Result, Ok, Err}
-use Rattle.vcd_model.specs.Header.{Header, header_of}
-use Rattle.vcd_model.specs.HeaderPhrases.{HeaderPhrase}
-use Rattle.vcd_model.specs.HeaderReading.{header_grammar}
-use Rattle.vcd_model.specs.Input.{Input}
-use Rattle.vcd_model.specs.Outcome.{Opened, Outcome, fault_in, fault_outcome, items_in, open_from}
-use Rattle.vcd_model.specs.Reading.{Ending, Fault, Reading, phrases_of, reading_of}
-use Rattle.vcd_model.specs.Reading.Ending.{AtEnd, AtFault, AtLast}
-use Rattle.vcd_model.specs.Tokens.{Token}
-use Rattle.vcd_run.specs.Outcomes.{Ways, over_plan}
-use Rattle.vcd_run.specs.Plan.{Plan, due_with, is_settled_with}
+use Rattle.vcd_job.specs.Cited.{ℕ, Bool, true, false, cond, ◌==◌, List, [], ◌∷◌, Result, Ok, Err, Header, header_of, HeaderPhrase, header_grammar, Input, Opened, Outcome, fault_in, fault_outcome, items_in, open_from, Ending, Fault, Reading, phrases_of, reading_of, AtEnd, AtFault, AtLast, Token, Ways, over_plan, Plan, due_with, is_settled_with}
 
 -- what is done with a body, and how an outcome is made of what was written
 pub record Course : Type 0 where

@@ -1,75 +1,63 @@
-//! The lines on the error stream, and the exit statuses. A line begins with the name of the program,
-//! which each function takes first; if a write of it fails, a prefix of it was written.
-ghost use Rattle.std.specs.Prelude.{◌≡◌, ◌-◌, ◌^◌, ◌<◌, ◌++◌, [], codes, decimal, map, string_bytes};
-ghost use Rattle.vcd_job.specs.Names.{failure_message, failure_status, failures_after, name_at, OutOfMemory, program_line, Puts, PutsTo, Reports, shown_message, stop_message, stop_status, Takes, unopened_outcome, use_outcome, Write};
+//! The lines on the error stream, and the exit statuses. A line begins with the name of the
+//! program, which each function takes first; if a write of it fails, a prefix of it was written.
+ghost use Rattle.std.specs.Prelude.{◌≡◌, ◌-◌, ◌^◌, ◌<◌, ◌++◌, [], codes, decimal, flat_map, map, string_bytes};
+ghost use Rattle.vcd_job.specs.Names.{failure_message, failure_status, name_at, OutOfMemory, program_line, Puts, PutsTo, Reports, shown_message, stop_message, stop_status, unopened_outcome, use_outcome, Write};
 
 use crate::failure::Failure;
 use vcd_body::Stop;
 use vcd_text::{Sink, WriteFailed, put, put_number, text_of};
 use vcd_words::UseFault;
 
-/// Writes the name `program` and `: `. Fails if a write does.
-fn put_name<E: Sink>(program: &'static str, err: &mut E) -> Result<(), WriteFailed>
-    requires { (E.device err.old).failures < 2 ^ 64 - 1 }
-    ensures { PutsTo E.device err.old err.new (program.now ++ codes ": ") result }
+/// Writes these texts one after the other. Fails if a write does; then a prefix was written.
+fn put_texts<E: Sink>(err: &mut E, texts: &[&[u8]]) -> Result<(), WriteFailed>
+    requires failures { (E.device err.old).failures < 2 ^ 64 - 1 }
+    ensures { PutsTo E.device err.old err.new (flat_map (λ text. text.now) texts.now) result }
 {
-    put(err, program.as_bytes())?;
-    put(err, b": ")
-}
-
-/// Writes one line of the name `program`, `: `, `first` and `second`. Fails if a write does.
-fn put_both<E: Sink>(
-    program: &'static str,
-    err: &mut E,
-    first: &str,
-    second: &str,
-) -> Result<(), WriteFailed>
-    requires { (E.device err.old).failures < 2 ^ 64 - 1 }
-    ensures { PutsTo E.device err.old err.new
-        (program_line program.now (first.now ++ second.now)) result }
-{
-    put_name(program, err)?;
-    put(err, first.as_bytes())?;
-    put(err, second.as_bytes())?;
-    put(err, b"\n")
+    for text in texts {
+        put(err, text)?;
+    }
+    Ok(())
 }
 
 /// Writes the line `PROGRAM: NAME:LINE: TEXT`, about a fault in the input `name`. Fails if a write
 /// does.
-fn put_fault<E: Sink>(
-    program: &'static str,
+fn put_fault<'a, E: Sink>(
+    program: &'a str,
     err: &mut E,
-    name: &str,
+    name: &'a str,
     line: u64,
-    text: &str,
+    text: &'a str,
 ) -> Result<(), WriteFailed>
     requires { (E.device err.old).failures < 2 ^ 64 - 1 }
     ensures { Puts (E.device err.old) (E.device err.new) (program_line program.now
         (name.now ++ codes ":" ++ decimal line ++ codes ": " ++ text.now)) result }
 {
-    put_name(program, err)?;
-    put(err, name.as_bytes())?;
-    put(err, b":")?;
+    put_texts(err, &[program.as_bytes(), b": ", name.as_bytes(), b":"])?;
     put_number(err, line)?;
-    put(err, b": ")?;
-    put(err, text.as_bytes())?;
-    put(err, b"\n")
+    put_texts(err, &[b": ", text.as_bytes(), b"\n"])
 }
 
-/// Writes one line of the name `program`, `: `, `first` and `second`, and returns `status`. A failed
-/// write is ignored.
-pub fn say_both<E: Sink>(
-    program: &'static str,
+/// Writes one line of the name `program`, `: `, `first` and `second`, and returns `status`. A
+/// failed write is ignored.
+pub fn say_both<'a, E: Sink>(
+    program: &'a str,
     err: &mut E,
-    first: &str,
-    second: &str,
+    first: &'a str,
+    second: &'a str,
     status: u8,
 ) -> u8
     requires { (E.device err.old).failures < 2 ^ 64 - 1 }
     ensures { Reports E.device err.old err.new
         (program_line program.now (first.now ++ second.now)) status result }
 {
-    let _ = put_both(program, err, first, second);
+    let texts = [
+        program.as_bytes(),
+        b": ",
+        first.as_bytes(),
+        second.as_bytes(),
+        b"\n",
+    ];
+    let _ = put_texts(err, &texts);
     status
 }
 
@@ -93,8 +81,8 @@ pub fn name_at(names: &[String], place: usize) -> &str
 }
 
 /// Writes the line that says why a run stopped, and returns the exit status: 3 if a read or a write
-/// failed, otherwise `faulty`. `names` are those of the inputs, and `asked` are the names of variables on
-/// the command line. A failed write to `err` is ignored.
+/// failed, otherwise `faulty`. `names` are those of the inputs, and `asked` are the names of
+/// variables on the command line. A failed write to `err` is ignored.
 fn report_stop<E: Sink>(
     program: &'static str,
     stop: Stop,
@@ -161,7 +149,8 @@ pub fn write_fault<E: Sink>(program: &'static str, err: &mut E) -> u8
 }
 
 /// Writes the line that says what is wrong with the arguments of the command line, and returns the
-/// exit status: 3 if memory ran out, otherwise 2. A failed write to `err` is ignored.
+/// exit status: 3 if memory ran out, otherwise 2. An empty message is no line. A failed write to
+/// `err` is ignored.
 pub fn use_fault<E: Sink>(program: &'static str, fault: UseFault<'_>, err: &mut E) -> u8
     requires { (E.device err.old).failures < 2 ^ 64 - 1 }
     ensures { Reports E.device err.old err.new
@@ -176,8 +165,8 @@ pub fn use_fault<E: Sink>(program: &'static str, fault: UseFault<'_>, err: &mut 
         UseFault::NotRising => say(program, err, "times must rise", 2),
         UseFault::TooManyFiles => say(program, err, "too many files", 2),
         UseFault::InputTwice => say(program, err, "standard input twice", 2),
-        // Another program says more.
-        UseFault::BadArgument(..) => say(program, err, "bad words", 2),
+        UseFault::BadArgument("", "") => 2,
+        UseFault::BadArgument(first, second) => say_both(program, err, first, second, 2),
         UseFault::OutOfMemory => report(program, Failure::OutOfMemory, &[], &[], 3, err),
     }
 }

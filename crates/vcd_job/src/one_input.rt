@@ -57,8 +57,8 @@ pub trait OneInput {
     fn names(job: &Self::Job) -> &[String]
         ensures { map string_bytes result.now ≡ asked job.now };
 
-    /// Runs the job over the body that follows the header of `view`, and returns the exit status, or
-    /// why it is refused. Fails at a fault of the body, if a read or a write fails, or if memory
+    /// Runs the job over the body that follows the header of `view`, and returns the exit status,
+    /// or why it is refused. Fails at a fault of the body, if a read or a write fails, or if memory
     /// runs out. Nothing is written before all memory was taken.
     fn run_over<S: Source, W: Sink>(
         alloc: Global,

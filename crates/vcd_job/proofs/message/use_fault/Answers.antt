@@ -22,9 +22,6 @@ returns-in-TooManyFiles g c = rw c.in-TooManyFiles.is c.say-in-TooManyFiles.ensu
 pub returns-in-InputTwice : goal.returns-in-InputTwice
 returns-in-InputTwice g c = rw c.in-InputTwice.is c.say-in-InputTwice.ensures
 
-pub returns-in-BadArgument : goal.returns-in-BadArgument
-returns-in-BadArgument g c = rw c.in-BadArgument.is c.say-in-BadArgument.ensures
-
 pub returns-in-OutOfMemory : goal.returns-in-OutOfMemory
 unfolding fault_text
 returns-in-OutOfMemory g c = rw c.in-OutOfMemory.is c.report.ensures

@@ -1,4 +1,4 @@
-use Rattle.vcd_job.proofs.Cited.{◌∙◌, Ok, Err, ap, map, refl, subst, sym, string_bytes, name_at, failure_status, end_message, end_status, Tells}
+use Rattle.vcd_job.proofs.Cited.{◌∙◌, Ok, Err, ap, map, subst, sym, string_bytes, name_at, failure_status, end_message, end_status, Tells}
 use Rattle.vcd_job.proofs.Facts.{has_run, shows_nothing}
 use Rattle.vcd_job.specs.OneRun.{speech_of}
 use Rattle.vcd_job.proofs.one_run.run_one.Goals as goal
