@@ -15,7 +15,9 @@ pub use Rattle.vcd_body.specs.Pace.{is_more_due}
 pub use Rattle.vcd_head.proofs.WriteLemmas.{texts-some}
 pub use Rattle.vcd_head.specs.Reads.{FailsAtEnd, FailsAtToken, HasReadToShown}
 pub use Rattle.vcd_head.specs.declared.fault.HeadFault.TheVariants.{EndOfInput, InputTooLong, ReadFailed, TokenTooLong}
-pub use Rattle.vcd_job.specs.Cited.{AllZip, AreAllWindows, AtEnd, AtLast, Device, Dump, Ending, Fails, Fault, Feed, GaveParked, Ghosts, GivesHead, HasFault, HasGiven, HasNotFailed, Head, HeadFault, Header, HeaderPhrase, Input, IsGoing, IsLeft, IsPrefixOf, IsSeated, IsWhole, KeepsUp, Lane, MatchResult, Near, Opened, Outcome, Placed, Puts, Read, Reading, ReadsAsNeeded, SameLengths, Seat, Spot, Stop, Supply, Token, Unmatched, Views, Windows, Write, Writes, allowed_after, chunk_len_of, declarations_allowed, end_of_tokens, failures_then, fault_outcome, header_grammar, header_of, is_header_over, limit_of, name_at, part, part_len, phrases_of, program_line, reading_of, shown, shown_message, slice_index, source_of, stream_of, supply, supply_of, token_of, whole, windows_size}
+pub use Rattle.std.specs.List.{AllZip}
+pub use Rattle.std.specs.Prelude.{MatchResult, slice_index}
+pub use Rattle.vcd_job.specs.Cited.{AreAllWindows, AtEnd, AtLast, Device, Dump, Ending, Fails, Fault, Feed, GaveParked, Ghosts, GivesHead, HasFault, HasGiven, HasNotFailed, Head, HeadFault, Header, HeaderPhrase, Input, IsGoing, IsLeft, IsPrefixOf, IsSeated, IsWhole, KeepsUp, Lane, Near, Opened, Outcome, Placed, Puts, Read, Reading, ReadsAsNeeded, SameLengths, Seat, Spot, Stop, Supply, Token, Unmatched, Views, Windows, Write, Writes, allowed_after, chunk_len_of, declarations_allowed, end_of_tokens, failures_then, fault_outcome, header_grammar, header_of, is_header_over, limit_of, name_at, part, part_len, phrases_of, program_line, reading_of, shown, shown_message, source_of, stream_of, supply, supply_of, token_of, whole, windows_size}
 pub use Rattle.vcd_job.specs.Ends.{Ends, HasRun, IsAfter, IsOfWork, IsOutcome, Leaves, Speech, end_message, end_status, settled_for}
 pub use Rattle.vcd_job.specs.Ends.HasRun.{NoMemory, WithOutcome}
 pub use Rattle.vcd_job.specs.Ends.IsOutcome.{Part, Whole}

@@ -1,5 +1,6 @@
 -- What the calls of a run over one input promise, as far as reader and writer describe themselves.
-use Rattle.vcd_job.specs.Cited.{◌≡◌, ℕ, ◌-◌, ◌^◌, ◌<◌, ◌≤◌, true, List, [], Some, Result, Ok, Header, Input, Outcome, declarations_allowed, is_header_over, Token, whole, supply, HasGiven, chunk_len_of, limit_of, supply_of, Ghosts, Feed, IsViewOf, HeadView}
+use Rattle.std.specs.Prelude.{◌≡◌, ℕ, ◌-◌, ◌^◌, ◌<◌, ◌≤◌, true, List, [], Some, Result, Ok}
+use Rattle.vcd_job.specs.Cited.{Header, Input, Outcome, declarations_allowed, is_header_over, Token, whole, supply, HasGiven, chunk_len_of, limit_of, supply_of, Ghosts, Feed, IsViewOf, HeadView}
 use Rattle.vcd_text.specs.declared.device.Sink.{Ghosts as Sinks}
 use Rattle.vcd_job.specs.Ends.{Ends, IsAfter, IsOfWork, Speech, settled_for}
 use Rattle.vcd_job.specs.Work.{Work, due_by, due_of, settled_by, settled_of}

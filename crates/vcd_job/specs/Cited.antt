@@ -1,6 +1,4 @@
--- What the definitions of this crate cite of std and of the crates below, under one path.
-pub use Rattle.std.specs.List.{AllZip}
-pub use Rattle.std.specs.Prelude.{Bool, Err, List, MatchResult, None, Ok, Option, Result, Some, [], codes, cond, decimal, false, length, map, option_map, slice_get, slice_index, slice_set, suc, true, ℕ, ◌++◌, ◌+◌, ◌-◌, ◌<◌, ◌==◌, ◌^◌, ◌∷◌, ◌≡◌, ◌≢◌, ◌≤◌, ◌⊎◌}
+-- What the definitions of this crate cite of the crates below, under one path.
 pub use Rattle.vcd_body.specs.Answer.{IsLeft}
 pub use Rattle.vcd_body.specs.Pace.{KeepsUp}
 pub use Rattle.vcd_body.specs.declared.answer.Done.{Done}

@@ -1,5 +1,6 @@
 -- What a run over one input leaves, whatever its job.
-use Rattle.vcd_job.specs.Cited.{◌≡◌, ℕ, Bool, List, [], ◌∷◌, ◌++◌, codes, Result, Ok, Err, Header, Input, Outcome, declarations_allowed, name_at, is_header_over, Token, stream_of, whole, Device, Supply, Writes, WritesSome, ReadsAsNeeded, IsLeft, KeepsUp, Dump, Read, Write, Unmatched}
+use Rattle.std.specs.Prelude.{◌≡◌, ℕ, Bool, List, [], ◌∷◌, ◌++◌, codes, Result, Ok, Err}
+use Rattle.vcd_job.specs.Cited.{Header, Input, Outcome, declarations_allowed, name_at, is_header_over, Token, stream_of, whole, Device, Supply, Writes, WritesSome, ReadsAsNeeded, IsLeft, KeepsUp, Dump, Read, Write, Unmatched}
 use Rattle.vcd_job.specs.Message.{Tells, failure_message, failure_status}
 use Rattle.vcd_job.specs.Work.{Work, due_of, outcome_of, over_header, settled_of}
 use Rattle.vcd_job.specs.declared.failure.Failure.{Failure}

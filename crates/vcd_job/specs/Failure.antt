@@ -1,5 +1,6 @@
 -- Why a run ends before it is done, and which calls of its devices failed.
-use Rattle.vcd_job.specs.Cited.{◌≡◌, ◌≢◌, ℕ, ◌+◌, ◌<◌, Bool, true, List, length, map, slice_get, slice_set, slice_index, Option, Some, None, Result, Ok, Err, Device, failures_then, fault_number, HeadFault, Done, Stop, Dump, Read, Write}
+use Rattle.std.specs.Prelude.{◌≡◌, ◌≢◌, ℕ, ◌+◌, ◌<◌, Bool, true, List, length, map, slice_get, slice_set, slice_index, Option, Some, None, Result, Ok, Err}
+use Rattle.vcd_job.specs.Cited.{Device, failures_then, fault_number, HeadFault, Done, Stop, Dump, Read, Write}
 use Rattle.vcd_job.specs.declared.failure.Failure.{Failure}
 use Rattle.vcd_job.specs.declared.failure.Failure.TheVariants.{Stopped, OutOfMemory}
 use Rattle.vcd_head.specs.declared.fault.HeadFault.TheVariants as head_fault

@@ -1,6 +1,8 @@
 -- The inputs of a run while their headers are read: what was read of each, and why one of them ends
 -- the run.
-use Rattle.vcd_job.specs.Cited.{◌≡◌, ◌==◌, ◌⊎◌, ℕ, suc, false, List, [], ◌∷◌, ◌++◌, length, map, Option, Some, None, Result, MatchResult, slice_get, slice_set, option_map, AllZip, Input, Token, end_of_tokens, stream_of, Header, header_of, HeaderPhrase, header_grammar, IsPrefixOf, allowed_after, Placed, phrases_of, is_header_over, IsWhole, whole, Supply, supply, HasGiven, token_of, Near, ReadsAsNeeded, Ghosts, Feed, Fails, GivesHead, HasFault, IsGoing, shown, Views, HeadFault, Head, AreParts, part, part_len, spot_of, IsLeft, GaveParked, IsSeated, Lane, Spot, Dump, Read, Seat, Windows}
+use Rattle.std.specs.List.{AllZip}
+use Rattle.std.specs.Prelude.{◌≡◌, ◌==◌, ◌⊎◌, ℕ, suc, false, List, [], ◌∷◌, ◌++◌, length, map, Option, Some, None, Result, MatchResult, slice_get, slice_set, option_map}
+use Rattle.vcd_job.specs.Cited.{Input, Token, end_of_tokens, stream_of, Header, header_of, HeaderPhrase, header_grammar, IsPrefixOf, allowed_after, Placed, phrases_of, is_header_over, IsWhole, whole, Supply, supply, HasGiven, token_of, Near, ReadsAsNeeded, Ghosts, Feed, Fails, GivesHead, HasFault, IsGoing, shown, Views, HeadFault, Head, AreParts, part, part_len, spot_of, IsLeft, GaveParked, IsSeated, Lane, Spot, Dump, Read, Seat, Windows}
 use Rattle.vcd_job.specs.Failure.{failure_of, head_failure, CountsRead}
 use Rattle.vcd_job.specs.declared.inputs.BegunInput.{BegunInput}
 use Rattle.vcd_job.specs.declared.inputs.Inputs.{Inputs}

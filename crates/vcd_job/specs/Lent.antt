@@ -1,5 +1,6 @@
 -- All that is lent while a body is read counts at most the bound.
-use Rattle.vcd_job.specs.Cited.{ℕ, List, AreAllWindows, FitsBound, FitsInput, RoomSize, no_room, Header, chunk_len_of, limit_of, Ghosts, Feed, view_size, parts, IsViewOf, HeadView, ShowHeaders, Head, kept_in, windows_size, Windows}
+use Rattle.std.specs.Prelude.{ℕ, List}
+use Rattle.vcd_job.specs.Cited.{AreAllWindows, FitsBound, FitsInput, RoomSize, no_room, Header, chunk_len_of, limit_of, Ghosts, Feed, view_size, parts, IsViewOf, HeadView, ShowHeaders, Head, kept_in, windows_size, Windows}
 
 -- For one input, the windows of its feed, what its header keeps and this room count at most the
 -- bound of the header.

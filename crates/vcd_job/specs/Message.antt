@@ -1,5 +1,6 @@
 -- What is written on the error stream at each end, and the exit status.
-use Rattle.vcd_job.specs.Cited.{◌≡◌, ◌⊎◌, ℕ, List, [], ◌++◌, codes, decimal, Outcome, name_at, shown_message, fault_text, Device, Writes, WritesSome, Stop, Dump, Read, Write, Unmatched, UseFault, use_text}
+use Rattle.std.specs.Prelude.{◌≡◌, ◌⊎◌, ℕ, List, [], ◌++◌, codes, decimal}
+use Rattle.vcd_job.specs.Cited.{Outcome, name_at, shown_message, fault_text, Device, Writes, WritesSome, Stop, Dump, Read, Write, Unmatched, UseFault, use_text}
 use Rattle.vcd_job.specs.declared.failure.Failure.{Failure}
 use Rattle.vcd_job.specs.declared.failure.Failure.TheVariants.{Stopped, OutOfMemory}
 use Rattle.vcd_words.specs.declared.job.UseFault.TheVariants as use_fault

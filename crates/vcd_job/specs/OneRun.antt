@@ -1,5 +1,6 @@
 -- What a run of a job promises of its reader and of both sinks.
-use Rattle.vcd_job.specs.Cited.{◌≡◌, ◌≢◌, ℕ, ◌+◌, ◌≤◌, List, Some, Result, name_at, supply, Ghosts}
+use Rattle.std.specs.Prelude.{◌≡◌, ◌≢◌, ℕ, ◌+◌, ◌≤◌, List, Some, Result}
+use Rattle.vcd_job.specs.Cited.{name_at, supply, Ghosts}
 use Rattle.vcd_text.specs.declared.device.Sink.{Ghosts as Sinks}
 use Rattle.vcd_job.specs.Calls.{Answers, speech}
 use Rattle.vcd_job.specs.Failure.{CountsAt, CountsWrites, EndsAtRead, failure_of, writes_failed}

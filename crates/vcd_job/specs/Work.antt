@@ -1,5 +1,6 @@
 -- A job over one input, whatever it is: what its header makes of it, and what comes of that.
-use Rattle.vcd_job.specs.Cited.{ℕ, Bool, true, false, cond, ◌==◌, List, [], ◌∷◌, Result, Ok, Err, Header, header_of, HeaderPhrase, header_grammar, Input, Opened, Outcome, fault_in, fault_outcome, items_in, open_from, Ending, Fault, Reading, phrases_of, reading_of, AtEnd, AtFault, AtLast, Token, Ways, over_plan, Plan, due_with, is_settled_with}
+use Rattle.std.specs.Prelude.{ℕ, Bool, true, false, cond, ◌==◌, List, [], ◌∷◌, Result, Ok, Err}
+use Rattle.vcd_job.specs.Cited.{Header, header_of, HeaderPhrase, header_grammar, Input, Opened, Outcome, fault_in, fault_outcome, items_in, open_from, Ending, Fault, Reading, phrases_of, reading_of, AtEnd, AtFault, AtLast, Token, Ways, over_plan, Plan, due_with, is_settled_with}
 
 -- what is done with a body, and how an outcome is made of what was written
 pub record Course : Type 0 where

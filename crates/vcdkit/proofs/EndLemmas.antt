@@ -1,5 +1,5 @@
 -- How a run over its inputs ends, and what it leaves then.
-use Rattle.vcdkit.proofs.Cited.{◌≡◌, ◌==◌, ℕ, ◌+◌, ◌*◌, ◌/◌, ◌<◌, ◌≤◌, Bool, true, false, inl, List, [], length, map, Option, Some, Result, Ok, Err, refl, sym, ap, subst, ◌∙◌, arith, add-zero, get_or, slice_set, set-get_or, mul-div_cancel_left, mul-le, map_map, Head, AreParts, part_len, Seat, Input, Want, is_header_over, is_settled, Opened, Outcome, dumps_of, fault_outcome, merge_outcome, name_at, open_from, Fault, Token, Device, Supply, Writes, supply, appends-none, NamesInput, MergeIsWithinBound, windows_size, AreLentWithin, failures_with, Lane, Done, Stop, Dump, Read, Write, Unmatched, Windows, Failure, Stopped, OutOfMemory, failure_of, merge_end, CountsReads, CountsReadsOf, AreBegun, AreParked, AreShown, HaveBegun, Stops, failure_message, failure_status, program_name, Shows, Tells, AreNeeded, EndsAll, HasRun, LeavesAll, InBodies, InHeaders, WithOutcome, NoMemory, Whole, Part, is_merge, names_asked, model_want}
+use Rattle.vcdkit.proofs.Cited.{◌≡◌, ◌==◌, ℕ, ◌+◌, ◌*◌, ◌/◌, ◌<◌, ◌≤◌, Bool, true, false, List, [], length, map, Option, Result, Ok, Err, refl, sym, ap, subst, ◌∙◌, arith, add-zero, get_or, slice_set, set-get_or, mul-div_cancel_left, mul-le, map_map, Head, AreParts, part_len, Seat, Input, Want, is_header_over, is_settled, Opened, Outcome, dumps_of, fault_outcome, merge_outcome, name_at, open_from, Fault, Token, Device, Supply, Writes, supply, appends-none, NamesInput, MergeIsWithinBound, windows_size, AreLentWithin, failures_with, Lane, Done, Stop, Dump, Read, Write, Unmatched, Windows, Failure, Stopped, OutOfMemory, failure_of, merge_end, CountsReads, CountsReadsOf, AreBegun, AreParked, AreShown, HaveBegun, Stops, failure_message, failure_status, program_name, Tells, AreNeeded, EndsAll, HasRun, LeavesAll, InBodies, InHeaders, WithOutcome, NoMemory, Whole, Part, is_merge, names_asked, model_want}
 use Rattle.vcd_model.specs.Job.{outcome, request_of}
 use Rattle.vcd_merge.specs.MergeRun.{Belongs, Follows}
 use Rattle.vcd_body.specs.declared.answer.Done.TheVariants as done
@@ -23,21 +23,21 @@ exits (Ok done) = 0
 exits (Err failure) = failure_status 1 failure
 
 -- a run that ends so, and whose line and status these are, leaves the outcome of its inputs
-module _ (want : Want) (asked : List (List ℕ)) (limit chunk : ℕ) (names texts : List (List ℕ)) (old new : List Supply) (out out' err err' : Device) (status : ℕ) where
+module _ (limit chunk : ℕ) (names texts : List (List ℕ)) (old new : List Supply) (out out' err err' : Device) (status : ℕ) where
   abbrev Ends : Result Done Failure → Type 0
-  Ends end = EndsAll want asked limit chunk names texts old new out out' end
+  Ends end = EndsAll limit chunk names texts old new out out' end
 
   abbrev Says : Result Done Failure → Type 0
-  Says end = Tells program_name err err' (said names asked end)
+  Says end = Tells program_name err err' (said names [] end)
 
   abbrev Runs : Type 0
-  Runs = HasRun want limit chunk names texts old new out out' err err' status
+  Runs = HasRun Want.Merge limit chunk names texts old new out out' err err' status
 
   abbrev Counts : Result Done Failure → Type 0
   Counts end = CountsReadsOf (λ (s : Supply). s.failures) old new (failure_of end)
 
   abbrev due : (end : Result Done Failure) → Ends end → Outcome
-  due end e = outcome want limit names e.lefts
+  due end e = outcome Want.Merge limit names e.lefts
 
   pub has_run : (end : Result Done Failure) → Ends end → Counts end → status ≡ exits end → Says end → Runs
   has_run (Ok d) e n k s =
@@ -45,25 +45,24 @@ module _ (want : Want) (asked : List (List ℕ)) (limit chunk : ℕ) (names text
       WithOutcome e.lefts e.read e.needed e.in_turn (Whole e.leaves.1 (subst (λ (l : List ℕ). Tells program_name err err' l) (sym (ap (λ (o : Outcome). o.message) e.leaves.0)) s) (k ∙ sym (ap (λ (o : Outcome). o.status) e.leaves.0)))
   has_run (Err (Stopped (Dump input line fault))) e n k s =
       let o = due (Err (Stopped (Dump input line fault))) e in
-      let message : o.message ≡ said names asked (Err (Stopped (Dump input line fault))) = ap (λ (o : Outcome). o.message) e.leaves.0 ∙ rw (e.leaves.1, fault_outcome) refl in
+      let message : o.message ≡ said names [] (Err (Stopped (Dump input line fault))) = ap (λ (o : Outcome). o.message) e.leaves.0 ∙ rw (e.leaves.1, fault_outcome) refl in
       let is : o.status ≡ 1 = ap (λ (o : Outcome). o.status) e.leaves.0 ∙ rw (e.leaves.1, fault_outcome) refl in
       WithOutcome e.lefts e.read e.needed e.in_turn (Whole e.leaves.2 (subst (λ (l : List ℕ). Tells program_name err err' l) (sym message) s) (k ∙ sym is))
   has_run (Err (Stopped (Read input))) e n k s =
       let o = due (Err (Stopped (Read input))) e in
-      let message : o.message ≡ said names asked (Err (Stopped (Read input))) = ap (λ (o : Outcome). o.message) e.leaves.0.1 in
+      let message : o.message ≡ said names [] (Err (Stopped (Read input))) = ap (λ (o : Outcome). o.message) e.leaves.0.1 in
       WithOutcome e.lefts e.read e.needed e.in_turn (Whole e.leaves.1 (subst (λ (l : List ℕ). Tells program_name err err' l) (sym message) s) (k ∙ sym (ap (λ (o : Outcome). o.status) e.leaves.0.1)))
   has_run (Err (Stopped Write)) e n k s = WithOutcome e.lefts e.read e.needed e.in_turn (Part e.leaves s k)
-  has_run (Err (Stopped (Unmatched place))) e n k s =
-      WithOutcome e.lefts e.read e.needed e.in_turn (Whole e.leaves.1 (subst (λ (l : List ℕ). Tells program_name err err' l) (sym (ap (λ (o : Outcome). o.message) e.leaves.0)) s) (k ∙ sym (ap (λ (o : Outcome). o.status) e.leaves.0)))
+  has_run (Err (Stopped (Unmatched place))) e n k s = absurd e.leaves
   has_run (Err OutOfMemory) e n k s = NoMemory e.lefts e.read e.needed e.in_turn n e.leaves s k
 
 -- a merge that ends so
-pub merged_run : (wanted : words.Want) → is_merge wanted ≡ true → (limit chunk : ℕ) (names texts : List (List ℕ)) (old new : List Supply) (out out' err err' : Device) (status : ℕ) (end : Result Done Failure) → EndsAll Want.Merge [] limit chunk names texts old new out out' end
+pub merged_run : (wanted : words.Want) → is_merge wanted ≡ true → (limit chunk : ℕ) (names texts : List (List ℕ)) (old new : List Supply) (out out' err err' : Device) (status : ℕ) (end : Result Done Failure) → EndsAll limit chunk names texts old new out out' end
     → CountsReadsOf (λ (s : Supply). s.failures) old new (failure_of end) → status ≡ exits end → Tells program_name err err' (said names (names_asked wanted) end) → HasRun (model_want wanted) limit chunk names texts old new out out' err err' status
 merged_run wanted is limit chunk names texts old new out out' err err' status end ends counts k says =
     let merge = merge_wanted wanted is in
     subst (λ (w : Want). HasRun w limit chunk names texts old new out out' err err' status) (sym merge.0)
-    (has_run Want.Merge [] limit chunk names texts old new out out' err err' status end ends counts k (subst (λ (asked : List (List ℕ)). Tells program_name err err' (said names asked end)) merge.1 says))
+    (has_run limit chunk names texts old new out out' err err' status end ends counts k (subst (λ (asked : List (List ℕ)). Tells program_name err err' (said names asked end)) merge.1 says))
 
 -- the failed reads of readers are counted by what is supplied
 pub counted_reads : {X : Type 0} (rest : X → Option (List ℕ)) (failures : X → ℕ) (old new : List X) (why : Option Failure) → CountsReadsOf failures old new why → CountsReadsOf (λ (s : Supply). s.failures) (map (supply rest failures) old) (map (supply rest failures) new) why
@@ -96,7 +95,7 @@ module _ (limit chunk : ℕ) (names texts : List (List ℕ)) (old new : List Sup
   needed : (settled : ℕ → List Token → Bool) (why : Failure) (s : HaveStopped settled limit chunk [] texts old new why) → AreNeeded Want.Merge limit chunk old new s.lefts
   needed settled why s = needed_all limit chunk old new s.lefts (s.needed s.lefts [] refl (none_passed limit))
 
-  pub stopped : (why : Failure) → Stops limit chunk 0 [] texts old new why → EndsAll Want.Merge [] limit chunk names texts old new out out (Err why)
+  pub stopped : (why : Failure) → Stops limit chunk 0 [] texts old new why → EndsAll limit chunk names texts old new out out (Err why)
   stopped (Stopped (Dump input line fault)) h =
       let s = stops (is_settled Want.Merge) (unsettled_header Want.Merge) _ h in
       let o = faulted (outcome Want.Merge limit names s.lefts) (name_at names input) (record { number = fault; line = line }) out (at_fault Want.Merge limit names s.lefts input _ s.first.1) in
@@ -105,8 +104,7 @@ module _ (limit chunk : ℕ) (names texts : List (List ℕ)) (old new : List Sup
       let s = stops (is_settled Want.Merge) (unsettled_header Want.Merge) _ h in
       let o = faulted (outcome Want.Merge limit names s.lefts) (name_at names input) (record { number = 31; line = s.first.0 }) out (at_fault Want.Merge limit names s.lefts input _ s.first.1) in
       record { lefts = s.lefts; read = s.read; needed = needed _ _ s; in_turn = InHeaders _ h; leaves = ((s.first.0, o.0), o.1) }
-  stopped (Stopped Write) h = let s = stops (is_settled Want.Merge) (unsettled_header Want.Merge) _ h in absurd s.first
-  stopped (Stopped (Unmatched place)) h = let s = stops (is_settled Want.Merge) (unsettled_header Want.Merge) _ h in absurd s.first
+  stopped (Stopped stop) h = let s = stops (is_settled Want.Merge) (unsettled_header Want.Merge) _ h in absurd s.first
   stopped OutOfMemory h =
       let s = stops is_header_over (λ most ts e. e) _ h in
       record { lefts = s.lefts; read = s.read; needed = needed _ _ s; in_turn = InHeaders _ h; leaves = writes-none out }
@@ -118,16 +116,16 @@ unfolding outcome request_of
 merge_due limit names inputs opened e = rw (e, outcome) refl
 
 -- what a merge leaves, by its outcome
-merge_leaves : (names : List (List ℕ)) (o o' : Outcome) (out out' : Device) (result : Result Done Stop) → o' ≡ o → Belongs o names out out' result → LeavesAll names [] o' out out' (merge_end result)
-merge_leaves names o o' out out' (Ok done.Whole) e b = subst (λ (x : Outcome). LeavesAll names [] x out out' (Ok done.Whole)) (sym e) b
+merge_leaves : (names : List (List ℕ)) (o o' : Outcome) (out out' : Device) (result : Result Done Stop) → o' ≡ o → Belongs o names out out' result → LeavesAll names o' out out' (merge_end result)
+merge_leaves names o o' out out' (Ok done.Whole) e b = subst (λ (x : Outcome). LeavesAll names x out out' (Ok done.Whole)) (sym e) b
 merge_leaves names o o' out out' (Ok done.Early) e b = absurd b
-merge_leaves names o o' out out' (Err (Dump input line fault)) e b = subst (λ (x : Outcome). LeavesAll names [] x out out' (Err (Stopped (Dump input line fault)))) (sym e) b
-merge_leaves names o o' out out' (Err (Read input)) e b = subst (λ (x : Outcome). LeavesAll names [] x out out' (Err (Stopped (Read input)))) (sym e) b
-merge_leaves names o o' out out' (Err Write) e b = subst (λ (x : Outcome). LeavesAll names [] x out out' (Err (Stopped Write))) (sym e) b
+merge_leaves names o o' out out' (Err (Dump input line fault)) e b = subst (λ (x : Outcome). LeavesAll names x out out' (Err (Stopped (Dump input line fault)))) (sym e) b
+merge_leaves names o o' out out' (Err (Read input)) e b = subst (λ (x : Outcome). LeavesAll names x out out' (Err (Stopped (Read input)))) (sym e) b
+merge_leaves names o o' out out' (Err Write) e b = subst (λ (x : Outcome). LeavesAll names x out out' (Err (Stopped Write))) (sym e) b
 merge_leaves names o o' out out' (Err (Unmatched place)) e b = absurd b
 
 module _ (limit chunk : ℕ) (names texts : List (List ℕ)) (old mid new : List Supply) (lanes : List Lane) (out out' : Device) (b : AreBegun limit chunk [] texts old mid lanes) where
-  pub merged : (result : Result Done Stop) → Follows limit chunk lanes names mid new out out' result → EndsAll Want.Merge [] limit chunk names texts old new out out' (merge_end result)
+  pub merged : (result : Result Done Stop) → Follows limit chunk lanes names mid new out out' result → EndsAll limit chunk names texts old new out out' (merge_end result)
   merged (Ok d) f =
       let r = merged_read limit chunk [] texts old mid new lanes f.lefts f.opened b f.are_left f.are_opened in
       record { lefts = f.lefts; read = r.0; needed = merge_needed limit chunk texts old mid new lanes f.lefts f.opened b f.are_left f.are_opened f.needed; in_turn = InBodies lanes mid b f.on_turn; leaves = merge_leaves names _ (outcome Want.Merge limit names f.lefts) out out' (Ok d) (merge_due limit names f.lefts f.opened r.1) f.belongs }
@@ -141,7 +139,7 @@ pub merge_ends : {X : Type 0} (n n' limit limit1 limit2 chunk chunk1 chunk2 : �
     → HaveBegun limit1 chunk1 n rest failures texts old mid heads seats chunks tokens
     → ((lanes : List Lane) (names : List (List ℕ)) → AreShown heads lanes → AreParked n' rest lanes seats mid chunks tokens
     → Follows limit2 chunk2 lanes names (map (supply rest failures) mid) (map (supply rest failures) new) out out' result)
-    → EndsAll Want.Merge [] limit chunk names texts (map (supply rest failures) old) (map (supply rest failures) new) out out' (merge_end result)
+    → EndsAll limit chunk names texts (map (supply rest failures) old) (map (supply rest failures) new) out out' (merge_end result)
 merge_ends n n' limit limit1 limit2 chunk chunk1 chunk2 rest failures names texts old mid new heads seats chunks tokens out out' result e l1 l2 c1 c2 b follows =
     let f = supply rest failures in
     let parked = subst (λ (m : ℕ). AreParked m rest b.lanes seats mid chunks tokens) (sym e) b.parked in
@@ -181,10 +179,7 @@ lends_within n chunk limit seats heads w fits some small lc lt lv alike =
 
 -- a read of the input that the answer names failed, and of no other
 pub counts_merge : (before mid after : List ℕ) (k : ℕ) (result : Result Done Stop) → mid ≡ before → k < length mid → after ≡ failures_with mid k result → NamesInput k result → CountsReads before after (failure_of (merge_end result))
-counts_merge before mid after k (Ok d) same within e named = e ∙ ap (slice_set mid k) (add-zero (get_or mid k 0)) ∙ set-get_or mid k 0 ∙ same
-counts_merge before mid after k (Err (Dump input line fault)) same within e named = e ∙ ap (slice_set mid k) (add-zero (get_or mid k 0)) ∙ set-get_or mid k 0 ∙ same
 counts_merge before mid after k (Err (Read input)) same within e named =
     let long = ap length same in
     (omega (arith, named), e ∙ ap (λ l. slice_set l k (get_or l k 0 + 1)) same ∙ ap (λ p. slice_set before p (get_or before p 0 + 1)) (sym named))
-counts_merge before mid after k (Err Write) same within e named = e ∙ ap (slice_set mid k) (add-zero (get_or mid k 0)) ∙ set-get_or mid k 0 ∙ same
-counts_merge before mid after k (Err (Unmatched name)) same within e named = e ∙ ap (slice_set mid k) (add-zero (get_or mid k 0)) ∙ set-get_or mid k 0 ∙ same
+counts_merge before mid after k result same within e named = e ∙ ap (slice_set mid k) (add-zero (get_or mid k 0)) ∙ set-get_or mid k 0 ∙ same

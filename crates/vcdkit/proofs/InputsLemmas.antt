@@ -1,5 +1,5 @@
 -- The headers of inputs in order: what was read of each input, and how the definitions open them.
-use Rattle.vcdkit.proofs.Cited.{is_over, is_settled_at, HeaderPhrase, header_of, header_grammar, phrases_of, reading_of, Ending, Reading, Placed, AtFault, AtEnd, AtLast, IsWhole, whole-more, ◌≡◌, ◌==◌, ℕ, suc, ◌+◌, Bool, false, ◌++◌, inl, inr, List, [], ◌∷◌, length, map, Some, None, Ok, Err, refl, sym, ap, ap₂, subst, ◌∙◌, arith, append_assoc, append-nil, length-append, length_push, Input, Want, is_settled_behind, is_settled_by, Header, header_fault_of, read_header, Opened, Request, allowed_after, with_opened, Fault, Token, stream_of, whole, Supply, Nothing, AreLeft, AreOpened, IsLeft, Lane, Dump, Read, Write, Unmatched, Failure, Stopped, OutOfMemory, AreBegun, HasFailed, IsBegun, IsWhy, Stops, headers_in, AreRead, header_behind}
+use Rattle.vcdkit.proofs.Cited.{is_over, is_settled_at, HeaderPhrase, header_of, header_grammar, phrases_of, reading_of, Ending, Reading, Placed, AtEnd, IsWhole, whole-more, ◌≡◌, ◌==◌, ℕ, suc, ◌+◌, Bool, false, ◌++◌, inl, inr, List, [], ◌∷◌, length, map, Some, None, Ok, Err, refl, sym, ap, ap₂, subst, ◌∙◌, arith, length-append, length_push, Input, Want, is_settled_behind, is_settled_by, Header, header_fault_of, read_header, Opened, Request, allowed_after, with_opened, Fault, Token, stream_of, whole, Supply, Nothing, AreLeft, AreOpened, IsLeft, Lane, Dump, Read, Failure, Stopped, OutOfMemory, AreBegun, IsBegun, IsWhy, Stops, AreRead, header_behind}
 use Rattle.vcd_model.specs.Job.{request_of}
 use Rattle.vcd_model.specs.Settled.{is_header_over, is_settled}
 use Rattle.vcd_model.specs.Outcome.{open_from}
@@ -9,9 +9,8 @@ use Rattle.vcd_job.proofs.HeaderLemmas.{all_read, header_only, header_read, left
 -- ---- what settles a run
 
 settled_going : (wanted : Want) (r : Reading HeaderPhrase) (x : Ending) → is_over x ≡ false → is_settled_at wanted r x ≡ false
-settled_going wanted r (AtFault fault) e = cc
 settled_going wanted r AtEnd e = refl
-settled_going wanted r AtLast e = cc
+settled_going wanted r x e = cc
 
 -- and settles no run
 pub unsettled_header : (wanted : Want) (most : ℕ) (given : List Token) → is_header_over most given ≡ false → is_settled wanted most given ≡ false
@@ -72,16 +71,14 @@ module _ (settled : ℕ → List Token → Bool) (on : (most : ℕ) (ts : List T
 abbrev pub IsFirst : ℕ → List Header → List Input → Failure → Type 0
 IsFirst limit earlier inputs (Stopped (Dump input line fault)) = ((fault == 31) ≡ false) × (open_from limit earlier inputs ≡ Err (input, record { number = fault; line = line }))
 IsFirst limit earlier inputs (Stopped (Read input)) = (line : ℕ) × (open_from limit earlier inputs ≡ Err (input, record { number = 31; line = line }))
-IsFirst limit earlier inputs (Stopped Write) = ⊥
-IsFirst limit earlier inputs (Stopped (Unmatched name)) = ⊥
+IsFirst limit earlier inputs (Stopped stop) = ⊥
 IsFirst limit earlier inputs OutOfMemory = Unit {0}
 
 -- it is that of this input
 first_here : (limit : ℕ) (earlier : List Header) (i : Input) (inputs : List Input) (why : Failure) → IsWhy (allowed_after earlier) limit (length earlier) i why → IsFirst limit earlier (i ∷ inputs) why
 first_here limit earlier i inputs (Stopped (Dump input line fault)) w = (w.1, not_opened limit earlier i inputs _ w.2 ∙ ap (λ n. Err (n, record { number = fault; line = line })) (sym w.0))
 first_here limit earlier i inputs (Stopped (Read input)) w = (w.1, not_opened limit earlier i inputs _ w.2 ∙ ap (λ n. Err (n, record { number = 31; line = w.1 })) (sym w.0))
-first_here limit earlier i inputs (Stopped Write) w = absurd w
-first_here limit earlier i inputs (Stopped (Unmatched name)) w = absurd w
+first_here limit earlier i inputs (Stopped stop) w = absurd w
 first_here limit earlier i inputs OutOfMemory w = tt
 
 -- or of one after it
@@ -90,8 +87,7 @@ first_behind limit chunk earlier i inputs l s t (Stopped (Dump input line fault)
     (f.0, opens limit chunk earlier i i inputs l s t b.given_first.0 b b.given_first.1 ∙ ap (with_opened (record { header = l.header; stream = stream_of limit i; rest = b.given_first.0 })) f.1)
 first_behind limit chunk earlier i inputs l s t (Stopped (Read input)) b f =
     (f.0, opens limit chunk earlier i i inputs l s t b.given_first.0 b b.given_first.1 ∙ ap (with_opened (record { header = l.header; stream = stream_of limit i; rest = b.given_first.0 })) f.1)
-first_behind limit chunk earlier i inputs l s t (Stopped Write) b f = absurd f
-first_behind limit chunk earlier i inputs l s t (Stopped (Unmatched name)) b f = absurd f
+first_behind limit chunk earlier i inputs l s t (Stopped stop) b f = absurd f
 first_behind limit chunk earlier i inputs l s t OutOfMemory b f = tt
 
 -- what is left of inputs whose headers ended the run
@@ -142,9 +138,6 @@ pub merged_read : (limit chunk : ℕ) (earlier : List Header) (texts : List (Lis
     → AreRead (is_settled Want.Merge) limit chunk earlier texts old new lefts × (open_from limit earlier lefts ≡ Ok opened)
 unfolding open_from
 merged_read limit chunk earlier [] [] [] new [] lefts opened b left o = (left, rw (left, o) refl)
-merged_read limit chunk earlier (text ∷ texts) (s ∷ old) (t ∷ mid) [] (l ∷ lanes) lefts opened b left o = absurd left
-merged_read limit chunk earlier (text ∷ texts) (s ∷ old) (t ∷ mid) (u ∷ new) (l ∷ lanes) [] opened b left o = absurd left
-merged_read limit chunk earlier (text ∷ texts) (s ∷ old) (t ∷ mid) (u ∷ new) (l ∷ lanes) (i ∷ lefts) [] b left o = absurd o
 merged_read limit chunk earlier (text ∷ texts) (s ∷ old) (t ∷ mid) (u ∷ new) (l ∷ lanes) (i ∷ lefts) (p ∷ opened) b left o =
     let most = allowed_after earlier in
     let others = merged_read limit chunk (earlier ++ l.header ∷ []) texts old mid new lanes lefts opened b.1 left.2 o.2 in
@@ -155,4 +148,6 @@ merged_read limit chunk earlier (text ∷ texts) (s ∷ old) (t ∷ mid) (u ∷ 
       (since, read, subst (λ (h : Header). AreRead (is_settled Want.Merge) limit chunk (earlier ++ h ∷ []) texts old new lefts) (sym header) others.0),
       opens limit chunk earlier (whole text) i lefts l s t p.rest b.0 o.1 ∙ ap₂ with_opened (sym o.0) others.1,
     )
+merged_read limit chunk earlier (text ∷ texts) (s ∷ old) (t ∷ mid) (u ∷ new) (l ∷ lanes) (i ∷ lefts) [] b left o = absurd o
+merged_read limit chunk earlier (text ∷ texts) (s ∷ old) (t ∷ mid) new (l ∷ lanes) lefts opened b left o = absurd left
 merged_read limit chunk earlier texts old mid new lanes lefts opened b left o = absurd b

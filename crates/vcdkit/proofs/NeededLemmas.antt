@@ -1,6 +1,6 @@
 -- How much was read of the inputs of a merge, where all of the others are known: no more than what
 -- settles it.
-use Rattle.vcdkit.proofs.Cited.{◌≡◌, ℕ, zero, suc, ◌+◌, Bool, false, List, [], ◌∷◌, ◌++◌, length, map, slice_get, slice_set, Some, refl, sym, ap, subst, ◌∙◌, arith, append_assoc, length_push, Input, Header, header_of, HeaderPhrase, header_grammar, Ending, Reading, phrases_of, reading_of, AtFault, AtEnd, AtLast, is_over, Opened, allowed_after, Token, stream_of, whole-more, Seen, headers_seen, seen_at, seen_before, settles_merge, tokens_seen, whole_of, NotWhole, whole, Supply, ReadsAsNeeded, Nothing, IsLeft, AreLeft, AreOpened, known_first, known_whole, Lane, is_merge, model_want, AreBegun, IsBegun, Want, AreNeeded, known, settles_among}
+use Rattle.vcdkit.proofs.Cited.{◌≡◌, ℕ, zero, suc, ◌+◌, Bool, false, List, [], ◌∷◌, ◌++◌, length, map, slice_get, slice_set, Some, refl, sym, ap, subst, ◌∙◌, arith, append_assoc, length_push, Input, Header, header_of, HeaderPhrase, header_grammar, Ending, Reading, phrases_of, reading_of, AtEnd, is_over, Opened, allowed_after, Token, stream_of, whole-more, Seen, headers_seen, seen_at, seen_before, settles_merge, tokens_seen, whole_of, NotWhole, whole, Supply, ReadsAsNeeded, Nothing, IsLeft, AreLeft, AreOpened, known_first, known_whole, Lane, is_merge, model_want, AreBegun, IsBegun, Want, AreNeeded, known, settles_among}
 use Rattle.vcd_model.specs.Settled.{is_header_over}
 use Rattle.vcd_model.specs.SettledMerge.{is_settled_merge}
 use Rattle.vcd_model.specs.SettledMerge.SeenHeaders.{Whole}
@@ -41,9 +41,8 @@ seen_going earlier ts ss going =
     by_ending r.ending going
   where
     by_ending : (x : Ending) → is_over x ≡ false → seen_at (Seen.First ts) (reading_of (header_grammar (allowed_after earlier)) ts) x (headers_seen (earlier ++ header_of (phrases_of (reading_of (header_grammar (allowed_after earlier)) ts).placed) ∷ []) ss) ≡ NotWhole
-    by_ending (AtFault f) e = cc
     by_ending AtEnd e = refl
-    by_ending AtLast e = cc
+    by_ending x e = cc
 
 -- so nothing is settled
 going_open : (limit : ℕ) (all pre post : List Input) (i : Input) (earlier : List Header) (ts : List Token) → all ≡ pre ++ i ∷ post → ArePassed limit pre earlier → is_header_over (allowed_after earlier) ts ≡ false → settles_among limit all (length pre) ts ≡ false
@@ -184,10 +183,5 @@ merge_needed limit chunk texts old mid new lanes lefts opened b left o reads =
 
 -- where a job has one input there are no others
 pub none_others : (wanted : words.Want) (limit chunk : ℕ) (old new : List Supply) (inputs : List Input) → is_merge wanted ≡ false → AreNeeded (model_want wanted) limit chunk old new inputs
-none_others want.Check limit chunk old new inputs e = tt
-none_others want.List limit chunk old new inputs e = tt
-none_others (want.Pick names) limit chunk old new inputs e = tt
-none_others (want.Cut from to) limit chunk old new inputs e = tt
-none_others (want.Sample numbers units names) limit chunk old new inputs e = tt
-none_others (want.Edges names) limit chunk old new inputs e = tt
 none_others want.Merge limit chunk old new inputs e = cc
+none_others wanted limit chunk old new inputs e = tt

@@ -1,6 +1,5 @@
 -- How a run ends, and what it leaves.
-use Rattle.vcdkit.proofs.Cited.{◌≡◌, ◌≢◌, ◌==◌, ℕ, Bool, true, false, zero, suc, ◌+◌, ◌<◌, ◌++◌, inl, inr, List, [], ◌∷◌, length, take, map, get_or, set, slice_set, slice_index, Option, None, Some, Result, Ok, Err, refl, sym, ap, subst, ◌∙◌, arith, MatchResult, IfOk, IfErr, list_any, Input, due_after, request_of, is_settled_behind, BodyItem, body_items, read_body, Header, list_text, Opened, Outcome, Request, ends_early, name_at, names_of, Token, stream_of, Counts, Device, failures_then, Supply, Takes, Writes, supply, ReadsAsNeeded, Nothing, HasGiven, limit_of, Ghosts, Feed, appends-none, Belongs, Follows, IsRefused, KeepsUp, is_early, is_more_due, nat_lt, reads_failed, writes_failed, Done, Stop, Dump, Read, Write, Unmatched, Failure, Stopped, OutOfMemory, Refusal, Answer, Answers, Status, Refused, answer_end, failure_of, merge_end, CountsRead, CountsReads, EndsAtRead, EndsAtReadOf, HasPassedOn, model_refusal, model_want, is_merge, names_asked, Ends, IsAfter, Leaves, settled_for, settled_by, due_by, over_header, course_by, course_of, codes, refusal_of, work_of}
-use Rattle.vcd_model.specs.Job.{Refusal as ModelRefusal}
+use Rattle.vcdkit.proofs.Cited.{◌≡◌, ◌≢◌, ℕ, Bool, true, false, ◌+◌, ◌++◌, inl, List, [], ◌∷◌, length, take, map, get_or, set, Option, Some, Result, Ok, Err, refl, sym, ap, subst, ◌∙◌, arith, MatchResult, IfOk, IfErr, list_any, Input, due_after, request_of, is_settled_behind, BodyItem, body_items, read_body, Header, list_text, Opened, Outcome, Request, ends_early, name_at, names_of, Token, stream_of, Counts, Device, failures_then, Supply, Takes, Writes, ReadsAsNeeded, Nothing, HasGiven, limit_of, Ghosts, Feed, appends-none, Belongs, Follows, IsRefused, KeepsUp, is_early, nat_lt, reads_failed, writes_failed, Done, Stop, Dump, Read, Write, Unmatched, Failure, Stopped, OutOfMemory, Refusal, Answer, Answers, Status, Refused, answer_end, failure_of, merge_end, CountsRead, CountsReads, EndsAtRead, EndsAtReadOf, HasPassedOn, model_refusal, model_want, is_merge, names_asked, Ends, IsAfter, Leaves, settled_for, settled_by, due_by, over_header, course_by, course_of, codes, refusal_of, work_of}
 use Rattle.vcd_model.specs.Outcome.{fault_outcome, over_dump}
 use Rattle.vcd_body.specs.Answer.{EndsAtRead as EndsAtStop}
 use Rattle.vcd_body.specs.Prompt.{HasPassedOn as HasPassedOnAt}
@@ -23,9 +22,7 @@ list_belongs : (limit : ℕ) (i : Input) (rest : List Token) (h : Header) (name 
 unfolding over_dump
 list_belongs limit i rest h name out out' (Ok done) t f w = (refl, (t, f))
 list_belongs limit i rest h name out out' (Err Write) t f w = (t, f)
-list_belongs limit i rest h name out out' (Err (Dump input line fault)) t f w = let e : Dump input line fault ≡ Write = w (Dump input line fault) refl in cc
-list_belongs limit i rest h name out out' (Err (Read input)) t f w = let e : Read input ≡ Write = w (Read input) refl in cc
-list_belongs limit i rest h name out out' (Err (Unmatched place)) t f w = let e : Unmatched place ≡ Write = w (Unmatched place) refl in cc
+list_belongs limit i rest h name out out' (Err stop) t f w = let e : stop ≡ Write = w stop refl in cc
 
 -- the one way in which a list stops
 only_write : (r : Result Done Stop) → MatchResult r (λ done. done ≡ Done.Whole) (λ stop. stop ≡ Write) → (stop : Stop) → r ≡ Err stop → stop ≡ Write
@@ -64,11 +61,8 @@ list_last last_failed (Err stop) m = λ input is. absurd (cc)
 
 -- a run over one input ends with the failure of its task
 pub ended_last : (last_failed : Bool) (r : Result Done Stop) → EndsAtStop last_failed r → EndsAtRead last_failed (failure_of (answer_end r))
-ended_last last_failed (Ok done) e = λ input is. absurd (cc)
-ended_last last_failed (Err (Dump only line fault)) e = λ input is. absurd (cc)
 ended_last last_failed (Err (Read only)) e = λ input is. e only refl
-ended_last last_failed (Err Write) e = λ input is. absurd (cc)
-ended_last last_failed (Err (Unmatched name)) e = λ input is. absurd (cc)
+ended_last last_failed r e = λ input is. absurd (cc)
 
 -- a run over several inputs ends with the failure of their merge
 pub merged_last : (last_failed : List Bool) (r : Result Done Stop) → EndsAtStops last_failed r → EndsAtReadOf last_failed (failure_of (merge_end r))
@@ -82,11 +76,8 @@ list_passed kept (Ok done) m = λ input is. absurd (cc)
 list_passed kept (Err stop) m = λ input is. absurd (cc)
 
 pub ended_passed : {W : Type 0} (kept : W → ℕ) (out out' : W) (r : Result Done Stop) → HasPassedOnAt (kept out') r → HasPassedOn kept out out' (failure_of (answer_end r))
-ended_passed kept out out' (Ok done) e = λ input is before. absurd (cc)
-ended_passed kept out out' (Err (Dump only line fault)) e = λ input is before. absurd (cc)
 ended_passed kept out out' (Err (Read only)) e = λ input is before. e only refl
-ended_passed kept out out' (Err Write) e = λ input is before. absurd (cc)
-ended_passed kept out out' (Err (Unmatched name)) e = λ input is before. absurd (cc)
+ended_passed kept out out' r e = λ input is before. absurd (cc)
 
 pub merged_passed : {W : Type 0} (kept : W → ℕ) (out out' : W) (r : Result Done Stop) → HasPassedOnAt (kept out') r → HasPassedOn kept out out' (failure_of (merge_end r))
 merged_passed kept out out' (Ok done) e = λ input is before. absurd (cc)
@@ -94,12 +85,8 @@ merged_passed kept out out' (Err stop) e = λ input is before. e input (cc)
 
 -- if a count of failed reads grew, a failed read ended the run
 pub failed_read : (before after : List ℕ) (why : Option Failure) → CountsReads before after why → after ≢ before → (input : ℕ) × why ≡ Some (Stopped (Read input))
-failed_read before after None counts more = absurd (more counts)
 failed_read before after (Some (Stopped (Read input))) counts more = (input, refl)
-failed_read before after (Some (Stopped (Dump input line fault))) counts more = absurd (more counts)
-failed_read before after (Some (Stopped Write)) counts more = absurd (more counts)
-failed_read before after (Some (Stopped (Unmatched name))) counts more = absurd (more counts)
-failed_read before after (Some OutOfMemory) counts more = absurd (more counts)
+failed_read before after why counts more = absurd (more counts)
 
 pub listed : {X : Type 0} {x : Ghosts X} (limit chunk : ℕ) (i : Input) (front : List Token) (h : Header) (name : List ℕ) (before : Supply) (old : Feed X x) (out out' : Device) (r : Result Done Stop)
     → limit_of old ≡ limit → HasGiven i front old → Takes out out' (list_text h) r → Counts out out' r → MatchResult r (λ done. done ≡ Done.Whole) (λ stop. stop ≡ Write)
@@ -119,9 +106,7 @@ listed limit chunk i front h name before old out out' r l st t f answer = record
 -- times that are refused leave no output
 refused_output : (name : List ℕ) (why : Refusal) → (refusal_of why name).output ≡ []
 refused_output name refusal.NoTimescale = refl
-refused_output name refusal.OutOfRange = refl
-refused_output name refusal.FromAboveTo = refl
-refused_output name refusal.NotRising = refl
+refused_output name why = refl
 
 -- ---- after the header
 
@@ -137,11 +122,8 @@ leaves-placed wanted task o name out out' (Err (Unmatched place)) same b =
 
 -- it is settled as its task is
 settled_placed : (r : Result Done Stop) (run header : List Token → Bool) → settled_for (answer_end r) run header ≡ run
-settled_placed (Ok done) run header = refl
-settled_placed (Err (Dump input line fault)) run header = refl
 settled_placed (Err (Read input)) run header = refl
-settled_placed (Err Write) run header = refl
-settled_placed (Err (Unmatched place)) run header = refl
+settled_placed r run header = refl
 
 -- how a run ends after the header
 abbrev pub EndsAfter : Want → (limit chunk : ℕ) → Input → List Token → Header → List ℕ → (old new : Supply) → (out out' : Device) → Result (Answer Refusal) Failure → Type 0
@@ -207,23 +189,17 @@ module _ {X : Type 0} {x : Ghosts X} (wanted : Want) (limit chunk : ℕ) (i : In
 -- ---- one reader
 
 pub one_of : {X : Type 0} (xs : List X) (d : X) → length xs ≡ 1 → xs ≡ get_or xs 0 d ∷ []
-one_of [] d h = absurd (omega arith)
 one_of (x ∷ []) d h = refl
-one_of (x ∷ y ∷ xs) d h = absurd (omega arith)
+one_of xs d h = absurd (omega arith)
 
 pub set_one : {X : Type 0} (xs : List X) (x : X) → length xs ≡ 1 → set xs 0 x ≡ x ∷ []
-set_one [] x h = absurd (omega arith)
 set_one (x ∷ []) y h = refl
-set_one (x ∷ z ∷ xs) y h = absurd (omega arith)
+set_one xs y h = absurd (omega arith)
 
 -- the only reader counts its failed read
 pub counts_one : {X : Type 0} (failures : X → ℕ) (r r' : X) (why : Option Failure) → CountsRead 0 (failures r) (failures r') why → CountsReads (map failures (r ∷ [])) (map failures (r' ∷ [])) why
-counts_one failures r r' None e = ap (λ n. n ∷ []) e
 counts_one failures r r' (Some (Stopped (Read input))) (first, e) = subst (λ n. CountsReads (map failures (r ∷ [])) (map failures (r' ∷ [])) (Some (Stopped (Read n)))) (sym first) (omega arith, ap (λ n. n ∷ []) e)
-counts_one failures r r' (Some (Stopped (Dump input line fault))) e = ap (λ n. n ∷ []) e
-counts_one failures r r' (Some (Stopped Write)) e = ap (λ n. n ∷ []) e
-counts_one failures r r' (Some (Stopped (Unmatched name))) e = ap (λ n. n ∷ []) e
-counts_one failures r r' (Some OutOfMemory) e = ap (λ n. n ∷ []) e
+counts_one failures r r' why e = ap (λ n. n ∷ []) e
 
 module _ {X : Type 0} (failures : X → ℕ) (readers readers' : List X) (r r' : X) (is : readers ≡ r ∷ []) (is' : readers' ≡ r' ∷ []) where
   pub counts_alone : (why : Option Failure) → CountsRead 0 (failures r) (failures r') why → CountsReads (map failures readers) (map failures readers') why

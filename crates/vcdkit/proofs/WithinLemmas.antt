@@ -1,5 +1,5 @@
 -- A run is the same under two token limits, where no input is longer than either.
-use Rattle.vcdkit.proofs.Cited.{◌≡◌, ℕ, ◌≤◌, Bool, false, inl, inr, zero, suc, ◌⊎◌, List, [], ◌∷◌, ◌++◌, filter, length, drop, map, slice_get, take, Option, Some, None, Result, Ok, Err, refl, sym, ap, subst, ◌∙◌, arith, IfSome, nat_lt, option_map, slice_set, AllByRecursion, position_or_len, reduce, nat_tests, length-drop, length-take, is_white_space, body_fault_of, read_body, due, Header, header_of, header_fault_of, read_header, Input, BodyItem, Want, over_opened, dump_of, factor, Opened, Outcome, allowed_after, declarations_allowed, fault_outcome, name_at, with_opened, Fault, phrases_of, Seen, is_settled_merge, HaltPlace, Stream, Token, comes_before, earlier_halt, end_at, failed_read, halt_place, run_at, stream_until, token_places, too_long_tokens, too_much_input, IsPrefixOf, is_header_over, is_settled, whole, Device, Supply, Near, ReadsAsNeeded, Nothing, ToToken, ToEnd, from_all, all_weaker, HasFault, IsLeft, is_more_due, Read, Write, Unmatched, AreReadOnTurn, HasEnded, ReadOnTurn, OnTurn, Unread, HasDump, Lane, Job, AreWithin, IsLimitFor, Narrows, AreBegun, IsBegun, IsWhy, Stops, headers_in, AreInTurn, AreMergedInTurn, AreNeeded, AreRead, HasRun, IsOutcome, program_name, OneKeepsUp, header_behind, known, settles_among, InBodies, InHeaders, Failure, Stopped, OutOfMemory, WithOutcome, NoMemory}
+use Rattle.vcdkit.proofs.Cited.{◌≡◌, ℕ, ◌≤◌, Bool, false, inl, inr, zero, suc, ◌⊎◌, List, [], ◌∷◌, ◌++◌, filter, length, drop, map, slice_get, take, Option, Some, None, Result, Ok, Err, refl, sym, ap, subst, ◌∙◌, arith, IfSome, nat_lt, option_map, slice_set, AllByRecursion, position_or_len, reduce, nat_tests, length-drop, length-take, is_white_space, body_fault_of, read_body, due, Header, header_of, header_fault_of, read_header, Input, BodyItem, Want, over_opened, dump_of, factor, Opened, Outcome, allowed_after, declarations_allowed, fault_outcome, name_at, with_opened, Fault, phrases_of, Seen, is_settled_merge, HaltPlace, Stream, Token, comes_before, earlier_halt, end_at, failed_read, halt_place, run_at, stream_until, token_places, too_long_tokens, too_much_input, IsPrefixOf, is_header_over, is_settled, whole, Device, Supply, Near, ReadsAsNeeded, Nothing, ToToken, ToEnd, from_all, all_weaker, HasFault, IsLeft, is_more_due, Read, AreReadOnTurn, HasEnded, ReadOnTurn, OnTurn, Unread, HasDump, Lane, Job, AreWithin, IsLimitFor, Narrows, AreBegun, IsBegun, IsWhy, Stops, headers_in, AreInTurn, AreMergedInTurn, AreNeeded, AreRead, HasRun, IsOutcome, program_name, OneKeepsUp, header_behind, known, settles_among, InBodies, InHeaders, Failure, Stopped, OutOfMemory, WithOutcome, NoMemory}
 use Rattle.vcd_model.specs.Job.{outcome}
 use Rattle.vcd_model.specs.Merge.{Dump}
 use Rattle.vcd_model.specs.Outcome.{open_from}
@@ -78,9 +78,6 @@ module _ (a b c d : ℕ) (le : c ≤ d) where
   read_within : (settled : ℕ → List Token → Bool) (earlier : List Header) (texts : List (List ℕ)) (old new : List Supply) (inputs : List Input) → AllByRecursion (IsShort a b) texts
       → AreRead settled a c earlier texts old new inputs → AreRead settled b d earlier texts old new inputs
   read_within settled earlier [] old new inputs short read = read
-  read_within settled earlier (text ∷ texts) [] new inputs short read = absurd read
-  read_within settled earlier (text ∷ texts) (s ∷ old) [] inputs short read = absurd read
-  read_within settled earlier (text ∷ texts) (s ∷ old) (t ∷ new) [] short read = absurd read
   read_within settled earlier (text ∷ texts) (s ∷ old) (t ∷ new) (i ∷ inputs) short read =
       let one = left_short text s t i short.0 read.0 in (
         read.0,
@@ -88,17 +85,16 @@ module _ (a b c d : ℕ) (le : c ≤ d) where
         read_within settled (earlier ++ header_behind earlier b i ∷ []) texts old new inputs short.1
             (subst (λ (h : Header). AreRead settled a c (earlier ++ h ∷ []) texts old new inputs) (same_header a b earlier i one) read.2),
       )
+  read_within settled earlier texts old new inputs short read = absurd read
 
   lefts_short : (settled : ℕ → List Token → Bool) (earlier : List Header) (texts : List (List ℕ)) (old new : List Supply) (inputs : List Input) → AllByRecursion (IsShort a b) texts
       → AreRead settled a c earlier texts old new inputs → AllByRecursion (λ (i : Input). IsShort a b i.bytes) inputs
   lefts_short settled earlier [] old new inputs short read = subst (AllByRecursion (λ (i : Input). IsShort a b i.bytes)) (sym read) tt
-  lefts_short settled earlier (text ∷ texts) [] new inputs short read = absurd read
-  lefts_short settled earlier (text ∷ texts) (s ∷ old) [] inputs short read = absurd read
-  lefts_short settled earlier (text ∷ texts) (s ∷ old) (t ∷ new) [] short read = absurd read
   lefts_short settled earlier (text ∷ texts) (s ∷ old) (t ∷ new) (i ∷ inputs) short read = (
     left_short text s t i short.0 read.0,
     lefts_short settled (earlier ++ header_behind earlier a i ∷ []) texts old new inputs short.1 read.2,
   )
+  lefts_short settled earlier texts old new inputs short read = absurd read
 
 -- ---- all inputs
 
@@ -139,12 +135,7 @@ module _ (a b c d : ℕ) (le : c ≤ d) (old new : List Supply) (inputs : List I
 
   all_within : (want : Want) → AreNeeded want a c old new inputs → AreNeeded want b d old new inputs
   all_within Want.Merge needed = merge_within needed
-  all_within Want.Check needed = needed
-  all_within Want.Listing needed = needed
-  all_within (Want.Pick names) needed = needed
-  all_within (Want.Cut from to) needed = needed
-  all_within (Want.Sample times names) needed = needed
-  all_within (Want.Edges names) needed = needed
+  all_within want needed = needed
 
 -- ---- the turns of a merge
 
@@ -181,8 +172,7 @@ module _ (a b c d : ℕ) (le : c ≤ d) where
   why_within : (most place : ℕ) (left : Input) (why : Failure) → IsShort a b left.bytes → IsWhy most a place left why → IsWhy most b place left why
   why_within most place left (Stopped (Faulty input line fault)) short w = (w.0, w.1, fault_within most left fault line short w.2)
   why_within most place left (Stopped (Read input)) short w = (w.0, w.1, fault_within most left 31 w.1 short w.2)
-  why_within most place left (Stopped Write) short w = absurd w
-  why_within most place left (Stopped (Unmatched name)) short w = absurd w
+  why_within most place left (Stopped stop) short w = absurd w
   why_within most place left OutOfMemory short w = w
 
   stops_within : (place : ℕ) (earlier : List Header) (texts : List (List ℕ)) (old new : List Supply) (why : Failure) → AllByRecursion (IsShort a b) texts → Stops a c place earlier texts old new why → Stops b d place earlier texts old new why
@@ -243,12 +233,7 @@ module _ (a b c d : ℕ) (le : c ≤ d) where
 
     turns_within : (want : Want) → AreInTurn want a c texts old new inputs out out' → AreInTurn want b d texts old new inputs out out'
     turns_within Want.Merge turns = merged_within turns
-    turns_within Want.Check turns = keeps_within Want.Check turns
-    turns_within Want.Listing turns = keeps_within Want.Listing turns
-    turns_within (Want.Pick names) turns = keeps_within (Want.Pick names) turns
-    turns_within (Want.Cut from to) turns = keeps_within (Want.Cut from to) turns
-    turns_within (Want.Sample times names) turns = keeps_within (Want.Sample times names) turns
-    turns_within (Want.Edges names) turns = keeps_within (Want.Edges names) turns
+    turns_within want turns = keeps_within want turns
 
 -- ---- a run
 
@@ -285,12 +270,11 @@ module _ {X : Type 0} (rest : X → Option (List ℕ)) where
   few_texts : (most : ℕ) (readers : List X) (texts : List (List ℕ)) → AllByRecursion (λ r. IfSome (rest r) (λ text. length text ≤ most)) readers → map rest readers ≡ map (λ text. Some text) texts
       → AllByRecursion (λ (text : List ℕ). length text ≤ most) texts
   few_texts most [] [] all is = tt
-  few_texts most [] (text ∷ texts) all is = absurd (cc)
-  few_texts most (r ∷ readers) [] all is = absurd (cc)
   few_texts most (r ∷ readers) (text ∷ texts) all is =
       let one : rest r ≡ Some text = cc in
       let others : map rest readers ≡ map (λ text. Some text) texts = cc in
       (subst (λ (o : Option (List ℕ)). IfSome o (λ text. length text ≤ most)) one all.0, few_texts most readers texts all.1 others)
+  few_texts most readers texts all is = absurd (cc)
 
   texts_within : (longest : Option ℕ) (readers : List X) (texts : List (List ℕ)) → AreWithin rest longest readers → map rest readers ≡ map (λ text. Some text) texts
       → AllByRecursion (λ (text : List ℕ). IfSome longest (λ most. length text ≤ most)) texts

@@ -1,12 +1,11 @@
 -- A command over one input, as a job: its outcome, what settles it and what is due are those of the
 -- definitions.
-use Rattle.vcdkit.proofs.Cited.{◌≡◌, ◌≢◌, ◌==◌, ◌&&◌, ℕ, Bool, true, false, not, cond, nat_lt, List, [], ◌∷◌, ◌++◌, length, map, filter_map, is_ok, Option, Some, None, Result, Ok, Err, refl, sym, ap, subst, ◌∙◌, ℤ, string_bytes, list_all, Input, Token, stream_of, header_of, Header, HeaderPhrase, header_grammar, header_fault_of, Opened, Outcome, Request, declarations_allowed, allowed_after, over_dumps, fault_outcome, refusal_outcome, list_text, name_at, names_of, moment_ticks, asked, Fault, Ending, Reading, reading_of, phrases_of, AtEnd, AtFault, AtLast, is_header_over, is_settled_at, is_settled_behind, is_settled_by, due_after, due_at, due_of_request, is_merge, model_want, names_asked, request_for, task_request, taskless, Task, times_with, Supply, supply, ReadsAsNeeded, KeepsUp, is_more_due, whole, Device, HasRun, IsOutcome, program_name, settled_by, due_by, over_header, course_by, course_if, course_of, work_of}
+use Rattle.vcdkit.proofs.Cited.{◌≡◌, ◌==◌, ◌&&◌, ℕ, Bool, true, false, not, cond, nat_lt, List, [], ◌∷◌, length, map, filter_map, is_ok, Option, Some, None, Result, Ok, Err, refl, sym, ap, subst, ◌∙◌, ℤ, string_bytes, list_all, Input, Token, stream_of, header_of, Header, HeaderPhrase, header_grammar, header_fault_of, Opened, Outcome, Request, declarations_allowed, over_dumps, fault_outcome, refusal_outcome, name_at, names_of, moment_ticks, asked, Fault, Ending, Reading, reading_of, phrases_of, AtLast, is_settled_at, is_settled_behind, is_settled_by, due_after, due_at, due_of_request, is_merge, model_want, names_asked, request_for, task_request, taskless, Task, times_with, Supply, supply, is_more_due, Device, HasRun, IsOutcome, program_name, settled_by, due_by, over_header, course_by, course_if, course_of, work_of}
 use Rattle.std.specs.Prelude.{◌||◌, is_some}
 use Rattle.vcd_model.specs.Due.{due, due_of_body}
-use Rattle.vcd_model.specs.HeaderReading.{read_header}
 use Rattle.vcd_model.specs.Job as model
 use Rattle.vcd_model.specs.Job.{outcome, request_of}
-use Rattle.vcd_model.specs.Outcome.{fault_in, items_in, open_from, over_body, over_dump, unmatched_outcome}
+use Rattle.vcd_model.specs.Outcome.{fault_in, items_in, over_body, over_dump, unmatched_outcome}
 use Rattle.vcd_model.specs.Selection.{first_unmatched}
 use Rattle.vcd_model.specs.Settled.{body_settles, is_settled}
 use Rattle.vcd_words.specs.declared.job.Want.{Want}
@@ -29,8 +28,7 @@ cut_is units (Ok from) (Ok to) task e = by_test (units && nat_lt to from) e
     by_test : (b : Bool) → cond b (Err model.Refusal.FromAboveTo) (Ok (Request.Cut from to)) ≡ Ok task → (a b : ℕ) × (task ≡ Request.Cut a b)
     by_test true e = cc
     by_test false e = (from, to, cc)
-cut_is units (Ok from) (Err n) task e = cc
-cut_is units (Err n) to task e = cc
+cut_is units from to task e = cc
 
 -- a sample is asked for, and its times are not refused
 at_ticks : (rises : Bool) (times : List ℕ) (names : List (List ℕ)) (task : Request) → cond rises (Err model.Refusal.NotRising) (Ok (Request.Sample times names)) ≡ Ok task → task ≡ Request.Sample times names
@@ -76,13 +74,8 @@ of_one want.Merge scale task one e = cc
 
 -- no task over the items of a body is that of a list
 pub listing_due : (wanted : Want) → is_merge wanted ≡ false → taskless wanted ≡ Request.Listing
-listing_due want.Check one = refl
-listing_due want.List one = refl
-listing_due (want.Pick asked) one = refl
-listing_due (want.Cut from to) one = refl
-listing_due (want.Sample numbers units names) one = refl
-listing_due (want.Edges names) one = refl
 listing_due want.Merge one = cc
+listing_due wanted one = refl
 
 -- what is asked where no times are refused, as the request of a task or a list
 pub asked_for : (wanted : Want) (task : Option Task) → is_merge wanted ≡ false → task_request wanted (Ok task) ≡ Ok (request_for task)
@@ -107,22 +100,12 @@ module _ (task : Request) (name : List ℕ) (h : Header) (ts : List Token) where
   due_if None = refl
 
 pub settled_same : (task : Request) (name : List ℕ) (h : Header) (ts : List Token) → settled_by (course_of task name h) h ts ≡ is_settled_behind task h ts
-settled_same Request.Check name h ts = settled_if Request.Check name h ts (first_unmatched [] h.declarations)
 settled_same Request.Listing name h ts = refl
-settled_same (Request.Pick names) name h ts = settled_if (Request.Pick names) name h ts (first_unmatched names h.declarations)
-settled_same (Request.Cut from to) name h ts = settled_if (Request.Cut from to) name h ts (first_unmatched [] h.declarations)
-settled_same (Request.Sample times names) name h ts = settled_if (Request.Sample times names) name h ts (first_unmatched names h.declarations)
-settled_same (Request.Edges names) name h ts = settled_if (Request.Edges names) name h ts (first_unmatched names h.declarations)
-settled_same Request.Merge name h ts = settled_if Request.Merge name h ts (first_unmatched [] h.declarations)
+settled_same task name h ts = settled_if task name h ts (first_unmatched (names_of task) h.declarations)
 
 pub due_same : (task : Request) (name : List ℕ) (h : Header) (ts : List Token) → due_by (course_of task name h) h ts ≡ due_after task h ts
-due_same Request.Check name h ts = due_if Request.Check name h ts (first_unmatched [] h.declarations)
 due_same Request.Listing name h ts = refl
-due_same (Request.Pick names) name h ts = due_if (Request.Pick names) name h ts (first_unmatched names h.declarations)
-due_same (Request.Cut from to) name h ts = due_if (Request.Cut from to) name h ts (first_unmatched [] h.declarations)
-due_same (Request.Sample times names) name h ts = due_if (Request.Sample times names) name h ts (first_unmatched names h.declarations)
-due_same (Request.Edges names) name h ts = due_if (Request.Edges names) name h ts (first_unmatched names h.declarations)
-due_same Request.Merge name h ts = due_if Request.Merge name h ts (first_unmatched [] h.declarations)
+due_same task name h ts = due_if task name h ts (first_unmatched (names_of task) h.declarations)
 
 over_if : (task : Request) (name : List ℕ) (o : Opened) (place : Option ℕ)
     → over_header (course_if place task name o.header) o ≡ elim place [ Some i ↦ unmatched_outcome (name_at (names_of task) i) | None ↦ over_body task o.header (items_in o) name (fault_in o) ]
@@ -131,13 +114,8 @@ over_if task name o None = over_same task o.header (items_in o) name (fault_in o
 
 pub over_same_dump : (task : Request) (name : List ℕ) (o : Opened) → over_header (course_of task name o.header) o ≡ over_dump task name o
 unfolding over_dump
-over_same_dump Request.Check name o = over_if Request.Check name o (first_unmatched [] o.header.declarations)
 over_same_dump Request.Listing name o = refl
-over_same_dump (Request.Pick names) name o = over_if (Request.Pick names) name o (first_unmatched names o.header.declarations)
-over_same_dump (Request.Cut from to) name o = over_if (Request.Cut from to) name o (first_unmatched [] o.header.declarations)
-over_same_dump (Request.Sample times names) name o = over_if (Request.Sample times names) name o (first_unmatched names o.header.declarations)
-over_same_dump (Request.Edges names) name o = over_if (Request.Edges names) name o (first_unmatched names o.header.declarations)
-over_same_dump Request.Merge name o = over_if Request.Merge name o (first_unmatched [] o.header.declarations)
+over_same_dump task name o = over_if task name o (first_unmatched (names_of task) o.header.declarations)
 
 -- ---- what is wanted of an input
 
@@ -149,9 +127,7 @@ module _ (name : List ℕ) (h : Header) (ts : List Token) where
   due_request : (r : Result Request model.Refusal) → due_by (course_by r name h) h ts ≡ due_of_request r h ts
   due_request (Ok task) = due_same task name h ts
   due_request (Err model.Refusal.NoTimescale) = refl
-  due_request (Err model.Refusal.OutOfRange) = refl
-  due_request (Err model.Refusal.FromAboveTo) = refl
-  due_request (Err model.Refusal.NotRising) = refl
+  due_request (Err why) = refl
 
 module _ (wanted : model.Want) (name : List ℕ) (most : ℕ) (ts : List Token) where
   settled_is : settled_of (work_of wanted) name most ts ≡ is_settled wanted most ts
@@ -159,18 +135,16 @@ module _ (wanted : model.Want) (name : List ℕ) (most : ℕ) (ts : List Token) 
   settled_is = by_end (reading_of (header_grammar most) ts) (reading_of (header_grammar most) ts).ending
     where
       by_end : (r : Reading HeaderPhrase) (x : Ending) → job_settled_at (work_of wanted) name r x ≡ is_settled_at wanted r x
-      by_end r (AtFault fault) = refl
-      by_end r AtEnd = refl
       by_end r AtLast = let h = header_of (phrases_of r.placed) in settled_request name h r.rest (request_of h.scale wanted)
+      by_end r x = refl
 
   due_is : due_of (work_of wanted) name most ts ≡ due wanted most ts
   unfolding due_of due
   due_is = by_end (reading_of (header_grammar most) ts) (reading_of (header_grammar most) ts).ending
     where
       by_end : (r : Reading HeaderPhrase) (x : Ending) → job_due_at (work_of wanted) name r x ≡ due_at wanted r x
-      by_end r (AtFault fault) = refl
-      by_end r AtEnd = refl
       by_end r AtLast = let h = header_of (phrases_of r.placed) in due_request name h r.rest (request_of h.scale wanted)
+      by_end r x = refl
 
 -- the fault of a header
 fault_same : (name : List ℕ) (f : Fault) → fault_as 1 [] name f ≡ fault_outcome [] name f
@@ -226,25 +200,18 @@ module _ (wanted : Want) (one : is_merge wanted ≡ false) (limit chunk : ℕ) (
     where
       by_texts : (name : List ℕ) → ((text : List ℕ) → rest r ≡ Some text → JobRun program_name (work_of (model_want wanted)) limit chunk name text (supply rest failures r) (supply rest failures r') out out' err err' status)
           → (texts : List (List ℕ)) → map rest (r ∷ []) ≡ map (λ text. Some text) texts → HasRun (model_want wanted) limit chunk (name ∷ []) texts (map (supply rest failures) (r ∷ [])) (map (supply rest failures) (r' ∷ [])) out out' err err' status
-      by_texts name given [] e = absurd (cc)
       by_texts name given (text ∷ []) e = ran name text (supply rest failures r) (supply rest failures r') (given text (cc))
-      by_texts name given (text ∷ more ∷ texts) e = absurd (cc)
+      by_texts name given texts e = absurd (cc)
 
       by_names : (names : List (List ℕ)) → length names ≡ 1 → ((text : List ℕ) → rest r ≡ Some text → JobRun program_name (work_of (model_want wanted)) limit chunk (name_at names 0) text (supply rest failures r) (supply rest failures r') out out' err err' status)
           → HasRun (model_want wanted) limit chunk names texts (map (supply rest failures) readers) (map (supply rest failures) readers') out out' err err' status
-      by_names [] n given = absurd (cc)
       by_names (name ∷ []) n given =
           subst (λ (l : List X). HasRun (model_want wanted) limit chunk (name ∷ []) texts (map (supply rest failures) l) (map (supply rest failures) readers') out out' err err' status) (sym is)
           (subst (λ (l : List X). HasRun (model_want wanted) limit chunk (name ∷ []) texts (map (supply rest failures) (r ∷ [])) (map (supply rest failures) l) out out' err err' status) (sym is')
           (by_texts name given texts (ap (map rest) (sym is) ∙ known)))
-      by_names (name ∷ other ∷ names) n given = absurd (cc)
+      by_names names n given = absurd (cc)
 
 -- the only command over several inputs
 pub merge_wanted : (wanted : Want) → is_merge wanted ≡ true → (model_want wanted ≡ model.Want.Merge) × (names_asked wanted ≡ [])
-merge_wanted want.Check e = absurd (cc)
-merge_wanted want.List e = absurd (cc)
-merge_wanted (want.Pick names) e = absurd (cc)
-merge_wanted (want.Cut from to) e = absurd (cc)
-merge_wanted (want.Sample numbers units names) e = absurd (cc)
-merge_wanted (want.Edges names) e = absurd (cc)
 merge_wanted want.Merge e = (refl, refl)
+merge_wanted wanted e = absurd (cc)

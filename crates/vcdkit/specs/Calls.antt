@@ -1,26 +1,10 @@
 -- What the calls of a run promise, as far as readers and writers describe themselves.
-use Rattle.std.specs.Prelude.{◌≡◌, ℕ, ◌-◌, ◌^◌, ◌<◌, ◌≤◌, ◌⊎◌, All, IfSome, List, [], length, map, Option, Some, Result}
-use Rattle.vcd_model.specs.Job.{Want as ModelWant}
-use Rattle.vcd_text.specs.Device.{Supply, supply}
+use Rattle.std.specs.Prelude.{◌≡◌, ℕ, ◌-◌, ◌^◌, ◌<◌, ◌≤◌, ◌⊎◌, All, IfSome, List, length, map, Option, Some, Result}
+use Rattle.vcdkit.specs.Cited.{Supply, supply, Ghosts, Done, model_want, names_asked, Job, Want, Refusal, CountsReadsOf, CountsWrites, EndsAtReadOf, failure_of, writes_failed, Tells, Speech, end_message, end_status, Answer, Failure}
+pub use Rattle.vcdkit.specs.Cited.{Answers, MayFailOnce, FailOnce}
 use Rattle.vcd_text.specs.declared.device.Sink.{Ghosts as Sinks}
-use Rattle.vcd_text.specs.declared.device.Source.{Ghosts}
-use Rattle.vcd_text.specs.declared.feed.Feed.{Feed}
-use Rattle.vcd_view.specs.declared.view.HeadView.{HeadView}
-use Rattle.vcd_body.specs.declared.answer.Done.{Done}
-use Rattle.vcd_words.specs.Job.{model_want, names_asked}
-use Rattle.vcd_words.specs.declared.job.Job.{Job}
-use Rattle.vcd_words.specs.declared.job.Want.{Want}
-use Rattle.vcd_words.specs.declared.refusal.Refusal.{Refusal}
-use Rattle.vcd_job.specs.Calls.{BodyEnds}
-pub use Rattle.vcd_job.specs.Calls.{Answers, MayFailOnce}
-pub use Rattle.vcd_job.specs.OneRun.{FailOnce}
-use Rattle.vcd_job.specs.Failure.{CountsReadsOf, CountsWrites, EndsAtReadOf, failure_of, writes_failed}
-use Rattle.vcd_job.specs.Message.{Tells}
-use Rattle.vcd_job.specs.Ends.{Speech, end_message, end_status}
-use Rattle.vcd_job.specs.declared.answer.Answer.{Answer}
-use Rattle.vcd_job.specs.declared.failure.Failure.{Failure}
 use Rattle.vcdkit.specs.Run.{EndsAll, HasRun}
-use Rattle.vcdkit.specs.Work.{program_name, refusal_of, work_of}
+use Rattle.vcdkit.specs.Work.{program_name, refusal_of}
 
 -- how a command speaks that was asked for these names
 abbrev pub speech_with : List (List ℕ) → Speech Refusal
@@ -29,11 +13,6 @@ speech_with asked = record { asked = asked; refusal = refusal_of; faulty = 1 }
 abbrev pub speech_of : Want → Speech Refusal
 speech_of want = speech_with (names_asked want)
 
--- what is wanted was run over the body after the header that is shown, of a feed that had given
--- some tokens
-abbrev pub WantEnds : {X W : Type 0} {g : Ghosts X} → Sinks W → HeadView → Want → (old new : Feed X g) → (out out' : W) → Result (Answer Refusal) Failure → Type 0
-WantEnds w view want old new out out' result = BodyEnds w (work_of (model_want want)) (speech_of want) view old new out out' result
-
 -- what readers are
 abbrev pub supplies : {X : Type 0} → Ghosts X → List X → List Supply
 supplies g readers = map (supply g.rest g.failures) readers
@@ -41,7 +20,7 @@ supplies g readers = map (supply g.rest g.failures) readers
 -- a merge was run over readers
 abbrev pub Merges : {X W : Type 0} → Ghosts X → Sinks W → Job → (old new : List X) → (out out' : W) → Result Done Failure → Type 0
 Merges g w job old new out out' result = (texts names : List (List ℕ)) → map g.rest old ≡ map (λ text. Some text) texts
-    → EndsAll ModelWant.Merge [] job.limit job.chunk names texts (supplies g old) (supplies g new) (w.device out) (w.device out') result
+    → EndsAll job.limit job.chunk names texts (supplies g old) (supplies g new) (w.device out) (w.device out') result
 
 -- There are readers, at most as many as a merge may have, and one more failure of each can be
 -- counted.

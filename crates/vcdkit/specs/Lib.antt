@@ -1,3 +1,4 @@
+pub mod Cited
 pub mod Tasks
 pub mod Work
 pub mod Run

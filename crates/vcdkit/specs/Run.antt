@@ -1,31 +1,9 @@
 -- What a run leaves.
 use Rattle.std.specs.Prelude.{◌≡◌, ◌==◌, false, ℕ, Bool, List, [], ◌∷◌, ◌++◌, codes, map, slice_get, slice_set, Some, Result, Ok, Err}
-use Rattle.vcd_model.specs.Input.{Input}
-use Rattle.vcd_model.specs.Job as model
-use Rattle.vcd_model.specs.Header.{Header, header_of}
-use Rattle.vcd_model.specs.HeaderReading.{read_header}
-use Rattle.vcd_model.specs.Due.{due}
-use Rattle.vcd_model.specs.Outcome.{Outcome, Request, allowed_after, clean_outcome, declarations_allowed, fault_outcome, name_at, names_of, unmatched_outcome}
-use Rattle.vcd_model.specs.Reading.{phrases_of}
-use Rattle.vcd_model.specs.Settled.{is_header_over, is_settled}
-use Rattle.vcd_model.specs.Tokens.{Token, stream_of}
-use Rattle.vcd_model.specs.SettledMerge.{Seen, is_settled_merge}
-use Rattle.vcd_text.specs.Answer.{whole}
-use Rattle.vcd_text.specs.Device.{Device, Supply, Writes, WritesSome}
-use Rattle.vcd_text.specs.ReadAhead.{ReadsAsNeeded}
-use Rattle.vcd_body.specs.Answer.{IsLeft}
-use Rattle.vcd_body.specs.Pace.{KeepsUp}
-use Rattle.vcd_body.specs.declared.answer.Done.{Done}
-use Rattle.vcd_body.specs.declared.answer.Stop.TheVariants.{Dump, Read, Write, Unmatched}
-use Rattle.vcd_merge.specs.MergeRun.{AreReadOnTurn}
-use Rattle.vcd_merge.specs.Seat.{Lane}
-use Rattle.vcd_job.specs.Inputs.{AreBegun, Stops, headers_in}
-use Rattle.vcd_job.specs.declared.failure.Failure.{Failure}
-use Rattle.vcd_job.specs.declared.failure.Failure.TheVariants.{Stopped, OutOfMemory}
-use Rattle.vcd_job.specs.Message.{Tells}
-use Rattle.vcd_job.specs.Ends.{settled_for}
-pub use Rattle.vcd_job.specs.Ends.{IsOutcome}
+use Rattle.vcdkit.specs.Cited.{Input, Header, header_of, read_header, due, Outcome, allowed_after, clean_outcome, declarations_allowed, fault_outcome, name_at, phrases_of, is_header_over, is_settled, Token, stream_of, Seen, is_settled_merge, whole, Device, Supply, Writes, WritesSome, ReadsAsNeeded, IsLeft, KeepsUp, Done, Dump, Read, Write, AreReadOnTurn, Lane, AreBegun, Stops, headers_in, Failure, Stopped, OutOfMemory, Tells, settled_for}
+pub use Rattle.vcdkit.specs.Cited.{IsOutcome}
 use Rattle.vcdkit.specs.Work.{program_name}
+use Rattle.vcd_model.specs.Job as model
 
 -- ---- all inputs
 
@@ -47,15 +25,15 @@ AreRead settled limit chunk earlier (text ∷ texts) (s ∷ old) (t ∷ new) (i 
 
 -- ---- the end of a run
 
--- The output of a run of inputs with these names, which was asked for those, that returns this and
--- has this outcome. A failed write leaves a prefix of it; if memory ran out it leaves nothing.
-abbrev pub LeavesAll : (names asked : List (List ℕ)) → Outcome → Device → Device → Result Done Failure → Type 0
-LeavesAll names asked o out out' (Ok done) = (o ≡ clean_outcome o.output) × Writes out out' o.output
-LeavesAll names asked o out out' (Err (Stopped (Dump input line fault))) = (o ≡ fault_outcome o.output (name_at names input) (record { number = fault; line = line })) × ((fault == 31) ≡ false) × Writes out out' o.output
-LeavesAll names asked o out out' (Err (Stopped (Read input))) = ((line : ℕ) × (o ≡ fault_outcome o.output (name_at names input) (record { number = 31; line = line }))) × Writes out out' o.output
-LeavesAll names asked o out out' (Err (Stopped Write)) = WritesSome out out' o.output
-LeavesAll names asked o out out' (Err (Stopped (Unmatched place))) = (o ≡ unmatched_outcome (name_at asked place)) × Writes out out' o.output
-LeavesAll names asked o out out' (Err OutOfMemory) = Writes out out' []
+-- The output of a merge of inputs with these names that returns this and has this outcome. A failed
+-- write leaves a prefix of it; if memory ran out it leaves nothing.
+abbrev pub LeavesAll : (names : List (List ℕ)) → Outcome → Device → Device → Result Done Failure → Type 0
+LeavesAll names o out out' (Ok done) = (o ≡ clean_outcome o.output) × Writes out out' o.output
+LeavesAll names o out out' (Err (Stopped (Dump input line fault))) = (o ≡ fault_outcome o.output (name_at names input) (record { number = fault; line = line })) × ((fault == 31) ≡ false) × Writes out out' o.output
+LeavesAll names o out out' (Err (Stopped (Read input))) = ((line : ℕ) × (o ≡ fault_outcome o.output (name_at names input) (record { number = 31; line = line }))) × Writes out out' o.output
+LeavesAll names o out out' (Err (Stopped Write)) = WritesSome out out' o.output
+LeavesAll names o out out' (Err (Stopped stop)) = ⊥
+LeavesAll names o out out' (Err OutOfMemory) = Writes out out' []
 
 -- all that these inputs are
 abbrev pub known : ℕ → List Input → List Seen
@@ -86,14 +64,14 @@ abbrev pub AreInTurn : model.Want → (limit chunk : ℕ) → List (List ℕ) �
 AreInTurn model.Want.Merge limit chunk texts old new inputs out out' = AreMergedInTurn limit chunk texts old new inputs out out'
 AreInTurn want limit chunk texts old new inputs out out' = OneKeepsUp want limit chunk old new inputs out out'
 
--- how a run over readers with these texts ends: with the outcome of what is left of them; no more
+-- how a merge over readers with these texts ends: with the outcome of what is left of them; no more
 -- was read of each than what settles it, and no read ran ahead of the output
-pub record EndsAll (want : model.Want) (asked : List (List ℕ)) (limit chunk : ℕ) (names texts : List (List ℕ)) (old new : List Supply) (out out' : Device) (result : Result Done Failure) : Type 0 where
+pub record EndsAll (limit chunk : ℕ) (names texts : List (List ℕ)) (old new : List Supply) (out out' : Device) (result : Result Done Failure) : Type 0 where
   pub lefts : List Input
-  pub read : AreRead (λ most. settled_for result (is_settled want most) (is_header_over most)) limit chunk [] texts old new lefts
-  pub needed : AreNeeded want limit chunk old new lefts
-  pub in_turn : AreInTurn want limit chunk texts old new lefts out out'
-  pub leaves : LeavesAll names asked (model.outcome want limit names lefts) out out' result
+  pub read : AreRead (λ most. settled_for result (is_settled model.Want.Merge most) (is_header_over most)) limit chunk [] texts old new lefts
+  pub needed : AreNeeded model.Want.Merge limit chunk old new lefts
+  pub in_turn : AreMergedInTurn limit chunk texts old new lefts out out'
+  pub leaves : LeavesAll names (model.outcome model.Want.Merge limit names lefts) out out' result
 
 -- no read of these readers failed
 abbrev pub NoneFailed : (old new : List Supply) → Type 0

@@ -1,16 +1,9 @@
 -- What is wanted, as a task over the items of a body.
 use Rattle.std.specs.Prelude.{Option, Some, None, Result, Ok, Err}
-use Rattle.vcd_model.specs.Job as model
-use Rattle.vcd_model.specs.Outcome.{Request}
+use Rattle.vcdkit.specs.Cited.{Request, HasRoomFor, Room, Task, HeadView, model_refusal, Want, Refusal}
 use Rattle.vcd_engine.specs.Engine.{request_of}
-use Rattle.vcd_engine.specs.Room.{HasRoomFor}
-use Rattle.vcd_engine.specs.declared.task.Room.{Room}
-use Rattle.vcd_engine.specs.declared.task.Task.{Task}
-use Rattle.vcd_view.specs.declared.view.HeadView.{HeadView}
-use Rattle.vcd_words.specs.Refusal.{model_refusal}
-use Rattle.vcd_words.specs.declared.job.Want.{Want}
+use Rattle.vcd_model.specs.Job as model
 use Rattle.vcd_words.specs.declared.job.Want.TheVariants as want
-use Rattle.vcd_words.specs.declared.refusal.Refusal.{Refusal}
 
 -- the request of a cut in ticks, or why it is refused
 abbrev pub cut_request : Result Task Refusal → Result Request model.Refusal

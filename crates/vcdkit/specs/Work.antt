@@ -1,21 +1,7 @@
 -- What a command over one input is, as a job.
 use Rattle.std.specs.Prelude.{ℕ, List, codes, Option, Some, None, Result, Ok, Err}
-use Rattle.vcd_model.specs.CheckAndList.{list_text}
-use Rattle.vcd_model.specs.Header.{Header}
+use Rattle.vcdkit.specs.Cited.{list_text, Header, Outcome, Request, clean_outcome, fault_outcome, name_at, names_of, unmatched_outcome, first_unmatched, Ways, model_refusal, Refusal, plan_of, Done, Stop, stop_failure, Course, Work, Answer, Status, Failure}
 use Rattle.vcd_model.specs.Job as model
-use Rattle.vcd_model.specs.Outcome.{Outcome, Request, clean_outcome, fault_outcome, name_at, names_of, unmatched_outcome}
-use Rattle.vcd_model.specs.Selection.{first_unmatched}
-use Rattle.vcd_run.specs.Outcomes.{Ways}
-use Rattle.vcd_words.specs.Refusal.{model_refusal}
-use Rattle.vcd_words.specs.declared.refusal.Refusal.{Refusal}
-use Rattle.vcd_engine.specs.Plan.{plan_of}
-use Rattle.vcd_body.specs.declared.answer.Done.{Done}
-use Rattle.vcd_body.specs.declared.answer.Stop.{Stop}
-use Rattle.vcd_job.specs.Failure.{stop_failure}
-use Rattle.vcd_job.specs.Work.{Course, Work}
-use Rattle.vcd_job.specs.declared.answer.Answer.{Answer}
-use Rattle.vcd_job.specs.declared.answer.Answer.TheVariants.{Status}
-use Rattle.vcd_job.specs.declared.failure.Failure.{Failure}
 
 -- the name of the program
 abbrev pub program_name : List ℕ

@@ -1,6 +1,6 @@
 //! A command over one input, as a job.
-ghost use Rattle.std.specs.Prelude.{◌≡◌, ◌+◌, ◌-◌, ◌^◌, ◌<◌, ◌≤◌, IfSome, false, true};
-ghost use Rattle.vcdkit.specs.Names.{answer_end, Answers, AreWithinBound, chunk_len_of, CountsAt, CountsWrites, Does, EndsAtRead, EndsAtStop, failure_of, HasNotFailed, HasPassedOn, HasPassedOnAt, is_asked, is_merge, IsEnough, IsLentWithin, IsValid, limit_of, model_want, names_asked, program_name, reads_failed, refusal_of, request_for, request_of_task, room_size, SameLoans, source_of, stop_writes, WantEnds, work_of, writes_failed};
+ghost use Rattle.std.specs.Prelude.{◌≡◌, ◌+◌, ◌-◌, ◌^◌, ◌<◌, IfSome, false};
+ghost use Rattle.vcdkit.specs.Names.{answer_end, AreWithinBound, chunk_len_of, CountsWrites, Does, EndsAtStop, HasNotFailed, HasPassedOnAt, is_merge, IsEnough, IsLentWithin, IsValid, limit_of, model_want, names_asked, program_name, reads_failed, refusal_of, request_for, request_of_task, room_size, SameLoans, source_of, stop_writes, work_of};
 
 use crate::tasks::{need_of, room_for, task_of};
 use std::alloc::Global;
@@ -58,50 +58,6 @@ fn run_in<S: Source, W: Sink>(
     }
 }
 
-/// Runs what is wanted over the body that follows the header of `view`: converts the times of a
-/// `sample` in `want` to ticks, takes memory, and then calls `run_in`, which takes no more. Returns
-/// the exit status, or why the times are refused. Fails if memory runs out, or if `run_in` fails.
-fn run_want<S: Source, W: Sink>(
-    alloc: Global,
-    want: &mut Want,
-    view: HeadView<'_>,
-    feed: &mut Feed<'_, '_, '_, '_, S>,
-    out: &mut W,
-) -> Result<Answer<Refusal>, Failure>
-    requires one { is_merge want.old ≡ false }
-    requires asked { is_asked want.old ≡ true }
-    requires feed_failures { S.failures (source_of feed.old) < 2 ^ 64 - 1 }
-    requires out_failures { (W.device out.old).failures < 2 ^ 64 - 1 }
-    requires unfailed { HasNotFailed feed.old }
-    requires chunk { chunk_len_of feed.old ≤ 65536 }
-    ensures ends { WantEnds W.Sink view.entry want.old feed.old feed.new out.old out.new result }
-    ensures reads { CountsAt S.failures 0 (source_of feed.old) (source_of feed.new) result }
-    ensures writes { CountsWrites W.device out.old out.new (writes_failed (failure_of result)) }
-    ensures last { EndsAtRead (S.last_failed (source_of feed.new)) (failure_of result) }
-    ensures passed_on { HasPassedOn W.kept_back out.old out.new (failure_of result) }
-    ensures loans { SameLoans feed.old feed.new }
-    ensures answers { Answers (λ status. status ≡ 0) result }
-    ensures names { names_asked want.new ≡ names_asked want.old }
-    ensures asked { is_asked want.new ≡ true }
-{
-    if let Err(why) = want.write_ticks(view) {
-        return Ok(Answer::Refused(why));
-    }
-    let task = match task_of(want, view) {
-        Ok(task) => task,
-        Err(why) => return Ok(Answer::Refused(why)),
-    };
-    let need = need_of(task, view);
-    let mut memory = room_for(alloc, need)?;
-    let room = Room {
-        values: &mut memory.values,
-        slots: &mut memory.slots,
-        shares: &mut memory.shares,
-        marks: &mut memory.marks,
-    };
-    answered(run_in(task, view, feed, room, out))
-}
-
 /// The commands over one input.
 pub(crate) struct Commands;
 
@@ -149,7 +105,8 @@ impl OneInput for Commands {
         job.task.names()
     }
 
-    /// Runs the command over the body that follows the header of `view`.
+    /// Runs the command over the body that follows the header of `view`: converts the times of a
+    /// `sample` to ticks, takes memory, and then calls `run_in`, which takes no more.
     fn run_over<S: Source, W: Sink>(
         alloc: Global,
         job: &mut Job,
@@ -157,7 +114,22 @@ impl OneInput for Commands {
         feed: &mut Feed<'_, '_, '_, '_, S>,
         out: &mut W,
     ) -> Result<Answer<Refusal>, Failure> {
-        run_want(alloc, &mut job.task, view, feed, out)
+        if let Err(why) = job.task.write_ticks(view) {
+            return Ok(Answer::Refused(why));
+        }
+        let task = match task_of(&job.task, view) {
+            Ok(task) => task,
+            Err(why) => return Ok(Answer::Refused(why)),
+        };
+        let need = need_of(task, view);
+        let mut memory = room_for(alloc, need)?;
+        let room = Room {
+            values: &mut memory.values,
+            slots: &mut memory.slots,
+            shares: &mut memory.shares,
+            marks: &mut memory.marks,
+        };
+        answered(run_in(task, view, feed, room, out))
     }
 
     /// Writes the line that says why the times of a command are refused, after its header was read.

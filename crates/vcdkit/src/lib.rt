@@ -11,8 +11,8 @@
 //!
 //! - `tasks`: what is wanted, as a task over the items of a body, its times in ticks, and the
 //!   memory of its room
-//! - `commands`: a command over one input, as a job of `vcd_job`: `list` over the view, or `run_task`
-//!   in room that is taken for it
+//! - `commands`: a command over one input, as a job of `vcd_job`: `list` over the view, or
+//!   `run_task` in room that is taken for it
 //! - `whole_run`: a job over readers: `run_one` of `vcd_job`, or `merge`
 //!
 //! In `specs/`: `Calls`, what a call promises of a run; `Run`, what that ends with; `Work`, what a

@@ -1,5 +1,5 @@
 //! A job, from its readers to its output, its message and its status.
-ghost use Rattle.std.specs.Prelude.{◌≡◌, ◌-◌, ◌^◌, ◌<◌, map, length, string_bytes, false, true};
+ghost use Rattle.std.specs.Prelude.{◌≡◌, ◌-◌, ◌^◌, ◌<◌, map, length, string_bytes, false};
 ghost use Rattle.vcdkit.specs.Names.{AreReaders, AreWithin, CountsReadsOf, CountsWrites, EndsAtReadOf, EndsSo, FailOnce, failure_of, HasPassedOn, is_merge, MayFailOnce, merge_end, Merges, Narrows, PassesOn, RunsJob, writes_failed};
 
 use crate::commands::{Commands, PROGRAM};
@@ -53,48 +53,9 @@ fn run_merge<S: Source, W: Sink, B: BuildHasher>(
     merged(merge(&inputs.heads, readers, &mut windows, &mut inputs.seats, out))
 }
 
-/// Runs a merge over the readers, 1 to 64, and returns the exit status, as `run_with_hasher` does.
-fn run_many<S: Source, W: Sink, E: Sink, B: BuildHasher>(
-    alloc: Global,
-    job: Job,
-    names: &[String],
-    readers: &mut [S],
-    out: &mut W,
-    err: &mut E,
-    hasher: &B,
-) -> u8
-    requires merge { is_merge job.task ≡ true }
-    requires names { length names.now ≡ length readers.old }
-    requires readers { AreReaders S.failures readers.old }
-    requires sinks { MayFailOnce W.Sink E.Sink out.old err.old }
-    ensures failures { FailOnce W.Sink E.Sink out.old out.new err.old err.new }
-    ensures ends { EndsSo S.Source W.Sink E.Sink job (map string_bytes names.now)
-        readers.old readers.new out.old out.new err.old err.new result }
-    ensures passed_on { PassesOn S.failures W.kept_back
-        readers.old readers.new out.old out.new }
-    ensures gives { RunsJob S.Source W.Sink E.Sink job (map string_bytes names.now)
-        readers.old readers.new out.old out.new err.old err.new result }
-{
-    match run_merge(alloc, &job, readers, out, hasher) {
-        Ok(_) => 0,
-        Err(failure) => report(PROGRAM, failure, names, job.task.names(), 1, err),
-    }
-}
-
-/// Runs a job over the readers, and returns the exit status. `names` are the names of the readers
-/// in messages, one for each reader. A merge has 1 to 64 readers, any other job one. The output
-/// goes to `out`, which is not flushed, and the message to `err`, whose errors are ignored.
-///
-/// The status is 0 if the job is done; 1 for a fault of an input, for a name that selects nothing,
-/// and for a unit without a time scale; 2 for times that are out of range or out of order in ticks;
-/// 3 if a read or a write fails, and if memory runs out.
-///
-/// Memory is taken for the windows, while the headers are read, and then for what the task works
-/// in, and none after that. Nothing is written to `out` before all of it was taken.
-///
-/// Codes are hashed with numbers that the hasher returns. What is written does not depend on them.
-/// If the author of a dump does not know these numbers, as with `RandomState`, no choice of codes
-/// takes long to find.
+/// Runs a job over the readers, and returns the exit status, as `run` does. Codes are hashed with
+/// numbers that the hasher returns. What is written does not depend on them. If the author of a
+/// dump does not know these numbers, as with `RandomState`, no choice of codes takes long to find.
 pub fn run_with_hasher<S: Source, W: Sink, E: Sink, B: BuildHasher>(
     alloc: Global,
     job: Job,
@@ -109,24 +70,17 @@ pub fn run_with_hasher<S: Source, W: Sink, E: Sink, B: BuildHasher>(
     requires alone { is_merge job.task ≡ false → length readers.old ≡ 1 }
     requires sinks { MayFailOnce W.Sink E.Sink out.old err.old }
     ensures failures { FailOnce W.Sink E.Sink out.old out.new err.old err.new }
-
-    // It succeeds or fails, over any readers and writers. It fails with a failed read only if a
-    // read of the reader that is named failed, its last one, and none of another; likewise for a
-    // write.
     ensures ends { EndsSo S.Source W.Sink E.Sink job (map string_bytes names.now)
         readers.old readers.new out.old out.new err.old err.new result }
-
-    // If a read failed, the output keeps nothing back, unless it did so before the run.
-    ensures passed_on { PassesOn S.failures W.kept_back
-        readers.old readers.new out.old out.new }
-
-    // Over readers whose bytes are known, it is the outcome of the definitions, and no more was
-    // read than what settles it.
+    ensures passed_on { PassesOn S.failures W.kept_back readers.old readers.new out.old out.new }
     ensures gives { RunsJob S.Source W.Sink E.Sink job (map string_bytes names.now)
         readers.old readers.new out.old out.new err.old err.new result }
 {
     if job.task.is_merge() {
-        return run_many(alloc, job, names, readers, out, err, hasher);
+        match run_merge(alloc, &job, readers, out, hasher) {
+            Ok(_) => return 0,
+            Err(failure) => return report(PROGRAM, failure, names, job.task.names(), 1, err),
+        }
     }
     run_one::<Commands, S, W, E, B>(alloc, job, names, &mut readers[0], out, err, hasher)
 }
@@ -176,13 +130,9 @@ pub fn run_within<S: Source, W: Sink, E: Sink, B: BuildHasher>(
     ensures failures { FailOnce W.Sink E.Sink out.old out.new err.old err.new }
     ensures ends { EndsSo S.Source W.Sink E.Sink job (map string_bytes names.now)
         readers.old readers.new out.old out.new err.old err.new result }
+    ensures passed_on { PassesOn S.failures W.kept_back readers.old readers.new out.old out.new }
 
-    // If a read failed, the output keeps nothing back, unless it did so before the run.
-    ensures passed_on { PassesOn S.failures W.kept_back
-        readers.old readers.new out.old out.new }
-
-    // Over readers whose bytes are known, it is the outcome of the definitions, under the token
-    // limit of the job.
+    // The outcome is that under the token limit of the job, not of a shorter buffer.
     ensures gives { RunsJob S.Source W.Sink E.Sink job (map string_bytes names.now)
         readers.old readers.new out.old out.new err.old err.new result }
 {
@@ -224,8 +174,7 @@ pub fn run<S: Source, W: Sink, E: Sink>(
         readers.old readers.new out.old out.new err.old err.new result }
 
     // If a read failed, the output keeps nothing back, unless it did so before the run.
-    ensures passed_on { PassesOn S.failures W.kept_back
-        readers.old readers.new out.old out.new }
+    ensures passed_on { PassesOn S.failures W.kept_back readers.old readers.new out.old out.new }
 
     // Over readers whose bytes are known, it is the outcome of the definitions, and no more was
     // read than what settles it.
