@@ -17,7 +17,7 @@ pub use Rattle.std.specs.HashSet.{HashSet}
 pub use Rattle.std.specs.Io.KnownBytes.{Appends}
 pub use Rattle.std.specs.List.{AllByRecursion, AllZip, list_any, position_or_len, starts_with}
 pub use Rattle.std.specs.Option.{IsSomeAnd}
-pub use Rattle.std.specs.Prelude.{IfOk, IfSome, IsErr, MatchOption, is_none, is_some, option_and_then, option_map, slice_set, unwrap_or, vec_len}
+pub use Rattle.std.specs.Prelude.{IfErr, IfOk, IfSome, IsErr, MatchOption, is_none, is_some, option_and_then, option_map, slice_set, unwrap_or, vec_len}
 pub use Rattle.vcd_body.proofs.CallerLemmas.{gave_none_ahead}
 pub use Rattle.vcd_body.proofs.CompareLemmas.{length_extended}
 pub use Rattle.vcd_body.proofs.CurrentLemmas.{held_still, new_holds, room_enough}

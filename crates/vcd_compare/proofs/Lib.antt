@@ -2,6 +2,7 @@ pub mod PastTimes
 pub mod OpenGrows
 pub mod FlagLemmas
 pub mod DueFlags
+pub mod OutermostLemmas
 pub mod PairLemmas
 pub mod QuietLemmas
 pub mod EarlyEnd
@@ -14,6 +15,7 @@ pub mod StateLemmas
 pub mod MatchLemmas
 pub mod PathTexts
 pub mod SliceLemmas
+pub mod UnselectedLemmas
 pub mod VariableLemmas
 pub mod RowPaths
 pub mod SelectedLemmas

@@ -1,7 +1,6 @@
 -- What has another name in place of a first one: paths, and variables.
-use Rattle.vcd_compare.proofs.Cited.{◌≡◌, ◌≢◌, ℕ, suc, ◌+◌, ◌<◌, ◌≤◌, ◌==◌, ◌&&◌, ◌||◌, not, nat_eq, Bool, true, false, cond, List, [], ◌∷◌, ◌++◌, length, drop, set, get_or, slice_get, filter, find, position, bytes_eq, cases_lt, Option, Some, None, inl, inr, refl, sym, ap, subst, ◌∙◌, arith, option_map, AllZip, list_any, position_or_len, find_at, take_all, map, slice_get-map, eq-eqb, eqb-false, eqb-true, ne_eqb, false_from_ne_true, and_parts, length-append, length-set, get_or-set_other, get_or-set_same, get_or_from_slice_get, same_Some, slice_get-get_or, slice_get_past, slice_get_within, bytes_eq-Decides, ◌⊎◌, Header, selects_path, Asked, Named, all_named, Names, bytes_flip, there, selected_begins, ArePlaces, AreSelected, AreWithin, FindPlaces, IsCounterpart, IsFound, IsNth, IsPlace, with_range, without_range, ap₂, is_empty, is_some, first_of, lacks_range, lone, only_at, range_of, the_only, IsSlice, Slices, texts_in, AreUsers, IsPathOf, Users, index_in, slice_of, looked_up, place_of_node, replaced, selected_in, AreApart, AreTexts, IsNumberOf, has_dot, joined, both_names, chosen, is_inside, is_kept, is_one_of, lists_in, AreVariables, IsKeyOf, same_key, HasSelected, Paths, Variables, Vec, AreCounterparts, Climbs, IsBelow, IsPlacing, IsReady, IsSettled, Settles, StaySettled, node_at, Places, min, ◌-◌}
+use Rattle.vcd_compare.proofs.Cited.{◌≡◌, ◌≢◌, ℕ, suc, ◌+◌, ◌<◌, ◌≤◌, ◌==◌, ◌&&◌, ◌||◌, not, nat_eq, Bool, true, false, cond, List, [], ◌∷◌, ◌++◌, length, drop, set, get_or, slice_get, filter, find, position, bytes_eq, cases_lt, Option, Some, None, inl, inr, refl, sym, ap, subst, ◌∙◌, arith, option_map, AllZip, list_any, position_or_len, find_at, take_all, map, slice_get-map, eq-eqb, eqb-false, eqb-true, ne_eqb, false_from_ne_true, and_parts, length-append, length-set, get_or-set_other, get_or-set_same, get_or_from_slice_get, same_Some, slice_get-get_or, slice_get_past, slice_get_within, bytes_eq-Decides, ◌⊎◌, Header, selects_path, Asked, Named, all_named, Names, bytes_flip, there, selected_begins, ArePlaces, AreSelected, AreWithin, FindPlaces, IsCounterpart, IsFound, IsNth, IsPlace, with_range, without_range, ap₂, is_empty, is_some, first_of, lacks_range, lone, only_at, range_of, the_only, IsSlice, texts_in, AreUsers, IsPathOf, Users, index_in, slice_of, looked_up, place_of_node, replaced, selected_in, AreApart, AreTexts, IsNumberOf, has_dot, joined, both_names, chosen, is_inside, is_kept, is_one_of, lists_in, AreVariables, IsKeyOf, same_key, HasSelected, Paths, Variables, Vec, AreCounterparts, Climbs, IsBelow, IsPlacing, IsReady, IsSettled, Settles, StaySettled, node_at, Places, min, ◌-◌}
 use Rattle.std.proofs.Common.{zero}
-use Rattle.vcd_compare.specs.declared.variables.Users.TheVariants as Users
 use Rattle.std.proofs.lemmas.List.{append_assoc, append-nil, drop-append-le}
 use Rattle.vcd_compare.proofs.PathTexts.{joined_number, last_dot, no_dot, number_within, node_of, none_first, not_there, position_first, position_none, position_passes, same_is, is_same, text_of}
 use Rattle.vcd_compare.proofs.SelectedLemmas.{chosen_zip, plain_selected, selects_inside, selects_itself}

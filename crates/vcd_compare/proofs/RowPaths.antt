@@ -1,5 +1,5 @@
 -- The path of a row is that of the scope around it, a dot, and its name.
-use Rattle.vcd_compare.proofs.Cited.{◌≡◌, ℕ, suc, ◌<◌, ◌≤◌, false, true, List, [], ◌∷◌, ◌++◌, length, take, get_or, slice_get, Option, Some, None, nat_lt, Result, Ok, Err, refl, sym, ap, subst, ◌∙◌, arith, length-append, IfOk, AllZip, ltb-true, ltb-false, get_or_from_slice_get, same_Some, Declaration, enclosing, name_of, parent, path_of, Header, innermost, slice_get-take, counted_from_one, all_zip_push, slice_get-front, slice_get-seam, around_some, parent_before, front, scopes_text, front_is, front_next, path_is, Names, AreNumbersOf, EntersNames, EntersTexts, EntersPath, HasTexts, IsNumberOf, joined, AreNumbered, IsAround, IsScopeNumber, Paths}
+use Rattle.vcd_compare.proofs.Cited.{IfErr, ◌≡◌, ℕ, suc, ◌<◌, ◌≤◌, false, true, List, [], ◌∷◌, ◌++◌, length, take, get_or, slice_get, Option, Some, None, nat_lt, Result, Ok, Err, refl, sym, ap, subst, ◌∙◌, arith, length-append, IfOk, AllZip, ltb-true, ltb-false, get_or_from_slice_get, same_Some, Declaration, enclosing, name_of, parent, path_of, Header, innermost, slice_get-take, counted_from_one, all_zip_push, slice_get-front, slice_get-seam, around_some, parent_before, front, scopes_text, front_is, front_next, path_is, Names, AreNumbersOf, EntersNames, EntersTexts, EntersPath, HasTexts, IsNumberOf, joined, AreNumbered, IsAround, IsScopeNumber, Paths}
 use Rattle.std.proofs.lemmas.List.{append_assoc}
 use Rattle.vcd_compare.proofs.PairSteps.{zip_weaker}
 use Rattle.vcd_compare.proofs.PathTexts.{joined_number, number_within}
@@ -91,6 +91,10 @@ some_row h texts old new numbers row n d at s p =
 pub ok_then : {X E : Type 0} (r : Result X E) (P Q : X → Type 0) → ((x : X) → P x → Q x) → IfOk r P → IfOk r Q
 ok_then (Ok x) P Q f p = f x p
 ok_then (Err e) P Q f p = tt
+
+pub err_then : {X E : Type 0} (r : Result X E) (P Q : E → Type 0) → ((e : E) → P e → Q e) → IfErr r P → IfErr r Q
+err_then (Ok x) P Q f p = tt
+err_then (Err e) P Q f p = f e p
 
 -- ---- names and other texts
 

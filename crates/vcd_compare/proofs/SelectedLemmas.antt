@@ -1,11 +1,11 @@
 -- What names select, by number: the nearest of them, path by path, and what is inside of each.
-use Rattle.vcd_compare.proofs.Cited.{◌≡◌, ◌≢◌, ℕ, suc, ◌+◌, ◌<◌, ◌≤◌, ◌==◌, ◌&&◌, ◌||◌, not, nat_eq, nat_lt, Bool, true, false, cond, List, [], ◌∷◌, ◌++◌, length, set, take, get_or, slice_get, filter, flat_map, bytes_eq, Some, inl, inr, refl, sym, ap, subst, ◌∙◌, arith, Vec, AllZip, list_any, starts_with, eqb-false, eqb-true, ne_eqb, lt-ltb, ltb-true, ltb-false, false_from_ne_true, or_parts, or_right, length-append, length-map, length-set, get_or-set_other, get_or-set_same, get_or_from_slice_get, same_Some, slice_get-get_or, slice_get_within, bytes_eq-Decides, filter-append, selects_path, Names, all_zip_push, there, selected_begins, selects_behind_byte, selects-front, selects-longer, selects_split, slice_get-front, AreApart, AreTexts, IsNumberOf, has_dot, joined, AreNumbersOf}
+use Rattle.vcd_compare.proofs.Cited.{◌≡◌, ◌≢◌, ◌⊎◌, ℕ, suc, ◌+◌, ◌<◌, ◌≤◌, ◌==◌, ◌&&◌, ◌||◌, not, nat_eq, nat_lt, Bool, true, false, cond, List, [], ◌∷◌, ◌++◌, length, set, take, get_or, slice_get, filter, flat_map, bytes_eq, Some, inl, inr, refl, sym, ap, subst, ◌∙◌, arith, Vec, AllZip, list_any, starts_with, eqb-false, eqb-true, ne_eqb, lt-ltb, ltb-true, ltb-false, false_from_ne_true, or_parts, or_right, length-append, length-map, length-set, get_or-set_other, get_or-set_same, get_or_from_slice_get, same_Some, slice_get-get_or, slice_get_within, bytes_eq-Decides, filter-append, selects_path, Names, all_zip_push, there, selected_begins, selects_behind_byte, selects-front, selects-longer, selects_split, slice_get-front, AreApart, AreTexts, IsNumberOf, has_dot, joined, AreNumbersOf}
 use Rattle.std.proofs.Common.{zero}
 use Rattle.std.proofs.Math.ListN.{get_or-append}
 use Rattle.std.proofs.Math.Seq.{get_or-append_seam}
 use Rattle.std.proofs.lemmas.List.{append-nil, get_or_past}
 use Rattle.vcd_compare.proofs.VariableLemmas.{take_next}
-use Rattle.vcd_compare.specs.Selected.{AreNamedBelow, AreNearest, IsNearest, IsPutInside, both_names, chosen, first_above, is_inside, is_kept, is_one_of, lists_in}
+use Rattle.vcd_compare.specs.Selected.{AreNamedBelow, AreNearest, IsNearest, IsPutInside, both_names, chosen, first_above, is_inside, is_kept, is_one_of, lists_in, selects_number}
 
 -- ---- a path and one inside it
 
@@ -42,8 +42,26 @@ selects_inside u p name plain differs = by_test (selects_path u name) refl
 pub selects_itself : (t : List ℕ) → selects_path t t ≡ true
 selects_itself t = ap (λ b. b || starts_with nat_eq t (t ++ 46 ∷ [])) ((bytes_eq-Decides t t).1 refl)
 
+-- what is selected is the name itself, or what begins with it and a dot
+pub selected_either : (t name : List ℕ) → selects_path t name ≡ true → (t ≡ name) ⊎ ((r : List ℕ) × (t ≡ name ++ 46 ∷ r))
+selected_either t name h =
+    let b = selected_begins t name h in
+    let rest = sym (selects-front name b.0 []) ∙ ap (selects_path (name ++ b.0)) (append-nil name) ∙ ap (λ x. selects_path x name) (sym b.1) ∙ h in
+    elim (behind b.0 rest) [
+      | inl none ↦ inl (b.1 ∙ ap (λ l. name ++ l) none ∙ append-nil name)
+      | inr more ↦ inr (more.0, b.1 ∙ ap (λ l. name ++ l) more.1)
+    ]
+  where
+    behind : (r : List ℕ) → selects_path r [] ≡ true → (r ≡ []) ⊎ ((s : List ℕ) × (r ≡ 46 ∷ s))
+    behind [] h = inl refl
+    behind (x ∷ r) h = by_test (nat_eq 46 x) refl
+      where
+        by_test : (b : Bool) → nat_eq 46 x ≡ b → (x ∷ r ≡ []) ⊎ ((s : List ℕ) × (x ∷ r ≡ 46 ∷ s))
+        by_test true e = inr (r, ap (λ y. y ∷ r) (sym (eqb-true 46 x e)))
+        by_test false e = let no : selects_path (x ∷ r) [] ≡ false = rw e refl in absurd (cc)
+
 -- a path is not inside of what is inside it
-not_turned : (u p : List ℕ) → selects_path u (u ++ 46 ∷ p) ≡ false
+pub not_turned : (u p : List ℕ) → selects_path u (u ++ 46 ∷ p) ≡ false
 not_turned u p =
     false_from_ne_true (selects_path u (u ++ 46 ∷ p)) (λ h.
     let b = selected_begins u (u ++ 46 ∷ p) h in
@@ -133,6 +151,25 @@ module _ (parts : List (List ℕ)) (nodes : List (ℕ × ℕ)) (texts : List (Li
             let text = ap (slice_get texts) (sym same) ∙ there in
             subst (IsNearest texts names t) (sym (ap (λ y. get_or (nearest ++ n ∷ []) y 0) last ∙ get_or-append_seam nearest n [] 0)) (nearest_next i node t nearest mark at text (marks t text) old)
 
+  -- of a path, the other names are those of the path around it
+  pub above_itself : (k : ℕ) (u : List ℕ) → slice_get texts k ≡ Some u → (node : ℕ × ℕ) → slice_get nodes k ≡ Some node → selects_number texts u node.0 ≡ false
+  above_itself k u text node at = let is = are.each k node at in by_around node.0 (same_Some _ _ (sym is.text_is ∙ text))
+    where
+      by_around : (a : ℕ) → joined texts a (are.each k node at).part ≡ u → selects_number texts u a ≡ false
+      by_around zero e = refl
+      by_around (suc j) e = ap (selects_path (get_or texts j [])) (sym e) ∙ not_turned (get_or texts j []) (are.each k node at).part
+
+  pub above_other : (k : ℕ) (u w : List ℕ) → slice_get texts k ≡ Some u → (node : ℕ × ℕ) → slice_get nodes k ≡ Some node → u ≢ w → selects_number texts w node.0 ≡ selects_path u w
+  above_other k u w text node at differs = let is = are.each k node at in by_around node.0 (same_Some _ _ (sym is.text_is ∙ text))
+    where
+      by_around : (a : ℕ) → joined texts a (are.each k node at).part ≡ u → selects_number texts w a ≡ selects_path u w
+      by_around zero e =
+          let is = are.each k node at in
+          sym (false_from_ne_true (selects_path u w) (λ h. differs (plain_selected u w (ap has_dot (sym e) ∙ is.plain) h)))
+      by_around (suc j) e =
+          let is = are.each k node at in
+          sym (selects_inside (get_or texts j []) is.part w is.plain (λ q. differs (sym e ∙ q))) ∙ ap (λ x. selects_path x w) e
+
 -- ---- what is left out
 
 none_selects : (t : List ℕ) (es : List (List ℕ)) → ((w : List ℕ) → is_one_of es w ≡ true → selects_path t w ≡ false) → list_any (selects_path t) es ≡ false
@@ -165,11 +202,6 @@ not_zero (suc n) some = refl
 
 -- ---- the lists of what is inside
 
--- the name selects the path with this number
-abbrev pub selects_number : List (List ℕ) → List ℕ → ℕ → Bool
-selects_number texts w zero = false
-selects_number texts w (suc i) = selects_path (get_or texts i []) w
-
 module _ (parts : List (List ℕ)) (nodes : List (ℕ × ℕ)) (texts : List (List ℕ)) (are : AreTexts parts nodes texts) (names : List (List ℕ)) (nearest : List ℕ) (near : AreNearest texts names (length texts) nearest) where
   -- the names that select a path are those that select the nearest one
   nearest_selects : (around : ℕ) (w : List ℕ) → around ≤ length texts → is_one_of names w ≡ true → selects_number texts w around ≡ selects_number texts w (get_or nearest around 0)
@@ -192,25 +224,6 @@ module _ (parts : List (List ℕ)) (nodes : List (ℕ × ℕ)) (texts : List (Li
       by_nearest : (m : ℕ) → IsNearest texts names (get_or texts i []) m → m ≢ 0 → (u : List ℕ) × IsNumberOf texts m u × (is_one_of names u ≡ true)
       by_nearest zero is some = absurd (some refl)
       by_nearest (suc j) is some = (is.0, (j, refl, is.1), is.2)
-
-  -- of a path, the other names are those of the path around it
-  above_itself : (k : ℕ) (u : List ℕ) → slice_get texts k ≡ Some u → (node : ℕ × ℕ) → slice_get nodes k ≡ Some node → selects_number texts u node.0 ≡ false
-  above_itself k u text node at = let is = are.each k node at in by_around node.0 (same_Some _ _ (sym is.text_is ∙ text))
-    where
-      by_around : (a : ℕ) → joined texts a (are.each k node at).part ≡ u → selects_number texts u a ≡ false
-      by_around zero e = refl
-      by_around (suc j) e = ap (selects_path (get_or texts j [])) (sym e) ∙ not_turned (get_or texts j []) (are.each k node at).part
-
-  above_other : (k : ℕ) (u w : List ℕ) → slice_get texts k ≡ Some u → (node : ℕ × ℕ) → slice_get nodes k ≡ Some node → u ≢ w → selects_number texts w node.0 ≡ selects_path u w
-  above_other k u w text node at differs = let is = are.each k node at in by_around node.0 (same_Some _ _ (sym is.text_is ∙ text))
-    where
-      by_around : (a : ℕ) → joined texts a (are.each k node at).part ≡ u → selects_number texts w a ≡ selects_path u w
-      by_around zero e =
-          let is = are.each k node at in
-          sym (false_from_ne_true (selects_path u w) (λ h. differs (plain_selected u w (ap has_dot (sym e) ∙ is.plain) h)))
-      by_around (suc j) e =
-          let is = are.each k node at in
-          sym (selects_inside (get_or texts j []) is.part w is.plain (λ q. differs (sym e ∙ q))) ∙ ap (λ x. selects_path x w) e
 
   -- the lists have the index where a name selects what is around it, but not what is left to go up
   pub record IsPutting (around index number : ℕ) (old new : List (Vec ℕ)) : Type 0 where
@@ -270,10 +283,10 @@ module _ (parts : List (List ℕ)) (nodes : List (ℕ × ℕ)) (texts : List (Li
       here w = ap (λ x. selects_path x w) (get_or_from_slice_get texts k u [] text)
 
       other : (w : List ℕ) → is_one_of names w ≡ true → bytes_eq u w ≡ false → selects_number texts w next ≡ selects_number texts w (suc k)
-      other w one q = above w one ∙ above_other k u w text node at (λ e. let yes = (bytes_eq-Decides u w).1 e in absurd (cc)) ∙ sym (here w)
+      other w one q = above w one ∙ above_other parts nodes texts are k u w text node at (λ e. let yes = (bytes_eq-Decides u w).1 e in absurd (cc)) ∙ sym (here w)
 
       itself : (w : List ℕ) → is_one_of names w ≡ true → bytes_eq u w ≡ true → selects_number texts w next ≡ false
-      itself w one q = above w one ∙ ap (λ x. selects_number texts x node.0) (sym ((bytes_eq-Decides u w).0 q)) ∙ above_itself k u text node at
+      itself w one q = above w one ∙ ap (λ x. selects_number texts x node.0) (sym ((bytes_eq-Decides u w).0 q)) ∙ above_itself parts nodes texts are k u text node at
 
       by_same : (w : List ℕ) → is_one_of names w ≡ true → selects_number texts w next ≡ true → (b : Bool) → bytes_eq u w ≡ b → selects_number texts w around ≡ true
       by_same w one h true q = let no = itself w one q in absurd (cc)

@@ -1,5 +1,5 @@
 -- Pairs of a path and a range, one more at a time, and how they are found.
-use Rattle.vcd_compare.proofs.Cited.{◌≡◌, ◌≢◌, ℕ, suc, ◌==◌, ◌&&◌, Bool, true, false, if◌then◌else◌, List, [], ◌∷◌, ◌++◌, length, slice_get, position, bytes_eq, Option, Some, None, inl, inr, refl, sym, ap, ap₂, subst, ◌∙◌, arith, AllZip, list_any, position_or_len, same_Some, bytes_eq-Decides, append-nil, and_from, and_parts, eq-eqb, eqb-true, ne_eqb, slice_get-front, slice_get-seam, all_zip_push, AreApart, EntersText, IsNumberOf, EntersSlice, HasSlices, IsSlice, looked_up, same_key, Slices, texts_in}
+use Rattle.vcd_compare.proofs.Cited.{◌≡◌, ◌≢◌, ℕ, suc, ◌==◌, ◌&&◌, Bool, true, false, if◌then◌else◌, List, [], ◌∷◌, ◌++◌, length, slice_get, position, bytes_eq, Option, Some, None, inl, inr, refl, sym, ap, ap₂, subst, ◌∙◌, arith, AllZip, list_any, position_or_len, same_Some, bytes_eq-Decides, append-nil, and_from, and_parts, eq-eqb, ne_eqb, slice_get-front, slice_get-seam, all_zip_push, AreApart, EntersText, IsNumberOf, EntersSlice, HasSlices, IsSlice, looked_up, same_key, Slices, texts_in}
 use Rattle.std.proofs.Common.{zero}
 use Rattle.vcd_compare.proofs.PathTexts.{at_most, first_passes, is_same, none_first, not_there, position_none, position_passes, same_is}
 

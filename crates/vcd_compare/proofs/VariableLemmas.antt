@@ -1,10 +1,9 @@
 -- The variables of a header, one row after the other, and how they are found.
-use Rattle.vcd_compare.proofs.Cited.{◌≡◌, ◌≢◌, ℕ, suc, ◌+◌, ◌<◌, ◌==◌, ◌&&◌, nat_eq, Bool, true, false, cond, if◌then◌else◌, List, [], ◌∷◌, ◌++◌, length, take, set, get_or, slice_get, filter, filter_map, filter-append, count_by, bytes_eq, Some, inl, inr, refl, sym, ap, subst, ◌∙◌, arith, AllZip, list_any, eq-eqb, eqb-false, eqb-true, ne_eqb, get_or-set_other, get_or-set_same, length-set, filter_map-append, sum_by-append, sum_by-cons, same_Some, slice_get_within, bytes_eq-Decides, each, each_after, Declaration, Variable, path_of, Header, Selected, with_path, Named, named_after, each_after-append, IdCode, IsRow, Row, all_zip_push, slice_get-front, slice_get-seam, AreApart, IsNumberOf, EntersSlice, HasSlices, AddsVariable, AreCounted, AreUsers, HasSome, HasUsers, IsKeyOf, IsNamedAt, IsPathOf, is_alike, named_in, range_of, same_key, slice_of, those_at, used_by, Users, Variables}
+use Rattle.vcd_compare.proofs.Cited.{◌≡◌, ◌≢◌, ℕ, suc, ◌+◌, ◌<◌, ◌==◌, ◌&&◌, nat_eq, Bool, true, false, cond, if◌then◌else◌, List, [], ◌∷◌, ◌++◌, length, take, set, get_or, slice_get, filter_map, filter-append, count_by, bytes_eq, Some, inl, inr, refl, sym, ap, subst, ◌∙◌, arith, AllZip, list_any, eq-eqb, eqb-false, eqb-true, ne_eqb, get_or-set_other, get_or-set_same, length-set, filter_map-append, sum_by-append, sum_by-cons, same_Some, slice_get_within, bytes_eq-Decides, each, each_after, Declaration, Variable, path_of, Header, Selected, with_path, Named, named_after, each_after-append, IdCode, IsRow, Row, all_zip_push, slice_get-front, slice_get-seam, AreApart, IsNumberOf, HasSlices, AddsVariable, AreCounted, AreUsers, HasSome, HasUsers, IsKeyOf, IsNamedAt, IsPathOf, is_alike, named_in, range_of, same_key, slice_of, those_at, used_by, Users, Variables}
 use Rattle.std.proofs.Common.{zero}
 use Rattle.std.proofs.lemmas.List.{append-nil}
 use Rattle.vcd_model.specs.Selection.{selected}
 use Rattle.vcd_view.specs.declared.view.Kind.TheVariants as kind
-use Rattle.vcd_compare.specs.declared.variables.Users.TheVariants as Users
 use Rattle.vcd_compare.proofs.PathTexts.{at_most}
 use Rattle.vcd_compare.proofs.SliceLemmas.{same_len, same_slice, zip_weaker}
 

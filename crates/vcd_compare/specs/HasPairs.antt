@@ -1,5 +1,5 @@
 -- The pairs while they are made: what is held of some places, and the classes by their codes.
-use Rattle.std.specs.Prelude.{◌≡◌, ℕ, not, cond, is_none, List, [], ◌∷◌, ◌++◌, filter, filter_map, length, Option, Some, None}
+use Rattle.std.specs.Prelude.{◌≡◌, ℕ, ◌+◌, not, cond, is_none, List, [], ◌∷◌, ◌++◌, filter, filter_map, length, Option, Some, None}
 use Rattle.std.specs.Global.{Vec}
 use Rattle.std.specs.List.{AllZip}
 use Rattle.vcd_model.specs.Header.{Header}
@@ -8,8 +8,9 @@ use Rattle.vcd_model.specs.Within.{Names, pair_at}
 use Rattle.vcd_compare.specs.Classes.{HasClasses}
 use Rattle.vcd_compare.specs.Pairs.{HoldsPairs}
 use Rattle.vcd_compare.specs.Paths.{HasTexts, IsNumberOf}
+use Rattle.vcd_compare.specs.declared.pairs.Numbered.{Numbered}
 use Rattle.vcd_compare.specs.declared.pairs.Pairs.{Pairs}
-use Rattle.vcd_compare.specs.Selected.{AreInside, both_names}
+use Rattle.vcd_compare.specs.Selected.{AreInside, AreNamedBelow, both_names}
 use Rattle.vcd_compare.specs.Variables.{AreVariables}
 use Rattle.vcd_compare.specs.declared.paths.Paths.{Paths}
 use Rattle.vcd_compare.specs.declared.variables.Variables.{Variables}
@@ -54,3 +55,12 @@ pub record HasSelected (paths : Paths) (vs : Variables) (lists : List (Vec ℕ))
   pub has : HasTexts paths texts
   pub are : AreVariables h texts vs
   pub inside : AreInside texts (both_names ns) q.exceptions vs.paths.items (length vs.paths.items) lists
+
+-- the paths of these names and of the declarations have numbers
+pub record IsNumbered (all : Numbered) (h : Header) (q : Asked) (ns : List Names) : Type 0 where
+  pub texts : List (List ℕ)
+  pub has : HasTexts all.paths texts
+  pub are : AreVariables h texts all.variables
+  pub names : AllZip (AreNumbersOf texts) all.names.items ns
+  pub below : AreNamedBelow texts (both_names ns) (all.named + 1)
+  pub exceptions : AllZip (IsNumberOf texts) all.exceptions.items q.exceptions

@@ -8,10 +8,12 @@ pub mod Pairs
 pub mod Run
 pub mod Paths
 pub mod Slices
+pub mod Unselected
 pub mod Variables
 pub mod Selected
 pub mod Counterparts
 pub mod Kinds
 pub mod Classes
 pub mod HasPairs
+pub mod Outermost
 pub mod Outcomes

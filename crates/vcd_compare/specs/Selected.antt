@@ -35,6 +35,11 @@ abbrev pub is_inside : (texts es : List (List ℕ)) → List ℕ → ℕ → Boo
 is_inside texts es w zero = false
 is_inside texts es w (suc i) = is_kept es (get_or texts i []) && selects_path (get_or texts i []) w
 
+-- the name selects the path with this number
+abbrev pub selects_number : List (List ℕ) → List ℕ → ℕ → Bool
+selects_number texts w zero = false
+selects_number texts w (suc i) = selects_path (get_or texts i []) w
+
 -- the numbers below a bound that pass, in order
 abbrev pub chosen : (ℕ → Bool) → ℕ → List ℕ
 chosen f zero = []

@@ -11,7 +11,6 @@ use Rattle.vcd_compare.specs.Paths.{AreApart, HasTexts, IsNumberOf}
 use Rattle.vcd_compare.specs.Slices.{EntersSlice, HasSlices}
 use Rattle.vcd_compare.specs.declared.paths.Paths.{Paths}
 use Rattle.vcd_compare.specs.declared.variables.Users.{Users}
-use Rattle.vcd_compare.specs.declared.variables.Users.TheVariants as Users
 use Rattle.vcd_compare.specs.declared.variables.Variables.{Variables}
 
 -- the variable is declared at this row, and has this path

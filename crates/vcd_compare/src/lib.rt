@@ -9,7 +9,8 @@
 //! - `asked`: `Asked`, `Extent`
 //! - `paths`, `slices`, `variables`: the paths of a header by number, with and without ranges, and its
 //!   variables by these
-//! - `selected`: what each of some names selects; `unselected`: which of them select nothing
+//! - `selected`: what each of some names selects; `unselected`: which of them select nothing;
+//!   `outermost`: which of them no other one covers
 //! - `counterparts`, `kinds`: what a variable is compared with, and whether it is of the same kind
 //! - `pairs`: `Pairs`, `pairs_of`
 //! - `current`, `values`: the current states of all codes, and whether two of them match
@@ -28,6 +29,7 @@ mod flags;
 mod kinds;
 pub mod laws;
 mod lines;
+mod outermost;
 mod pairs;
 mod paths;
 mod rows;

@@ -1,19 +1,21 @@
 //! Which variables are compared: the pairs that names make of a header's variables.
-ghost use Rattle.std.specs.Prelude.{◌≡◌, ◌<◌, ◌++◌, ◌∷◌, [], ℕ, List, Some, length, map, slice_get, IfOk};
+ghost use Rattle.std.specs.Prelude.{◌≡◌, ◌<◌, ◌^◌, ◌++◌, ◌∷◌, [], ℕ, List, Some, length, map, slice_get, IfErr, IfOk, None};
 ghost use Rattle.std.specs.List.{AllZip};
 ghost use Rattle.vcd_model.specs.Compare.{Asked, Named, Pair, all_named};
 ghost use Rattle.vcd_model.specs.Declarations.{Declaration};
 ghost use Rattle.vcd_model.specs.Header.{Header};
-ghost use Rattle.vcd_model.specs.Within.{Names, alone_in, compared_in, unlike_in};
+ghost use Rattle.vcd_model.specs.Within.{Names, alone_in, compared_in, outermost, unlike_in, unselected};
 ghost use Rattle.vcd_view.specs.Views.{IsViewOf};
 ghost use Rattle.vcd_compare.specs.Classes.{AddsEnd, EntersClass, HasClasses};
 ghost use Rattle.vcd_compare.specs.Counterparts.{AreSelected, FindPlaces, IsNth, place_of, selected_in};
 ghost use Rattle.vcd_compare.specs.Paths.{HasTexts};
 ghost use Rattle.vcd_compare.specs.Pairs.{AreFew, ArePairs, IsNamedAt, IsShownAt, names_in};
-ghost use Rattle.vcd_compare.specs.HasPairs.{AreNumbersOf, EntersNames, EntersTexts, HasPairs, HasSelected, alone_at, compared_at, compared_of, unlike_at, unlike_of};
+ghost use Rattle.vcd_compare.specs.Unselected.{IsFaultOf};
+ghost use Rattle.vcd_compare.specs.HasPairs.{AreNumbersOf, EntersNames, EntersTexts, HasPairs, HasSelected, IsNumbered, alone_at, compared_at, compared_of, unlike_at, unlike_of};
 
 use crate::counterparts::{Places, counterpart_of, place_paths, shows_range};
 use crate::kinds::{code_of, is_same_kind, kind_of};
+use crate::outermost::outermost;
 use crate::paths::{Paths, enter_path};
 use crate::selected::{list_at, selected_by};
 use crate::unselected::{PairsFault, refuse_unselected};
@@ -74,9 +76,21 @@ pub struct Pairs {
     pub(crate) unlike: Vec<UnlikeRows>,
 }
 
-/// Returns the pairs that these names make of the variables of a header. The variables that one of
-/// `exceptions` selects are left out. The time grows with the header, the names, and for each name
-/// the variables that it selects and the paths above them inside the name.
+// Names and the variables of a header, by the numbers of their paths.
+#[derive(Drop)]
+struct Numbered {
+    paths: Paths,
+    names: Vec<(usize, usize)>,
+    // The greatest number of a name, or more.
+    named: usize,
+    exceptions: Vec<usize>,
+    variables: Variables,
+}
+
+/// Returns the pairs that these names make of the variables of a header, each pair once. The
+/// variables that one of `exceptions` selects are left out. The time grows with the header, the
+/// names, and for each name that no other one covers the variables that it selects and the paths
+/// above them inside the name.
 ///
 /// # Errors
 ///
@@ -88,20 +102,62 @@ pub fn pairs_of(
     names: &[NamePair],
     exceptions: &[Vec<u8>],
 ) -> Result<Pairs, PairsFault>
-    ensures { IfOk result (λ ps. (h : Header) (q : Asked) → IsViewOf view.entry h
+    ensures pairs { IfOk result (λ ps. (h : Header) (q : Asked) → IsViewOf view.entry h
         → q.exceptions ≡ map (λ e. e.items) exceptions.now
-        → ArePairs ps h q (names_in names.now) × AreFew ps h q (names_in names.now)) }
+        → ArePairs ps h q (outermost (names_in names.now))
+        × AreFew ps h q (outermost (names_in names.now))) }
+    ensures selected { IfOk result (λ _. (h : Header) (q : Asked) → IsViewOf view.entry h
+        → q.exceptions ≡ map (λ e. e.items) exceptions.now
+        → unselected q h (names_in names.now) ≡ None) }
+    ensures faults { IfErr result (λ fault. (h : Header) (q : Asked) → IsViewOf view.entry h
+        → q.exceptions ≡ map (λ e. e.items) exceptions.now
+        → IsFaultOf q h (names_in names.now) fault) }
+{
+    let all = number_all(alloc, view, names, exceptions)?;
+    refuse_unselected(
+        alloc,
+        &all.paths,
+        &all.variables,
+        &all.names,
+        &all.exceptions,
+    )?;
+    let names = outermost(alloc, view.seed, &all.paths, &all.names)?;
+    let lists = selected_by(
+        alloc,
+        &all.paths,
+        &all.variables,
+        &names,
+        all.named,
+        &all.exceptions,
+    )?;
+    Ok(pairs_between(alloc, view, &all.paths, &all.variables, &lists, &names)?)
+}
+
+/// Returns the paths of these names and of the declarations of a header, each with a number.
+fn number_all(
+    alloc: Global,
+    view: HeadView<'_>,
+    names: &[NamePair],
+    exceptions: &[Vec<u8>],
+) -> Result<Numbered, AllocError>
+    ensures named { IfOk result (λ all. all.named < 2 ^ 63) }
+    ensures numbered { IfOk result (λ all. (h : Header) (q : Asked) → IsViewOf view.entry h
+        → q.exceptions ≡ map (λ e. e.items) exceptions.now
+        → IsNumbered all h q (names_in names.now)) }
 {
     let mut paths = Paths::new(alloc, view.seed);
-    let numbers = number_names(alloc, names, &mut paths)?;
+    let names = number_names(alloc, names, &mut paths)?;
     let named = paths.nodes.len();
     let exceptions = number_texts(alloc, exceptions, &mut paths)?;
     let rows = number_rows(alloc, view, &mut paths)?;
     let variables = variables_of(alloc, view, &rows, paths.nodes.len())?;
-    drop(rows);
-    refuse_unselected(alloc, &paths, &variables, &numbers, &exceptions)?;
-    let lists = selected_by(alloc, &paths, &variables, &numbers, named, &exceptions)?;
-    Ok(pairs_between(alloc, view, &paths, &variables, &lists, &numbers)?)
+    Ok(Numbered {
+        paths,
+        names,
+        named,
+        exceptions,
+        variables,
+    })
 }
 
 /// Returns the pairs that names make of the variables of a header: `numbers` are those of the

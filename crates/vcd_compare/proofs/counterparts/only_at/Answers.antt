@@ -1,5 +1,4 @@
-use Rattle.vcd_compare.proofs.Cited.{List, get_or, sym, ap, subst, ◌∙◌, Users, IsFound, all_named, only_at}
-use Rattle.vcd_compare.specs.declared.variables.Users.TheVariants as Users
+use Rattle.vcd_compare.proofs.Cited.{get_or, sym, ap, subst, ◌∙◌, Users, IsFound, all_named, only_at}
 use Rattle.vcd_compare.proofs.Facts.{only_is}
 use Rattle.vcd_compare.proofs.counterparts.only_at.Goals as goal
 

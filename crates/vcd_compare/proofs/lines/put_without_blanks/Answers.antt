@@ -1,4 +1,4 @@
-use Rattle.vcd_compare.proofs.Cited.{◌≡◌, Err, sym, ap, subst, ◌∙◌, arith, append-nil, rules, Appends, AppendsSome, counted, get_or, flat_map, take_all, slice_get-get_or, no_blanks}
+use Rattle.vcd_compare.proofs.Cited.{◌≡◌, Err, sym, ap, subst, ◌∙◌, arith, append-nil, rules, Appends, AppendsSome, counted, get_or, flat_map, take_all, slice_get-get_or}
 use Rattle.vcd_compare.proofs.Facts.{byte_of, bytes_of, lines_cut, lines_more}
 use Rattle.vcd_compare.proofs.lines.put_without_blanks.Goals as goal
 

@@ -1,31 +1,44 @@
-use Rattle.vcd_compare.proofs.Cited.{◌+◌, ◌++◌, [], ℕ, length, map, sym, subst, ◌∙◌, Vec, AllZip, AreApart, AreInside, AreNamedBelow, AreNumbersOf, AreNumbered, IsNumberOf, both_names, names_in}
-use Rattle.std.proofs.lemmas.List.{append_assoc}
-use Rattle.vcd_compare.proofs.Facts.{few_kept, paths_within, named_below, texts_stay, zip_stays}
+use Rattle.vcd_compare.proofs.Cited.{◌+◌, length, sym, subst, AllZip, AreInside, AreNumbersOf, IsNumberOf, both_names, names_in}
+use Rattle.std.proofs.lemmas.Result.{err_from_is_err_and}
+use Rattle.vcd_compare.proofs.Facts.{few_kept, outermost_below, paths_within}
 use Rattle.vcd_compare.proofs.pairs.pairs_of.Goals as goal
+use Rattle.vcd_model.specs.Within.{outermost}
 
-pub returns : goal.returns
-returns c = λ h q view except.
-    let ps = c.in_ok-pairs_between.field-0 in
+pub returns-clause-pairs : goal.returns-clause-pairs
+returns-clause-pairs c = λ h q view except.
     let ns = names_in c.args.names.now in
-    let es = map (λ (e : Vec ℕ). e.items) c.args.exceptions.now in
-    let vs = c.in_ok-variables.variables in
-    let named = c.in_ok-numbers.ensures [] c.new-paths.ensures in
-    let known = [] ++ named.0 in
-    let left = c.in_ok-exceptions.ensures known named.1 in
-    let entered = known ++ left.0 in
-    let rows = c.in_ok-rows.ensures h entered view left.1 in
-    let texts = entered ++ rows.0 in
-    let has = rows.1 in
-    let header = c.in_ok-variables.ensures h texts view (subst (λ l. AreNumbered h texts l (length h.declarations)) (sym c.deref.ensures.value) rows.2) has.apart (has.len ∙ sym c.len.ensures.len) in
-    let numbers = zip_stays entered rows.0 c.in_ok-numbers.numbers.items ns (zip_stays known left.0 c.in_ok-numbers.numbers.items ns named.2) in
-    let numbers_below = named_below known (left.0 ++ rows.0) c.in_ok-numbers.numbers.items ns (subst AreApart (append_assoc known left.0 rows.0) has.apart) named.2 in
-    let below : AreNamedBelow texts (both_names ns) (c.len-named.result + 1) =
-    subst (λ ts. AreNamedBelow ts (both_names ns) (c.len-named.result + 1)) (sym (append_assoc known left.0 rows.0))
-    (subst (λ n. AreNamedBelow (known ++ (left.0 ++ rows.0)) (both_names ns) (n + 1)) (named.1.len ∙ sym c.len-named.ensures.len) numbers_below) in
-    let inside = c.in_ok-lists.ensures texts es ns has below (paths_within h texts vs header) (subst (λ l. AllZip (AreNumbersOf texts) l ns) (sym c.deref-4.ensures.value) numbers) (subst (λ l. AllZip (IsNumberOf texts) l es) (sym c.deref-5.ensures.value) (texts_stay entered rows.0 c.in_ok-exceptions.exceptions.items es left.2)) in
-    let are = c.in_ok-pairs_between.ensures q h ns texts view (record {
-      has = has;
-      are = header;
-      inside = subst (λ ls. AreInside texts (both_names ns) q.exceptions vs.paths.items (length vs.paths.items) ls) (sym c.deref-6.ensures.value) (subst (λ l. AreInside texts (both_names ns) l vs.paths.items (length vs.paths.items) c.in_ok-lists.lists.items) (sym except) inside);
-    }) (subst (λ l. AllZip (AreNumbersOf texts) l ns) (sym c.deref-7.ensures.value) numbers) in
-    (are, few_kept ps h q ns are)
+    let all = c.in_ok-all.all in
+    let vs = all.variables in
+    let a = c.in_ok-all.ensures.numbered h q view except in
+    let out = c.in_ok-names.ensures a.texts ns a.has (subst (λ l. AllZip (AreNumbersOf a.texts) l ns) (sym c.deref-3.ensures.value) a.names) in
+    let inside = c.in_ok-lists.ensures a.texts q.exceptions (outermost ns) a.has (outermost_below a.texts ns (all.named + 1) a.below) (paths_within h a.texts vs a.are)
+    (subst (λ l. AllZip (AreNumbersOf a.texts) l (outermost ns)) (sym c.deref-4.ensures.value) out) (subst (λ l. AllZip (IsNumberOf a.texts) l q.exceptions) (sym c.deref-5.ensures.value) a.exceptions) in
+    let are = c.in_ok-pairs_between.ensures q h (outermost ns) a.texts view (record {
+      has = a.has;
+      are = a.are;
+      inside = subst (λ ls. AreInside a.texts (both_names (outermost ns)) q.exceptions vs.paths.items (length vs.paths.items) ls) (sym c.deref-6.ensures.value) inside;
+    }) (subst (λ l. AllZip (AreNumbersOf a.texts) l (outermost ns)) (sym c.deref-7.ensures.value) out) in
+    (are, few_kept c.in_ok-pairs_between.field-0 h q (outermost ns) are)
+
+pub returns-clause-selected : goal.returns-clause-selected
+returns-clause-selected c = λ h q view except.
+    let ns = names_in c.args.names.now in
+    let a = c.in_ok-all.ensures.numbered h q view except in
+    c.in_ok-refuse_unselected.ensures.selected q h ns a.texts a.has a.are (subst (λ l. AllZip (AreNumbersOf a.texts) l ns) (sym c.deref.ensures.value) a.names) (subst (λ l. AllZip (IsNumberOf a.texts) l q.exceptions) (sym c.deref-2.ensures.value) a.exceptions)
+
+pub returns-in_err-refuse_unselected-clause-faults : goal.returns-in_err-refuse_unselected-clause-faults
+returns-in_err-refuse_unselected-clause-faults c =
+    let p = err_from_is_err_and c.from_residual-in_err-refuse_unselected.result c.from_residual-in_err-refuse_unselected.ensures.1 in
+    rw (p.1, p.2) (λ h q view except.
+    let ns = names_in c.args.names.now in
+    let a = c.in_ok-all.ensures.numbered h q view except in
+    c.in_err-refuse_unselected.ensures.faults q h ns a.texts a.has a.are (subst (λ l. AllZip (AreNumbersOf a.texts) l ns) (sym c.deref.ensures.value) a.names) (subst (λ l. AllZip (IsNumberOf a.texts) l q.exceptions) (sym c.deref-2.ensures.value) a.exceptions))
+
+pub returns-in_err-names-clause-faults : goal.returns-in_err-names-clause-faults
+returns-in_err-names-clause-faults c = let p = err_from_is_err_and c.from_residual-in_err-names.result c.from_residual-in_err-names.ensures.1 in rw (p.1, p.2) (λ h q view except. tt)
+
+pub returns-in_err-lists-clause-faults : goal.returns-in_err-lists-clause-faults
+returns-in_err-lists-clause-faults c = let p = err_from_is_err_and c.from_residual-in_err-lists.result c.from_residual-in_err-lists.ensures.1 in rw (p.1, p.2) (λ h q view except. tt)
+
+pub returns-in_err-pairs_between-clause-faults : goal.returns-in_err-pairs_between-clause-faults
+returns-in_err-pairs_between-clause-faults c = let p = err_from_is_err_and c.from_residual-in_err-pairs_between.result c.from_residual-in_err-pairs_between.ensures.1 in rw (p.1, p.2) (λ h q view except. tt)

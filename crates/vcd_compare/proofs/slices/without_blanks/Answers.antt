@@ -1,4 +1,4 @@
-use Rattle.vcd_compare.proofs.Cited.{◌≡◌, ◌==◌, ◌++◌, ◌∷◌, [], not, ℕ, List, get_or, take, filter-append, slice_get-get_or, sym, ap, ◌∙◌, arith, no_blanks, take_all}
+use Rattle.vcd_compare.proofs.Cited.{◌==◌, ◌++◌, ◌∷◌, [], not, ℕ, List, get_or, take, filter-append, slice_get-get_or, sym, ap, ◌∙◌, arith, no_blanks, take_all}
 use Rattle.vcd_compare.proofs.Facts.{take_one}
 use Rattle.vcd_compare.proofs.slices.without_blanks.Goals as goal
 

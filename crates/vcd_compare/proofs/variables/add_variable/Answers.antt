@@ -1,5 +1,4 @@
-use Rattle.vcd_compare.proofs.Cited.{◌≡◌, ◌==◌, ◌++◌, ◌∷◌, [], if◌then◌else◌, ℕ, List, suc, cond, arith, length, vec_len, get_or, list_any, set, sym, ap, subst, ◌∙◌, same_key, used_by, Users}
-use Rattle.vcd_compare.specs.declared.variables.Users.TheVariants as Users
+use Rattle.vcd_compare.proofs.Cited.{◌≡◌, ◌==◌, ◌++◌, ◌∷◌, [], if◌then◌else◌, suc, cond, arith, length, vec_len, get_or, list_any, set, ap, ◌∙◌, same_key, used_by, Users}
 use Rattle.vcd_compare.proofs.variables.add_variable.Goals as goal
 
 pub returns : goal.returns

@@ -1,5 +1,5 @@
-use Rattle.vcd_compare.proofs.Cited.{◌≡◌, ◌++◌, ◌∷◌, [], ℕ, suc, cond, get_or, set, sym, ap, ◌∙◌}
-use Rattle.vcd_compare.proofs.Facts.{counted_at, zero_behind}
+use Rattle.vcd_compare.proofs.Cited.{get_or, ap, ◌∙◌}
+use Rattle.vcd_compare.proofs.Facts.{zero_behind}
 use Rattle.vcd_compare.proofs.variables.count_one.Goals as goal
 
 pub loop-counts-preserved : goal.loop-counts-preserved
