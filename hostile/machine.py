@@ -154,12 +154,18 @@ def transcript():
 
 
 def stored_runs(program):
-    """The stored runs again, with their error streams, each on a standard input of its own."""
+    """The stored runs again, with their error streams, each on a standard input of its own. Lines
+    that begin with the name of the other program, which is beside this one, are for that."""
+    name = b"vcdkit-compare"
+    other = Program(os.path.join(os.path.dirname(program.path), name.decode()))
     folder = os.path.join(CRATES, "run_words")
     with open(os.path.join(folder, "stdin"), "rb") as f:
         given = f.read()
     for line, want in transcript():
-        got = program.run(line.split(), os.path.join(folder, "data"), given)
+        words, run = line.split(), program.run
+        if words[:1] == [name]:
+            words, run = words[1:], other.run
+        got = run(words, os.path.join(folder, "data"), given)
         yield "the stored run %r" % line, [want], got
     folder = os.path.join(CRATES, "vcdkit_main")
     with open(os.path.join(folder, "args")) as a, open(os.path.join(folder, "stdout"), "rb") as o:

@@ -1,16 +1,17 @@
-//! A stored run of the program on the machine: command lines of fixed words, one after the other.
+//! A stored run of both programs on the machine: command lines of fixed words, one after the other.
 //! It prints each line, what the program writes to standard output for it, its status, and what it
-//! writes to the error stream. At the end it runs the program on its own arguments and its own
+//! writes to the error stream. At the end it runs `vcdkit` on its own arguments and its own
 //! standard error, and prints how much was written there.
 #![tactic(auto)]
 
 use std::alloc::{AllocError, Global};
 use std::io::Write;
 use std::{fs, io};
-use vcd_program::{Vcdkit, run_on_machine, run_words_on_machine};
+use vcd_program::{Program, Vcdkit, run_on_machine, run_words_on_machine};
 use vcd_text::Watch;
+use vcdkit_compare::VcdkitCompare;
 
-/// The command lines, without the program's name.
+/// The command lines of `vcdkit`, without its name.
 const LINES: [&str; 13] = [
     "list",
     "check -i a.vcd",
@@ -27,23 +28,32 @@ const LINES: [&str; 13] = [
     "check --help",
 ];
 
+/// The command lines of `vcdkit-compare`, without its name.
+const COMPARED: [&str; 6] = [
+    "--first --x-of-b -i two.vcd in1=in2",
+    "--from 1 --to 6 --except in1.b -i two.vcd in1=in2",
+    "--always --x-of-a -i two.vcd in1=in2",
+    "--from 10 -i two.vcd in1=in2",
+    "-i two.vcd in1=in3",
+    "-i none.vcd in1=in2",
+];
+
 /// Returns the words of a command line, the program's name first.
-fn words_of(alloc: Global, line: &str) -> Result<Vec<String>, AllocError> {
+fn words_of(alloc: Global, name: &str, line: &str) -> Result<Vec<String>, AllocError> {
     let mut words = Vec::new(alloc);
-    words.push(String::from_str(alloc, "vcdkit")?)?;
+    words.push(String::from_str(alloc, name)?)?;
     for word in line.split_whitespace() {
         words.push(String::from_str(alloc, word)?)?;
     }
     Ok(words)
 }
 
-/// Runs the program on a command line, and prints the line, what the program writes to standard
-/// output, its status, and what it writes to the error stream.
-fn run_line(rt: &HostRuntime, line: &str) -> io::Result<()> {
-    println!(rt; "$ {line}")?;
-    let words = words_of(rt.alloc(), line)?;
+/// Runs the program of this name on a command line, and prints what it writes to standard output,
+/// its status, and what it writes to the error stream.
+fn run_line<P: Program>(rt: &HostRuntime, name: &str, line: &str) -> io::Result<()> {
+    let words = words_of(rt.alloc(), name, line)?;
     let mut said = Watch::new(Vec::new(rt.alloc()));
-    let status = run_words_on_machine::<Vcdkit, _>(rt, words.as_slice(), &mut said);
+    let status = run_words_on_machine::<P, _>(rt, words.as_slice(), &mut said);
     println!(rt; "status {status}")?;
     rt.stdout().write_all(said.device.as_slice())
 }
@@ -76,7 +86,12 @@ fn run_arguments(rt: &HostRuntime) -> io::Result<()> {
 
 fn main(rt: HostRuntime) -> io::Result<()> {
     for line in LINES {
-        run_line(&rt, line)?;
+        println!(rt; "$ {line}")?;
+        run_line::<Vcdkit>(&rt, "vcdkit", line)?;
+    }
+    for line in COMPARED {
+        println!(rt; "$ vcdkit-compare {line}")?;
+        run_line::<VcdkitCompare>(&rt, "vcdkit-compare", line)?;
     }
     run_arguments(&rt)
 }

@@ -45,8 +45,8 @@ module _ (q : Asked) (h : Header) (ns : List Names) where
       let rest = open_more (items ++ x ∷ []) more up' in
       (one.0 ++ rest.0, ap (within_open q h ns) next ∙ rest.1 ∙ ap (λ l. l ++ rest.0) one.1 ∙ append_assoc (within_open q h ns items) one.0 rest.0)
 
-  -- no item takes a line back, and none behind those that end a run counts
-  sound : IsSound (plan_within q h ns) h.codes
+  -- no item takes a line back, and none after those that end a run counts
+  pub sound : IsSound (plan_within q h ns) h.codes
   sound limit i front rest items more tokens is =
       let up = subst (λ l. DoNotFall 0 (marks l)) is (body_up h.codes limit i front rest tokens) in
       (open_more items more up, λ ends. ended q h ns items more up ends)
@@ -93,7 +93,7 @@ over_header q limit ns name i front rest placed whole e =
 -- ---- what a body gives
 
 -- the same is left of the input
-left_same : (i : Input) (read : ℕ) (result : Result Answer Stop) → left_of i read (done_of result) ≡ left_of i read result
+pub left_same : (i : Input) (read : ℕ) (result : Result Answer Stop) → left_of i read (done_of result) ≡ left_of i read result
 left_same i read (Ok answer) = refl
 left_same i read (Err (Dump input line fault)) = refl
 left_same i read (Err (Read input)) = refl

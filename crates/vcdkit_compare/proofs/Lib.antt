@@ -1,0 +1,5 @@
+mod WorkLemmas
+mod EndLemmas
+mod BoundLemmas
+mod LineLemmas
+mod ProgramLemmas
