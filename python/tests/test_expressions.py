@@ -57,6 +57,7 @@ class Bench(expressions.Random):
 
     scope, each = "t", 400  # its name in the dump, and how many expressions it has
     begin = 0  # the time from which values are compared
+    has_inside = False  # which Icarus 11 lacks
     is_late = False  # a value of an expression is there at the next edge
 
     def __init__(self, seed: int, is_clocked: bool = False):
@@ -69,7 +70,8 @@ class Bench(expressions.Random):
         # No register stands for stable() and changed() of a real number.
         reals = [] if self.is_clocked or seed % 3 else self._reals()
         super().__init__(self.random, self._leaves(), reals,
-                         self.is_clocked, *((200, "/ % **") if self.is_wide else (64, "")))
+                         self.is_clocked, *((200, "/ % **") if self.is_wide else (64, "")),
+                         has_inside=self.has_inside)
 
     def _leaves(self) -> List[Expression]:
         """Returns variables, and bits of them."""
@@ -182,7 +184,7 @@ class Bench(expressions.Random):
 
     def run(self, folder: str) -> None:
         """Simulates the test bench."""
-        for words in (["iverilog", "-g2005", "-gstrict-expr-width", "-o", "bench", "bench.v"],
+        for words in (["iverilog", "-g2012", "-gstrict-expr-width", "-o", "bench", "bench.v"],
                       ["vvp", "-n", "bench"]):
             done = subprocess.run(words, cwd=folder, stdout=subprocess.DEVNULL,
                                   stderr=subprocess.DEVNULL)
@@ -198,11 +200,11 @@ class Bench(expressions.Random):
 class TwoStates(Bench):
     """A test bench for Verilator. Its values have no x, nor has what is made of them."""
 
-    scope, each, begin, is_late = "TOP.t", 400, 2 * EARLY, True
+    scope, each, begin, is_late, has_inside = "TOP.t", 400, 2 * EARLY, True, True
 
     def __init__(self, seed: int):
         super().__init__(seed, True)
-        self.signs = [sign for sign in self.signs if sign not in ("/", "%", "**")]
+        self.signs = [one for one in self.signs if one not in ("/", "%", "**", "==?", "!=?")]
 
     def _operand(self) -> Expression:
         """Returns a variable, or a number without x and z."""
@@ -213,6 +215,11 @@ class TwoStates(Bench):
         """Returns the number of bits of a shift: Verilator rejects constants of more than 32 bits,
         also those that it finds itself."""
         return self.random.choice([self._past, lambda its: its])(self.random.choice(self.leaves))
+
+    def _parts(self) -> List[Expression]:
+        """Returns constants: Verilator takes no others there, nor behind ==?."""
+        made = iter(super()._parts, None)
+        return next(its for its in made if "t." not in its[0].text)
 
     def _past(self, one: Expression) -> Expression:
         """Returns past(), rose() or the like, as Verilog writes it."""

@@ -63,7 +63,7 @@ class Page(unittest.TestCase):
 
     def test_operators(self):
         words = self.words("### Conditions", "### More questions")
-        functions = {word.partition("(")[0] for word in words if "(" in word}
+        functions = {word.partition("(")[0].lstrip("$") for word in words if "(" in word}
         self.assertEqual(set(LEVELS) - words, set())
         self.assertEqual({sign for sign in UNARY if not words & {sign, sign + "a"}}, set())
         self.assertEqual(set(FUNCTIONS) - functions, set())

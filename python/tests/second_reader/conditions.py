@@ -6,7 +6,7 @@ from typing import Any, List, NamedTuple, Optional, Set, Tuple, Union
 import expressions
 from dumps import Dump, Real, Variable, bare, number
 from expressions import Expression
-from shown import integer, is_known
+from shown import integer, is_known, same
 
 Test = Any  # of a look
 PLAIN = re.compile(r"(?!\d)(?:[^\s\"&|!=<>()+\-*/%^~?:,{}'\[\]]|\[[^\s\]]*\])+\Z")
@@ -69,6 +69,16 @@ def quoted(name: str, is_free: bool = False) -> str:
     return '"%s"' % name if is_free or not PLAIN.match(name) else name
 
 
+def dates(dump: Dump, code: str, last: int) -> List[int]:
+    """Returns the times, up to a last one, at whose ends a code has another value than before."""
+    found, value = [], None
+    for step in dump.steps_in(0, last):
+        if not same(value, step.end.get(code)):
+            found.append(step.time)
+        value = step.end.get(code)
+    return found
+
+
 # ---- Random conditions.
 
 def _names(text: str, name: str) -> bool:
@@ -98,10 +108,11 @@ class Conditions:
             self._busy[item.code] += 1
         self.codes: Set[str] = set()  # those of the conditions since the last reset
         self.events: Set[str] = set()
+        self.ages: Set[Tuple[str, int]] = set()  # codes, and the ages with which they are compared
 
     def reset(self) -> None:
         """Forgets which codes are in the last conditions."""
-        self.codes, self.events = set(), set()
+        self.codes, self.events, self.ages = set(), set(), set()
 
     def busiest(self, its: List[Variable]) -> Variable:
         """Returns one of the variables, often one that changes much."""
@@ -188,6 +199,26 @@ class Conditions:
         # With its range it is a part, which is unsigned.
         is_signed = of.type == "integer" and not re.search(r"\[-?\d+:-?\d+\]$", name)
         return Operand(of, quoted(name, is_quoted), 0, of.size, is_signed)
+
+    def age(self, is_clocked: bool) -> Expression:
+        """Returns a comparison with the time for which a variable has its value, at the end of a
+        time or, with a clock, just before it."""
+        of, dump = self.busiest(self.plain), self.dump
+        gaps = [later - time for time, later in zip(dump.times, dump.times[1:])] or [1]
+        ticks = max(0, self.random.choice(gaps) * self.random.choice([1, 1, 2, 5])
+                    + self.random.choice([0, 0, -1, 1]))
+        self.codes.add(of.code)
+        self.ages |= {(of.code, ticks), (of.code, ticks + 1)}
+
+        def value(look: Any) -> str:
+            its = dates(dump, of.code, look.time - is_clocked) if look else []
+            return expressions.binary(look.time - its[-1], 64) if its else "x" * 64
+        text = dump.time_in(ticks, "fs") + "fs" if dump.scale and self.random.random() < .3 else ""
+        number = expressions.fixed(str(ticks), ticks)
+        return expressions.joined(
+            self.random.choice([*expressions.ORDERS, "==", "!="]),
+            expressions.own("age(%s)" % quoted(self.name(of)), expressions.OPERAND, 64, False, value),
+            number._replace(text=text or number.text))
 
     def _comparison(self, one: Operand) -> Expression:
         """Returns a comparison with a name, with digits or with a number."""

@@ -5,6 +5,7 @@ An expression is asked for its digits in a width and a sign, which its context g
 1, x, z, and - for a signal that has no value yet. A real number is a float; x if it is unknown."""
 import ctypes
 import ctypes.util
+import functools
 import itertools
 import math
 import re
@@ -15,7 +16,7 @@ Look = Any
 Digits = Any  # a str, or a float
 Read = Callable[[Look, int, bool], Digits]
 LEVELS = (("?:",), ("||",), ("&&",), ("|",), ("^", "~^", "^~"), ("&",),
-          ("==", "!=", "===", "!=="), ("<", "<=", ">", ">="), ("<<", ">>", "<<<", ">>>"),
+          ("==", "!=", "===", "!==", "==?", "!=?"), ("<", "<=", ">", ">="), ("<<", ">>", "<<<", ">>>"),
           ("+", "-"), ("*", "/", "%"), ("**",))
 LEVEL = {sign: level for level, signs in enumerate(LEVELS) for sign in signs}
 UNARY, OPERAND = len(LEVELS), len(LEVELS) + 1
@@ -287,6 +288,11 @@ def of_two(sign: str, one: Expression, other: Expression) -> Callable[[Look], st
             is_none = any(isinstance(side, str) and "-" in side for side in its)
             return "x" if is_none else "%d" % ((its[0] == its[1]) == (sign == "==="))
         numbers = [number(side, is_signed) for side in its]
+        if sign in ("==?", "!=?"):
+            pairs = [pair for pair in zip(*its) if pair[1] in "01"]
+            is_other = any({*pair} == {"0", "1"} for pair in pairs)
+            found = "0" if is_other else "x" if any(a not in "01" for a, _ in pairs) else "1"
+            return found if sign == "==?" else inverse(found)
         if sign in ORDERS:
             return "x" if None in numbers else "%d" % ORDERS[sign](*numbers)
         found = "x"
@@ -296,6 +302,27 @@ def of_two(sign: str, one: Expression, other: Expression) -> Callable[[Look], st
             found = "0"
         return found if sign == "==" else inverse(found)
     return value
+
+
+def inside(one: Expression, of: List[List[Expression]]) -> Expression:
+    """Returns `inside`, by clause 11.4.13 of IEEE Std 1800: each of two ends is a range."""
+    tests = [joined("==?", one, *its) if len(its) == 1 else joined(
+        "&&", joined(">=", one, its[0]), joined("<=", one, its[1])) for its in of]
+    texts = ["[%s:%s]" % (its[0].text, its[1].text) if its[1:] else its[0].text for its in of]
+    return own("%s inside {%s}" % (one.inside(LEVEL["<"]), ", ".join(texts)), LEVEL["<"], 1, False,
+               lambda look: functools.reduce(functools.partial(bit, "|"), (
+                   test.own(look) for test in tests)))
+
+
+def counted(name: str, one: Expression) -> Expression:
+    """Returns $countones() or its like, by clause 20.9 of IEEE Std 1800."""
+    def value(look: Look) -> str:
+        digits = one.own(look)
+        ones = digits.count("1")
+        return {"$countones": binary(ones, 32), "$onehot": "01"[ones == 1],
+                "$onehot0": "01"[ones < 2], "$isunknown": "01"[digits.strip("01") != ""]}[name]
+    is_count = name == "$countones"
+    return own("%s(%s)" % (name, one.text), OPERAND, 32 if is_count else 1, is_count, value)
 
 
 def chosen(test: Expression, one: Expression, other: Expression) -> Expression:
@@ -369,6 +396,7 @@ BINARY = [sign for signs in LEVELS[1:] for sign in signs]
 UNSIZED = re.compile(r"(?<![\w'.\[:])\d+(?![\w'])|(?<![\d_])'")  # may not be in {}
 UNKNOWN = re.compile(r"\d*'[sS]?[bodhBODH][\da-fA-F_]*[xzXZ?][\w?]*\Z")  # digits with x or z
 READ_AS = re.compile(r"^(\$(un)?signed\()+|\)+$")
+COUNTS = ["$countones", "$onehot", "$onehot0", "$isunknown"]
 REDUCTIONS = ["&", "~&", "|", "~|", "^", "~^", "^~"]
 
 
@@ -400,11 +428,12 @@ class Random:
     """Makes expressions of some leaves."""
 
     def __init__(self, random: Any, leaves: List[Expression], reals: List[Expression],
-                 has_past: bool = False, max_width: int = 200, without: str = ""):
+                 has_past: bool = False, max_width: int = 200, without: str = "",
+                 has_inside: bool = True):
         self.signs = [sign for sign in BINARY if sign not in without.split()]
         self.random, self.leaves, self.reals = random, leaves, reals
         self.names = {one.text for one in (*leaves, *reals) if not re.match(r"\d", one.text)}
-        self.has_past, self.max_width = has_past, max_width
+        self.has_past, self.max_width, self.has_inside = has_past, max_width, has_inside
 
     def make(self, depth: int) -> Expression:
         """Returns an expression that has bits."""
@@ -435,6 +464,10 @@ class Random:
             return at_edges(random.choice(["stable", "changed"]), random.choice(self.reals))
         if self.has_past and chance < .16:
             return self._past(self.make(depth - 1))
+        if chance < .2:
+            return counted(random.choice(COUNTS), self.make(depth - 1))
+        if chance < .23 and self.has_inside:
+            return inside(self.make(depth - 1), [self._parts() for _ in range(random.randint(1, 3))])
         if chance < .3:
             sign = random.choice(["+", "-", "~", "!", *REDUCTIONS])
             return unary(sign, self.make(depth - 1))
@@ -456,6 +489,16 @@ class Random:
             return self._power(one, other)
         other = self._count(other) if sign in LEVELS[LEVEL["<<"]] else other
         return joined(sign, one, other, random.choice([" ", " ", ""]))
+
+    def _parts(self) -> List[Expression]:
+        """Returns what stands in the braces of `inside`: a value, or the ends of a range."""
+        if self.random.random() < .5:
+            made = iter(self._operand, None)
+            return [next(one for one in made if not re.match(r"\d+\Z", one.text))]
+        width = self.random.choice([2, 4, 8, 40])
+        ends = sorted(self.random.randrange(2**width) for _ in range(2))
+        return [leaf("%d'd%d" % (width, end), width, False,
+                     lambda _, digits=binary(end, width): digits) for end in ends]
 
     def _power(self, one: Expression, other: Expression) -> Expression:
         """Returns **."""

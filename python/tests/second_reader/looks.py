@@ -1,8 +1,8 @@
 """When a condition is evaluated, when it holds, which answer a request gets, and which transfers
 are a transaction."""
-from typing import List, NamedTuple, Optional, Sequence, Set, Tuple
+from typing import Iterable, List, NamedTuple, Optional, Sequence, Set, Tuple
 
-from conditions import Test
+from conditions import Test, dates
 from dumps import LAST, Dump, State, Value, Variable
 from shown import same
 
@@ -58,15 +58,21 @@ def looks_at_edges(dump: Dump, edges: Edges, begin: int = 0, end: int = LAST) ->
     return [one for one in found if one.time >= begin]
 
 
-def looks_at_changes(dump: Dump, codes: Set[str], begin: int = 0, end: int = LAST) -> List[Look]:
+def looks_at_changes(dump: Dump, codes: Set[str], begin: int = 0, end: int = LAST,
+                     ages: Iterable[Tuple[str, int]] = ()) -> List[Look]:
     """Returns the begin of a window that does not begin at 0, if one of the codes has a value
     there, and each time in it of which the codes have a value or a trigger, with the values at its
-    end."""
+    end; also those at which codes have certain ages."""
     end = min(end, dump.finished)
+    last = min(end, dump.end)
     has_begin = 0 < begin <= end and not codes.isdisjoint(dump.at(begin))
     first = [Look(begin, dump.at(begin), dump.events_at(begin))] if has_begin else []
-    return first + [Look(step.time, step.end, step.events) for step in dump.steps_in(begin, end)
-                    if codes & step.codes and (step.time > begin or not has_begin)]
+    found = first + [Look(step.time, step.end, step.events) for step in dump.steps_in(begin, end)
+                     if codes & step.codes and (step.time > begin or not has_begin)]
+    known = {look.time for look in found}
+    dues = {time + age for code, age in ages for time in dates(dump, code, end)} - known
+    return sorted(found + [Look(due, dump.at(due), set()) for due in dues
+                           if begin < due <= last], key=lambda look: look.time)
 
 
 def rows_at_changes(dump: Dump, columns: Sequence[Variable], begin: int, end: int,

@@ -2,12 +2,13 @@
 import json
 import re
 from fractions import Fraction
-from typing import Any, List, NamedTuple, Optional, Set, Tuple
+from typing import Any, List, NamedTuple, Optional, Tuple
 import xml.etree.ElementTree as xml
 
 from asker import Asker, Said, Skip, Window, run
-from conditions import Condition, quoted
+from conditions import Condition, Conditions, quoted
 from dumps import UNITS, Dump
+from expressions import joined
 from looks import (Edges, Look, in_order, is_overlapping, looks_at_changes, looks_at_edges,
                    starts, waits)
 from shown import all_from_json
@@ -25,11 +26,11 @@ class Question(NamedTuple):
     edges: Optional[Edges]
     every: bool
 
-    def looks(self, dump: Dump, codes: Set[str]) -> List[Look]:
-        """Returns the looks at values of codes."""
+    def looks(self, dump: Dump, of: Conditions) -> List[Look]:
+        """Returns the looks at conditions."""
         if self.edges:
             return looks_at_edges(dump, self.edges, self.window.begin, self.window.end)
-        return looks_at_changes(dump, codes, self.window.begin, self.window.end)
+        return looks_at_changes(dump, of.codes, self.window.begin, self.window.end, of.ages)
 
     def end(self, dump: Dump) -> int:
         """Returns the last time of the window."""
@@ -41,6 +42,9 @@ def condition(of: Asker, depth: int = 2, is_clocked: bool = False) -> Condition:
     found = of.conditions.make(depth, is_clocked)
     if not found:
         raise Skip
+    if of.conditions.plain and of.happens(.1):
+        return Condition(joined(of.random.choice(["&&", "||"]), of.conditions.age(is_clocked),
+                                found.of))
     return found
 
 
@@ -80,7 +84,7 @@ def ask_when(of: Asker) -> None:
         text = "%s -> %s within %s" % (first.inside(0), after.inside(0), within)
         refused = of.happens(.5)
         text = "!(%s)" % text if refused else text
-    looks = asked.looks(dump, of.conditions.codes)
+    looks = asked.looks(dump, of.conditions)
     begins = starts(looks, first.test, bool(asked.edges), asked.every)
     times = [look.time for look, is_one in zip(looks, begins) if is_one]
     warned = False
@@ -116,7 +120,7 @@ def ask_latency(of: Asker) -> None:
     before, after = (condition(of, depth, bool(asked.edges)) for depth in (2, 1))
     within, span = span_of(of, bool(asked.edges))
     is_json = of.happens(.25)
-    looks, end = asked.looks(dump, of.conditions.codes), asked.end(dump)
+    looks, end = asked.looks(dump, of.conditions), asked.end(dump)
     begins = starts(looks, before.test, bool(asked.edges), asked.every)
     found = waits(looks, begins, after.test, span, end)
     words = of.placed([*asked.words, "--latency", *["--json"] * is_json,
@@ -171,7 +175,7 @@ def ask_rules(of: Asker) -> None:
         if has_clock and of.happens(.3):
             word, after = "each", condition(of, 1, True)
             within, span = span_of(of, True)
-        looks = mine.looks(dump, of.conditions.codes)
+        looks = mine.looks(dump, of.conditions)
         begins = starts(looks, lambda look: one.test(look) != (word == "always"), has_clock,
                         asked.every)
         times = [look.time for look, is_one in zip(looks, begins) if is_one]

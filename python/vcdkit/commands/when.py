@@ -4,6 +4,7 @@ Put the condition in single quotes, because `&`, `|`, `<`, `>` and `!` are speci
 is evaluated at the end of each time step in which one of its signals changes, or at the edges of a
 clock, with the values just before. It is an expression of Verilog over paths:
   tb.bus[7:4] + 1 == 0xff    "tb.a&b" === 4'b1x0z    tb.q is not x    signed(tb.a) < -1
+  tb.q inside {1, [4:7]}    age(tb.clk) > 20ns    $onehot(tb.grant)
   past(tb.q, 2) == 3 & rose(tb.a)  at edges of the clock; also fell, stable and changed
   req -> ack within 5  req begins to hold, and ack holds at most 5 edges later; or within 20ns
   !(req -> ack within 5)  it does not

@@ -164,6 +164,20 @@ def _same(_: Kind, one: Value, other: Value) -> Value:
     return "x" if is_none else 1 if one == other or one != one and other != other else 0
 
 
+def _matched(kind: Kind, one: Value, other: Value) -> Value:
+    """Returns whether a value is another one, of which digits that are x or z match any."""
+    if not kind.width or not isinstance(other, str):
+        return _compared(operator.eq, kind, one, other)
+    pairs = [pair for pair in zip(digits_of(one, kind.width), other) if pair[1] in "01"]
+    return 0 if ("0", "1") in pairs or ("1", "0") in pairs else (
+        1 if all(a == b for a, b in pairs) else "x")
+
+
+def _counted(are: Callable[[int], bool], kind: Kind, one: Value) -> Value:
+    """Returns whether the number of digits that are 1 is as wanted."""
+    return 1 if are(digits_of(one, kind.width).count("1")) else 0
+
+
 def _has(letter: str, _: Kind, one: Value) -> Value:
     """Returns whether a digit is x, or z."""
     return 0 if not isinstance(one, str) else "x" if "-" in one else 1 if letter in one else 0
@@ -242,9 +256,14 @@ OPERATORS: Dict[str, Operator] = {
     **dict.fromkeys(("~^", "^~"), Operator(_xnor, 4, "context", True)),
     "&": Operator(_and, 5, "context", True, "{0} & {1}"),
     "===": Operator(_same, 6, "common", True), "!==": Operator(_not(_same), 6, "common", True),
+    "==?": Operator(_matched, 6, "common", True), "!=?": Operator(_not(_matched), 6, "common", True),
+    "inside": Operator(_matched, 7, "common"),
     **{sign: _ordering(sign, function) for sign, function in (
         ("==", operator.eq), ("!=", operator.eq), ("<", operator.lt), ("<=", operator.le),
         (">", operator.gt), (">=", operator.ge))},
+    # Of the ends of a range behind inside, which may be from 0.
+    **{sign + " ": _ordering(sign, function)._replace(level=0)
+       for sign, function in ((">=", operator.ge), ("<=", operator.le))},
     **{sign: Operator(functools.partial(_shift, sign[0] == "<", len(sign) == 3), 8, "shift", True)
        for sign in ("<<", "<<<", ">>", ">>>")},
     "+": _arithmetical(operator.add, 9), "-": _arithmetical(operator.sub, 9),
@@ -264,7 +283,12 @@ OPERATORS: Dict[str, Operator] = {
     **{"is not " + letter: Operator(_not(functools.partial(_has, letter))) for letter in "xz"},
     **dict.fromkeys(("signed", "unsigned"), Operator(
         lambda kind, one: one if isinstance(one, str) else kind.of(one), has_bits=True)),
-    "past": Operator(tuple),  # what it was is kept where conditions are evaluated
+    **{name: Operator(functools.partial(_counted, are), has_bits=True) for name, are in (
+        ("onehot", (1).__eq__), ("onehot0", (2).__gt__))},
+    "countones": Operator(lambda kind, one: digits_of(one, kind.width).count("1"), has_bits=True),
+    "isunknown": Operator(lambda _, one: int(isinstance(one, str)), has_bits=True),
+    # What it was, and since when it has its value, are kept where conditions are evaluated.
+    "past": Operator(tuple), "age": Operator(tuple),
     "rose": Operator(functools.partial(_became, "1"), has_bits=True, has_past=True),
     "fell": Operator(functools.partial(_became, "0"), has_bits=True, has_past=True),
     "stable": Operator(_same, kind="common", has_past=True),

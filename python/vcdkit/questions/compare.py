@@ -193,7 +193,7 @@ class Comparison:
         for time, changes, _ in body.at_clocks(part, [], {*its, *over}, edges):
             found.update(changes)
             if only:
-                only.take(changes)
+                only.take(changes, time)
             if holds is None or holds():
                 yield time, [(its[code], value) for code, value in found.items() if code in its]
                 found = {}

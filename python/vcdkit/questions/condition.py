@@ -5,11 +5,13 @@ in Verilog. Then each expression becomes a Python function of values in the kind
 asked for, with a line for each operator. What it returned for the last values is kept."""
 import collections
 import functools
+import itertools
+import math
 import re
-from typing import (Any, Callable, Deque, Dict, Iterable, List, NamedTuple, Optional, Sequence,
-                    Tuple)
+from typing import (Any, Callable, Deque, Dict, Iterable, Iterator, List, NamedTuple, Optional,
+                    Sequence, Set, Tuple)
 
-from ..errors import UnknownName, UsageError
+from ..errors import DumpFault, UnknownName, UsageError
 from ..model.names import FIELD, bare, field_of, full_names
 from ..model.operators import (BIT, OPERATORS, REAL, TAKES, Kind, Operator, Value, converted,
                                kind_of, value_of_digits)
@@ -17,14 +19,16 @@ from ..model.signals import Signal
 from ..model.values import extension, real_of
 from ..reading import body
 from ..reading.source import Source
-from .expression import BITS, Node, ConditionText, Span, bad
+from .expression import BITS, ConditionText, Node, Span, bad, number_of
 
 MIRRORED = {sign: sign.translate({60: ">", 62: "<"}) for sign, one in OPERATORS.items()
-            if one.level == OPERATORS["<"].level}  # < and >
+            if one.kind == "common" and sign[0] in "<>"}
 NAME_A_CLOCK = "name a clock with --rise or --fall (in Python: rise or fall)"
 GROUP = 30  # bits of which Python is fast
 Read = Callable[[bytes], Value]
+Look = Tuple[int, body.Changes, int]  # a time, what changed, and the bits of clocks
 NONE: Tuple[int, List[Tuple[int, Read]]] = 0, []  # no condition, and nothing that reads
+RESULTS = {"countones": kind_of(32, True), "age": kind_of(64)}
 LEAF = Operator(tuple)  # a name, a number, or what is past: no operator
 
 
@@ -130,6 +134,8 @@ def _type(node: Node) -> None:
         if any(one.sign == "number" for one in parts):
             raise bad("a number between { and } needs a size, as 4'd3")
         node.kind = kind_of(node.value * sum(one.kind.width for one in parts))
+    elif sign in RESULTS:
+        node.kind = RESULTS[sign]
     elif sign == "past":
         node.kind = first
     elif its.kind in TAKES:
@@ -160,13 +166,14 @@ def _compare(name: Node, number: Node, sign: str) -> None:
     if value < 0:
         kind = name.kind = kind_of(kind.width, True)
     least, greatest = -kind.sign, kind.mask ^ kind.sign
-    if sign in ("==", "!=") and value % 1:
+    if sign in ("==", "!=", "inside") and value % 1:
         raise bad("%s is never %s: it is a whole number" % (its, value))
     if value == 0 == least and sign in ("<", ">="):
         raise bad("%s is never < 0: a dump has no signs; write signed(%s)" % (its, its))
     is_out = not least <= value <= greatest
-    if {"==": is_out, "!=": is_out, "===": is_out, "<": least >= value, "<=": least > value,
-            ">": greatest <= value, ">=": greatest < value}.get(sign):
+    if {**dict.fromkeys(("==", "!=", "===", "==?", "!=?", "inside"), is_out),
+            "<": least >= value, "<=": least > value, ">": greatest <= value,
+            ">=": greatest < value}.get(sign.strip()):
         raise bad("%s is never %s%s: it has %d bit%s%s" % (
             its, sign + " " if sign in MIRRORED else "", value, kind.width,
             "s" * (kind.width > 1), ", signed" if kind.sign else ""))
@@ -213,7 +220,8 @@ class Conditions:
         # Of the code of each signal the conditions that name it, and who reads its values where.
         self.over: Dict[bytes, Tuple[int, List[Tuple[int, Read]]]] = {}
         self.with_more = 0  # those over more than values: events, earlier edges, an answer
-        self._values: List[Value] = []
+        self._values: List[Value] = [0]  # the first one is the time
+        self._ages: Set[Tuple[bytes, int]] = set()  # codes, and the ages that matter
         self._places: Dict[Tuple[_Name, Kind, Kind, int], int] = {}
         self._events: Dict[int, Tuple[bytes, int]] = {}  # of their places the codes and the clocks
         self._pasts: List[Tuple[int, Node]] = []  # places of the last condition, and what is past
@@ -235,6 +243,10 @@ class Conditions:
         for node in parser.names:
             node.value = its[node.value]
             node.kind = node.value.kind
+        for node in parser.times:
+            low, high = (self._dump.span(node.value, is_up) for is_up in (False, True))
+            ticks = number_of("%d" % low + ".5" * (low < high))  # between two ticks
+            node.sign, node.value, node.kind = ticks.sign, ticks.value, ticks.kind
         self._pasts, answer, span = [], 0, None
         is_refusal = tree.sign == "unary !" and tree.parts[0].sign == "->"
         whole = tree.parts[0] if is_refusal else tree
@@ -256,13 +268,16 @@ class Conditions:
         for signal in (name.signal for name in its.values()):
             self.paths[signal.path] = None
             code = signal.code.encode()
-            self.over[code] = self.over[code][0] | bits, self.over[code][1]
-            self.with_more |= bits if signal.type == "event" else 0
+            for one in code, code + b" ":
+                if one in self.over:
+                    self.over[one] = self.over[one][0] | bits, self.over[one][1]
+                    self.with_more |= bits if signal.type == "event" or one != code else 0
         return found
 
-    def take(self, changes: body.Changes) -> int:
-        """Takes changes, of any signals; returns the conditions that name theirs."""
+    def take(self, changes: body.Changes, time: int) -> int:
+        """Takes changes, of any signals, and the time; returns the conditions that name theirs."""
         found, values, over = 0, self._values, self.over.get
+        values[0] = time
         for code, raw in changes:
             bits, readers = over(code, NONE)
             found |= bits
@@ -296,14 +311,41 @@ class Conditions:
                 count for its, count in counts.items() if its & clock)
                                              for clock, depth in self._depths.items())
             if is_enough:
-                for _, changes, clocks in body.at_clocks(part, names, self.over, edges):
-                    self.take(changes)
+                for time, changes, clocks in body.at_clocks(part, names, self.over, edges):
+                    self.take(changes, time)
                     self.end(clocks)
             span *= 16
 
+    def woken(self, looks: Iterable[Look]) -> Iterator[Look]:
+        """Returns looks without a clock, and those at times at which an age becomes one that is
+        asked for."""
+        dates: Dict[bytes, int] = {}
+        last, fault = 0, None  # type: int, Optional[DumpFault]
+        try:
+            for time, changes, _ in looks:
+                yield from self._due(dates, last, time)
+                yield time, changes, 0
+                dates.update((code, int(raw)) for code, raw in changes if code[-1:] == b" ")
+                last = time
+        except DumpFault as error:
+            fault = error
+        if dates:
+            is_over = self._dump.is_over(fault)
+            yield from itertools.takewhile(lambda look: is_over(look[0]), self._due(dates, last))
+        if fault:
+            raise fault
+
+    def _due(self, dates: Dict[bytes, int], after: int, before: float = math.inf
+             ) -> Iterator[Look]:
+        """Returns the looks between two times that ages need, by their dates."""
+        for due, code in sorted((dates[code] + age, code) for code, age in self._ages
+                                if code in dates):
+            if after < due < before:
+                yield due, [(code, b"%d" % dates[code])], 0
+
     def compiled(self) -> Callable[..., int]:
         """Returns what returns those of some conditions that hold at the values that there are."""
-        self.take([(code, b"") for code in self.over])
+        self.take([(code, b"") for code in self.over], 0)
         self._sampled = self._function("", [
             "return (%s)" % "".join(call + ", " for _, _, call, _ in self._samples)])
         groups = [self._function("due=-1", ["now = 0", *(
@@ -337,6 +379,11 @@ class Conditions:
             order += node.parts
         for node in reversed(order):
             _type(node)
+            for one, other in zip(node.parts, node.parts[::-1]):
+                if one.sign == "age" and isinstance(other.value, (int, float)):
+                    code = one.parts[0].value.signal.code.encode() + b" "
+                    self._ages.update((code, at) for at in (
+                        math.ceil(other.value), math.floor(other.value) + 1))
         self._tests.append(self._call(tree, "'1' in {0} if {0}.__class__ is str else {0}"))
         return 1 << len(self._tests) - 1
 
@@ -347,7 +394,7 @@ class Conditions:
         lines: List[str] = []
         for node in order:  # from the top down
             node.text, works[node] = "", _place(node)
-            order += node.parts if node.sign != "past" else []
+            order += node.parts if node.sign not in ("past", "age") else []
         for node in reversed(order):
             if not node.text:
                 node.text = self._text(node, works[node])
@@ -379,6 +426,9 @@ class Conditions:
             self._pasts.append((len(self._values), node))
             found = "v%d" % len(self._values)
             self._values.append(None)
+        elif sign == "age":
+            found = "(v0 - v{0} if v{0} is not None else 'x' * 64)".format(
+                self._date(node.parts[0].value))
         else:
             its = OPERATORS["real /" if sign == "/" and not works.width else sign]
             operands = [one.text for one in node.parts]
@@ -391,6 +441,18 @@ class Conditions:
         own = works if OPERATORS.get(sign, LEAF).kind in TAKES else node.kind
         return found if own == node.to else "converted(%s, %s, %s)" % (
             found, named(own), named(node.to))
+
+    def _date(self, name: _Name) -> int:
+        """Returns the place of the time since which a signal has its value."""
+        code = name.signal.code.encode()
+        if name.signal.type == "event" or name.end - name.begin < name.signal.size:
+            raise bad("age() takes a whole signal that is no event, and not %s" % name.text)
+        self.over.setdefault(code, (0, []))
+        its = self.over.setdefault(code + b" ", (0, []))[1]
+        if not its:
+            its.append((len(self._values), lambda raw: int(raw) if raw else None))
+            self._values.append(None)
+        return its[0][0]
 
     def _value(self, node: Node) -> int:
         """Returns the place of the value of a name in a kind."""

@@ -1,5 +1,6 @@
 """The text of a condition as a tree: an expression of Verilog (clause 5 of IEEE Std 1364-2005), in
 which names are paths, and what conditions have beside it."""
+import functools
 import re
 from typing import Any, List, NamedTuple, Sequence, Tuple
 
@@ -13,7 +14,8 @@ MAX_PAST = 1 << 20  # edges
 LEVELS = {sign: one.level for sign, one in OPERATORS.items() if one.level}
 LEVELS["is"] = LEVELS["=="]
 UNARY = [sign[6:] for sign in OPERATORS if sign.startswith("unary ")]
-SIGNS = sorted({*LEVELS, *UNARY, *"?:,(){}", "->"} - {"is"}, key=len, reverse=True)
+SIGNS = sorted({*(sign for sign in LEVELS if not sign.isalpha()), *UNARY, *"?:,(){}", "->"},
+               key=len, reverse=True)
 TOKEN = re.compile(
     r'"([^"]*)"|((?:\d[\d_]*\s*)?\'\s*[sS]?[bodhBODH]\s*[\da-fA-FxXzZ?_]+'
     r"|\d[\d_]*(?:\.\d+)?[eE][-+]?\d+(?![\w.])|\d[\w.]*)"
@@ -21,7 +23,9 @@ TOKEN = re.compile(
     r'|((?:[^\s"&|!=<>()+\-*/%^~?:,{}\'\[\]]|\[[^\s\]]*\])+)')
 SPAN = re.compile(r"%s\Z" % AMOUNT)
 BASED = re.compile(r"([\d_]*)\s*'\s*([sS]?)([bodhBODH])\s*(.+)")
-FUNCTIONS = [sign for sign in OPERATORS if sign.isalpha()]
+FUNCTIONS = [sign for sign, one in OPERATORS.items() if sign.isidentifier() and not one.level]
+TIME = re.compile(r"\d+(\.\d+)?(%s)\Z" % "|".join(UNITS))
+RANGE = re.compile(r"\[([^:]+):([^:]+)\]\Z")  # of inside
 # What to write instead of words and signs of other languages.
 EDGE = "for an edge of a signal, use rose(..) or fell(..); for a clock, --rise or --fall"
 LATER = "for a later edge, use req -> ack within N"
@@ -111,12 +115,13 @@ def _bits(digits: str, base: str) -> str:
 
 
 class ConditionText:
-    """Reads a condition. `names` are those in it."""
+    """Reads a condition. `names` are those in it, and `times` those that ages are compared with."""
 
     def __init__(self, text: str):
         if not isinstance(text, str):
             raise bad("%r is not a text" % (text,))
         self.names: List[Node] = []
+        self.times: List[Node] = []
         self.quoted: List[str] = []  # those in double quotes
         self._tokens: List[Tuple[Any, ...]] = []  # quoted, number, sign and name: one is there
         self._at, self._depth, end = 0, 0, 0
@@ -159,6 +164,8 @@ class ConditionText:
         except RecursionError:
             raise bad("it is nested too deep") from None
         self._take("")
+        if self.times and "age" not in [token[0].lstrip("$") for token in self._tokens]:
+            raise bad("%s is a time, and is compared only with age(..)" % self.times[0].value)
         return found
 
     def _rule(self) -> Node:
@@ -198,6 +205,9 @@ class ConditionText:
                 sign += " not" * (self._next == "not" and bool(self._take()))
                 one = Node("%s %s" % (sign, self._take(*"xzXZ").lower()), [one])
                 continue
+            if sign == "inside":
+                one = self._inside(one)
+                continue
             other = self._binary(LEVELS[sign] + 1)
             has_digits = any(its.sign == "number" and isinstance(its.value, str)
                              for its in (one, other))
@@ -230,6 +240,9 @@ class ConditionText:
         if sign:
             self._at -= 1
             self._take("")
+        if number and TIME.match(token):
+            self.times.append(Node("time", (), token))
+            return self.times[-1]
         if number:
             return number_of(token)
         if quoted is None and self._next == "(" and token.lstrip("$") in FUNCTIONS:
@@ -246,6 +259,8 @@ class ConditionText:
             self._take()
             count = self._count(MAX_PAST)
         self._take(")")
+        if name == "age" and one.sign != "name":
+            raise bad("age() takes a signal")
         past = Node("past", [one], count)
         return past if name == "past" else Node(name, [one, past][:1 + OPERATORS[name].has_past])
 
@@ -262,6 +277,36 @@ class ConditionText:
             parts.append(self._choice())
         self._take("}")
         return Node("{", parts, count)
+
+    def _inside(self, one: Node) -> Node:
+        """Reads what a value may be; each of these is a comparison of its own."""
+        sign, found = self._take("{"), []  # type: str, List[Node]
+        while sign != "}":
+            left, ends = self._again(one) if found else one, RANGE.match(self._next)
+            if ends:
+                self._take()
+            found.append(self._between(left, *ends.groups()) if ends else
+                         Node("inside", [left, self._choice()]))
+            sign = self._take(",", "}")
+        return functools.reduce(lambda one, other: Node("||", [one, other]), found)
+
+    def _between(self, one: Node, *ends: str) -> Node:
+        """Returns whether a value is from one end to another one."""
+        texts = [*map(ConditionText, ends)]
+        nodes = [text.tree() for text in texts]
+        self.names += [name for text in texts for name in text.names]
+        numbers = [node.value for node in nodes if isinstance(node.value, int)]
+        if numbers != sorted(numbers):
+            raise bad("nothing is in [%s:%s]: write the lower end first" % ends)
+        return Node("&&", [Node(">= ", [one, nodes[0]]),
+                           Node("<= ", [self._again(one), nodes[1]])])
+
+    def _again(self, one: Node) -> Node:
+        """Returns a copy of a node, whose names are others."""
+        made = Node(one.sign, [*map(self._again, one.parts)], one.value, one.kind, one.fill)
+        self.names += [made] * (one.sign == "name")
+        self.times += [made] * (one.sign == "time")
+        return made
 
     def _count(self, most: int) -> int:
         """Reads a number that is not 0."""

@@ -6,6 +6,7 @@ from typing import (TYPE_CHECKING, Callable, Collection, Dict, Iterable, Iterato
 from ..errors import DumpFault, UnknownName, UsageError
 from ..model.names import field_of, utf8_names
 from ..model.signals import Signal, words_of
+from ..model.times import LAST_TICK
 from ..model.values import Cell, Row, same, value_in, value_of
 from ..reading import body
 from ..reading.source import Source
@@ -74,14 +75,16 @@ def _holding(source: Source, condition: "Conditions", times: Iterable[int]) -> S
     waiting, found = sorted(set(times), reverse=True), set()
     holds = condition.compiled()
     part = source.cut(0, max(waiting, default=0)).part([*condition.paths])
-    for time, before, changes in body.steps(part, condition.over):
+    end: List[body.Step] = [(LAST_TICK + 1, [], [])]
+    for time, before, changes in itertools.chain(body.steps(part, condition.over), end):
         while waiting and waiting[-1] < time:
+            condition.take([], waiting[-1])
             found.update([waiting.pop()] * bool(holds()))
-        condition.take(before + changes)
+        condition.take(before + changes, time)
         if waiting and waiting[-1] == time:
             found.update([waiting.pop()] * bool(holds()))
         condition.end()
-    return found.union(waiting if holds() else ())
+    return found
 
 
 def edges_of(source: Source, rise: Optional[str], fall: Optional[str]) -> Dict[body.Edge, str]:
@@ -162,7 +165,7 @@ def _rows(pairs: Iterable[Tuple[int, body.Changes]], columns: Sequence[Signal], 
     for time, changes in pairs:
         is_other = cells.take(changes)
         if only:
-            only.take(changes)
+            only.take(changes, time)
         if (is_other or is_every) and (holds is None or holds()):
             yield time, cells.row[:]
         if only:

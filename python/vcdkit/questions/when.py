@@ -175,10 +175,9 @@ class Questions:
         except DumpFault as error:
             fault = error
         waiting = [number for number, its in enumerate(self.each) if its.has_time and its.waiting]
-        last = self.dump.check().last or 0 if waiting and not fault else 0
         for number in waiting:
-            yield from (((number,), one) for one in self.each[number].late_at_end(
-                lambda time: self.dump.is_finished(time, fault) if fault else time <= last))
+            is_over = self.dump.is_over(fault)
+            yield from (((number,), one) for one in self.each[number].late_at_end(is_over))
         if fault:
             raise fault
 
@@ -256,11 +255,11 @@ class Questions:
         conditions.look_back(names, self.edges)
         for time, changes, clocks in (
                 body.at_clocks(self.dump, names, codes, self.edges) if self.edges
-                else ((time, [*before, *changes], 0) for time, before, changes in body.steps(
-                    self.dump.part(names), codes))):
+                else conditions.woken((time, [*before, *changes], 0) for time, before, changes
+                                      in body.steps(self.dump.part(names), codes))):
             for cells in self.cells:
                 cells.take(changes)
-            due |= conditions.take(changes) | always
+            due |= conditions.take(changes, time) | always
             some = 0 if clocks else -1
             for bit, its in self._of_clock.items():
                 if bit & clocks:

@@ -5,11 +5,13 @@ vcdkit writes on each line a timestamp, a command of a section, or a value: `0!`
 import contextlib
 import functools
 import io
+import itertools
 import re
 from typing import (TYPE_CHECKING, BinaryIO, Callable, Collection, Dict, FrozenSet, Iterable,
                     Iterator, List, Optional, Set, Tuple, cast)
 
 from ..errors import DumpFault, UsageError, failing
+from ..model.values import same
 from . import progress
 from .formats import FRONT, format_of
 from .texts import File, Made
@@ -103,7 +105,16 @@ def steps(part: "Source", codes: Collection[bytes], lead: Collection[bytes] = ()
     The first value of a code is from before its time if it is in a `$dumpvars`, or if the code is
     in `lead`: `cut` begins with the values just before its first time, and goes on with what
     changes at it. With `is_cut`, only the section with which `cut` begins has such values. `some`
-    is that of timed."""
+    is that of timed. A code with a blank behind it stands for the time since which the code has its
+    value, which comes with each change to another one."""
+    dated = {code[:-1] for code in codes if code[-1:] == b" "}
+    its = _steps(part, {code for code in codes if code[-1:] != b" "}, lead, is_cut, some)
+    return _dated(part, its, dated) if dated else its
+
+
+def _steps(part: "Source", codes: Collection[bytes], lead: Collection[bytes], is_cut: bool,
+           some: Optional[Blocks]) -> Iterator[Step]:
+    """Returns steps without the times since which codes have their values."""
     known, first = Known(codes), _First(codes, lead, is_cut)
     changes_of, waiting = known.__getitem__, first.waiting  # faster than known[..]
     none: Changes = []
@@ -113,6 +124,28 @@ def steps(part: "Source", codes: Collection[bytes], lead: Collection[bytes] = ()
             before, changes = first.parted(text, changes, known)
         if changes or before:
             yield time, before, changes
+
+
+def _dated(part: "Source", its: Iterator[Step], dated: Collection[bytes]) -> Iterator[Step]:
+    """Returns steps with the times since which some codes have their values: those at the begin of
+    a part, from before it, come with the first step."""
+    begin = part.begin()
+    earlier = _up_to_fault(part.before(begin), dated) if begin else ()
+    last: Dict[bytes, bytes] = {}
+    dates: Dict[bytes, bytes] = {}
+    for time, before, changes in itertools.chain(earlier, its):
+        for code, text in dict(before + changes).items():
+            if code in dated and last.get(code) != same(text):
+                last[code], dates[code + b" "] = same(text), b"%d" % time
+        if time >= begin:
+            yield time, before, changes + list(dates.items())
+            dates.clear()
+
+
+def _up_to_fault(part: "Source", codes: Collection[bytes]) -> Iterator[Step]:
+    """Returns the steps before a fault."""
+    with contextlib.suppress(DumpFault):
+        yield from steps(part, codes)
 
 
 class Known(Dict[bytes, Changes]):
@@ -231,12 +264,11 @@ def _begun(part: "Source", codes: Collection[bytes]) -> Set[bytes]:
     """Returns those of some codes whose first value is in a `$dumpvars`, up to a fault."""
     left = set(codes)
     found: Set[bytes] = set()
-    with contextlib.suppress(DumpFault):
-        for _, before, changes in steps(part, codes):
-            found.update(dict(before))
-            left.difference_update(dict(before + changes))
-            if not left:
-                break
+    for _, before, changes in _up_to_fault(part, codes):
+        found.update(dict(before))
+        left.difference_update(dict(before + changes))
+        if not left:
+            break
     return found
 
 

@@ -2,7 +2,7 @@
 import contextlib
 import os
 from types import ModuleType
-from typing import (BinaryIO, Dict, Iterable, Iterator, List, Optional, Sequence, Tuple, TypeVar,
+from typing import (BinaryIO, Callable, Dict, Iterable, Iterator, List, Optional, Sequence, Tuple, TypeVar,
                     Union)
 
 from ..errors import (AT_A_TIMESTAMP, DumpFault, NoTimescale, RunFailed, UnknownName, UsageError,
@@ -279,6 +279,17 @@ class Source:
             text = text.of[0]
         return text
 
+    def before(self: Its, time: int) -> Its:
+        """Returns the dump of which it is a cut, up to before a time, with the signals that it
+        has."""
+        text, picks = self.text, []
+        while isinstance(text, Made) and text.command in ("pick", "cut"):
+            picks += [text] * (text.command == "pick")
+            text = text.of[0]
+        for pick in reversed(picks):
+            text = pick._replace(of=(text,))
+        return self.like(text).cut(0, time - 1)
+
     def begin(self) -> int:
         """Returns the tick with which it begins: 0, unless it is a cut."""
         text, begins = self.text, [0]
@@ -297,6 +308,11 @@ class Source:
         # One of the dumps of a merge has the fault; the others may change at that time.
         is_in_place = not isinstance(text, Made) and fault.fault in AT_A_TIMESTAMP
         return is_in_place and not time or self.like(text).goes_beyond(time - is_in_place)
+
+    def is_over(self, fault: Optional[DumpFault]) -> Callable[[int], bool]:
+        """Returns whether a time is over where the dump ends, or what is before its fault."""
+        last = 0 if fault else self.check().last or 0
+        return lambda time: self.is_finished(time, fault) if fault else time <= last
 
     def goes_beyond(self, time: int) -> bool:
         """Whether there is no fault before the first timestamp after a time."""
