@@ -10,7 +10,7 @@ from typing import Any, Callable, Dict, List, NamedTuple, Optional, Sequence, Tu
 from conditions import Conditions
 from dumps import LAST, UNITS, Variable, bare
 from faulty_dumps import NAMES, read
-from looks import Edges
+from looks import Edges, Look
 from made_dumps import Made
 from shown import FORMS
 
@@ -228,6 +228,23 @@ class Asker:
                 name = of.path
             found.append(name)
         return found
+
+    def derived(self) -> Tuple[str, Variable]:
+        """Returns an expression with a name, and the variable that it is; the dump then has its
+        values. It has none before one of its variables has one."""
+        self.need_whole()
+        self.conditions.reset()
+        found = self.conditions.make()
+        if not found or self.conditions.events:
+            raise Skip
+        for step in self.dump.steps:
+            for state in step.before, step.end:
+                digits = found.of.own(Look(step.time, state, set()))
+                state.pop(" e", None)
+                if digits.strip("-") and not self.conditions.codes.isdisjoint(state):
+                    state[" e"] = digits.replace("-", "x")
+        one = Variable(-1, (), "an_expression", "wire", found.of.width, " e", 0, 0, False, "")
+        return "an_expression = " + found.text, one
 
     def unit(self, share: float = .25) -> Optional[str]:
         """Returns a unit in this share of all cases."""

@@ -217,7 +217,8 @@ class Conditions:
         number = expressions.fixed(str(ticks), ticks)
         return expressions.joined(
             self.random.choice([*expressions.ORDERS, "==", "!="]),
-            expressions.own("age(%s)" % quoted(self.name(of)), expressions.OPERAND, 64, False, value),
+            expressions.own("age(%s)" % quoted(self.name(of)), expressions.OPERAND, 64, False,
+                            value),
             number._replace(text=text or number.text))
 
     def _comparison(self, one: Operand) -> Expression:

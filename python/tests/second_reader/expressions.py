@@ -16,8 +16,8 @@ Look = Any
 Digits = Any  # a str, or a float
 Read = Callable[[Look, int, bool], Digits]
 LEVELS = (("?:",), ("||",), ("&&",), ("|",), ("^", "~^", "^~"), ("&",),
-          ("==", "!=", "===", "!==", "==?", "!=?"), ("<", "<=", ">", ">="), ("<<", ">>", "<<<", ">>>"),
-          ("+", "-"), ("*", "/", "%"), ("**",))
+          ("==", "!=", "===", "!==", "==?", "!=?"), ("<", "<=", ">", ">="),
+          ("<<", ">>", "<<<", ">>>"), ("+", "-"), ("*", "/", "%"), ("**",))
 LEVEL = {sign: level for level, signs in enumerate(LEVELS) for sign in signs}
 UNARY, OPERAND = len(LEVELS), len(LEVELS) + 1
 C = ctypes.CDLL(ctypes.util.find_library("m"))
@@ -467,7 +467,9 @@ class Random:
         if chance < .2:
             return counted(random.choice(COUNTS), self.make(depth - 1))
         if chance < .23 and self.has_inside:
-            return inside(self.make(depth - 1), [self._parts() for _ in range(random.randint(1, 3))])
+            one, of = self.make(depth - 1), [self._parts() for _ in range(random.randint(1, 3))]
+            return one if re.match(r"[-+]?\d+\Z", one.text) or UNKNOWN.match(
+                one.text) else inside(one, of)
         if chance < .3:
             sign = random.choice(["+", "-", "~", "!", *REDUCTIONS])
             return unary(sign, self.make(depth - 1))

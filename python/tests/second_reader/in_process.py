@@ -5,8 +5,8 @@ from typing import Any, Dict, Iterator, List, Optional, Sequence, Tuple
 from faulty_dumps import evaluator
 from reference import comparison  # type: ignore[import]
 from vcdkit.questions import compare, dump
-from vcdkit.reading import header, library, program, source
-from vcdkit.reading.texts import Headed, Text, library_path, program_path
+from vcdkit.reading import library, program, source
+from vcdkit.reading.texts import Text, library_path, program_path
 
 MOST = 1000  # answers that are kept
 
@@ -69,8 +69,6 @@ def compared(words: Sequence[str], merged: Text) -> Iterator[List[bytes]]:
             asked.end = int(next(times))
     with library.opened(merged) as file:
         text = file.read()
-    if isinstance(merged, Headed) and merged.body:
-        text = b"".join([*text.partition(header.BODY)[:2], *merged.body()])
     out: bytes = comparison.within(asked, [(b"in1", b"in2")], b"(stdin)", text)[0]
     yield from (line.split(b" ") for line in out.splitlines())
 

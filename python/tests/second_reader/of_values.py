@@ -59,7 +59,7 @@ def columns_of(of: Asker, most: int) -> Tuple[List[str], List[Variable]]:
 def table_rows(of: Asker, columns: List[Variable], words: List[str]) -> Tuple[List[Row], Window]:
     """Returns the rows of a random kind, adds their options to the words, and returns the
     window."""
-    dump, how = of.dump, of.random.choice(["change", "edge", "time"])
+    dump, how = of.dump, of.random.choice(["change", "time"] + ["edge"] * (columns[-1].place >= 0))
     if how == "time":
         times = [of.time() for _ in range(of.random.randint(1, 4))]
         words += ["--at", ",".join(times)]
@@ -85,6 +85,9 @@ def ask_table(of: Asker) -> None:
     """Asks for rows at changes, at edges or at times, half of them with a condition."""
     dump, (words, form), unit = of.dump, of.form(), of.unit()
     names, columns = columns_of(of, 4)
+    if of.happens(.3):
+        word, one = of.derived()
+        names, columns = [*names, word], [*columns, one]
     is_json = of.happens(.25)
     rows_words: List[str] = []
     rows, window = table_rows(of, columns, rows_words)

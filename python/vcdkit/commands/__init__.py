@@ -83,7 +83,7 @@ class Parser(argparse.ArgumentParser):
         self.needs_names = count == "+"
         self.add("--names").add_argument(
             "names", metavar="NAME", nargs="*", default=[],
-            help="a path (see vcdkit list), or a scope with everything in it"
+            help="a path (see vcdkit list), a scope with everything in it, or 'NAME = EXPRESSION'"
             + " (required without --names)" * self.needs_names)
         return self
 
@@ -209,7 +209,10 @@ def dump_of(asked: argparse.Namespace, file: Optional[str] = None,
     if path is not None:
         from ..questions.saved import names_of
         asked.names = [*asked.names, *names_of(path, dump)]
-    return dump
+    if any(" = " in name for name in getattr(asked, "names", ())):
+        from ..questions.columns import parted
+        asked.names, asked.named = parted(asked.names)
+    return dump.derived(asked.named) if hasattr(asked, "named") else dump
 
 
 def times_at(asked: argparse.Namespace) -> Optional[List[str]]:

@@ -163,7 +163,7 @@ class Comparison:
             end = min(end, last)
         return merge(*dumps).text, begin, end
 
-    def _at_edges(self) -> Generator[bytes, None, None]:
+    def _at_edges(self, _: object) -> Generator[bytes, None, None]:
         """Returns the body of a merge whose times are the numbers of the edges that both have."""
         for edges in itertools.zip_longest(self._edges_of(0), self._edges_of(1)):
             self.counts = [count + bool(edge) for count, edge in zip(self.counts, edges)]

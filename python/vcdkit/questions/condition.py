@@ -232,9 +232,9 @@ class Conditions:
         self._known: Dict[str, Any] = {"v": self._values, "converted": converted}
         self._tests: List[str] = []  # a call for each bit
 
-    def add(self, text: str, clock: int) -> Condition:
-        """Adds a condition at the edges of a clock; at each time if that is 0."""
-        self._clock, parser = clock, ConditionText(text)
+    def _tree(self, text: str, clock: int) -> Tuple[Node, List[_Name]]:
+        """Reads an expression at the edges of a clock; returns it, and its names."""
+        self._clock, parser, self._pasts = clock, ConditionText(text), []
         tree = parser.tree()
         if not parser.names:
             raise bad("it names no signal; for all edges of a clock, name the clock")
@@ -247,7 +247,28 @@ class Conditions:
             low, high = (self._dump.span(node.value, is_up) for is_up in (False, True))
             ticks = number_of("%d" % low + ".5" * (low < high))  # between two ticks
             node.sign, node.value, node.kind = ticks.sign, ticks.value, ticks.kind
-        self._pasts, answer, span = [], 0, None
+        self.paths.update(dict.fromkeys(name.signal.path for name in its.values()))
+        return tree, [*its.values()]
+
+    def add_value(self, text: str) -> Kind:
+        """Adds an expression whose value is asked for at each time."""
+        tree, names = self._tree(text, 0)
+        self._typed(tree)
+        self._tests.append(self._call(tree))
+        if (self._pasts or any(code[-1:] == b" " for code in self.over)
+                or any(name.signal.type == "event" for name in names)):
+            raise bad("a value of all times is none of an event, an edge or an age")
+        return tree.kind
+
+    def values(self) -> Callable[[], Sequence[Value]]:
+        """Returns what returns the values of the expressions."""
+        self.take([(code, b"") for code in self.over], 0)
+        return self._function("", ["return (%s)" % "".join(its + ", " for its in self._tests)])
+
+    def add(self, text: str, clock: int) -> Condition:
+        """Adds a condition at the edges of a clock; at each time if that is 0."""
+        tree, names = self._tree(text, clock)
+        answer, span = 0, None
         is_refusal = tree.sign == "unary !" and tree.parts[0].sign == "->"
         whole = tree.parts[0] if is_refusal else tree
         if whole.sign == "->":
@@ -265,8 +286,7 @@ class Conditions:
             self._depths[clock] = max(self._depths.get(clock, 0), depth)
         bits = found.bit | answer
         self.with_more |= bits if answer or self._pasts else 0
-        for signal in (name.signal for name in its.values()):
-            self.paths[signal.path] = None
+        for signal in (name.signal for name in names):
             code = signal.code.encode()
             for one in code, code + b" ":
                 if one in self.over:
@@ -374,6 +394,12 @@ class Conditions:
 
     def _test(self, tree: Node) -> int:
         """Adds an expression that may be true; returns its bit."""
+        self._typed(tree)
+        self._tests.append(self._call(tree, "'1' in {0} if {0}.__class__ is str else {0}"))
+        return 1 << len(self._tests) - 1
+
+    def _typed(self, tree: Node) -> None:
+        """Finds the kinds in an expression, and the ages that matter to it."""
         order = [tree]
         for node in order:
             order += node.parts
@@ -384,8 +410,6 @@ class Conditions:
                     code = one.parts[0].value.signal.code.encode() + b" "
                     self._ages.update((code, at) for at in (
                         math.ceil(other.value), math.floor(other.value) + 1))
-        self._tests.append(self._call(tree, "'1' in {0} if {0}.__class__ is str else {0}"))
-        return 1 << len(self._tests) - 1
 
     def _call(self, tree: Node, result: str = "{}") -> str:
         """Returns a call of a function of values, which is what an expression is. It has a line for

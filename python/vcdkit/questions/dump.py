@@ -59,6 +59,12 @@ class Dump(Source):
         paths = self.signals.columns()[0]
         return [self.signals[at] for at, path in enumerate(paths) if search(path)]
 
+    def derived(self, named: Dict[str, str]) -> "Dump":
+        """Returns a dump that also has expressions, as when() takes them, as variables, each with a
+        name: dump.derived({"pc": "tb.stage[53:38]"})."""
+        from .columns import derived
+        return derived(self, named)
+
     def value(self, name: str, time: Time) -> Cell:
         """Returns the value of one signal at the end of a time; `None` if it has none."""
         _ = self[name]  # one signal

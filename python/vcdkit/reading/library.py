@@ -114,6 +114,8 @@ def _read(text: Text) -> Tuple[Data, Optional[VcdkitError]]:
     if isinstance(text, Headed):
         data, error = _read(text.of)
         front, end, rest = bytes(data).partition(header.BODY)
+        if text.body:
+            rest = b"".join(text.body(io.BytesIO(rest + program.FAULT * bool(error))))
         return (text.front(front + end) if end else program.FAULT) + rest, error
     return _made(text) if isinstance(text, Made) else (_bytes_of(text), None)
 

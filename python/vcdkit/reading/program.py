@@ -191,7 +191,7 @@ class _Pipe:
 
     def head(self, text: Headed, is_merged: bool) -> BinaryIO:
         """Returns a file from which a text with another header can be read."""
-        file = self.feed(text.of, is_merged)
+        file = self.feed(text.of, is_merged or text.narrowed is not None)
         reader, writer = os.pipe()
         self.threads.append(threading.Thread(
             target=self._pass_on, args=[text, file, os.fdopen(writer, "wb")], daemon=True))
@@ -204,7 +204,8 @@ class _Pipe:
             try:
                 front = header.front(file)
                 to.write(text.front(front) if front else FAULT)
-                to.writelines(text.body() if text.body else iter(lambda: file.read(1 << 16), b""))
+                to.writelines(text.body(file) if text.body else
+                              iter(lambda: file.read(1 << 16), b""))
             except BrokenPipeError:
                 raise
             except Exception as error:  # pylint: disable=broad-except

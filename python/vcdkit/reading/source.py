@@ -2,8 +2,8 @@
 import contextlib
 import os
 from types import ModuleType
-from typing import (BinaryIO, Callable, Dict, Iterable, Iterator, List, Optional, Sequence, Tuple, TypeVar,
-                    Union)
+from typing import (BinaryIO, Callable, Dict, Iterable, Iterator, List, Optional, Sequence, Tuple,
+                    TypeVar, Union)
 
 from ..errors import (AT_A_TIMESTAMP, DumpFault, NoTimescale, RunFailed, UnknownName, UsageError,
                       VcdkitError)
@@ -12,7 +12,7 @@ from ..model.signals import Declaration, Header, Scope, Signal, Signals, words_o
 from ..model.times import LAST_TICK, Amount, Time, Timescale, Window, amount_of
 from ..model.values import Report
 from . import header, program
-from .texts import Bytes, File, Made, Text, library_path
+from .texts import Bytes, File, Headed, Made, Text, library_path, narrowed
 
 Names = Union[str, Iterable[str]]
 Its = TypeVar("Its", bound="Source")
@@ -73,7 +73,7 @@ class Source:
     def open(self) -> Iterator[BinaryIO]:
         """Opens the text of the dump, to be read as a binary file."""
         try:
-            with way().opened(self.text) as file:
+            with way().opened(narrowed(self.text)) as file:
                 yield file
         except UnknownName as error:
             if error.of is None:
@@ -305,6 +305,8 @@ class Source:
         """Whether a fault comes after all changes of a time: a later timestamp comes before the
         fault, or the time is a timestamp, and the fault is in the place of the next one."""
         text = self.whole("pick", "cut")  # they leave times out
+        while isinstance(text, Headed):
+            text = self.like(text.of).whole("pick", "cut")
         # One of the dumps of a merge has the fault; the others may change at that time.
         is_in_place = not isinstance(text, Made) and fault.fault in AT_A_TIMESTAMP
         return is_in_place and not time or self.like(text).goes_beyond(time - is_in_place)

@@ -4,7 +4,8 @@ import shutil
 import stat
 import sys
 import threading
-from typing import BinaryIO, Callable, Iterator, List, NamedTuple, Optional, Tuple, Union, cast
+from typing import (BinaryIO, Callable, Iterator, List, NamedTuple, Optional, Sequence, Tuple,
+                    Union, cast)
 
 from ..errors import RunFailed
 from .formats import FRONT, FST, format_of
@@ -183,11 +184,13 @@ class Made(NamedTuple):
 
 class Headed(NamedTuple):
     """A text that vcdkit writes, with another header, which is made of its own one, and maybe with
-    another body. Both headers go to the end of their last lines."""
+    another body. Both headers go to the end of their last lines. `narrowed` makes one that has at
+    least what some names (all, without names) and words of `cut` select."""
 
     front: Callable[[bytes], bytes]
     of: "Text"
-    body: Optional[Callable[[], Iterator[bytes]]] = None
+    body: Optional[Callable[[BinaryIO], Iterator[bytes]]] = None
+    narrowed: Optional[Callable[[Sequence[str], Sequence[str]], "Headed"]] = None
 
     @property
     def name(self) -> str:
@@ -196,3 +199,16 @@ class Headed(NamedTuple):
 
 
 Text = Union[File, Bytes, Made, Headed]
+
+
+def narrowed(text: Text, names: Sequence[str] = (), window: Sequence[str] = ()) -> Text:
+    """Returns a text of which a part that may be narrowed has only what is asked of it."""
+    if isinstance(text, Headed) and text.narrowed:
+        return text.narrowed(names, window)
+    if not isinstance(text, Made):
+        return text
+    is_cut = text.command == "cut"
+    names = (text.words[text.words.index("--") + 1:] if "--" in text.words
+             else names if is_cut else ())
+    window = text.words if is_cut else window if text.command == "pick" else ()
+    return text._replace(of=tuple(narrowed(one, names, window) for one in text.of))
