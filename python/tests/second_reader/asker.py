@@ -10,7 +10,7 @@ from typing import Any, Callable, Dict, List, NamedTuple, Optional, Sequence, Tu
 from conditions import Conditions
 from dumps import LAST, UNITS, Variable, bare
 from faulty_dumps import NAMES, read
-from looks import Edges, Look
+from looks import Edges, Look, looks_at_changes
 from made_dumps import Made
 from shown import FORMS
 
@@ -175,8 +175,11 @@ class Asker:
                 return text + unit
         return str(ticks)
 
-    def window(self, share: float = .45) -> Window:
-        """Returns a window, of which each end is given in this share of all cases."""
+    def window(self, share: float = .45, after: float = .1) -> Window:
+        """Returns a window, of which each end is given in this share of all cases. In another share
+        it counts from when a condition begins to hold."""
+        if self.happens(after):
+            return self._window_after(self.window(share, 0))
         first = self.time() if self.happens(share) else ""
         last = self.time() if self.happens(share) else ""
         begin = self.dump.ticks_up(first) if first else 0
@@ -185,6 +188,19 @@ class Asker:
             first, begin = "", 0
         return Window(["--from", first] * bool(first) + ["--to", last] * bool(last), begin, end,
                       bool(first))
+
+    def _window_after(self, window: Window) -> Window:
+        """Returns a window whose times count from when a condition begins to hold."""
+        self.need_whole()
+        self.conditions.reset()
+        found = self.conditions.make(1) if self.dump.times else None
+        looks = looks_at_changes(self.dump, self.conditions.codes)
+        time = next((look.time for look in looks if found and found.test(look)), None)
+        self.conditions.reset()
+        if time is None or not found:
+            raise Skip
+        return Window([*window.words, "--after=" + found.text], min(time + window.begin, LAST),
+                      min(time + window.end, LAST), True)
 
     def is_late(self, window: Window, kind: str, words: Any, said: Said, faulty: int = 1) -> bool:
         """Whether a window begins after the last timestamp, which is a usage error, unless there is

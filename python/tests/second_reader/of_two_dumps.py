@@ -231,7 +231,7 @@ def random_asked(of: Asker, changed: Changed, other: Dump) -> Asked:
             its = changed.top + "." + scope if changed.top else scope
             is_there = any(is_inside(one.path, its) for one in other.variables)
             maps += [(scope, "NEW.s")] + [(its, "NEW.s")] * (is_there and its != scope)
-    window = of.window(.3) if of.happens(.3) else Window([], 0, LAST, False)
+    window = of.window(.3, 0) if of.happens(.3) else Window([], 0, LAST, False)
     asked = Asked(maps, [], [], window, of.happens(.3), of.happens(.5),
                   of.random.choice([0, 0, 0, 1e-9, .1]), of.happens(.2))
     names = [asked.renamed(one.path) for dump in (of.dump, other) for one in dump.variables]

@@ -58,7 +58,9 @@ SHARED = {
                          help="convert VHDL's nine states, as vcdkit-four-state does"),
     "--from": dict(dest="begin", default=FIRST, metavar="TIME", help="the first time [default: 0]"),
     "--to": dict(dest="end", default=LAST, metavar="TIME",
-                 help="the last time [default: the end of the dump]")}  # type: Any
+                 help="the last time [default: the end of the dump]"),
+    "--after": dict(metavar="CONDITION", help="begin when this begins to hold; --from and --to "
+                    "then count from that time")}  # type: Any
 
 
 class Parser(argparse.ArgumentParser):
@@ -86,6 +88,10 @@ class Parser(argparse.ArgumentParser):
             help="a path (see vcdkit list), a scope with everything in it, or 'NAME = EXPRESSION'"
             + " (required without --names)" * self.needs_names)
         return self
+
+    def window(self) -> "Parser":
+        """Adds the options of a window."""
+        return self.add("--from", "--to", "--after")
 
     def at(self, what: str) -> "Parser":
         """Adds --at."""
@@ -228,8 +234,19 @@ def times_at(asked: argparse.Namespace) -> Optional[List[str]]:
 
 
 def is_part(asked: argparse.Namespace) -> bool:
-    """Whether --from or --to asks for a part of the dump."""
-    return (asked.begin, asked.end) != (FIRST, LAST)
+    """Whether --from, --to or --after asks for a part of the dump."""
+    return (asked.begin, asked.end, asked.after) != (FIRST, LAST, None)
+
+
+def ends_of(dump: "Dump", asked: argparse.Namespace) -> Tuple[str, str]:
+    """Returns the first and the last time of the window that is asked for."""
+    if asked.after is None:
+        return asked.begin, asked.end
+    time = next(dump.when(asked.after), None)
+    if time is None:
+        raise UsageError("--after: this never holds: " + asked.after)
+    return (str(min(time + dump.span(asked.begin, True), LAST_TICK)),
+            str(min(time + dump.span(asked.end), LAST_TICK)))
 
 
 def after_end(dump: "Source", time: str, is_up: bool = False) -> str:
@@ -256,14 +273,16 @@ def check_begin(dump: "Source", time: str, option: str = "--from", is_up: bool =
         raise UsageError("%s: %s" % (option, is_late))
 
 
-def part_of(dump: "Dump", begin: str, end: str) -> "Dump":
-    """Returns the dump from one time to another."""
+def part_of(dump: "Dump", asked: argparse.Namespace) -> "Dump":
+    """Returns the dump in the window that is asked for."""
+    begin, end = ends_of(dump, asked)
     check_begin(dump, begin)
     return dump if (begin, end) == (FIRST, LAST) else dump.cut(begin, end)
 
 
-def window_of(dump: "Source", begin: str, end: str) -> Window:
-    """Returns the window from one time to another."""
+def window_of(dump: "Dump", asked: argparse.Namespace) -> Window:
+    """Returns the window that is asked for."""
+    begin, end = ends_of(dump, asked)
     check_begin(dump, begin)
     return Window(dump.ticks(begin, is_up=True), dump.ticks(end) + 1)
 
@@ -278,13 +297,17 @@ def window_of_both(scales: Sequence[Timescale], begin: str, end: str) -> Tuple[i
     return first, last
 
 
-def parts_of_both(dumps: Sequence["Dump"], begin: str, end: str, has_clock: bool) -> List["Dump"]:
+def parts_of_both(dumps: Sequence["Dump"], asked: argparse.Namespace, has_clock: bool
+                  ) -> List["Dump"]:
     """Returns the window of both dumps. Without a clock, that of the longer tick may begin before
-    the window and end after it."""
+    the window and end after it, and A says when --after holds."""
+    if has_clock and asked.after is not None:
+        return [part_of(dump, asked) for dump in dumps]
+    (asked.begin, asked.end), asked.after = ends_of(dumps[0], asked), None
     scales = [dump.timescale for dump in dumps if dump.timescale]
     if len(set(scales)) < 2:
-        return [part_of(dump, begin, end) for dump in dumps]
-    (first, last), shorter = window_of_both(scales, begin, end), min(
+        return [part_of(dump, asked) for dump in dumps]
+    (first, last), shorter = window_of_both(scales, asked.begin, asked.end), min(
         scales, key=lambda scale: scale.femtoseconds)
     parts = []
     for dump, scale in zip(dumps, scales):

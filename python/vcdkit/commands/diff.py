@@ -34,7 +34,7 @@ def compare(asked: argparse.Namespace, report: Lines) -> None:
     """Says all that differs."""
     dumps = [dump_of(asked, file) for file in (asked.one, asked.other)]  # --names of the first
     if is_part(asked):
-        dumps = parts_of_both(dumps, asked.begin, asked.end, bool(asked.rise or asked.fall))
+        dumps = parts_of_both(dumps, asked, bool(asked.rise or asked.fall))
     sides = sides_of(dumps, asked.maps, asked.names, asked.exceptions)
     report.times = [times_of(side.dump, asked) for side in sides]
     spans = [side.dump.ticks(asked.context) for side in sides] if asked.context else []
@@ -46,7 +46,7 @@ def compare(asked: argparse.Namespace, report: Lines) -> None:
         from ..questions.when import state
         comparison.only = [state(side.named, asked.condition, True) for side in sides]
     scales = [side.scale for side in sides if side.scale]
-    if is_part(asked) and len(set(scales)) > 1:
+    if not clocks and is_part(asked) and len(set(scales)) > 1:
         comparison.window = window_of_both(scales, asked.begin, asked.end)
     comparison.start()
     pairs = comparison.compared
@@ -103,7 +103,7 @@ def words_of(words: List[str]) -> argparse.Namespace:
                          default=0.0, help="let real numbers differ by T, or T times the larger")
     options.add_argument("--x-matches", action="store_true",
                          help="let a digit that is x or z match any digit")
-    options.add("--from", "--to")
+    options.window()
     options.clock("compare at the %s edges of this signal", is_one=True)
     options.add_argument("--if", dest="condition", metavar="CONDITION",
                          help="compare only edges at which this holds")

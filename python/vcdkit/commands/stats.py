@@ -112,13 +112,13 @@ def main(words: List[str]) -> int:
                          "10]")
     options.add_argument("--toggle", action="store_true", help="list how often each bit toggles")
     options.add_argument("--saif", metavar="FILE", help="write a SAIF file (-: standard output)")
-    options.add("--from", "--to").form().unit().json().file("+")
+    options.window().form().unit().json().file("+")
     asked = options.parse_args(words)
     check_outputs([asked.saif], [asked.file, asked.names_of])
     dump = dump_of(asked)
     times_of(dump, asked)  # a unit needs a time scale
     dump.select(asked.names)
-    window = window_of(dump, asked.begin, asked.end)
+    window = window_of(dump, asked)
     if asked.toggle or asked.saif is not None:
         write_bits(dump, window, asked)
         return 0

@@ -43,10 +43,10 @@ def words_of(words: List[str]) -> argparse.Namespace:
     options.add_argument("--histogram", action="store_true",
                          help="with --channel: count how many transfers took each number of "
                          "edges")
-    options.add("--from", "--to").unit("that of the time scale").json().file("*")
+    options.window().unit("that of the time scale").json().file("*")
     asked = options.parse_args(words)
     if asked.at is not None and (is_part(asked) or (asked.rise, asked.fall) != (None, None)):
-        options.error("--at goes with none of --rise, --fall, --from and --to")
+        options.error("--at goes with none of --rise, --fall, --from, --to and --after")
     if bool(asked.channels) == bool(asked.names or asked.names_of is not None):
         options.error("give NAMEs, --names or --channel")
     for name in "histogram", "flush":
@@ -78,7 +78,7 @@ def main(words: List[str]) -> int:
     unit = asked.unit or (scale.unit if scale else "tick")
     whole.ticks("0" if unit == "tick" else "0" + unit)  # a unit needs a time scale
     # Values at the begin of a cut are a section, and none that changed.
-    dump = part_of(whole, asked.begin, asked.end)
+    dump = part_of(whole, asked)
     decimal = scale.in_unit(unit) if scale and unit != "tick" and not asked.json else (
         lambda ticks: ticks)
     cells, names = cells_of(decimal, asked.form, asked.json), [one[0] for one in channels]

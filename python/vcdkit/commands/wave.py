@@ -29,7 +29,7 @@ MAX_SIGNALS = 200  # rows of a picture
 def shown_window(dump: Dump, asked: argparse.Namespace) -> Window:
     """Returns the window that the words ask for, which ends with the dump if that is earlier."""
     if asked.around is None:
-        return dump.window_to_end(window_of(dump, asked.begin, asked.end))
+        return dump.window_to_end(window_of(dump, asked))
     if asked.context is None:
         raise UsageError("--around needs --context TIME, how much before and after it")
     begin, last = dump.window(asked.around, asked.context)
@@ -65,7 +65,7 @@ def write_page(dump: Dump, window: Window, mark: Optional[int], asked: argparse.
 @command
 def main(words: List[str]) -> int:
     options = parser("vcdkit-wave FILE NAME ..", __doc__, "the picture was written")
-    options.add("--from", "--to")
+    options.window()
     options.add_argument("--around", metavar="TIME",
                          help="the middle of the window, where a mark is drawn")
     options.add_argument("--context", metavar="TIME",
@@ -80,7 +80,7 @@ def main(words: List[str]) -> int:
     options.form().file("+")
     asked = options.parse_args(words)
     if asked.around is not None and is_part(asked):
-        options.error("--around goes with none of --from and --to")
+        options.error("--around goes with none of --from, --to and --after")
     if asked.context is not None and asked.around is None:
         options.error("--context goes with --around")
     if not LEAST_WIDTH <= asked.width <= MAX_WIDTH:

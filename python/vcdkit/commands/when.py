@@ -77,7 +77,7 @@ def words_of(words: List[str]) -> argparse.Namespace:
                          "not only those at which it begins to")
     options.add_argument("--never", action="store_true", help="for a CI job: exit with 0 if it "
                          "never held and with 1 if it did")
-    options.add("--from", "--to").unit().json().file()
+    options.window().unit().json().file()
     options.add_argument("condition", metavar="CONDITION", nargs="?",
                          help="a condition (see below); not with --rules")
     asked, rest = options.parsed(words)
@@ -190,7 +190,7 @@ def answer(asked: argparse.Namespace, tests: List[Test]) -> int:
     if asked.condition is not None:
         warn_of_quotes("vcdkit-when", asked.condition, dump)
     text = times_of(dump, asked)
-    asking = Questions(part_of(dump, asked.begin, asked.end), [one.asked for one in rules],
+    asking = Questions(part_of(dump, asked), [one.asked for one in rules],
                        asked.rise, asked.fall, asked.every)
     if asked.latency and (asking.each[0].is_refusal or not asking.each[0].condition.answer):
         raise UsageError("latencies are those of a condition such as req -> ack within 50")

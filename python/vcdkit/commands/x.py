@@ -18,7 +18,7 @@ from typing import List, Set
 from ..forms.text import in_json, shown, write_json
 from ..model.values import value_in
 from ..questions.unknown import Signals, values_of
-from . import FAULT, check_begin, command, dump_of, parser, question, times_of
+from . import FAULT, command, dump_of, parser, question, times_of, window_of
 
 
 @command
@@ -32,7 +32,7 @@ def main(words: List[str]) -> int:
     options.add_argument("--trace", action="store_true",
                          help="list only the first one of each path")
     options.add_argument("--z", action="store_true", help="list values with a z too")
-    options.add("--from", "--to").form().unit().json().file("*")
+    options.window().form().unit().json().file("*")
     asked = options.parse_args(words)
     dump = dump_of(asked)
     text_of = times_of(dump, asked)
@@ -40,8 +40,8 @@ def main(words: List[str]) -> int:
     for one in dump.select(asked.names) if asked.names else dump.signals:
         if not one.is_real and one.type != "event":
             signals.setdefault(one.code.encode(), []).append(one)
-    check_begin(dump, asked.begin)
-    part = dump.cut(asked.begin, asked.end).part(asked.names)
+    window = window_of(dump, asked)
+    part = dump.cut(window.begin, window.last).part(asked.names)
     count = 0
     traced: Set[str] = set()  # paths
     for time, code, text in values_of(part, signals, b"xz" if asked.z else b"x"):

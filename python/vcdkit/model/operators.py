@@ -255,8 +255,9 @@ OPERATORS: Dict[str, Operator] = {
     "^": Operator(_xor, 4, "context", True, "{0} ^ {1}"),
     **dict.fromkeys(("~^", "^~"), Operator(_xnor, 4, "context", True)),
     "&": Operator(_and, 5, "context", True, "{0} & {1}"),
-    **{sign: Operator(function, 6, "common", True) for sign, function in (
-        ("===", _same), ("!==", _not(_same)), ("==?", _matched), ("!=?", _not(_matched)))},
+    "===": Operator(_same, 6, "common", True), "!==": Operator(_not(_same), 6, "common", True),
+    "==?": Operator(_matched, 6, "common", True),
+    "!=?": Operator(_not(_matched), 6, "common", True),
     "inside": Operator(_matched, 7, "common"),
     **{sign: _ordering(sign, function) for sign, function in (
         ("==", operator.eq), ("!=", operator.eq), ("<", operator.lt), ("<=", operator.le),

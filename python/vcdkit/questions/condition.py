@@ -343,7 +343,11 @@ class Conditions:
         last, fault = 0, None  # type: int, Optional[DumpFault]
         try:
             for time, changes, _ in looks:
-                yield from self._due(dates, last, time)
+                for look in self._due(dates, last, time):
+                    if look[0] < time:
+                        yield look
+                    else:
+                        changes = look[1] + changes
                 yield time, changes, 0
                 dates.update((code, int(raw)) for code, raw in changes if code[-1:] == b" ")
                 last = time
@@ -357,10 +361,10 @@ class Conditions:
 
     def _due(self, dates: Dict[bytes, int], after: int, before: float = math.inf
              ) -> Iterator[Look]:
-        """Returns the looks between two times that ages need, by their dates."""
+        """Returns the looks from after one time to another one that ages need, by their dates."""
         for due, code in sorted((dates[code] + age, code) for code, age in self._ages
                                 if code in dates):
-            if after < due < before:
+            if after < due <= before:
                 yield due, [(code, b"%d" % dates[code])], 0
 
     def compiled(self) -> Callable[..., int]:

@@ -132,14 +132,16 @@ def _dated(part: "Source", its: Iterator[Step], dated: Collection[bytes]) -> Ite
     begin = part.begin()
     earlier = _up_to_fault(part.before(begin), dated) if begin else ()
     last: Dict[bytes, bytes] = {}
-    dates: Dict[bytes, bytes] = {}
+    known: Dict[bytes, bytes] = {}
     for time, before, changes in itertools.chain(earlier, its):
-        for code, text in dict(before + changes).items():
-            if code in dated and last.get(code) != same(text):
-                last[code], dates[code + b" "] = same(text), b"%d" % time
-        if time >= begin:
-            yield time, before, changes + list(dates.items())
-            dates.clear()
+        now = {code: same(text) for code, text in dict(before + changes).items() if code in dated}
+        dates = [(code + b" ", b"%d" % time) for code in now if last.get(code) != now[code]]
+        last.update(now)
+        if time < begin:
+            known.update(dates)
+            continue
+        yield time, before + list(known.items()), changes + dates
+        known.clear()
 
 
 def _up_to_fault(part: "Source", codes: Collection[bytes]) -> Iterator[Step]:
