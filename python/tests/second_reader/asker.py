@@ -20,7 +20,7 @@ sys.path.insert(0, PYTHON)
 VALUED = {"--from", "--to", "--at", "--rise", "--fall", "--unit", "--values", "--names",
           "--map", "--except", "--real-tolerance", "--junit", "--context", "--into", "--saif",
           "--scopes", "--mark", "--around", "--width", "--rules", "--reach", "--salvage",
-          "--jobs"}
+          "--jobs", "--waive"}
 
 
 # How much of a dump is taken at once, and how much less it may be: then small dumps have several

@@ -242,11 +242,19 @@ def ask_x(of: Asker) -> None:
            if not one.is_event and not one.is_real]
     words += [*window.words, *["--z"] * (letters == "xz"), *[mode] * bool(mode),
               *["--trace"] * is_once, *(["--unit", unit] if unit else [])]
-    words = of.placed(words, [of.path, *names])
+    waived = of.names() if of.happens(.25) else []
+    file = of.write(of.path + ".waived", "".join(
+        "%s\t it is known\n" % name for name in waived).encode("utf-8", "surrogateescape"))
+    words = of.placed([*words, *["--waive", file] * bool(waived)], [of.path, *names])
     said, fault = run("x", words), of.fault(window)
     if of.is_late(window, "x", words, said, 2):
         return
     rows = unknown(dump, its, letters, window.begin, window.end)
+    paths = {one.path for one in (dump.selected(waived) if waived else ())}
+    of_each = [{one.path for one in dump.selected([name])} for name in waived]
+    is_unused = any(its.isdisjoint(row[1] for row in rows) for its in of_each)
+    is_unclear = any(its & other for its in of_each for other in of_each if its is not other)
+    rows = [row for row in rows if row[1] not in paths]
     if is_once:
         rows = [row for at, row in enumerate(rows) if row[1] not in [one[1] for one in rows[:at]]]
     if mode == "--first":
@@ -259,8 +267,10 @@ def ask_x(of: Asker) -> None:
         wanted = [(time, path, shown(value, form)) for time, path, value in rows]
     got = [tuple(one.values()) for one in all_from_json(said.text)] if mode == "--json" else (
         said.lines)
-    of.same("x", words, (said.status, got, said.about),
-            (2 if fault else int(bool(rows)), wanted, fault))
+    is_warned = False if is_unclear or mode == "--first" and rows else is_unused
+    about = said.about if not is_unclear else fault
+    of.same("x", words, (said.status, got, about),
+            (2 if fault else int(bool(rows)), wanted, fault or is_warned))
 
 
 # ---- vcdkit-find and vcdkit-info.

@@ -20,6 +20,7 @@ from ..reading.texts import program_path
 
 if TYPE_CHECKING:
     from ..questions.dump import Dump
+    from ..questions.saved import Exceptions
     from ..reading.source import Source
 
 STATUSES = """
@@ -40,7 +41,7 @@ exit status:
 FAULT = "a name selects nothing, or not a valid dump"
 TIMES = "A TIME is a number of ticks, or has a unit, such as 115ns or 1.5us.\n"
 MARK = "\0"  # which no argument has
-OF_FILES = ("--names", "--rules")  # options that name a file to read
+OF_FILES = ("--names", "--rules", "--waive")  # options that name a file to read
 REPEATED = ("--map", "--except", "--channel")  # other options may be given once
 NEGATIVE = re.compile(r"-(?:[.\d].*[<>=]|[({\"]|[A-Za-z_]\w*\.)")
 BROKEN_PIPE = 128 + 13  # the status that a shell shows of a program that SIGPIPE ended
@@ -56,6 +57,9 @@ SHARED = {
                     help="also use the names in a list or a GTKWave save file"),
     "--four-state": dict(action="store_true",
                          help="convert VHDL's nine states, as vcdkit-four-state does"),
+    "--waive": dict(metavar="FILE", help="leave out values of the signals in this file, of which "
+                    "each line is a name and, behind it, a reason; a warning says which lines were "
+                    "not needed"),
     "--from": dict(dest="begin", default=FIRST, metavar="TIME", help="the first time [default: 0]"),
     "--to": dict(dest="end", default=LAST, metavar="TIME",
                  help="the last time [default: the end of the dump]"),
@@ -339,6 +343,13 @@ def warn_of_quotes(name: str, condition: str, dump: "Source") -> None:
     if is_file and (re.match(r"\d\w*\Z", file) or file in dump.signals.columns()[0]):
         print("%s: warning: the output goes to the file %s. For a comparison, put the condition in "
               "single quotes: '%s > %s'" % (name, file, condition, file), file=sys.stderr)
+
+
+def warn_of(command_name: str, exceptions: "Exceptions") -> None:
+    """Warns of the exceptions that were not needed."""
+    sys.stdout.flush()
+    for line in exceptions.unused():
+        print("%s: warning: %s" % (command_name, line), file=sys.stderr)
 
 
 def natural(text: str) -> int:

@@ -24,10 +24,11 @@ from ..forms.text import counted
 from ..model.times import amount_of
 from ..questions.compare import ALWAYS, EACH_PAIR, FIRST, Comparison, same_within
 from ..questions.rows import FALL, RISE
+from ..questions.saved import Exceptions
 from ..questions.sides import sides_of
 from ..reading.files import check_outputs, write
 from . import (FAULT, command, dump_of, is_part, natural, parser, parts_of_both, question, times_of,
-               window_of_both)
+               warn_of, window_of_both)
 
 
 def compare(asked: argparse.Namespace, report: Lines) -> None:
@@ -41,7 +42,8 @@ def compare(asked: argparse.Namespace, report: Lines) -> None:
     name = asked.rise or asked.fall
     clocks = [side.clock(name) for side in sides] if name else []
     same = same_within(asked.tolerance, asked.x_matches)
-    comparison = Comparison(sides, same, asked.extent, clocks, RISE if asked.rise else FALL)
+    extent = EACH_PAIR if asked.waive is not None and asked.extent == FIRST else asked.extent
+    comparison = Comparison(sides, same, extent, clocks, RISE if asked.rise else FALL)
     if asked.condition is not None:
         from ..questions.when import state
         comparison.only = [state(side.named, asked.condition, True) for side in sides]
@@ -57,7 +59,11 @@ def compare(asked: argparse.Namespace, report: Lines) -> None:
         counted(pairs, "signal"), len(sides[0].paths), len(sides[1].paths))
     if pairs < asked.least:
         raise UsageError("%s: --at-least asks for %d" % (report.compared, asked.least))
-    found = say_values(report, asked, sides, comparison)
+    exceptions = Exceptions(asked.waive, lambda name: set().union(*(
+        side.selected([name])[name] for side in sides)))
+    found = say_values(report, asked, sides, comparison, exceptions)
+    if not found or asked.extent != FIRST:
+        warn_of("vcdkit-diff", exceptions)
     if clocks and pairs and not any(comparison.counts):
         raise UsageError("in both dumps, %s never %s%s%s" % (
             name, "rises" if asked.rise else "falls", " where --if holds" * bool(asked.condition),
@@ -103,7 +109,7 @@ def words_of(words: List[str]) -> argparse.Namespace:
                          default=0.0, help="let real numbers differ by T, or T times the larger")
     options.add_argument("--x-matches", action="store_true",
                          help="let a digit that is x or z match any digit")
-    options.window()
+    options.add("--waive").window()
     options.clock("compare at the %s edges of this signal", is_one=True)
     options.add_argument("--if", dest="condition", metavar="CONDITION",
                          help="compare only edges at which this holds")
@@ -137,7 +143,8 @@ def words_of(words: List[str]) -> argparse.Namespace:
     if asked.context is not None:
         amount_of(asked.context)
     parts = [part_in(asked.into, letter) for letter in "ab" if asked.context]
-    check_outputs([asked.html, asked.junit, *parts], [asked.one, asked.other, asked.names_of])
+    check_outputs([asked.html, asked.junit, *parts], 
+                  [asked.one, asked.other, asked.names_of, asked.waive])
     return asked
 
 

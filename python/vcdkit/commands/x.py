@@ -17,8 +17,9 @@ from typing import List, Set
 
 from ..forms.text import in_json, shown, write_json
 from ..model.values import value_in
+from ..questions.saved import Exceptions
 from ..questions.unknown import Signals, values_of
-from . import FAULT, command, dump_of, parser, question, times_of, window_of
+from . import FAULT, command, dump_of, parser, question, times_of, warn_of, window_of
 
 
 @command
@@ -32,7 +33,7 @@ def main(words: List[str]) -> int:
     options.add_argument("--trace", action="store_true",
                          help="list only the first one of each path")
     options.add_argument("--z", action="store_true", help="list values with a z too")
-    options.window().form().unit().json().file("*")
+    options.add("--waive").window().form().unit().json().file("*")
     asked = options.parse_args(words)
     dump = dump_of(asked)
     text_of = times_of(dump, asked)
@@ -40,23 +41,29 @@ def main(words: List[str]) -> int:
     for one in dump.select(asked.names) if asked.names else dump.signals:
         if not one.is_real and one.type != "event":
             signals.setdefault(one.code.encode(), []).append(one)
+    exceptions = Exceptions(asked.waive, lambda name: [
+        one.path for one in dump.select([name] if dump.has(name) else [])])
     window = window_of(dump, asked)
     part = dump.cut(window.begin, window.last).part(asked.names)
     count = 0
     traced: Set[str] = set()  # paths
     for time, code, text in values_of(part, signals, b"xz" if asked.z else b"x"):
-        for one in signals[code][:1 if asked.first else None]:
-            if one.path in traced:
+        for one in signals[code]:
+            if one.path in traced or exceptions.has(one.path):
                 continue
             traced.update([one.path] if asked.trace else ())
+            if asked.first and count:
+                break
             count += 1
             value = value_in(text, one.size)
             if asked.json and not asked.count:
                 write_json({"time": time, "path": one.path, "value": in_json(value, asked.form)})
             elif not asked.count:
                 print(text_of(time), one.path, shown(value, asked.form))
-        if asked.first:
+        if asked.first and count:
             break
+    else:
+        warn_of("vcdkit-x", exceptions)
     if asked.count:
         write_json({"count": count}) if asked.json else print(count)
     return 1 if count else 0

@@ -8,6 +8,7 @@ from typing import Any, Callable, Dict, Iterable, List, Optional, Sequence, Tupl
 from ..errors import failing
 from ..model.values import Cell, value_in
 from ..questions.compare import FIRST, Comparison, Difference
+from ..questions.saved import Exceptions
 from ..questions.sides import Side, Sides
 from ..reading.files import write
 from .junit import Test, write_tests
@@ -143,16 +144,17 @@ def write_parts(report: Lines, sides: Sides, times: Sequence[int], spans: Sequen
         report.put("window " + path, kind="window", file=path)
 
 
-def say_values(report: Lines, asked: argparse.Namespace, sides: Sides, comparison: Comparison
-               ) -> List[Difference]:
-    """Says where values differ, and returns the first difference of each name."""
+def say_values(report: Lines, asked: argparse.Namespace, sides: Sides, comparison: Comparison,
+               exceptions: Exceptions) -> List[Difference]:
+    """Says where values differ that are no exceptions; returns the first difference of each."""
     first: Dict[str, Difference] = {}
     with contextlib.closing(comparison.differences()) as differences:
-        for found in differences:
+        for every in differences:
+            found = [one for one in every if not exceptions.has(one.name)]
             for one in found:
                 first.setdefault(one.name, one)
-            report.say_some("differs", lines_of(found, sides[0]))
-            if asked.extent == FIRST:
+            report.say_some("differs", lines_of(found, sides[0]) if found else [])
+            if found and asked.extent == FIRST:
                 break
     report.say("differs", [])
     return [*first.values()]

@@ -1,6 +1,7 @@
-"""Files of names: a list, or a save file of GTKWave, which has the signals that a viewer showed."""
+"""Files of names: a list, a save file of GTKWave, which has the signals that a viewer showed, or
+exceptions with their reasons."""
 import re
-from typing import List
+from typing import Callable, Dict, Iterable, List, Optional, Set
 
 from ..errors import UsageError
 from ..model.names import FIELD, places_of
@@ -29,6 +30,38 @@ def names_of(path: str, dump: Source) -> List[str]:
     if not found:
         raise UsageError("%s: it has no name" % path)
     return list(dict.fromkeys(found))
+
+
+class Exceptions:
+    """Names of a file, each with the reason for which the values of its signals may be as they
+    are. It notes which of them are needed."""
+
+    def __init__(self, path: Optional[str], selected: Callable[[str], Iterable[str]]):
+        """`selected` returns the paths that a name selects; none if it selects nothing."""
+        self._of: Dict[str, str] = {}  # of each path the line that has it
+        self._lines: Dict[str, str] = {}  # what is wrong with each that is not needed
+        self._used: Set[str] = set()
+        lines = text_of_file(path).splitlines() if path is not None else []
+        for number, line in enumerate(lines, 1):
+            name, *reason = line.split(None, 1) or ["#"]
+            if name[:1] == "#":
+                continue
+            place = "%s:%d: %s: " % (path, number, name)
+            if not reason:
+                raise UsageError(place + "write the reason behind the name")
+            paths = list(selected(name))
+            self._lines[place] = "is not needed" if paths else "selects nothing"
+            self._of.update((one, place) for one in paths if one not in self._of)
+
+    def has(self, path: str) -> bool:
+        """Whether a signal is an exception; notes that this is needed."""
+        place = self._of.get(path)
+        self._used.update([place] if place else [])
+        return place is not None
+
+    def unused(self) -> List[str]:
+        """Returns a line for each exception that was not needed."""
+        return [place + what for place, what in self._lines.items() if place not in self._used]
 
 
 def _signals_of(line: str) -> List[str]:

@@ -173,6 +173,10 @@ class Source:
         its = self.full(names)
         return list(self.places(its).values()) if its else []
 
+    def has(self, name: str) -> bool:
+        """Whether a name selects a signal."""
+        return any(places_of(self.full(name), self.signals.columns()[0]).values())
+
     def full(self, names: Names) -> List[str]:
         """Returns names; one for which a path with a range stands is replaced by that."""
         its = texts_of(names)
