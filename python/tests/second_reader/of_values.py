@@ -4,7 +4,7 @@ import io
 import json
 import re
 from collections import Counter
-from typing import Any, List, NamedTuple, Optional, Tuple
+from typing import Any, Dict, List, NamedTuple, Optional, Tuple
 
 from asker import Asker, Said, Skip, Window, run
 from conditions import Test
@@ -89,7 +89,7 @@ def ask_table(of: Asker) -> None:
         word, one = of.derived()
         names, columns = [*names, word], [*columns, one]
     is_json = of.happens(.25)
-    rows_words: List[str] = []
+    rows_words, named = [], (states_of(of, columns) if of.happens(.2) else {})  # type: Any, Any
     rows, window = table_rows(of, columns, rows_words)
     fault = of.fault(window)
     condition = of.conditions.make() if of.happens(.5) else None
@@ -97,6 +97,7 @@ def ask_table(of: Asker) -> None:
         is_none = fault and "--at" in rows_words  # it needs all values up to the last time
         rows_words += ["--if=" + condition.text]  # it may begin with -
         rows = [row for row in rows if condition.test(row[0]) and not is_none]
+    words += ["--states=%s=%s" % (named["path"], of.path + ".states")] if named else []
     words = of.placed([*words, *(["--unit", unit] if unit else []), *["--json"] * is_json,
                        *rows_words], [of.path, *names])
     said = run("table", words)
@@ -104,15 +105,32 @@ def ask_table(of: Asker) -> None:
         return
     unit = unit or (dump.scale[1] if dump.scale else "tick")
     wanted: List[Any] = [["time (%s)" % unit] + [one.path for one in columns]] + [
-        [dump.time_in(look.time, unit)] + [shown(value, form) for value in values]
-        for look, values in rows]
+        [dump.time_in(look.time, unit)] + [
+            named.get((one.path, value)) or shown(value, form)
+            for one, value in zip(columns, values)] for look, values in rows]
     if is_json:
         keys = keys_of(columns)
-        wanted = [{"time": look.time, **dict(zip(keys, (in_json(one, form) for one in values)))}
-                  for look, values in rows]
+        wanted = [{"time": look.time, **dict(zip(keys, (
+            named.get((one.path, value)) or in_json(value, form)
+            for one, value in zip(columns, values))))} for look, values in rows]
     got = all_from_json(said.text) if is_json else list(
         csv.reader(io.StringIO(said.text, newline="")))
     of.same("table", words, (said.status, got, said.about), (int(bool(fault)), wanted, fault))
+
+
+def states_of(of: Asker, columns: List[Variable]) -> Dict[Any, str]:
+    """Writes a file of names for some values of a column; returns the names, and the path."""
+    one = of.random.choice(columns)
+    values = {step.end.get(one.code) for step in of.dump.steps}
+    some = sorted(value for value in values if isinstance(value, str))[:3]
+    if not some or one.place < 0 or one.is_real:
+        return {}
+    lines = ["%s %s NAME %d\n" % ("0b" + value if value.strip("01") else "%X" % int(value, 2),
+                                  of.random.choice(["", "?red?"]), at)
+             for at, value in enumerate(some)]
+    of.write(of.path + ".states", "".join(["# names\n", *lines]).encode())
+    return {"path": one.path, **{(one.path, value): "NAME %d" % at
+                                 for at, value in enumerate(some)}}
 
 
 class Channel(NamedTuple):

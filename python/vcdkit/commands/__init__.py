@@ -14,6 +14,7 @@ from .. import __version__
 from ..errors import DumpFault, RunFailed, UsageError, VcdkitError
 from ..forms.terminal import Progress
 from ..forms.text import FORMS
+from ..model.signals import Signal
 from ..model.times import LAST_TICK, UNITS, Timescale, Window
 from ..reading.formats import ENDINGS
 from ..reading.texts import program_path
@@ -42,7 +43,7 @@ FAULT = "a name selects nothing, or not a valid dump"
 TIMES = "A TIME is a number of ticks, or has a unit, such as 115ns or 1.5us.\n"
 MARK = "\0"  # which no argument has
 OF_FILES = ("--names", "--rules", "--waive")  # options that name a file to read
-REPEATED = ("--map", "--except", "--channel")  # other options may be given once
+REPEATED = ("--map", "--states", "--except", "--channel")  # other options may be given once
 NEGATIVE = re.compile(r"-(?:[.\d].*[<>=]|[({\"]|[A-Za-z_]\w*\.)")
 BROKEN_PIPE = 128 + 13  # the status that a shell shows of a program that SIGPIPE ended
 FIRST, LAST = "0", str(LAST_TICK)  # of --from and --to
@@ -116,6 +117,11 @@ class Parser(argparse.ArgumentParser):
         for name, form in FORMS.items():
             group.add_argument("--" + name, dest="form", action="store_const", const=name,
                                help="values " + form.what)
+        self.add_argument("--states", metavar="NAME=FILE", type=pair_of, action="append",
+                          default=[], help="show names for the values of these signals: each line "
+                          "of the file is a value in hexadecimal (or 0b10, 4'd9) and a name, as in "
+                          "a filter file of GTKWave; may be repeated")
+        self.set_defaults(forms={})
         return self
 
     def unit(self, default: str = UNIT) -> "Parser":
@@ -222,7 +228,16 @@ def dump_of(asked: argparse.Namespace, file: Optional[str] = None,
     if any(" = " in name for name in getattr(asked, "names", ())):
         from ..questions.columns import parted
         asked.names, asked.named = parted(asked.names)
-    return dump.derived(asked.named) if hasattr(asked, "named") else dump
+    dump = dump.derived(asked.named) if hasattr(asked, "named") else dump
+    if getattr(asked, "states", None):
+        from ..forms.states import forms_of
+        asked.forms = {**asked.forms, **forms_of(dump, asked.states, asked.form)}
+    return dump
+
+
+def form_for(asked: argparse.Namespace, signal: Signal) -> Any:
+    """Returns the form in which the values of a signal are shown."""
+    return asked.forms.get(signal.path, asked.form)
 
 
 def times_at(asked: argparse.Namespace) -> Optional[List[str]]:
@@ -350,6 +365,14 @@ def warn_of(command_name: str, exceptions: "Exceptions") -> None:
     sys.stdout.flush()
     for line in exceptions.unused():
         print("%s: warning: %s" % (command_name, line), file=sys.stderr)
+
+
+def pair_of(text: str) -> Tuple[str, str]:
+    """Reads the words around the first =."""
+    front, sign, new = text.partition("=")
+    if not front or not sign:
+        raise argparse.ArgumentTypeError("expected a name, = and what it is for, as in TOP.tb=tb")
+    return front, new
 
 
 def natural(text: str) -> int:

@@ -16,7 +16,7 @@ examples:
   vcdkit-diff --every --junit diff.xml --except tb.dut.seed golden.vcd sim.vcd"""
 import argparse
 import sys
-from typing import List, Tuple
+from typing import List
 
 from ..errors import UsageError, VcdkitError
 from ..forms.differences import Lines, part_in, say_ends, say_headers, say_values, write_parts
@@ -27,8 +27,8 @@ from ..questions.rows import FALL, RISE
 from ..questions.saved import Exceptions
 from ..questions.sides import sides_of
 from ..reading.files import check_outputs, write
-from . import (FAULT, command, dump_of, is_part, natural, parser, parts_of_both, question, times_of,
-               warn_of, window_of_both)
+from . import (FAULT, command, dump_of, is_part, natural, pair_of, parser, parts_of_both, question,
+               times_of, warn_of, window_of_both)
 
 
 def compare(asked: argparse.Namespace, report: Lines) -> None:
@@ -84,19 +84,11 @@ def compare(asked: argparse.Namespace, report: Lines) -> None:
         report.put("page " + asked.html, kind="page", file=asked.html)
 
 
-def map_of(text: str) -> Tuple[str, str]:
-    """Reads the words of --map."""
-    front, sign, new = text.partition("=")
-    if not front or not sign:
-        raise argparse.ArgumentTypeError("expected OLD=NEW, for example TOP.tb=tb")
-    return front, new
-
-
 def words_of(words: List[str]) -> argparse.Namespace:
     """Reads the command line."""
     options = parser("vcdkit-diff A B [NAME ..]", __doc__, "no difference", "a difference",
                      "usage error, " + FAULT)
-    options.add_argument("--map", dest="maps", metavar="OLD=NEW", type=map_of, action="append",
+    options.add_argument("--map", dest="maps", metavar="OLD=NEW", type=pair_of, action="append",
                          default=[], help="call the scope or signal OLD of either dump NEW (OLD= "
                          "removes it from paths); may be repeated")
     options.add_argument("--common", action="store_true", help="compare only what both have")

@@ -26,16 +26,16 @@ import sys
 from typing import Any, Dict, Iterator, List, Optional, Sequence
 
 from .. import __version__
-from ..forms.text import counted, in_json, mean_text, shown, write_json
+from ..forms.text import AnyForm, counted, in_json, mean_text, shown, write_json
 from ..model.signals import Signal
 from ..model.times import Window
 from ..questions.dump import Dump
 from ..questions.statistics import Statistics, shares_of, statistics_of
 from ..reading.files import check_outputs, write
-from . import command, dump_of, natural, parser, times_of, window_of
+from . import command, dump_of, form_for, natural, parser, times_of, window_of
 
 
-def facts_of(signal: Signal, counted: Statistics, form: Optional[str], count: Optional[int]
+def facts_of(signal: Signal, counted: Statistics, form: AnyForm, count: Optional[int]
              ) -> Dict[str, Any]:
     """Returns what is counted of a signal, with times in ticks; what it does not have is `None`."""
     span = counted.range() if signal.is_real else None
@@ -123,7 +123,8 @@ def main(words: List[str]) -> int:
         write_bits(dump, window, asked)
         return 0
     for signal, counted in statistics_of(dump, asked.names, window):
-        facts = facts_of(signal, counted, asked.form, None if asked.json else asked.values)
+        facts = facts_of(signal, counted, form_for(asked, signal),
+                         None if asked.json else asked.values)
         if asked.json:
             write_json(facts)
         else:

@@ -24,7 +24,7 @@ from typing import List
 
 from ..forms.tables import cells_of, heads_of, joined
 from ..forms.text import write_json
-from . import command, dump_of, is_part, parser, part_of, times_at, warn_of_quotes
+from . import command, dump_of, form_for, is_part, parser, part_of, times_at, warn_of_quotes
 
 
 def words_of(words: List[str]) -> argparse.Namespace:
@@ -81,7 +81,9 @@ def main(words: List[str]) -> int:
     dump = part_of(whole, asked)
     decimal = scale.in_unit(unit) if scale and unit != "tick" and not asked.json else (
         lambda ticks: ticks)
-    cells, names = cells_of(decimal, asked.form, asked.json), [one[0] for one in channels]
+    cells = [cells_of(decimal, (form_for(asked, one) for one in its), asked.json)
+             for its in columns]
+    names = [one[0] for one in channels]
     heads = heads_of(names, columns, unit, bool(asked.channels), asked.json)
     if asked.channels:
         from ..questions.when import Questions
@@ -90,7 +92,7 @@ def main(words: List[str]) -> int:
         asking = Questions(dump, rules, asked.rise, asked.fall, True, columns)
         head, rows = joined(asking.transactions(), names, heads, cells, asked.histogram)
     else:
-        head, rows = heads[0], itertools.starmap(cells, dump.rows(
+        head, rows = heads[0], itertools.starmap(cells[0], dump.rows(
             asked.names, times, asked.rise, asked.fall, asked.condition))
     if is_part(asked):
         with dump.body():

@@ -16,7 +16,7 @@ from typing import List
 from ..errors import DumpFault
 from ..forms.text import in_json, shown, write_json
 from ..questions.rows import at_times, states
-from . import after_end, command, dump_of, parser, times_at, times_of
+from . import after_end, command, dump_of, form_for, parser, times_at, times_of
 
 
 @command
@@ -36,8 +36,9 @@ def main(words: List[str]) -> int:
                   file=sys.stderr)
     for time, values in at_times(dump, signals, list(map(dump.ticks, times)), names):
         for one, value in zip(signals.values(), values):
+            form = form_for(asked, one)
             if asked.json:
-                write_json({"time": time, "path": one.path, "value": in_json(value, asked.form)})
+                write_json({"time": time, "path": one.path, "value": in_json(value, form)})
             else:
-                print(*[text(time)] * (len(times) > 1), one.path, shown(value, asked.form))
+                print(*[text(time)] * (len(times) > 1), one.path, shown(value, form))
     return 0

@@ -13,14 +13,16 @@ examples:
   vcdkit-wave --light --around 158ns --context 20ns sim.vcd.gz tb.cpu > failure.svg
   vcdkit-wave --html --mark 158ns sim.vcd tb > failure.html"""
 import argparse
+import functools
 import os
 import sys
 from typing import List, Optional
 
 from ..errors import UsageError
+from ..forms.text import form_of
 from ..model.times import Window
 from ..questions.dump import Dump
-from . import check_begin, command, dump_of, is_part, natural, parser, window_of
+from . import check_begin, command, dump_of, form_for, is_part, natural, parser, window_of
 
 LEAST_WIDTH, MAX_WIDTH = 100, 20000  # pixels: room for a time of the axis; that of lanes
 MAX_SIGNALS = 200  # rows of a picture
@@ -57,9 +59,11 @@ def write_page(dump: Dump, window: Window, mark: Optional[int], asked: argparse.
     part = dump.within(window).part(asked.names)  # else a fault after the window is met
     streams = Reader().read(part, chosen, window, lambda time: time - window.begin)
     its = page.Page(os.path.basename(dump.name), page.about(dump), dump.timescale, window.begin,
-                    window.last, mark, (window.begin, window.last), asked.form or "hex",
+                    window.last, mark, (window.begin, window.last), asked.form,
                     asked.light)
-    sys.stdout.writelines(page.texts_of(its, list(map(page.PageRow, chosen, streams))))
+    rows = [page.PageRow(one, stream, names=form_of(form_for(asked, one)).names)
+            for one, stream in zip(chosen, streams)]
+    sys.stdout.writelines(page.texts_of(its, rows))
 
 
 @command
@@ -85,6 +89,7 @@ def main(words: List[str]) -> int:
         options.error("--context goes with --around")
     if not LEAST_WIDTH <= asked.width <= MAX_WIDTH:
         options.error("--width takes %d to %d pixels" % (LEAST_WIDTH, MAX_WIDTH))
+    asked.form = asked.form or "hex"
     dump = dump_of(asked)
     places = dump.places(dump.full(asked.names))
     if not asked.html and len(places) > MAX_SIGNALS:
@@ -99,5 +104,5 @@ def main(words: List[str]) -> int:
         from ..questions.lanes import lanes_of
         chosen = [dump.declarations[place] for place in places]
         draw(dump, chosen, lanes_of(dump, asked.names, window, asked.width), mark,
-             asked.form, asked.light)
+             functools.partial(form_for, asked), asked.light)
     return 0

@@ -19,7 +19,7 @@ from ..forms.text import in_json, shown, write_json
 from ..model.values import value_in
 from ..questions.saved import Exceptions
 from ..questions.unknown import Signals, values_of
-from . import FAULT, command, dump_of, parser, question, times_of, warn_of, window_of
+from . import FAULT, command, dump_of, form_for, parser, question, times_of, warn_of, window_of
 
 
 @command
@@ -27,9 +27,9 @@ from . import FAULT, command, dump_of, parser, question, times_of, warn_of, wind
 def main(words: List[str]) -> int:
     options = parser("vcdkit-x FILE [NAME ..]", __doc__, "no such value", "there is one",
                      "usage error, " + FAULT)
-    form = options.add_mutually_exclusive_group()
-    form.add_argument("--first", action="store_true", help="list only the first one")
-    form.add_argument("--count", action="store_true", help="write only the number of values")
+    extent = options.add_mutually_exclusive_group()
+    extent.add_argument("--first", action="store_true", help="list only the first one")
+    extent.add_argument("--count", action="store_true", help="write only the number of values")
     options.add_argument("--trace", action="store_true",
                          help="list only the first one of each path")
     options.add_argument("--z", action="store_true", help="list values with a z too")
@@ -55,11 +55,11 @@ def main(words: List[str]) -> int:
             if asked.first and count:
                 break
             count += 1
-            value = value_in(text, one.size)
+            value, form = value_in(text, one.size), form_for(asked, one)
             if asked.json and not asked.count:
-                write_json({"time": time, "path": one.path, "value": in_json(value, asked.form)})
+                write_json({"time": time, "path": one.path, "value": in_json(value, form)})
             elif not asked.count:
-                print(text_of(time), one.path, shown(value, asked.form))
+                print(text_of(time), one.path, shown(value, form))
         if asked.first and count:
             break
     else:

@@ -12,7 +12,7 @@ from ..questions.saved import Exceptions
 from ..questions.sides import Side, Sides
 from ..reading.files import write
 from .junit import Test, write_tests
-from .text import FORMS, in_json, shown, write_json
+from .text import AnyForm, form_of, in_json, shown, write_json
 
 MAX_LINES = 20
 # What the words of a line are, by its first one.
@@ -32,11 +32,11 @@ class Lines:
         self.lines: Dict[str, List[str]] = {}
         self.fault = self.compared = ""
 
-    def _form(self, line: Line) -> Optional[str]:
+    def _form(self, line: Line) -> AnyForm:
         """Returns the form of both values, binary if they have one text in that which is asked for:
         in hexadecimal, two mixtures of x or z may be the same digit, X."""
-        form: Optional[str] = self._asked.form
-        is_alike = form and FORMS[form].is_alike and len({
+        form: AnyForm = self._asked.forms.get(line[2], self._asked.form)
+        is_alike = form and form_of(form).is_alike and len({
             shown(one, form) for one in line[3:]}) < 2
         return "binary" if is_alike else form
 

@@ -6,11 +6,11 @@ import json
 import os
 import pkgutil
 import re
-from typing import List, NamedTuple, Optional, Sequence, Tuple
+from typing import Dict, List, NamedTuple, Optional, Sequence, Tuple
 
 from ..model.signals import Signal, keys_of
 from ..model.times import Timescale
-from ..questions.streams import MAX_BYTES, Stream, TooMuch
+from ..questions.streams import MAX_BYTES, Stream, TooMuch, packed
 from ..reading.source import Source
 
 MAX_SPAN = 1 << 53  # ticks, as numbers of JavaScript are exact up to there
@@ -18,12 +18,18 @@ MAX_SPAN = 1 << 53  # ticks, as numbers of JavaScript are exact up to there
 
 class PageRow(NamedTuple):
     """A row of a page: a signal, its stream, and for one of two dumps its letter and a stream whose
-    value is 1 while the two differ."""
+    value is 1 while the two differ; and names for values, by their shortest digits."""
 
     signal: Signal
     stream: Stream
     side: str = ""
     differs: Optional[Stream] = None
+    names: Dict[str, str] = {}
+
+    @property
+    def states(self) -> Dict[str, str]:
+        """The names by the values as the page has them."""
+        return {str(packed(digits.encode())): name for digits, name in self.names.items()}
 
 
 class Page(NamedTuple):
@@ -62,7 +68,8 @@ def texts_of(page: Page, rows: Sequence[PageRow]) -> List[str]:
         "view": [time - page.begin for time in page.view], "row": page.row,
         "ends": {letter: time - page.begin for letter, time in page.ends},
         "signals": [[key, row.signal.type, row.signal.size, places[id(row.stream)], row.side,
-                     places.get(id(row.differs))] for key, row in zip(keys, rows)]}
+                     places.get(id(row.differs)), *([row.states] if row.states else [])]
+                    for key, row in zip(keys, rows)]}
     found, size = [json.dumps(head, separators=(",", ":"))[:-1] + ',"streams":['], 0
     for stream in streams:
         found += ["," * bool(size), json.dumps(stream.row(), separators=(",", ":"))]

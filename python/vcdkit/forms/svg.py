@@ -2,7 +2,7 @@
 import html
 import math
 import os
-from typing import Dict, List, Optional, Sequence, Tuple
+from typing import Callable, Dict, List, Optional, Sequence, Tuple, Union
 
 from ..model.signals import Declaration, Signal
 from ..model.times import UNITS, Timescale
@@ -10,7 +10,7 @@ from ..model.values import Value
 from ..questions.lanes import Lanes, Pixels, Point, Several
 from ..reading.source import Source
 from .junit import clean
-from .text import FORMS, shown
+from .text import Form, form_of, shown
 
 ROW, HIGH, PAD, TOP, CHAR = 26, 16, 10, 34, 6.7  # pixels
 Shapes = Dict[str, List[str]]  # the parts of the path of each class
@@ -41,12 +41,11 @@ def unit_of(scale: Optional[Timescale], ticks: int) -> Tuple[str, float]:
     return UNITS[at], 1000 ** (UNITS.index(scale.unit) - at) / scale.number
 
 
-def value_text(value: object, form: Optional[str], room: int) -> str:
+def value_text(value: object, form: Union[str, Form], room: int) -> str:
     """Returns a value as a lane has it: the last digits for which there is room."""
-    form = form or "hex"
     text = ("%g" % value if isinstance(value, float)
             else shown(value if isinstance(value, str) else None, form))
-    is_number = isinstance(value, Value) and value.is_known and not FORMS[form].is_letters
+    is_number = isinstance(value, Value) and value.is_known and not form_of(form).is_letters
     if len(text) > room and is_number:
         text = text.lstrip("0") or "0"
     if len(text) > room:
@@ -149,7 +148,7 @@ class Picture:
             last = value
         self.shapes(of_kind)
 
-    def lane(self, y: int, points: List[Point], form: Optional[str]) -> None:
+    def lane(self, y: int, points: List[Point], form: Union[str, Form]) -> None:
         """Draws a lane with slanted ends, and the values that fit."""
         of_kind: Shapes = {}
         texts = []
@@ -207,8 +206,8 @@ class Picture:
             last = value
         self.shapes(of_kind)
 
-    def row(self, y: int, signal: Signal, points: List[Point], name: str, form: Optional[str]
-            ) -> None:
+    def row(self, y: int, signal: Signal, points: List[Point], name: str,
+            form: Union[str, Form]) -> None:
         """Draws a signal."""
         self.text(self.left - PAD, y + HIGH - 4, name, anchor="end", title=signal.path)
         if signal.type == "event":
@@ -252,7 +251,7 @@ def bounds(values: Sequence[object]) -> Tuple[float, float]:
 
 
 def draw(dump: Source, chosen: Sequence[Declaration], lanes: Lanes, mark: Optional[int],
-         form: Optional[str], is_light: bool) -> None:
+         form: Callable[[Signal], Union[str, Form]], is_light: bool) -> None:
     """Draws and writes the picture."""
     scopes = os.path.commonprefix([[scope.path for scope in one.scopes] for one in chosen])
     scope = scopes[-1] + "." if scopes else ""
@@ -269,7 +268,8 @@ def draw(dump: Source, chosen: Sequence[Declaration], lanes: Lanes, mark: Option
     if scope:
         picture.text(PAD, TOP - 12, short(scope), "axis", title=scope)
     for y, (signal, *_), name in zip(rows, chosen, names):
-        picture.row(y, signal, lanes.of_code[signal.code.encode()].points, name, form)
+        picture.row(y, signal, lanes.of_code[signal.code.encode()].points, name,
+                    form(signal))
     if mark is not None:
         picture.mark(mark, dump.time(mark), bottom)
     title = "Waveforms of %s from %s to %s" % (

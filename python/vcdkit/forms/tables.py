@@ -7,17 +7,20 @@ from typing import Any, Callable, Iterable, Iterator, List, Optional, Sequence, 
 
 from ..model.signals import Signal, keys_of
 from ..model.values import Cell, Value
-from .text import in_json, shown
+from .text import AnyForm, in_json, shown
 
 Cells = Callable[[int, List[Cell]], List[Any]]  # makes the cells of a time and values
 
 
-def cells_of(time: Callable[[int], Any], form: Optional[str], is_json: bool) -> Cells:
-    """Returns what makes the cells of a row."""
+def cells_of(time: Callable[[int], Any], forms: Iterable[AnyForm], is_json: bool) -> Cells:
+    """Returns what makes the cells of a row, whose columns have these forms."""
     text: Any = in_json if is_json else shown
-    digits = functools.lru_cache(maxsize=1 << 14)(text)  # of numbers it would take 0 for -0
+    texts = [functools.partial(text, form=form) for form in forms]
+    # Of numbers, what is kept would take 0 for -0.
+    each = [(functools.lru_cache(maxsize=1 << 14)(one), one) for one in texts]
     return lambda ticks, values: [time(ticks), *[
-        digits(value, form) if value.__class__ is Value else text(value, form) for value in values]]
+        kept(value) if value.__class__ is Value else one(value)
+        for value, (kept, one) in zip(values, each)]]
 
 
 def heads_of(names: Sequence[str], columns: Sequence[Sequence[Signal]], unit: str, is_bus: bool,
@@ -49,7 +52,7 @@ def counted(transactions: Iterable[List[Any]]) -> Iterator[Tuple[List[Any], List
 
 
 def joined(transactions: Iterable[List[Any]], names: List[str], heads: List[List[str]],
-           cells: Cells, is_histogram: bool) -> Tuple[List[str], Iterable[List[Any]]]:
+           cells: Sequence[Cells], is_histogram: bool) -> Tuple[List[str], Iterable[List[Any]]]:
     """Returns the head and the rows of channels with some names and heads."""
     pairs = ["%s to %s" % pair for pair in zip(names, names[1:])]
     each = counted(transactions)
@@ -58,6 +61,6 @@ def joined(transactions: Iterable[List[Any]], names: List[str], heads: List[List
         return ["edges", *pairs], [[one, *(counts[at, one] for at in range(len(pairs)))]
                                    for one in sorted({one for _, one in counts if one is not None})]
     return [*itertools.chain(*heads), *pairs], (
-        [*(cell for one, head in zip(of, heads)
-           for cell in (cells(*one[2]) if one else [None] * len(head))), *edges]
+        [*(cell for one, its, head in zip(of, cells, heads)
+           for cell in (its(*one[2]) if one else [None] * len(head))), *edges]
         for of, edges in each)

@@ -10,7 +10,8 @@ from ..model.values import Cell, Value
 class Form(NamedTuple):
     """A form of values: what the help says of it, and the text of a value. Unless the form is also
     of digits that have an x or a z, these, and a single one, are written as they are. The text may
-    be a decimal number, or letters. Digits that differ may have one text."""
+    be a decimal number, or letters. Digits that differ may have one text.
+    Values may have names."""
 
     what: str
     text: Callable[[Value], str]
@@ -18,9 +19,18 @@ class Form(NamedTuple):
     is_number: bool = False
     is_letters: bool = False
     is_alike: bool = False
+    names: Dict[str, str] = {}  # of values, by their shortest digits
 
 
-def shown(value: Cell, form: Optional[str] = None) -> str:
+AnyForm = Union[str, Form, None]  # a key of FORMS, or one with names for values
+
+
+def form_of(form: Union[str, Form]) -> Form:
+    """Returns a form."""
+    return FORMS[form] if isinstance(form, str) else form
+
+
+def shown(value: Cell, form: AnyForm = None) -> str:
     """Returns a value as a reader sees it: `-` if there is none, a real number as 1.5 or 3."""
     if value is None:
         return "-"
@@ -28,8 +38,9 @@ def shown(value: Cell, form: Optional[str] = None) -> str:
         return repr(value)[:-2] if repr(value).endswith(".0") else repr(value)
     if form is None or not isinstance(value, Value):
         return value
-    is_text = FORMS[form].has_x or len(value) > 1 and value.is_known
-    return FORMS[form].text(value) if is_text else str(value)  # a Value may be false
+    its = form_of(form)
+    is_text = its.has_x or len(value) > 1 and value.is_known
+    return its.text(value) if is_text else str(value)  # a Value may be false
 
 
 def _letters_of(value: Value) -> str:
@@ -74,11 +85,11 @@ def write_json(row: Dict[str, Any]) -> None:
     print(re.sub("[\udc80-\udcff]", lambda byte: "\\\\x%02x" % (ord(byte.group()) - 0xdc00), text))
 
 
-def in_json(value: Cell, form: Optional[str]) -> Union[int, float, str, None]:
+def in_json(value: Cell, form: AnyForm) -> Union[int, float, str, None]:
     """Returns a value as JSON has it: a real number and one in decimal as a number, digits as a
     text, and null if there is none."""
     if value is None or isinstance(value, float) and math.isfinite(value):
         return value
     text = shown(value, form)
-    is_number = form and FORMS[form].is_number and isinstance(value, Value) and value.is_known
+    is_number = form and form_of(form).is_number and isinstance(value, Value) and value.is_known
     return int(text) if is_number else text
