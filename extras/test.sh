@@ -83,7 +83,7 @@ later 'the same, about dumps of simulators' "${with_numpy:-python3}" \
     python/tests/second_reader/ask.py --processes 1 --seeds 0:1 samples/*.vcd "$@"
 [[ -n $(type -P node) ]] || echo "the page's script is not asked by the second reader: no node"
 for script in when diff; do
-    later "vcdkit-$script, against another reader" python3 "python/tests/test_$script.py"
+    later "vcdkit-$script, and what it refuses" python3 "python/tests/test_$script.py"
 done
 test=python/tests/test_expressions.py
 later 'conditions, against Icarus Verilog' python3 $test --count 400

@@ -251,7 +251,7 @@ class Asker:
         self.need_whole()
         self.conditions.reset()
         found = self.conditions.make()
-        if not found or self.conditions.events:
+        if not found or found.of.is_real or self.conditions.events:
             raise Skip
         for step in self.dump.steps:
             for state in step.before, step.end:

@@ -264,7 +264,8 @@ def ask_when(of: Asker) -> None:
     part, is_clocked = part_of(of), of.happens(.5)
     first, asked = condition(of, 2, is_clocked), {}  # type: Any, Dict[str, Any]
     text, after = first.text, condition(of, 1, is_clocked) if of.happens(.4) else None
-    looks = looks_at_changes(of.dump, of.conditions.codes, part.begin, part.end)
+    looks = looks_at_changes(of.dump, of.conditions.codes, part.begin, part.end,
+                             of.conditions.ages)
     if is_clocked:
         words, edges = of.clocks()
         asked = {word[2:]: name for word, name in zip(words[::2], words[1::2])}
