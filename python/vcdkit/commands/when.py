@@ -59,11 +59,12 @@ def words_of(words: List[str]) -> argparse.Namespace:
     options = parser("vcdkit-when", __doc__, "it held at some time", "it never held",
                 "usage error, a bad condition, %s" % FAULT)
     form = options.add_mutually_exclusive_group()
-    form.add_argument("--first", action="store_true", help="list only the first time")
+    form.add_argument("--first", action="store_true", help="list only the first time; with --rules, end at "
+                      "the first time at which a rule turns out not to be met")
     form.add_argument("--count", action="store_true", help="write only the number of times")
     form.add_argument("--latency", action="store_true", help="for req -> ack within N, also list "
                       "when ack follows and after how long")
-    form.add_argument("--rules", metavar="FILE", help="evaluate the conditions in this file, each "
+    options.add_argument("--rules", metavar="FILE", help="evaluate the conditions in this file, each "
                       "on a line `name: condition`, `name: never condition` or "
                       "`name: always condition`, and write a line for each that holds at some time "
                       "(with always: that does not). With `name: each req -> ack within N`, the "
@@ -87,6 +88,8 @@ def words_of(words: List[str]) -> argparse.Namespace:
         options.error("put the condition in single quotes")
     if (asked.condition is None) == (asked.rules is None):
         options.error("give a CONDITION, or --rules FILE")
+    if asked.rules is not None and (asked.count or asked.latency):
+        options.error("--rules goes with none of --count and --latency")
     if asked.junit is not None and asked.rules is None:
         options.error("--junit goes with --rules")
     return asked
@@ -159,7 +162,10 @@ def list_rules(asking: Questions, rules: List[Rule], text: Callable[[int], str],
             for number in numbers:
                 its = found.setdefault(number, [time, 0])
                 its[1] += 1
-        is_whole = True
+            if asked.first and not all(rules[one].is_met(True, asked.never) for one in numbers):
+                break
+        else:
+            is_whole = True
     finally:
         for number, rule in enumerate(rules):
             name, its = rule.name, found.get(number, [])
@@ -179,7 +185,7 @@ def list_rules(asking: Questions, rules: List[Rule], text: Callable[[int], str],
             tests.append(Test(asking.dump.name, name, "failure" if is_wrong else "",
                               line or "it never held", rule.condition, one.warning()))
     return [one.name for number, one in enumerate(rules)
-            if not one.is_met(number in found, asked.never)]
+            if (number in found or is_whole) and not one.is_met(number in found, asked.never)]
 
 
 def answer(asked: argparse.Namespace, tests: List[Test]) -> int:
@@ -196,14 +202,14 @@ def answer(asked: argparse.Namespace, tests: List[Test]) -> int:
         raise UsageError("latencies are those of a condition such as req -> ack within 50")
     if asked.rules is not None:
         missed = list_rules(asking, rules, text, asked, tests)
-        status = int(bool(missed))
+        status, is_known = int(bool(missed)), bool(missed)
     else:
         count = (list_latencies(asking, dump, text, asked) if asked.latency
                  else list_times((time for time, _ in asking.times()), text, asked))
-        status = int((count > 0) == asked.never)
+        status, is_known = int((count > 0) == asked.never), count > 0
     for line in filter(None, (one.warning() for one in asking.each)):
         print("vcdkit-when: warning: " + line, file=sys.stderr)
-    for rule, one in zip(rules, asking.each):
+    for rule, one in zip(rules, () if asked.first and is_known else asking.each):
         if one.clock and not asking.counts[one.clock] and (asked.never or rule.word):
             raise UsageError(one.front + "its clock has no edge in this window, so it was never "
                              "evaluated")
