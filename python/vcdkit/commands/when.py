@@ -10,11 +10,14 @@ clock, with the values just before. It is an expression of Verilog over paths:
   !(req -> ack within 5)  it does not
 A result that depends on x is x, and x does not hold. More is in extras/README.md.
 
+With --rules, FILE may be a directory, which stands for all dumps in it and below it.
+
 examples:
   vcdkit-when --rise tb.clk --every --count sim.vcd.gz 'tb.valid & tb.ready'
   vcdkit-when --latency --rise tb.clk sim.vcd 'tb.req -> tb.ack within 50'
   vcdkit-when --rules rules.txt --junit rules.xml --rise tb.clk sim.vcd"""
 import argparse
+import os
 import re
 import sys
 from typing import Callable, Dict, Iterable, List, NamedTuple
@@ -59,18 +62,16 @@ def words_of(words: List[str]) -> argparse.Namespace:
     options = parser("vcdkit-when", __doc__, "it held at some time", "it never held",
                 "usage error, a bad condition, %s" % FAULT)
     form = options.add_mutually_exclusive_group()
-    form.add_argument("--first", action="store_true", help="list only the first time; with --rules, end at "
-                      "the first time at which a rule turns out not to be met")
+    form.add_argument("--first", action="store_true", help="list only the first time; with --rules, "
+                      "end at the first time at which a rule turns out not to be met")
     form.add_argument("--count", action="store_true", help="write only the number of times")
     form.add_argument("--latency", action="store_true", help="for req -> ack within N, also list "
                       "when ack follows and after how long")
-    options.add_argument("--rules", metavar="FILE", help="evaluate the conditions in this file, each "
-                      "on a line `name: condition`, `name: never condition` or "
-                      "`name: always condition`, and write a line for each that holds at some time "
-                      "(with always: that does not). With `name: each req -> ack within N`, the "
-                      "n-th answer is that of the n-th request, and lost and surplus ones are "
-                      "listed. A name@CLOCK has the rising edges of a clock of its own, "
-                      "name@!CLOCK the falling ones")
+    options.add_argument("--rules", metavar="FILE", help="evaluate the rules in this file: a line is "
+                         "`name: condition` (it has to hold at some time), `name: never ..`, "
+                         "`name: always ..`, or `name: each req -> ack within N`, which gives each "
+                         "request an answer of its own. A name@CLOCK has the rising edges of a "
+                         "clock of its own, name@!CLOCK the falling ones")
     options.add_argument("--junit", metavar="FILE", help="with --rules: also write a JUnit report, "
                          "with a test for each rule")
     options.clock("evaluate at the %s edges of this signal")
@@ -90,6 +91,8 @@ def words_of(words: List[str]) -> argparse.Namespace:
         options.error("give a CONDITION, or --rules FILE")
     if asked.rules is not None and (asked.count or asked.latency):
         options.error("--rules goes with none of --count and --latency")
+    if asked.rules is None and os.path.isdir(asked.file):
+        options.error("a directory of dumps goes with --rules")
     if asked.junit is not None and asked.rules is None:
         options.error("--junit goes with --rules")
     return asked
@@ -178,9 +181,10 @@ def list_rules(asking: Questions, rules: List[Rule], text: Callable[[int], str],
                         len(times) > 1)) if times else "") for sign, what, times in zip(
                             ":,", ("an answer", "a request"), one.alone))
             if its and asked.json:
-                write_json({"rule": name, "first": its[0], "count": its[1], **alone})
+                write_json({**({"file": asked.file} if asked.front else {}), "rule": name,
+                            "first": its[0], "count": its[1], **alone})
             elif its:
-                print("%s: %s" % (name, line))
+                print("%s%s: %s" % (asked.front, name, line))
             is_wrong = not rule.is_met(bool(its), asked.never) and (its or is_whole)
             tests.append(Test(asking.dump.name, name, "failure" if is_wrong else "",
                               line or "it never held", rule.condition, one.warning()))
@@ -208,7 +212,7 @@ def answer(asked: argparse.Namespace, tests: List[Test]) -> int:
                  else list_times((time for time, _ in asking.times()), text, asked))
         status, is_known = int((count > 0) == asked.never), count > 0
     for line in filter(None, (one.warning() for one in asking.each)):
-        print("vcdkit-when: warning: " + line, file=sys.stderr)
+        print("vcdkit-when: warning: " + asked.front + line, file=sys.stderr)
     for rule, one in zip(rules, () if asked.first and is_known else asking.each):
         if one.clock and not asking.counts[one.clock] and (asked.never or rule.word):
             raise UsageError(one.front + "its clock has no edge in this window, so it was never "
@@ -216,20 +220,35 @@ def answer(asked: argparse.Namespace, tests: List[Test]) -> int:
     if asked.rules is not None:
         sys.stdout.flush()
         names = ", ".join(missed[:3]) + ", .." * (len(missed) > 3)
-        print("vcdkit-when: %s, %s" % (counted(len(rules), "rule"), "not met: " + names
-                                       if missed else "all met"), file=sys.stderr)
+        print("vcdkit-when: %s%s, %s" % (
+            asked.front, counted(len(rules), "rule"), "not met: " + names if missed else "all met"),
+              file=sys.stderr)
     return status
 
 
 @command
 @question
 def main(words: List[str]) -> int:
-    asked, tests = words_of(words), []  # type: argparse.Namespace, List[Test]
-    check_outputs([asked.junit], [asked.file, asked.rules])
+    asked, tests, status = words_of(words), [], 0  # type: argparse.Namespace, List[Test], int
+    is_many, files = os.path.isdir(asked.file), [asked.file]
+    if is_many:
+        from ..questions.verdicts import files_of
+        files = files_of(files)
+    check_outputs([asked.junit], [*files, asked.rules])
     try:
-        return answer(asked, tests)
-    except VcdkitError as error:
-        tests.append(Test(asked.file, "fault", "error", str(error), ""))
-        raise
+        for asked.file in files:
+            asked.front = (asked.file + ": ") * is_many
+            try:
+                status = max(status, answer(asked, tests))
+            except VcdkitError as error:
+                tests.append(Test(asked.file, "fault", "error", str(error), ""))
+                if not is_many:
+                    raise
+                sys.stdout.flush()
+                text = str(error)
+                print("vcdkit-when: " + asked.front * (asked.file not in text) + text,
+                      file=sys.stderr)
+                status = max(status, error.status, 2)
     finally:
         write_tests(asked.junit, "vcdkit-when", tests)
+    return status
