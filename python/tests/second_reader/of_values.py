@@ -123,7 +123,7 @@ def states_of(of: Asker, columns: List[Variable]) -> Dict[Any, str]:
     one = of.random.choice(columns)
     values = {step.end.get(one.code) for step in of.dump.steps}
     some = sorted(value for value in values if isinstance(value, str))[:3]
-    if not some or one.place < 0 or one.is_real:
+    if not some or one.place < 0 or one.is_real or not of.dump.is_unique(one):
         return {}
     lines = ["%s %s NAME %d\n" % ("0b" + value if value.strip("01") else "%X" % int(value, 2),
                                   of.random.choice(["", "?red?"]), at)

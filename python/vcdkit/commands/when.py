@@ -62,13 +62,13 @@ def words_of(words: List[str]) -> argparse.Namespace:
     options = parser("vcdkit-when", __doc__, "it held at some time", "it never held",
                 "usage error, a bad condition, %s" % FAULT)
     form = options.add_mutually_exclusive_group()
-    form.add_argument("--first", action="store_true", help="list only the first time; with --rules, "
-                      "end at the first time at which a rule turns out not to be met")
+    form.add_argument("--first", action="store_true", help="list only the first time; with "
+                      "--rules, end at the first time at which a rule turns out not to be met")
     form.add_argument("--count", action="store_true", help="write only the number of times")
     form.add_argument("--latency", action="store_true", help="for req -> ack within N, also list "
                       "when ack follows and after how long")
-    options.add_argument("--rules", metavar="FILE", help="evaluate the rules in this file: a line is "
-                         "`name: condition` (it has to hold at some time), `name: never ..`, "
+    options.add_argument("--rules", metavar="FILE", help="evaluate the rules in this file: a line "
+                         "is `name: condition` (it has to hold at some time), `name: never ..`, "
                          "`name: always ..`, or `name: each req -> ack within N`, which gives each "
                          "request an answer of its own. A name@CLOCK has the rising edges of a "
                          "clock of its own, name@!CLOCK the falling ones")
