@@ -27,7 +27,7 @@ from ..forms.junit import Test, write_tests
 from ..forms.text import counted, mean_text, write_json
 from ..questions.dump import Dump
 from ..questions.when import Asked, Questions, named
-from ..reading.files import check_outputs, text_of_file
+from ..reading.files import check_outputs, lines_in
 from . import FAULT, command, dump_of, parser, part_of, question, times_of, warn_of_quotes
 
 WORDED = re.compile(r"(never +|always +|each +|)(.*)", re.S)
@@ -99,18 +99,16 @@ def words_of(words: List[str]) -> argparse.Namespace:
 
 
 def rules_of(path: str) -> List[Rule]:
-    """Returns the rules in a file; a line that is empty or begins with # is none."""
+    """Returns the rules in a file."""
     found: Dict[str, Rule] = {}
-    for number, line in enumerate(text_of_file(path).splitlines(), 1):
-        place, line = "%s:%d: " % (path, number), line.strip()
-        if line and line[:1] != "#":
-            front, sign, condition = line.partition(": ")
-            (name, clock), (word, text) = named(front, place), re.findall(WORDED, condition)[0]
-            if not sign or not name:
-                raise UsageError(place + "a rule is `name: condition`")
-            if name in found:
-                raise UsageError("%sthere is a rule %s before" % (place, name))
-            found[name] = Rule(name, word.strip(), text, clock, place)
+    for place, line in lines_in(path):
+        front, sign, condition = line.partition(": ")
+        (name, clock), (word, text) = named(front, place), re.findall(WORDED, condition)[0]
+        if not sign or not name:
+            raise UsageError(place + "a rule is `name: condition`")
+        if name in found:
+            raise UsageError("%sthere is a rule %s before" % (place, name))
+        found[name] = Rule(name, word.strip(), text, clock, place)
     if not found:
         raise UsageError("%s: it has no rule" % path)
     return [*found.values()]

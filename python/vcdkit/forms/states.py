@@ -3,14 +3,15 @@ import re
 from typing import Dict, Sequence, Tuple
 
 from ..errors import UsageError
+from ..model.operators import digits_of
 from ..model.values import Value
 from ..questions.expression import number_of
-from ..reading.files import text_of_file
+from ..reading.files import lines_in
 from ..reading.source import Source
 from .text import AnyForm, Form, shown
 
 LEADING = re.compile(r"0+(?=[01])|x+(?=x)|z+(?=z)")
-LINE = re.compile(r"\s*([^\s#]\S*)\s+(?:\?\w+\?)?\s*(.*\S)")  # a value, maybe a colour, and a name
+LINE = re.compile(r"(\S+)\s+(?:\?\w+\?)?\s*(.*\S)")  # a value, maybe a colour, and a name
 
 
 def shortest(digits: str) -> str:
@@ -22,18 +23,18 @@ def shortest(digits: str) -> str:
 def names_in(path: str) -> Dict[str, str]:
     """Returns the names in a file by their values: in hexadecimal, or as conditions have them."""
     found: Dict[str, str] = {}
-    for number, line in enumerate(text_of_file(path).splitlines(), 1):
+    for place, line in lines_in(path):
         its = LINE.match(line)
-        if not its and line.strip()[:1] not in ("", "#"):
-            raise UsageError("%s:%d: a line is a value and a name" % (path, number))
-        if its:
-            is_hex = re.match(r"(?!0[xb])[\da-fxz]+\Z", its.group(1), re.IGNORECASE)
-            try:
-                value = number_of("0x" * bool(is_hex) + its.group(1)).value
-            except UsageError as error:
-                raise UsageError("%s:%d: %s" % (path, number, error)) from None
-            found[shortest(value if isinstance(value, str) else "{:b}".format(value))] = (
-                its.group(2))
+        if not its:
+            raise UsageError(place + "a line is a value and a name")
+        is_hex = re.match(r"(?!0[xb])[\da-fxz]+\Z", its.group(1), re.IGNORECASE)
+        try:
+            value = number_of("0x" * bool(is_hex) + its.group(1))
+        except UsageError as error:
+            raise UsageError(place + str(error)) from None
+        if not value.kind.width:
+            raise UsageError("%sa value is digits, and not %s" % (place, its.group(1)))
+        found[shortest(digits_of(value.value, value.kind.width))] = its.group(2)
     if not found:
         raise UsageError("%s: it has no line such as `1 IDLE`" % path)
     return found

@@ -4,7 +4,7 @@ import re
 from typing import BinaryIO, Dict, Iterator, List, Sequence, Tuple, TypeVar
 
 from ..errors import UsageError
-from ..model.names import fronts
+from ..model.names import bare, fronts
 from ..model.operators import Kind, Value, digits_of
 from ..reading import body, header
 from ..reading.source import Source
@@ -88,7 +88,7 @@ class _Columns:
 def derived(dump: Its, named: Dict[str, str]) -> Its:
     """Returns a dump that also has expressions as variables, each with a name."""
     paths = dump.signals.columns()[0]
-    taken = {name for path in paths for name in fronts(path)} if named else ()
+    taken = {name for path in paths for name in (bare(path), *fronts(path))} if named else ()
     for name in named:
         if name in taken:
             raise UsageError("%s: the dump has this name: give the expression another one" % name)

@@ -5,7 +5,7 @@ from typing import Callable, Dict, Iterable, List, Optional, Set
 
 from ..errors import UsageError
 from ..model.names import FIELD, places_of
-from ..reading.files import text_of_file
+from ..reading.files import lines_in, text_of_file
 from ..reading.source import Source
 
 # What only a save file has: a line of flags, or a setting.
@@ -41,15 +41,11 @@ class Exceptions:
         self._of: Dict[str, str] = {}  # of each path the line that has it
         self._lines: Dict[str, str] = {}  # what is wrong with each that is not needed
         self._used: Set[str] = set()
-        lines = text_of_file(path).splitlines() if path is not None else []
-        for number, line in enumerate(lines, 1):
-            name, *reason = line.split(None, 1) or ["#"]
-            if name[:1] == "#":
-                continue
-            place = "%s:%d: %s: " % (path, number, name)
+        for place, line in lines_in(path) if path is not None else ():
+            name, *reason = line.split(None, 1)
             if not reason:
-                raise UsageError(place + "write the reason behind the name")
-            paths = list(selected(name))
+                raise UsageError("%s%s: write the reason behind the name" % (place, name))
+            paths, place = list(selected(name)), "%s%s: " % (place, name)
             self._lines[place] = "is not needed" if paths else "selects nothing"
             self._of.update((one, place) for one in paths if one not in self._of)
 

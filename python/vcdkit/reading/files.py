@@ -4,7 +4,7 @@ import stat
 import sys
 import threading
 from functools import partial
-from typing import Iterable, Optional, Union
+from typing import Iterable, List, Optional, Tuple, Union
 
 from ..errors import UsageError, failing
 
@@ -15,6 +15,14 @@ def text_of_file(path: str) -> str:
     """Returns the text of a file, or of standard input for `-`."""
     with failing(path), open("/dev/stdin" if path == "-" else path, "rb") as file:
         return file.read().decode("utf-8-sig", "surrogateescape")
+
+
+def lines_in(path: str) -> List[Tuple[str, str]]:
+    """Returns the lines of a file, each behind the place with which messages about it begin; one
+    that is empty or begins with # is none."""
+    lines = [line.strip() for line in text_of_file(path).splitlines()]
+    return [("%s:%d: " % (path, number), line) for number, line in enumerate(lines, 1)
+            if line and line[0] != "#"]
 
 
 def check_outputs(outputs: Iterable[Optional[str]], inputs: Iterable[Optional[str]]) -> None:
