@@ -79,7 +79,7 @@ def compare(asked: argparse.Namespace, report: Lines) -> None:
         from ..forms import page_of_two
         page = page_of_two.texts_of(
             sides, comparison.factors, found, [one for one, _ in clocks], same,
-            spans[0] * comparison.factors[0] if spans else None)
+            spans[0] * comparison.factors[0] if spans else None, asked.forms)
         write(asked.html, (text.encode("ascii") for text in page))
         report.put("page " + asked.html, kind="page", file=asked.html)
 

@@ -2,7 +2,7 @@
 B, in a window around the first difference."""
 import os
 from functools import partial
-from typing import List, Optional, Sequence, Tuple
+from typing import Dict, List, Optional, Sequence, Tuple
 
 from ..model.signals import Signal
 from ..model.times import Window
@@ -11,6 +11,7 @@ from ..questions.sides import Sides
 from ..questions.streams import Reader, TooMuch, differences
 from . import page
 from .page import Page, PageRow
+from .text import Form
 
 NEAR = 10  # changes before and after the first difference that are shown first
 Named = Tuple[str, Tuple[Signal, Signal]]
@@ -45,8 +46,8 @@ class Surroundings:
         return self.begin + (before or [0])[0], self.begin + (after or [max(self.ends)])[-1]
 
 
-def rows_of(window: Surroundings, sides: Sides, pairs: Sequence[Named], same: Same
-            ) -> List[PageRow]:
+def rows_of(window: Surroundings, sides: Sides, pairs: Sequence[Named], same: Same,
+            forms: Dict[str, Form]) -> List[PageRow]:
     """Returns the rows of pairs of signals. Fails if they have too much for a page."""
     reader, streams = Reader(keeps_texts=True), []
     for at, side in enumerate(sides):
@@ -57,7 +58,8 @@ def rows_of(window: Surroundings, sides: Sides, pairs: Sequence[Named], same: Sa
     for (name, both), *its in zip(pairs, *streams):
         is_event = both[0].type == "event"
         differs = differences(its, is_event, min(window.ends), same)
-        rows += [PageRow(signal._replace(path=name), stream, letter, differs)
+        names = forms[name].names if name in forms else {}
+        rows += [PageRow(signal._replace(path=name), stream, letter, differs, names)
                  for letter, signal, stream in zip("AB", both, its)]
     return rows
 
@@ -82,7 +84,8 @@ def page_of(window: Surroundings, sides: Sides, rows: Sequence[PageRow], row: in
 
 
 def texts_of(sides: Sides, factors: Tuple[int, int], found: Sequence[Difference],
-             clocks: Sequence[Signal], same: Same, span: Optional[int]) -> List[str]:
+             clocks: Sequence[Signal], same: Same, span: Optional[int],
+             forms: Dict[str, Form]) -> List[str]:
     """Returns the text of a page with the signals that differ, and the clocks, in parts. Without a
     span, it has as much time as there is room for."""
     pairs: List[Named] = [(clocks[0].path, (clocks[0], clocks[1]))] if clocks else []
@@ -95,7 +98,7 @@ def texts_of(sides: Sides, factors: Tuple[int, int], found: Sequence[Difference]
     while True:
         window = Surroundings(sides, factors, found[0], tried if span is None else span)
         try:
-            rows = rows_of(window, sides, pairs, same)
+            rows = rows_of(window, sides, pairs, same, forms)
             return page.texts_of(page_of(window, sides, rows, row, bool(clocks)), rows)
         except TooMuch:
             if span is not None or tried < 2:
