@@ -1,0 +1,15 @@
+pub mod Sampled
+pub mod Triggers
+pub mod EdgeSteps
+pub mod RoleSteps
+pub mod Once
+pub mod ListSteps
+pub mod EdgeLemmas
+pub mod BinaryDigits
+pub mod LineSteps
+pub mod WholeSteps
+pub mod ItemSteps
+pub mod TurnLemmas
+pub mod PlaceSteps
+pub mod TurnSteps
+pub mod ChangeSteps

@@ -1,0 +1,34 @@
+-- Clocks, and whether a change is a turn of one.
+use Rattle.std.specs.Prelude.{◌≡◌, ℕ, ◌+◌, ◌&&◌, ◌==◌, Bool, false, cond, List, Option, Some, slice_get}
+use Rattle.std.specs.List.{AllZip}
+use Rattle.std.specs.Str.{byte}
+use Rattle.vcd_model.specs.Declarations.{IdCode}
+use Rattle.vcd_model.specs.Strobe.{Clock as ModelClock}
+use Rattle.vcd_view.specs.declared.view.HeadView.{HeadView}
+use Rattle.vcd_body.specs.Contents.{codes_shown, value_in}
+use Rattle.vcd_body.specs.Kept.{digit_in, goes_from}
+use Rattle.vcd_body.specs.declared.values.table.Table.{Table}
+use Rattle.vcd_strobe.specs.Lines.{place_of}
+use Rattle.vcd_strobe.specs.declared.clocks.Clock.{Clock}
+
+-- the clock of a code of these: its bit, counted from the left
+pub record IsClock (codes : List IdCode) (c : Clock) (k : ModelClock) : Type 0 where
+  pub there : slice_get codes c.code ≡ Some k.code
+  pub bit : c.index + 1 + k.place ≡ k.code.size
+  pub falls : c.falls ≡ k.falls
+  pub event : k.code.event ≡ false
+
+abbrev pub AreClocks : List IdCode → List Clock → List ModelClock → Type 0
+AreClocks codes clocks ks = AllZip (IsClock codes) clocks ks
+
+-- the digit goes as the clock's edges do
+abbrev pub goes : Bool → Option ℕ → Option ℕ → Bool
+goes falls before after = cond falls (goes_from (byte "1") (byte "0") before after) (goes_from (byte "0") (byte "1") before after)
+
+-- the digit in a place of the code at an index
+abbrev pub digit_at : HeadView → Table → ℕ → ℕ → ℕ → Option ℕ
+digit_at v t code place index = digit_in (value_in (codes_shown v) t (place_of code place)) index
+
+-- the clock turns if its code goes from the value in one place to that in another
+abbrev pub turns_at : HeadView → Table → ℕ → ℕ → ℕ → Clock → Bool
+turns_at v t code from to c = c.code == code && goes c.falls (digit_at v t code from c.index) (digit_at v t code to c.index)

@@ -1,0 +1,24 @@
+//! The values of a dump just before each edge of its clocks, as a dump.
+//!
+//! A `Strobe` keeps four places for the value of each code: of its current value, of that before the
+//! time of its last change, of that at the last edge, and a spare one for the next. At an edge it
+//! writes the lines of the codes whose values just before it are others than at the last edge.
+//!
+//! # The modules
+//!
+//! - `role`: `Role`, which place has which value of a code
+//! - `touched`: the list of codes that may have a line at the next edge
+//! - `edge_lines`: the lines of an edge
+//! - `clocks`: `Clock`, and whether a change is a turn of one
+//! - `whole`: `Strobe`
+#![tactic(auto)]
+
+mod clocks;
+mod edge_lines;
+mod role;
+mod touched;
+mod whole;
+
+pub use clocks::Clock;
+pub use role::{Role, Wanted};
+pub use whole::Strobe;

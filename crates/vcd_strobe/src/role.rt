@@ -1,0 +1,161 @@
+//! Which of its four places in the table has which value of a code.
+ghost use Rattle.std.specs.Prelude.{◌≡◌, ◌<◌, false};
+ghost use Rattle.vcd_strobe.specs.Roles.{changed, enlisted, is_at, is_due, needs, settle, settled, triggered};
+
+/// Whether a code has lines.
+#[derive(Clone, Copy, PartialEq, Eq, Debug)]
+pub enum Wanted {
+    /// It has none.
+    Never,
+    /// It has none at the next edge, unless it changes.
+    Idle,
+    /// It may have one at the next edge.
+    Listed,
+}
+
+/// What is kept of a code besides the values in its places, which count from 0.
+#[derive(Clone, Copy, PartialEq, Eq, Debug)]
+pub struct Role {
+    /// The place of the current value.
+    pub now: usize,
+    /// The place of the value before the time of the last change.
+    pub before: usize,
+    /// The place of the value at the last edge.
+    pub written: usize,
+    /// The time of the last change; `None` if there was none, or only one from the start.
+    pub since: Option<u64>,
+    /// Of an event: whether it was triggered since the last edge and before `since`.
+    pub early: bool,
+    /// Whether the code has lines.
+    pub wanted: Wanted,
+}
+
+/// Returns whether the moment is this time.
+#[inline(always)]
+pub(crate) fn is_at(moment: Option<u64>, time: u64) -> bool
+    ensures { result ≡ is_at moment time }
+{
+    match moment {
+        Some(at) => at == time,
+        None => false,
+    }
+}
+
+impl Role {
+    /// Returns the role of a code before the first item.
+    pub fn new(wanted: Wanted) -> Role {
+        Role {
+            now: 0,
+            before: 0,
+            written: 0,
+            since: None,
+            early: false,
+            wanted,
+        }
+    }
+
+    /// Returns the place of the value just before this time, which is that of the last item.
+    #[inline(always)]
+    pub(crate) fn settled(self, time: u64) -> usize
+        ensures { result ≡ settled self time }
+    {
+        if is_at(self.since, time) {
+            self.before
+        } else {
+            self.now
+        }
+    }
+
+    /// Returns whether the place has a value that is still needed.
+    #[inline(always)]
+    fn needs(self, place: usize) -> bool
+        ensures { result ≡ needs self place }
+    {
+        place == self.now || place == self.before || place == self.written
+    }
+
+    /// Returns a place whose value is not needed any more.
+    #[inline(always)]
+    pub(crate) fn spare(self) -> usize
+        ensures within { result < 4 }
+        ensures spare { needs self result ≡ false }
+    {
+        if !self.needs(0) {
+            return 0;
+        }
+        if !self.needs(1) {
+            return 1;
+        }
+        if !self.needs(2) {
+            return 2;
+        }
+        3
+    }
+
+    /// Returns whether an event was triggered since the last edge, and before this time, which is
+    /// that of the last item.
+    #[inline(always)]
+    pub(crate) fn is_due(self, time: u64) -> bool
+        ensures { result ≡ is_due self time }
+    {
+        if is_at(self.since, time) {
+            self.early
+        } else {
+            self.wanted == Wanted::Listed
+        }
+    }
+
+    /// Returns the role after a change at this time, whose value is in this place. It may be the
+    /// first one, from the start.
+    #[inline(always)]
+    pub(crate) fn changed(self, time: u64, place: usize, from_start: bool) -> Role
+        ensures { result ≡ changed self time place from_start }
+    {
+        let mut role = self;
+        if !is_at(self.since, time) {
+            role.before = self.now;
+            if !from_start {
+                role.since = Some(time);
+            }
+        }
+        role.now = place;
+        role
+    }
+
+    /// Returns the role of an event that was triggered at this time.
+    #[inline(always)]
+    pub(crate) fn triggered(self, time: u64) -> Role
+        ensures { result ≡ triggered self time }
+    {
+        let mut role = self;
+        role.early = self.is_due(time);
+        role.since = Some(time);
+        role
+    }
+
+    /// Returns the role of a code that is listed, if it has lines.
+    #[inline(always)]
+    pub(crate) fn enlisted(self) -> Role
+        ensures { result ≡ enlisted self }
+    {
+        let mut role = self;
+        if self.wanted == Wanted::Idle {
+            role.wanted = Wanted::Listed;
+        }
+        role
+    }
+
+    /// Returns the role of a listed code after an edge at this time.
+    #[inline(always)]
+    pub(crate) fn settle(self, time: u64) -> Role
+        ensures { result ≡ settle self time }
+    {
+        let mut role = self;
+        role.written = self.settled(time);
+        role.early = false;
+        if !is_at(self.since, time) {
+            role.wanted = Wanted::Idle;
+        }
+        role
+    }
+}

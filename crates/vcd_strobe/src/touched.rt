@@ -1,0 +1,95 @@
+//! The list of codes that may have a line at the next edge.
+ghost use Rattle.std.specs.Prelude.{◌≡◌, ℕ, ◌<◌, ◌≤◌, ◌++◌, ◌∷◌, [], IsPermutation, Some, false, cond, length, set, slice_get, take};
+ghost use Rattle.std.specs.List.Sorted.{IsNonDecreasing};
+ghost use Rattle.vcd_strobe.specs.Listed.{SettlesEach, listed_at, times};
+ghost use Rattle.vcd_strobe.specs.Roles.{enlisted, is_idle, settle};
+
+use crate::role::{Role, Wanted};
+
+/// Sets the role of the code at index `code`, and lists it after the first `count` of these codes,
+/// if it has lines and is not listed yet. Returns how many are listed then.
+pub(crate) fn enlist(
+    roles: &mut [Role],
+    codes: &mut [usize],
+    count: usize,
+    code: usize,
+    role: Role,
+) -> usize
+    ensures roles { roles.new ≡ set roles.old code (enlisted role) }
+    ensures within { count ≤ length codes.old → result ≤ length codes.new }
+    ensures len { length codes.new ≡ length codes.old }
+    ensures codes { count < length codes.old → take result codes.new
+        ≡ take count codes.old ++ cond (is_idle role.wanted) (code ∷ []) [] }
+    ensures same { is_idle role.wanted ≡ false → take result codes.new ≡ take count codes.old }
+{
+    if code < roles.len() {
+        roles[code] = role.enlisted();
+    }
+    if role.wanted != Wanted::Idle || count >= codes.len() {
+        return count;
+    }
+    codes[count] = code;
+    count + 1
+}
+
+/// Sorts the first `count` of these codes.
+pub(crate) fn sort_front(codes: &mut [usize], count: usize)
+    requires { count ≤ length codes.old }
+    ensures moved { IsPermutation (take count codes.old) (take count codes.new) }
+    ensures sorted { IsNonDecreasing (take count codes.new) }
+    ensures len { length codes.new ≡ length codes.old }
+{
+    codes[..count].sort_unstable();
+}
+
+/// Has the role of the code at index `code` go on after an edge at this time, if there is one.
+fn settle_role(roles: &mut [Role], code: usize, time: u64)
+    ensures there { (r : Role) → slice_get roles.old code ≡ Some r
+        → roles.new ≡ set roles.old code (settle r time) }
+    ensures past { length roles.old ≤ code → roles.new ≡ roles.old }
+    ensures len { length roles.new ≡ length roles.old }
+{
+    if code < roles.len() {
+        roles[code] = roles[code].settle(time);
+    }
+}
+
+/// Has the roles of these codes go on after an edge at this time.
+pub(crate) fn settle_roles(roles: &mut [Role], codes: &[usize], time: u64)
+    ensures settles { SettlesEach codes.now time roles.old roles.new }
+    ensures len { length roles.new ≡ length roles.old }
+{
+    for code in codes {
+        settle_role(roles, *code, time);
+    }
+}
+
+/// Returns whether the code at an index is listed by its role.
+fn is_listed_at(roles: &[Role], code: usize) -> bool
+    ensures { result ≡ listed_at roles.now code }
+{
+    match roles.get(code) {
+        Some(role) => role.wanted == Wanted::Listed,
+        None => false,
+    }
+}
+
+/// Keeps those of the first `count` of these codes that are listed by their roles, and returns how
+/// many these are.
+pub(crate) fn keep_listed(roles: &[Role], codes: &mut [usize], count: usize) -> usize
+    requires { count ≤ length codes.old }
+    ensures within { result ≤ length codes.new }
+    ensures len { length codes.new ≡ length codes.old }
+    ensures kept { (i : ℕ) → times i (take result codes.new)
+        ≡ cond (listed_at roles.now i) (times i (take count codes.old)) 0 }
+{
+    let mut kept = 0;
+    for index in 0..count {
+        let code = codes[index];
+        if is_listed_at(roles, code) {
+            codes[kept] = code;
+            kept += 1;
+        }
+    }
+    kept
+}
