@@ -13,3 +13,4 @@ pub mod TurnLemmas
 pub mod PlaceSteps
 pub mod TurnSteps
 pub mod ChangeSteps
+pub mod TaskSteps

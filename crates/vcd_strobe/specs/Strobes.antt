@@ -22,6 +22,7 @@ use Rattle.vcd_model.specs.Items.{BodyItem, Change, leaves_open, time_after}
 use Rattle.vcd_model.specs.Selection.{selected, selects_code}
 use Rattle.vcd_model.specs.Strobe.{Clock as ModelClock, edge_text, edges_in, is_turn, last_time, strobe_open, time_code}
 use Rattle.vcd_text.specs.Device.{Device, Takes}
+use Rattle.vcd_view.specs.Views.{IsViewOf}
 use Rattle.vcd_view.specs.declared.view.HeadView.{HeadView}
 use Rattle.vcd_body.specs.Contents.{IsLaidOut, codes_shown, kept_at}
 use Rattle.vcd_body.specs.Kept.{Kept}
@@ -147,4 +148,10 @@ AreDistinct codes = (i j : ℕ) (a b : IdCode) → slice_get codes i ≡ Some a 
 abbrev pub TakesChange : {A E : Type 0} → Strobe → Strobe → Regs → ℕ → Form → List ℕ → Device → Device → Result A E → Type 0
 TakesChange s s' r code form text out out' result =
     (p : Plan) (h : Header) (items : List BodyItem) (a : IdCode) (c : Code) → HasStrobed s p h items → AreRegsAfter items r → ChangesOnly h code a (record { code = a; form = model_form form; text = text }) → AreDistinct h.codes → a.event ≡ false → IsText form c text → c.event ≡ false → c.size ≡ a.size → 0 < a.size → length items < 2 ^ 63
+    → TakesDue out out' (p.opens items) (p.opens (items ++ BodyItem.Changes (record { code = a; form = model_form form; text = text }) ∷ [])) result × IfOk result (λ _. HasStrobed s' p h (items ++ BodyItem.Changes (record { code = a; form = model_form form; text = text }) ∷ []))
+
+-- a change of the code at an index was handled
+abbrev pub TakesAny : {A E : Type 0} → HeadView → Strobe → Strobe → Regs → ℕ → Form → List ℕ → Device → Device → Result A E → Type 0
+TakesAny v s s' r code form text out out' result =
+    (p : Plan) (h : Header) (items : List BodyItem) (a : IdCode) → IsViewOf v h → HasStrobed s p h items → AreRegsAfter items r → slice_get h.codes code ≡ Some a → length items < 2 ^ 63
     → TakesDue out out' (p.opens items) (p.opens (items ++ BodyItem.Changes (record { code = a; form = model_form form; text = text }) ∷ [])) result × IfOk result (λ _. HasStrobed s' p h (items ++ BodyItem.Changes (record { code = a; form = model_form form; text = text }) ∷ []))

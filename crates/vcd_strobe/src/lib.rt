@@ -10,12 +10,14 @@
 //! - `touched`: the list of codes that may have a line at the next edge
 //! - `edge_lines`: the lines of an edge
 //! - `clocks`: `Clock`, and whether a change is a turn of one
-//! - `whole`: `Strobe`
+//! - `whole`: `Strobe`, and what it does with a change
+//! - `task`: `Strobe` as a `Task`
 #![tactic(auto)]
 
 mod clocks;
 mod edge_lines;
 mod role;
+mod task;
 mod touched;
 mod whole;
 

@@ -1,4 +1,4 @@
-//! The task.
+//! What a strobe keeps, and what it does with a change.
 ghost use Rattle.std.specs.Prelude.{◌≡◌, ◌-◌, ◌^◌, ◌<◌, ◌≤◌, IfOk, Some, length, slice_get};
 ghost use Rattle.vcd_text.specs.Device.{Counts};
 ghost use Rattle.vcd_body.specs.Contents.{held_at, shown_as};
@@ -148,7 +148,7 @@ impl Strobe<'_> {
     }
 
     /// Notes that the event at index `code` was triggered at this time, outside sections.
-    fn trigger(&mut self, code: usize, time: u64)
+    pub(crate) fn trigger(&mut self, code: usize, time: u64)
         ensures triggers { Triggers self.old self.new code time }
         ensures edges { SameEdges self.old self.new }
         ensures same { SameStrobe self.old self.new }
@@ -231,7 +231,7 @@ impl Strobe<'_> {
 
     /// Handles a change of the code at index `code`, which is no event. `regs` are the registers.
     /// Fails if a write does.
-    fn take_change<W: Sink>(
+    pub(crate) fn take_change<W: Sink>(
         &mut self,
         regs: Regs,
         code: usize,

@@ -1,0 +1,98 @@
+//! A strobe as a task.
+ghost use Rattle.std.specs.Prelude.{◌≡◌, ◌-◌, ◌^◌, ◌<◌, ◌≤◌, IfOk, false, length, ⊤};
+ghost use Rattle.vcd_body.specs.Given.{IsGoodText};
+ghost use Rattle.vcd_text.specs.Device.{Counts};
+ghost use Rattle.vcd_strobe.specs.Strobes.{HasStrobed, TakesAny};
+
+use crate::whole::Strobe;
+use vcd_body::{Form, Item, Regs};
+use vcd_run::{AheadEnd, Task};
+use vcd_text::{Ahead, Sink, WriteFailed};
+use vcd_view::HeadView;
+
+impl Strobe<'_> {
+    /// Handles a change of the code at index `code` of the header of `view`. `regs` are the
+    /// registers. Fails if a write does.
+    fn take_any<W: Sink>(
+        &mut self,
+        view: HeadView<'_>,
+        regs: Regs,
+        code: usize,
+        form: Form,
+        text: &[u8],
+        out: &mut W,
+    ) -> Result<(), WriteFailed>
+        requires failures { (W.device out.old).failures < 2 ^ 64 - 1 }
+        requires count { self.old.count ≤ length self.old.listed.now }
+        requires sound { IsGoodText view.codes.now code form text.now }
+        ensures takes { TakesAny view.entry self.old self.new regs code form text.now
+            (W.device out.old) (W.device out.new) result }
+        ensures counts { Counts (W.device out.old) (W.device out.new) result }
+        ensures count { IfOk result (λ _. self.new.count ≤ length self.new.listed.now) }
+    {
+        if !view.is_event(code) {
+            return self.take_change(regs, code, form, text, out);
+        }
+        if regs.section.is_some() {
+            return Ok(());
+        }
+        self.trigger(code, regs.time);
+        Ok(())
+    }
+}
+
+impl Task for Strobe<'_> {
+    ghost keeps = { λ strobe plan h items. HasStrobed strobe plan h items };
+
+    ghost tells = { λ _ _ _. ⊤ };
+
+    ghost is_ready = { λ strobe. strobe.count ≤ length strobe.listed.now };
+
+    ghost fixed = { λ _. tt };
+
+    ghost may_end = { λ _. false };
+
+    /// Takes nothing ahead.
+    fn take_ahead<W: Sink>(
+        &mut self,
+        _view: HeadView<'_>,
+        regs: Regs,
+        _ahead: Ahead<'_>,
+        _out: &mut W,
+    ) -> AheadEnd {
+        AheadEnd {
+            passed: 0,
+            regs,
+            written: Ok(()),
+        }
+    }
+
+    /// Handles an item, and writes the lines of the edge that it is, if it is one. No item ends the
+    /// run. Fails if a write does.
+    fn take<W: Sink>(
+        &mut self,
+        view: HeadView<'_>,
+        regs: Regs,
+        item: Item,
+        text: &[u8],
+        out: &mut W,
+    ) -> Result<bool, WriteFailed> {
+        match item {
+            Item::Change { code, form } => {
+                self.take_any(view, regs, code, form, text, out)?;
+                Ok(false)
+            }
+            Item::Time(_) | Item::Begin(_) | Item::End | Item::Finish => Ok(false),
+        }
+    }
+
+    /// Writes nothing.
+    fn close<W: Sink>(
+        &mut self,
+        _view: HeadView<'_>,
+        _regs: Regs,
+        _out: &mut W,
+    ) -> Result<(), WriteFailed> {
+        Ok(())
+    }
+}
