@@ -14,3 +14,4 @@ pub mod PlaceSteps
 pub mod TurnSteps
 pub mod ChangeSteps
 pub mod TaskSteps
+pub mod StartSteps

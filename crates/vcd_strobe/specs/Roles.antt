@@ -60,3 +60,7 @@ settle r t = record { now = r.now; before = r.before; written = settled r t; sin
 -- the role of a code that is listed, if it has lines
 abbrev pub enlisted : Role → Role
 enlisted r = record { now = r.now; before = r.before; written = r.written; since = r.since; early = r.early; wanted = cond (is_idle r.wanted) Listed r.wanted }
+
+-- the role of a code before the first item, whether it has lines or not
+abbrev pub fresh : Bool → Role
+fresh lines = record { now = 0; before = 0; written = 0; since = None; early = false; wanted = cond lines Idle Never }

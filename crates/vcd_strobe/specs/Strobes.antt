@@ -1,5 +1,5 @@
 -- A strobe over a body.
-use Rattle.std.specs.Prelude.{◌≡◌, ◌≢◌, ℕ, ◌+◌, ◌<◌, ◌≤◌, ◌^◌, Bool, true, false, List, [], ◌∷◌, ◌++◌, length, take, cond, flat_map, slice_get, Option, Some, None, Result, IfOk}
+use Rattle.std.specs.Prelude.{◌≡◌, ◌≢◌, ℕ, ◌+◌, ◌<◌, ◌≤◌, ◌^◌, Bool, true, false, List, [], ◌∷◌, ◌++◌, length, take, cond, flat_map, slice_get, option_map, Option, Some, None, Result, IfOk}
 use Rattle.std.specs.List.Sorted.{IsNonDecreasing, IsPermutation}
 use Rattle.vcd_model.specs.Declarations.{IdCode, same_code}
 use Rattle.vcd_model.specs.History.{gives_to}
@@ -13,7 +13,7 @@ use Rattle.vcd_body.specs.Device.{TakesDue}
 use Rattle.vcd_body.specs.Given.{IsText}
 use Rattle.vcd_body.specs.declared.item.Form.{Form}
 use Rattle.vcd_view.specs.declared.view.Code.{Code}
-use Rattle.vcd_strobe.specs.Roles.{needs}
+use Rattle.vcd_strobe.specs.Roles.{fresh, needs}
 use Rattle.vcd_body.specs.Items.{AreRegsAfter, model_form}
 use Rattle.vcd_body.specs.declared.item.Regs.{Regs}
 use Rattle.vcd_strobe.specs.Kept.{IsFull}
@@ -22,11 +22,12 @@ use Rattle.vcd_model.specs.Items.{BodyItem, Change, leaves_open, time_after}
 use Rattle.vcd_model.specs.Selection.{selected, selects_code}
 use Rattle.vcd_model.specs.Strobe.{Clock as ModelClock, edge_text, edges_in, is_turn, last_time, strobe_open, time_code}
 use Rattle.vcd_text.specs.Device.{Device, Takes}
+use Rattle.vcd_head.specs.Marks.{is_marked}
 use Rattle.vcd_view.specs.Views.{IsViewOf}
 use Rattle.vcd_view.specs.declared.view.HeadView.{HeadView}
 use Rattle.vcd_body.specs.Contents.{IsLaidOut, codes_shown, kept_at}
 use Rattle.vcd_body.specs.Kept.{Kept}
-use Rattle.vcd_body.specs.Stored.{share_of}
+use Rattle.vcd_body.specs.Stored.{room_of, share_of}
 use Rattle.vcd_body.specs.declared.values.table.Table.{Table}
 use Rattle.vcd_run.specs.Plan.{Plan}
 use Rattle.vcd_strobe.specs.Clocks.{AreClocks, turns_at}
@@ -34,6 +35,7 @@ use Rattle.vcd_strobe.specs.Codes.{AreRoles}
 use Rattle.vcd_strobe.specs.Lines.{ArePlaces, HaveRoles, in_places, line_at, place_of}
 use Rattle.vcd_strobe.specs.Listed.{AreListed, SettlesEach, listed_at, times}
 use Rattle.vcd_strobe.specs.Moments.{EdgesStand}
+use Rattle.vcd_strobe.specs.declared.clocks.Clock.{Clock}
 use Rattle.vcd_strobe.specs.declared.role.Role.{Role}
 use Rattle.vcd_strobe.specs.declared.whole.Strobe.{Strobe}
 
@@ -155,3 +157,22 @@ abbrev pub TakesAny : {A E : Type 0} → HeadView → Strobe → Strobe → Regs
 TakesAny v s s' r code form text out out' result =
     (p : Plan) (h : Header) (items : List BodyItem) (a : IdCode) → IsViewOf v h → HasStrobed s p h items → AreRegsAfter items r → slice_get h.codes code ≡ Some a → length items < 2 ^ 63
     → TakesDue out out' (p.opens items) (p.opens (items ++ BodyItem.Changes (record { code = a; form = model_form form; text = text }) ∷ [])) result × IfOk result (λ _. HasStrobed s' p h (items ++ BodyItem.Changes (record { code = a; form = model_form form; text = text }) ∷ []))
+
+-- a role for each code before the first item: a code has lines if a selected variable has it
+pub record AreFresh (h : Header) (names : List (List ℕ)) (roles : List Role) : Type 0 where
+  pub many : length roles ≡ length h.codes
+  pub each : (i : ℕ) → slice_get roles i ≡ option_map (λ c. fresh (has_lines_in h names c)) (slice_get h.codes i)
+
+-- what a caller lends suffices for a strobe of these codes, of which it has the clocks and the code
+-- of the time
+pub record Suffices (v : HeadView) (bytes room : ℕ) (roles : List Role) (clocks : List Clock) (id : List ℕ) (h : Header) (names : List (List ℕ)) (ks : List ModelClock) : Type 0 where
+  pub places : ArePlaces (codes_shown v) h.codes
+  pub bytes_fit : room_of v.codes.now ≤ bytes
+  pub list_fits : length h.codes ≤ room
+  pub roles_are : AreFresh h names roles
+  pub clocks_are : AreClocks h.codes clocks ks
+  pub id_is : id ≡ (time_code h).text
+
+-- a flag is 1 if a selected variable has its code
+abbrev pub AreFlags : Header → List (List ℕ) → List ℕ → Type 0
+AreFlags h names flags = (i : ℕ) (c : IdCode) → slice_get h.codes i ≡ Some c → is_marked flags i ≡ has_lines_in h names c

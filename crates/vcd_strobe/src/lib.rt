@@ -11,16 +11,19 @@
 //! - `edge_lines`: the lines of an edge
 //! - `clocks`: `Clock`, and whether a change is a turn of one
 //! - `whole`: `Strobe`, and what it does with a change
+//! - `start`: `Room`, `set_roles`, and a `Strobe` before the first item
 //! - `task`: `Strobe` as a `Task`
 #![tactic(auto)]
 
 mod clocks;
 mod edge_lines;
 mod role;
+mod start;
 mod task;
 mod touched;
 mod whole;
 
 pub use clocks::Clock;
 pub use role::{Role, Wanted};
+pub use start::{Room, set_roles};
 pub use whole::Strobe;

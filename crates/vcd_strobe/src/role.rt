@@ -1,6 +1,6 @@
 //! Which of its four places in the table has which value of a code.
 ghost use Rattle.std.specs.Prelude.{◌≡◌, ◌<◌, false};
-ghost use Rattle.vcd_strobe.specs.Roles.{changed, enlisted, is_at, is_due, needs, settle, settled, triggered};
+ghost use Rattle.vcd_strobe.specs.Roles.{changed, enlisted, fresh, is_at, is_due, needs, settle, settled, triggered};
 
 /// Whether a code has lines.
 #[derive(Clone, Copy, PartialEq, Eq, Debug)]
@@ -42,8 +42,11 @@ pub(crate) fn is_at(moment: Option<u64>, time: u64) -> bool
 }
 
 impl Role {
-    /// Returns the role of a code before the first item.
-    pub fn new(wanted: Wanted) -> Role {
+    /// Returns the role of a code before the first item, whether it has lines or not.
+    pub fn new(lines: bool) -> Role
+        ensures { result ≡ fresh lines }
+    {
+        let wanted = if lines { Wanted::Idle } else { Wanted::Never };
         Role {
             now: 0,
             before: 0,
