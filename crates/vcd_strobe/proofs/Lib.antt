@@ -15,3 +15,4 @@ pub mod TurnSteps
 pub mod ChangeSteps
 pub mod TaskSteps
 pub mod StartSteps
+pub mod HeadSteps

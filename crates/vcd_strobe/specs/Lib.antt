@@ -6,3 +6,4 @@ pub mod Lines
 pub mod Clocks
 pub mod Codes
 pub mod Strobes
+pub mod Heads

@@ -13,11 +13,13 @@
 //! - `whole`: `Strobe`, and what it does with a change
 //! - `start`: `Room`, `set_roles`, and a `Strobe` before the first item
 //! - `task`: `Strobe` as a `Task`
+//! - `run`: a whole strobe over a body, with its head
 #![tactic(auto)]
 
 mod clocks;
 mod edge_lines;
 mod role;
+mod run;
 mod start;
 mod task;
 mod touched;
@@ -25,5 +27,6 @@ mod whole;
 
 pub use clocks::Clock;
 pub use role::{Role, Wanted};
+pub use run::strobe;
 pub use start::{Room, set_roles};
 pub use whole::Strobe;
