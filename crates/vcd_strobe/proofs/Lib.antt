@@ -16,3 +16,4 @@ pub mod ChangeSteps
 pub mod TaskSteps
 pub mod StartSteps
 pub mod HeadSteps
+pub mod CopySteps

@@ -11,6 +11,7 @@
 //! - `edge_lines`: the lines of an edge
 //! - `clocks`: `Clock`, and whether a change is a turn of one
 //! - `whole`: `Strobe`, and what it does with a change
+//! - `places`: a header that has each code four times
 //! - `start`: `Room`, `set_roles`, and a `Strobe` before the first item
 //! - `task`: `Strobe` as a `Task`
 //! - `run`: a whole strobe over a body, with its head
@@ -18,6 +19,7 @@
 
 mod clocks;
 mod edge_lines;
+mod places;
 mod role;
 mod run;
 mod start;
@@ -26,6 +28,7 @@ mod touched;
 mod whole;
 
 pub use clocks::Clock;
+pub use places::places_of;
 pub use role::{Role, Wanted};
 pub use run::strobe;
 pub use start::{Room, set_roles};
