@@ -17,3 +17,4 @@ pub mod TaskSteps
 pub mod StartSteps
 pub mod HeadSteps
 pub mod CopySteps
+pub mod LongSteps

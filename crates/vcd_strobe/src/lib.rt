@@ -11,6 +11,7 @@
 //! - `edge_lines`: the lines of an edge
 //! - `clocks`: `Clock`, and whether a change is a turn of one
 //! - `whole`: `Strobe`, and what it does with a change
+//! - `longest`: the length of the longest code
 //! - `places`: a header that has each code four times
 //! - `start`: `Room`, `set_roles`, and a `Strobe` before the first item
 //! - `task`: `Strobe` as a `Task`
@@ -19,6 +20,7 @@
 
 mod clocks;
 mod edge_lines;
+mod longest;
 mod places;
 mod role;
 mod run;
@@ -28,6 +30,7 @@ mod touched;
 mod whole;
 
 pub use clocks::Clock;
+pub use longest::longest_code;
 pub use places::places_of;
 pub use role::{Role, Wanted};
 pub use run::strobe;
