@@ -87,13 +87,11 @@ pub fn strobe<S: Source, W: Sink>(
     requires ready { strobe.old.count ≤ length strobe.old.listed.now }
     ensures gives { (h : Header) (names : List (List ℕ)) (ks : List ModelClock) (i : Input)
         (front : List Token) → IsViewOf view.entry h → marks.now ≡ marks_of names h.declarations
-        → strobe.old.id.now ≡ (time_code h).text
         → HasStrobed strobe.old (strobe_plan ks h names) h [] → HasGiven i front feed.old
         → BodyGives (λ _ _. ⊤) (strobe_plan ks h names) h i front (limit_of feed.old)
         (seen feed.new) (W.device out.old) (W.device out.new) result }
     ensures needed { (h : Header) (names : List (List ℕ)) (ks : List ModelClock) (i : Input)
         (front : List Token) → IsViewOf view.entry h → marks.now ≡ marks_of names h.declarations
-        → strobe.old.id.now ≡ (time_code h).text
         → HasStrobed strobe.old (strobe_plan ks h names) h [] → HasGiven i front feed.old
         → ReadsNeeded (strobe_plan ks h names) h (limit_of feed.old) (chunk_len_of feed.old) i
         (left_of i (seen feed.new) result) front (supply_of feed.old) (supply_of feed.new)

@@ -8,29 +8,29 @@ use Rattle.vcd_strobe.specs.Strobes.{strobe_plan}
 use Rattle.vcd_strobe.proofs.run.strobe.Goals as goal
 
 pub returns-in_err-put_strobe_head-clause-gives : goal.returns-in_err-put_strobe_head-clause-gives
-returns-in_err-put_strobe_head-clause-gives g c = λ h names ks i front views marked is has given.
+returns-in_err-put_strobe_head-clause-gives g c = λ h names ks i front views marked has given.
     let e : c.from_residual.result ≡ Err Write = search rules in
     let out : Device = g.W.Sink.device c.args.out.now in
     let new : Device = g.W.Sink.device c.put_strobe_head.new.out in
     let puts = c.in_err-put_strobe_head.ensures in
-    rw e (inl ([], begins_none h i front c.args.feed.now given, subst (WritesSome out new) (sym (open_first ks h names)) (puts.takes h names views marked is, puts.counts)))
+    rw e (inl ([], begins_none h i front c.args.feed.now given, subst (WritesSome out new) (sym (open_first ks h names)) (puts.takes h names views marked has.stands.id, puts.counts)))
 
 pub returns-clause-gives : goal.returns-clause-gives
-returns-clause-gives g c = λ h names ks i front views marked is has given.
+returns-clause-gives g c = λ h names ks i front views marked has given.
     let out : Device = g.W.Sink.device c.args.out.now in
     let mid : Device = g.W.Sink.device c.put_strobe_head.new.out in
     let puts = c.in_ok-put_strobe_head.ensures in
-    c.run_to_end.ensures.runs (strobe_plan ks h names) h i front out views given has refl (subst (Writes out mid) (sym (open_first ks h names)) (puts.takes h names views marked is, puts.counts))
+    c.run_to_end.ensures.runs (strobe_plan ks h names) h i front out views given has refl (subst (Writes out mid) (sym (open_first ks h names)) (puts.takes h names views marked has.stands.id, puts.counts))
 
 pub returns-in_err-put_strobe_head-clause-needed : goal.returns-in_err-put_strobe_head-clause-needed
-returns-in_err-put_strobe_head-clause-needed g c = λ h names ks i front views marked is has given.
+returns-in_err-put_strobe_head-clause-needed g c = λ h names ks i front views marked has given.
     let e : c.from_residual.result ≡ Err Write = search rules in
-    let some = c.in_err-put_strobe_head.ensures.takes h names views marked is in
+    let some = c.in_err-put_strobe_head.ensures.takes h names views marked has.stands.id in
     rw e (record { is_left = inl (refl, refl); read = Nothing refl; keeps_up = (take some.0 (strobe_head h names), some.1, Nothing refl) })
 
 pub returns-clause-needed : goal.returns-clause-needed
-returns-clause-needed g c = λ h names ks i front views marked is has given.
+returns-clause-needed g c = λ h names ks i front views marked has given.
     let out : Device = g.W.Sink.device c.args.out.now in
     let mid : Device = g.W.Sink.device c.put_strobe_head.new.out in
     let puts = c.in_ok-put_strobe_head.ensures in
-    c.run_to_end.ensures.needed (strobe_plan ks h names) h i front out views given has refl (subst (Writes out mid) (sym (open_first ks h names)) (puts.takes h names views marked is, puts.counts))
+    c.run_to_end.ensures.needed (strobe_plan ks h names) h i front out views given has refl (subst (Writes out mid) (sym (open_first ks h names)) (puts.takes h names views marked has.stands.id, puts.counts))
