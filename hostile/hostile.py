@@ -89,6 +89,8 @@ def bound(case, limit=1_048_576):
         windows += 65_536 + 512 + 2 * limit
         # Texts, declarations and codes are parts of the input.
         held += len(text) + 64 * len(head.rows) + sum(size + 192 for size, _ in head.codes.values())
+        if case.command == "compare":  # a path has a number with its range too
+            held += 16 * len(head.rows)
     return windows + 4 * held + COMMAND_LINE
 
 
