@@ -8,16 +8,9 @@ from ..model.values import Value
 from ..questions.expression import number_of
 from ..reading.files import lines_in
 from ..reading.source import Source
-from .text import AnyForm, Form, shown
+from .text import AnyForm, Form, form_of, shortest, shown
 
-LEADING = re.compile(r"0+(?=[01])|x+(?=x)|z+(?=z)")
 LINE = re.compile(r"(\S+)\s+(?:\?\w+\?)?\s*(.*\S)")  # a value, maybe a colour, and a name
-
-
-def shortest(digits: str) -> str:
-    """Returns the fewest digits that say a value."""
-    match = LEADING.match(digits)
-    return digits[match.end():] if match else digits
 
 
 def names_in(path: str) -> Dict[str, str]:
@@ -57,4 +50,5 @@ def forms_of(dump: Source, states: Sequence[Tuple[str, str]], form: AnyForm) -> 
 def _named(names: Dict[str, str], form: AnyForm) -> Form:
     def text(value: Value) -> str:
         return names.get(shortest(value)) or shown(value, form)
-    return Form("", text, True, False, True, True, names)
+    is_number = form is not None and form_of(form).is_number
+    return Form("", text, True, is_number, True, True, names)

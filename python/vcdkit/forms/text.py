@@ -6,6 +6,8 @@ from typing import Any, Callable, Dict, NamedTuple, Optional, Union
 from ..model.times import UNITS, Timescale
 from ..model.values import Cell, Value
 
+LEADING = re.compile(r"0+(?=[01])|x+(?=x)|z+(?=z)")
+
 
 class Form(NamedTuple):
     """A form of values: what the help says of it, and the text of a value. Unless the form is also
@@ -23,6 +25,12 @@ class Form(NamedTuple):
 
 
 AnyForm = Union[str, Form, None]  # a key of FORMS, or one with names for values
+
+
+def shortest(digits: str) -> str:
+    """Returns the fewest digits that say a value."""
+    match = LEADING.match(digits)
+    return digits[match.end():] if match else digits
 
 
 def form_of(form: Union[str, Form]) -> Form:
@@ -91,5 +99,7 @@ def in_json(value: Cell, form: AnyForm) -> Union[int, float, str, None]:
     if value is None or isinstance(value, float) and math.isfinite(value):
         return value
     text = shown(value, form)
-    is_number = form and form_of(form).is_number and isinstance(value, Value) and value.is_known
+    its = form_of(form) if form else None
+    is_number = (its and its.is_number and isinstance(value, Value) and value.is_known
+                 and shortest(value) not in its.names)
     return int(text) if is_number else text
