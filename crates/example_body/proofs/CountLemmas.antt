@@ -34,7 +34,9 @@ none_yet = record { scalars = refl; vectors = refl; reals = refl }
 
 module _ (items : List BodyItem) (f : Forms) (a : AreForms items f) where
   -- the counts with this item, each one more where the item is such a change
-  grown : (x : BodyItem) (after : Forms) → after.scalars ≡ f.scalars + cond (is_change is_scalar x) 1 0 → after.vectors ≡ f.vectors + cond (is_change is_vector x) 1 0 → after.reals ≡ f.reals + cond (is_change is_real x) 1 0 → AreForms (items ++ x ∷ []) after
+  grown : (x : BodyItem) (after : Forms) → after.scalars ≡ f.scalars + cond (is_change is_scalar x) 1 0
+      → after.vectors ≡ f.vectors + cond (is_change is_vector x) 1 0 → after.reals ≡ f.reals + cond (is_change is_real x) 1 0
+      → AreForms (items ++ x ∷ []) after
   grown x after s v r = record {
     scalars = s ∙ pushed (is_change is_scalar) items x f.scalars a.scalars;
     vectors = v ∙ pushed (is_change is_vector) items x f.vectors a.vectors;
@@ -53,7 +55,8 @@ module _ (items : List BodyItem) (f : Forms) (a : AreForms items f) where
   taken codes i front feed r Finish h = (items, h.gave, a)
 
 -- one item more adds at most one to the counts
-pub counted_most : (f : Forms) (item : Item) (seen after : ℕ) → f.scalars + f.vectors + f.reals ≤ seen → seen < after → (counted f item).scalars + (counted f item).vectors + (counted f item).reals ≤ after
+pub counted_most : (f : Forms) (item : Item) (seen after : ℕ) → f.scalars + f.vectors + f.reals ≤ seen → seen < after
+    → (counted f item).scalars + (counted f item).vectors + (counted f item).reals ≤ after
 counted_most f (Time t) seen after l m = omega arith
 counted_most f (Begin s) seen after l m = omega arith
 counted_most f End seen after l m = omega arith

@@ -15,10 +15,14 @@ none r rs n e f = counted r rs ∙ rw (e, f) (omega arith)
 one : (r : Row) (rs : List Row) (n : ℕ) → is_variable r.kind ≡ true → count_by (λ r. is_variable r.kind) rs ≡ n → count_by (λ r. is_variable r.kind) (r ∷ rs) ≡ suc n
 one r rs n e f = counted r rs ∙ rw (e, f) (omega arith)
 
-pub variables_are : (text : List ℕ) (codes : List IdCode) (earlier : List Declaration) (rs : List Row) (ds : List Declaration) → AreRows text codes earlier rs ds → count_by (λ r. is_variable r.kind) rs ≡ length (variables_of ds)
+pub variables_are : (text : List ℕ) (codes : List IdCode) (earlier : List Declaration) (rs : List Row) (ds : List Declaration)
+    → AreRows text codes earlier rs ds → count_by (λ r. is_variable r.kind) rs ≡ length (variables_of ds)
 variables_are text codes earlier [] [] a = refl
 variables_are text codes earlier [] (d ∷ ds) a = absurd a
 variables_are text codes earlier (r ∷ rs) [] a = absurd a
-variables_are text codes earlier (r ∷ rs) (Declaration.Scope type name ∷ ds) a = none r rs (length (variables_of ds)) (ap is_variable a.0.own.0) (variables_are text codes (earlier ++ Declaration.Scope type name ∷ []) rs ds a.1)
-variables_are text codes earlier (r ∷ rs) (Declaration.Up ∷ ds) a = none r rs (length (variables_of ds)) (ap is_variable a.0.own.0) (variables_are text codes (earlier ++ Declaration.Up ∷ []) rs ds a.1)
-variables_are text codes earlier (r ∷ rs) (Declaration.Var v ∷ ds) a = one r rs (length (variables_of ds)) (ap is_variable a.0.own.0) (variables_are text codes (earlier ++ Declaration.Var v ∷ []) rs ds a.1)
+variables_are text codes earlier (r ∷ rs) (Declaration.Scope type name ∷ ds) a = none r rs (length (variables_of ds)) (ap is_variable a.0.own.0)
+    (variables_are text codes (earlier ++ Declaration.Scope type name ∷ []) rs ds a.1)
+variables_are text codes earlier (r ∷ rs) (Declaration.Up ∷ ds) a = none r rs (length (variables_of ds)) (ap is_variable a.0.own.0)
+    (variables_are text codes (earlier ++ Declaration.Up ∷ []) rs ds a.1)
+variables_are text codes earlier (r ∷ rs) (Declaration.Var v ∷ ds) a = one r rs (length (variables_of ds)) (ap is_variable a.0.own.0)
+    (variables_are text codes (earlier ++ Declaration.Var v ∷ []) rs ds a.1)

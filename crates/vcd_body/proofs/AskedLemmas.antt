@@ -34,19 +34,23 @@ split_last (x ∷ xs) = by_rest (split_last xs)
 -- ---- the tokens before the last
 
 -- whole phrases with these items, and maybe the first tokens of one more
-just : (codes : List IdCode) (items : List BodyItem) (ts : List Token) (placed : List (Placed BodyPhrase)) (before : List (List ℕ)) → IsSoFar (body_grammar codes) ts placed before → items_of (phrases_of placed) ≡ items → HaveJust codes items ts
+just : (codes : List IdCode) (items : List BodyItem) (ts : List Token) (placed : List (Placed BodyPhrase)) (before : List (List ℕ))
+    → IsSoFar (body_grammar codes) ts placed before → items_of (phrases_of placed) ≡ items → HaveJust codes items ts
 unfolding read_body
 just codes items ts placed before so_far are = (rw so_far refl, rw so_far are)
 
 -- what was read of an input, for any work that such tokens do not settle
-module _ {X : Type 0} {g : Ghosts X} (codes : List IdCode) (i : Input) (front : List Token) (items : List BodyItem) (f : Feed X g) (before : Supply) (settled : List Token → Bool) (open_still : (ts : List Token) → HaveJust codes items ts → settled ts ≡ false) where
+module _ {X : Type 0} {g : Ghosts X} (codes : List IdCode) (i : Input) (front : List Token) (items : List BodyItem) (f : Feed X g) (before : Supply)
+    (settled : List Token → Bool) (open_still : (ts : List Token) → HaveJust codes items ts → settled ts ≡ false) where
   abbrev IsRead : Type 0
   IsRead = ReadsAsNeeded (limit_of f) (chunk_len_of f) before (supply_of f) i front settled
 
   -- where the body was refused
   pub asked_to_stop : StopsAt codes i front items f → IsRead
-  asked_to_stop (AtToken placed begun are looks near) = ToToken looks.given (token_of f) looks.stands.given_first (open_still looks.given (just codes items looks.given placed begun looks.so_far are)) near
-  asked_to_stop (AtEnd placed begun are ends) = ToEnd ends.reads.given ends.all (open_still ends.reads.given (just codes items ends.reads.given placed begun ends.reads.so_far are)) ends.reads.stands.near_halt
+  asked_to_stop (AtToken placed begun are looks near) = ToToken looks.given (token_of f) looks.stands.given_first
+      (open_still looks.given (just codes items looks.given placed begun looks.so_far are)) near
+  asked_to_stop (AtEnd placed begun are ends) = ToEnd ends.reads.given ends.all
+      (open_still ends.reads.given (just codes items ends.reads.given placed begun ends.reads.so_far are)) ends.reads.stands.near_halt
 
   -- where the body has ended
   pub asked_to_end : (r : Regs) → GaveAll codes i front items f r → IsRead
@@ -56,7 +60,8 @@ module _ {X : Type 0} {g : Ghosts X} (codes : List IdCode) (i : Input) (front : 
   pub asked_to_item : (x : BodyItem) (r : Regs) → GaveLast codes i front items x f r → IsRead
   asked_to_item x r m = by_tokens (split_last m.first)
     where
-      by_tokens : (m.first ≡ []) ⊎ ((asked : List Token) × (last : Token) × (m.first ≡ asked ++ last ∷ [])) → ReadsAsNeeded (limit_of f) (chunk_len_of f) before (supply_of f) i front settled
+      by_tokens : (m.first ≡ []) ⊎ ((asked : List Token) × (last : Token) × (m.first ≡ asked ++ last ∷ []))
+          → ReadsAsNeeded (limit_of f) (chunk_len_of f) before (supply_of f) i front settled
       by_tokens (inl none) =
           let one : Placed BodyPhrase = record { phrase = BodyPhrase.Gives x; line = m.line } in
           let nothing = sym (subst (λ ts. IsSoFar (body_grammar codes) ts (m.before ++ one ∷ []) []) none m.so_far) ∙ so_far-nothing (body_grammar codes) in
@@ -71,22 +76,30 @@ module _ {X : Type 0} {g : Ghosts X} (codes : List IdCode) (i : Input) (front : 
           let earlier = (ends_are a.earlier m.before p.0 one (sym p.1)).0 in
           let pre : front ++ m.first ≡ front ++ asked ++ last ∷ [] = ap (λ l. front ++ l) s.2 ∙ sym (append_assoc front asked (last ∷ [])) in
           let all = m.gave.stands.given_first in
-          let begins : IsPrefixOf (front ++ m.first) (stream_of (limit_of f) i).tokens =
-          (m.rest ++ all.0, all.1 ∙ ap (λ l. (front ++ l) ++ all.0) m.given_are ∙ ap (λ l. l ++ all.0) (sym (append_assoc front m.first m.rest)) ∙ append_assoc (front ++ m.first) m.rest all.0) in
+          let begins : IsPrefixOf (front ++ m.first) (stream_of (limit_of f) i).tokens = (
+            m.rest ++ all.0,
+            all.1 ∙ ap (λ l. (front ++ l) ++ all.0) m.given_are ∙ ap (λ l. l ++ all.0) (sym (append_assoc front m.first m.rest))
+                ∙ append_assoc (front ++ m.first) m.rest all.0,
+          ) in
           ToToken asked last (subst (λ ts. IsPrefixOf ts (stream_of (limit_of f) i).tokens) pre begins)
-          (open_still asked (just codes items asked a.earlier a.begun (earlier-so_far (body_grammar codes) asked (m.before ++ one ∷ []) [] a) (ap (λ l. items_of (phrases_of l)) earlier ∙ m.before_are)))
+          (open_still asked (just codes items asked a.earlier a.begun (earlier-so_far (body_grammar codes) asked (m.before ++ one ∷ []) [] a)
+          (ap (λ l. items_of (phrases_of l)) earlier ∙ m.before_are)))
           (subst (λ ts. Near (chunk_len_of f) (supply_of f).rest (end_of_tokens i.bytes (length ts)) i) pre m.near)
 
 -- ---- a run of one input
 
 -- tokens with just these items do not settle it
-pub unsettled : (t : Request) (h : Header) (items : List BodyItem) (ts : List Token) → header_settles t h ≡ false → list_any (ends_early t) items ≡ false → HaveJust h.codes items ts → is_settled_behind t h ts ≡ false
+pub unsettled : (t : Request) (h : Header) (items : List BodyItem) (ts : List Token) → header_settles t h ≡ false
+    → list_any (ends_early t) items ≡ false → HaveJust h.codes items ts → is_settled_behind t h ts ≡ false
 unsettled t h items ts still on have = rw (still, have.0, have.1) on
 
-module _ {X : Type 0} {g : Ghosts X} (t : Request) (h : Header) (i : Input) (front : List Token) (items : List BodyItem) (f : Feed X g) (limit chunk : ℕ) (before : Supply) (same : limit_of f ≡ limit) (size : chunk_len_of f ≡ chunk) (still : header_settles t h ≡ false) (on : list_any (ends_early t) items ≡ false) where
+module _ {X : Type 0} {g : Ghosts X} (t : Request) (h : Header) (i : Input) (front : List Token) (items : List BodyItem) (f : Feed X g)
+    (limit chunk : ℕ) (before : Supply) (same : limit_of f ≡ limit) (size : chunk_len_of f ≡ chunk) (still : header_settles t h ≡ false)
+    (on : list_any (ends_early t) items ≡ false) where
   -- under the limit of the run
   under : ReadsAsNeeded (limit_of f) (chunk_len_of f) before (supply_of f) i front (is_settled_behind t h) → ReadsAsNeeded limit chunk before (supply_of f) i front (is_settled_behind t h)
-  under read = subst (λ n. ReadsAsNeeded n chunk before (supply_of f) i front (is_settled_behind t h)) same (subst (λ n. ReadsAsNeeded (limit_of f) n before (supply_of f) i front (is_settled_behind t h)) size read)
+  under read = subst (λ n. ReadsAsNeeded n chunk before (supply_of f) i front (is_settled_behind t h)) same
+      (subst (λ n. ReadsAsNeeded (limit_of f) n before (supply_of f) i front (is_settled_behind t h)) size read)
 
   pub read_to_stop : StopsAt h.codes i front items f → ReadsAsNeeded limit chunk before (supply_of f) i front (is_settled_behind t h)
   read_to_stop s = under (asked_to_stop h.codes i front items f before (is_settled_behind t h) (λ ts have. unsettled t h items ts still on have) s)

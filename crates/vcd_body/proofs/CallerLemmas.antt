@@ -3,7 +3,8 @@ use Rattle.vcd_body.proofs.Cited.{ℕ, List, [], ◌++◌, refl, sym, subst, app
 use Rattle.vcd_body.proofs.AskedLemmas.{not_nil}
 
 -- nothing was given after the header
-pub gave_nothing : {X : Type 0} {g : Ghosts X} (codes : List IdCode) (i : Input) (front : List Token) (f : Feed X g) (r : Regs) → HasGiven i front f → AreRegsAfter [] r → GaveItems codes i front [] f r
+pub gave_nothing : {X : Type 0} {g : Ghosts X} (codes : List IdCode) (i : Input) (front : List Token) (f : Feed X g) (r : Regs) → HasGiven i front f
+    → AreRegsAfter [] r → GaveItems codes i front [] f r
 gave_nothing codes i front f r s k = record {
   given = [];
   placed = [];
@@ -23,13 +24,15 @@ gave_none_ahead codes limit lines bytes before = record {
   placed = [];
   items_are = refl;
   so_far = λ given earlier e s.
-      subst (λ (l : List (Placed BodyPhrase)). IsSoFar (body_grammar codes) (given ++ []) l []) (sym (append-nil earlier)) (subst (λ (l : List Token). IsSoFar (body_grammar codes) l earlier []) (sym (append-nil given)) s);
+      subst (λ (l : List (Placed BodyPhrase)). IsSoFar (body_grammar codes) (given ++ []) l []) (sym (append-nil earlier))
+      (subst (λ (l : List Token). IsSoFar (body_grammar codes) l earlier []) (sym (append-nil given)) s);
   last = λ front x e. not_nil front x (sym e);
   few = omega arith;
 }
 
 -- an item that was given is the last one
-pub last_given : {X : Type 0} {g : Ghosts X} (codes : List IdCode) (i : Input) (front : List Token) (items : List BodyItem) (x : BodyItem) (f : Feed X g) (r : Regs) → GaveItem codes i front items x f r → GaveLast codes i front items x f r
+pub last_given : {X : Type 0} {g : Ghosts X} (codes : List IdCode) (i : Input) (front : List Token) (items : List BodyItem) (x : BodyItem)
+    (f : Feed X g) (r : Regs) → GaveItem codes i front items x f r → GaveLast codes i front items x f r
 last_given codes i front items x f r m = record {
   gave = m.gave;
   first = m.gave.given;

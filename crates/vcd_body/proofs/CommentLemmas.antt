@@ -11,17 +11,21 @@ words_more (u ∷ ts) t h e = (h.0, words_more ts t h.1 e)
 
 -- a phrase in which any tokens may come up to `$end` continues after such tokens
 pub words_on : {P : Type 0} (g : Grammar P) (placed : List (Placed P)) (before : List (List ℕ)) →
-    ((inner : List (List ℕ)) (t : List ℕ) → NoEnds inner → (g.fault (phrases_of placed) (before ++ inner) t ≡ None) × (is_end t ≡ false → g.phrase (before ++ inner ++ t ∷ []) ≡ None))
-    → (given more : List Token) (inner : List (List ℕ)) → NoEnds inner → AreWords more → IsSoFar g given placed (before ++ inner) → NoEnds (inner ++ texts_of more) × IsSoFar g (given ++ more) placed (before ++ (inner ++ texts_of more))
+    ((inner : List (List ℕ)) (t : List ℕ) → NoEnds inner → (g.fault (phrases_of placed) (before ++ inner) t ≡ None)
+    × (is_end t ≡ false → g.phrase (before ++ inner ++ t ∷ []) ≡ None))
+    → (given more : List Token) (inner : List (List ℕ)) → NoEnds inner → AreWords more → IsSoFar g given placed (before ++ inner)
+    → NoEnds (inner ++ texts_of more) × IsSoFar g (given ++ more) placed (before ++ (inner ++ texts_of more))
 words_on g placed before runs given [] inner none words h = rw (append-nil inner, append-nil given) (none, h)
 words_on g placed before runs given (t ∷ more) inner none words h =
     let step = runs inner t.bytes none in
     let one = so_far-token g given placed (before ++ inner) t h step.0 (step.1 words.0) in
     rw (sym (append_assoc given (t ∷ []) more), sym (append_assoc inner (t.bytes ∷ []) (texts_of more)))
-    (words_on g placed before runs (given ++ t ∷ []) more (inner ++ t.bytes ∷ []) (no_ends_more inner t.bytes none words.0) words.1 (subst (IsSoFar g (given ++ t ∷ []) placed) (append_assoc before inner (t.bytes ∷ [])) one))
+    (words_on g placed before runs (given ++ t ∷ []) more (inner ++ t.bytes ∷ []) (no_ends_more inner t.bytes none words.0) words.1
+    (subst (IsSoFar g (given ++ t ∷ []) placed) (append_assoc before inner (t.bytes ∷ [])) one))
 
 -- a token is passed after those before, over the bytes at the first of them
-pub passed_on : (limit lines : ℕ) (bytes : List ℕ) (a b : Ahead) (token : List ℕ) → longest_of a ≡ limit → bytes_of a ≡ bytes → (ts : List Token) → TakesToken a b token → Passed limit lines bytes (passed_of a) ts
+pub passed_on : (limit lines : ℕ) (bytes : List ℕ) (a b : Ahead) (token : List ℕ) → longest_of a ≡ limit → bytes_of a ≡ bytes → (ts : List Token)
+    → TakesToken a b token → Passed limit lines bytes (passed_of a) ts
     → Passed limit lines bytes (passed_of b) (ts ++ record { bytes = token; line = line_ahead lines (bytes_of a) (start_of b token) } ∷ [])
 passed_on limit lines bytes a b token l e ts takes p =
     let from = subst (λ x. Passed (longest_of a) lines x (passed_of a) ts) (sym e) (subst (λ x. Passed x lines bytes (passed_of a) ts) (sym l) p) in
@@ -35,21 +39,26 @@ abbrev keyword : ℕ → Token
 keyword line = record { bytes = keyword_text Keyword.Comment; line = line }
 
 -- its tokens are a phrase
-comment_reads : (codes : List IdCode) (limit lines : ℕ) (bytes : List ℕ) (before items : List BodyItem) (line : ℕ) (words : List Token) (end : Token) → AreWords words → is_end end.bytes ≡ true
+comment_reads : (codes : List IdCode) (limit lines : ℕ) (bytes : List ℕ) (before items : List BodyItem) (line : ℕ) (words : List Token) (end : Token)
+    → AreWords words → is_end end.bytes ≡ true
     → GoesOn codes limit lines bytes before items ((keyword line ∷ words) ++ end ∷ []) (record { phrase = BodyPhrase.Comment (texts_of words); line = end.line })
 comment_reads codes limit lines bytes before items line words end are ends given earlier e s =
     let grammar = body_grammar codes in
     let kind = keyword_text Keyword.Comment in
     let begins = comment_begins codes (phrases_of earlier) kind refl in
     let first = so_far-token grammar given earlier [] (keyword line) s begins.0 begins.1 in
-    let inner = words_on grammar earlier (kind ∷ []) (λ inner t none. (comment_goes_on codes (phrases_of earlier) inner t, comment_open codes inner t none)) (given ++ keyword line ∷ []) words [] tt are first in
-    let whole = so_far-phrase grammar ((given ++ keyword line ∷ []) ++ words) earlier (kind ∷ texts_of words) end (BodyPhrase.Comment (texts_of words)) inner.1 (comment_goes_on codes (phrases_of earlier) (texts_of words) end.bytes) (comment_whole codes (texts_of words) end.bytes inner.0 ends) refl in
+    let inner = words_on grammar earlier (kind ∷ []) (λ inner t none.
+    (comment_goes_on codes (phrases_of earlier) inner t, comment_open codes inner t none)) (given ++ keyword line ∷ []) words [] tt are first in
+    let whole = so_far-phrase grammar ((given ++ keyword line ∷ []) ++ words) earlier (kind ∷ texts_of words) end
+    (BodyPhrase.Comment (texts_of words)) inner.1 (comment_goes_on codes (phrases_of earlier) (texts_of words) end.bytes)
+    (comment_whole codes (texts_of words) end.bytes inner.0 ends) refl in
     let after : List (Placed BodyPhrase) = earlier ++ record { phrase = BodyPhrase.Comment (texts_of words); line = end.line } ∷ [] in
     subst (λ (l : List Token). IsSoFar grammar l after []) (append_assoc (given ++ keyword line ∷ []) words (end ∷ []) ∙ append_assoc given (keyword line ∷ []) (words ++ end ∷ [])) whole
 
 -- from one position ahead to another the keyword of a comment was passed, and then some words
 pub record OpensComment (a a' : Ahead) : Type 0 where
-  pub passes : (lines : ℕ) (ts : List Token) → Passed (longest_of a) lines (bytes_of a) (passed_of a) ts → (line : ℕ) × (words : List Token) × AreWords words × Passed (longest_of a) lines (bytes_of a) (passed_of a') (ts ++ keyword line ∷ words)
+  pub passes : (lines : ℕ) (ts : List Token) → Passed (longest_of a) lines (bytes_of a) (passed_of a) ts → (line : ℕ) × (words : List Token)
+      × AreWords words × Passed (longest_of a) lines (bytes_of a) (passed_of a') (ts ++ keyword line ∷ words)
   pub further : passed_of a < passed_of a'
   pub same : (bytes_of a' ≡ bytes_of a) × (longest_of a' ≡ longest_of a)
 
@@ -94,7 +103,8 @@ module _ (a b c : Ahead) (token : List ℕ) (begun : OpensComment a b) (takes : 
         let here : GaveAhead codes (longest_of a) lines (bytes_of a) (passed_of a) before items → GaveAhead codes (longest_of a) lines (bytes_of a) (passed_of c) before items =
         λ g.
         let o = passes_one lines g.tokens g.passed in
-        passed_over codes (longest_of a) lines (bytes_of a) before items (passed_of a) (passed_of c) ((keyword o.0 ∷ o.1) ++ one lines ∷ []) (record { phrase = BodyPhrase.Comment (texts_of o.1); line = (one lines).line }) g (omega (arith, less)) o.3 refl
+        passed_over codes (longest_of a) lines (bytes_of a) before items (passed_of a) (passed_of c) ((keyword o.0 ∷ o.1) ++ one lines ∷ [])
+        (record { phrase = BodyPhrase.Comment (texts_of o.1); line = (one lines).line }) g (omega (arith, less)) o.3 refl
         (comment_reads codes (longest_of a) lines (bytes_of a) before items o.0 o.1 (one lines) o.2 end) in
         subst (λ (bs : List ℕ). GaveAhead codes limit lines bs (passed_of a) before items → GaveAhead codes limit lines bs (passed_of c) before items) over.1
         (subst (λ (k : ℕ). GaveAhead codes k lines (bytes_of a) (passed_of a) before items → GaveAhead codes k lines (bytes_of a) (passed_of c) before items) over.0 here);
@@ -121,7 +131,11 @@ same_place a b there = record {
 -- and more comments
 pub passes_both : (a b c : Ahead) → PassesNoItem a b → PassesNoItem b c → PassesNoItem a c
 passes_both a b c first then = record {
-  gives = λ codes limit lines bytes before items over g. then.gives codes limit lines bytes before items (first.same.1 ∙ over.0, first.same.0 ∙ over.1) (first.gives codes limit lines bytes before items over g);
+  gives = λ codes limit lines bytes before items over g. then.gives codes limit lines bytes before items (
+    first.same.1 ∙ over.0,
+    first.same.0
+        ∙ over.1,
+  ) (first.gives codes limit lines bytes before items over g);
   passes = λ limit lines bytes ts over p.
       let one = first.passes limit lines bytes ts over p in
       let two = then.passes limit lines bytes (ts ++ one.0) (first.same.1 ∙ over.0, first.same.0 ∙ over.1) one.1 in

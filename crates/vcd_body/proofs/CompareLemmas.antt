@@ -56,7 +56,8 @@ module _ (xs ys : List ℕ) (size : ℕ) where
   )
 
   -- they are as many as the longer of them, or are extended further
-  pub same_at_longest : (n : ℕ) → n ≡ max (length xs) (length ys) → max size (length xs) ≡ max size (length ys) → (r : Bool) → Decides r (extend xs n ≡ extend ys n) → Decides r (extend xs size ≡ extend ys size)
+  pub same_at_longest : (n : ℕ) → n ≡ max (length xs) (length ys) → max size (length xs) ≡ max size (length ys) → (r : Bool)
+      → Decides r (extend xs n ≡ extend ys n) → Decides r (extend xs size ≡ extend ys size)
   same_at_longest n is fill r d = by_size (cases_lt size n)
     where
       by_size : (size < n) ⊎ (n ≤ size) → Decides r (extend xs size ≡ extend ys size)
@@ -70,7 +71,8 @@ module _ (xs ys : List ℕ) (size : ℕ) where
   test_is : (r : Bool) → Decides r (extend xs size ≡ extend ys size) → not r ≡ not (bytes_eq (extend xs size) (extend ys size))
   test_is r d = ap not (same_from_decides r (bytes_eq (extend xs size) (extend ys size)) d (bytes_eq-Decides (extend xs size) (extend ys size)))
 
-  pub differ_at_longest : (n : ℕ) → n ≡ max (length xs) (length ys) → max size (length xs) ≡ max size (length ys) → (r : Bool) → Decides r (extend xs n ≡ extend ys n) → not r ≡ not (bytes_eq (extend xs size) (extend ys size))
+  pub differ_at_longest : (n : ℕ) → n ≡ max (length xs) (length ys) → max size (length xs) ≡ max size (length ys) → (r : Bool)
+      → Decides r (extend xs n ≡ extend ys n) → not r ≡ not (bytes_eq (extend xs size) (extend ys size))
   differ_at_longest n is fill r d = test_is r (same_at_longest n is fill r d)
 
 -- digits that do not fill one size differ
@@ -78,7 +80,8 @@ pub other_sizes : (xs ys : List ℕ) (size : ℕ) → max size (length xs) ≢ m
 other_sizes xs ys size apart e = apart (sym (length_extended xs size) ∙ ap length e ∙ length_extended ys size)
 
 -- nor are fewer than the shortest
-pub fewer_differ : (xs ys : List ℕ) (size : ℕ) → xs ≡ short (extend xs size) → 0 < length ys → length ys < length xs → max size (length xs) ≡ max size (length ys) → extend xs size ≢ extend ys size
+pub fewer_differ : (xs ys : List ℕ) (size : ℕ) → xs ≡ short (extend xs size) → 0 < length ys → length ys < length xs
+    → max size (length xs) ≡ max size (length ys) → extend xs size ≢ extend ys size
 fewer_differ xs ys size is some less fill e =
     let v = extend xs size in
     let l = length_extended xs size in
@@ -93,7 +96,8 @@ pub differ_for : (xs ys : List ℕ) (size : ℕ) → extend xs size ≢ extend y
 differ_for xs ys size other = test_is xs ys size false ((λ f. absurd (let g : false ≡ true = f in cc)), λ same. absurd (other same))
 
 -- digits this many places before the last are the same where the values are
-pub same_from_last : (xs ys : List ℕ) (size back : ℕ) → back < length xs → back < length ys → extend xs size ≡ extend ys size → slice_get xs (length xs - 1 - back) ≡ slice_get ys (length ys - 1 - back)
+pub same_from_last : (xs ys : List ℕ) (size back : ℕ) → back < length xs → back < length ys → extend xs size ≡ extend ys size
+    → slice_get xs (length xs - 1 - back) ≡ slice_get ys (length ys - 1 - back)
 same_from_last xs ys size back few less e =
     let l = ap length e in
     let a = length_extended xs size in
@@ -144,19 +148,22 @@ last_at (d ∷ e ∷ ds) o zero h = absurd (omega arith)
 last_at (d ∷ e ∷ ds) o (suc k) h = last_at (e ∷ ds) (Some d) k (omega arith)
 
 -- the last packed digit is that of the value at each size
-pub last_packed : (len d : ℕ) (bytes : List ℕ) (size : ℕ) → 1 ≤ len → slice_get (digits_in len bytes) (len - 1) ≡ Some d → Some d ≡ last_digit_in (Some (Value.Bits (extend (digits_in len bytes) size)))
+pub last_packed : (len d : ℕ) (bytes : List ℕ) (size : ℕ) → 1 ≤ len → slice_get (digits_in len bytes) (len - 1) ≡ Some d
+    → Some d ≡ last_digit_in (Some (Value.Bits (extend (digits_in len bytes) size)))
 last_packed len d bytes size some at =
     let l = length_digits len bytes in
     sym (last_extended (digits_in len bytes) size (omega (arith, l, some)) ∙ last_at (digits_in len bytes) None (len - 1) (omega (arith, l, some)) ∙ at)
 
-pub last_number : (len size k : ℕ) → 1 ≤ some_by state.Bits len → count_in len ≡ suc k → (bytes : List ℕ) → last_digit_in (value_at_size size (held_by state.Bits len bytes)) ≡ slice_get (binary_digits (count_in len) (number_in len)) k
+pub last_number : (len size k : ℕ) → 1 ≤ some_by state.Bits len → count_in len ≡ suc k → (bytes : List ℕ)
+    → last_digit_in (value_at_size size (held_by state.Bits len bytes)) ≡ slice_get (binary_digits (count_in len) (number_in len)) k
 last_number len size k some is bytes =
     let ds = binary_digits (count_in len) (number_in len) in
     let l = length_binary (count_in len) (number_in len) in
     last_extended ds size (omega arith) ∙ last_at ds None k (omega arith)
 
 -- a state that holds one, or none
-pub last_of_state : (st : State) (len : ℕ) (bytes : List ℕ) (size : ℕ) → st ≢ state.Packed → st ≢ state.Bits → one_digit st ≡ last_digit_in (value_at_size size (held_by st len bytes))
+pub last_of_state : (st : State) (len : ℕ) (bytes : List ℕ) (size : ℕ) → st ≢ state.Packed → st ≢ state.Bits
+    → one_digit st ≡ last_digit_in (value_at_size size (held_by st len bytes))
 last_of_state state.Unset len bytes size h b = refl
 last_of_state state.Zero len bytes size h b = sym (last_extended (48 ∷ []) size (omega arith))
 last_of_state state.One len bytes size h b = sym (last_extended (49 ∷ []) size (omega arith))

@@ -47,9 +47,11 @@ held_still t h items x none held = record {
 
 -- what a call that sets the value of a code promises
 abbrev pub SetsValue : Form → List ℕ → ℕ → Table → Table → Type 0
-SetsValue form text code old new = (c : Code) (k : Kept) → IsText form c text → c.event ≡ false → kept_at old code ≡ Some k → share_of c.size ≤ k.room → value_at_size c.size (held_at new code) ≡ Some (value_with c.size (model_form form) text)
+SetsValue form text code old new = (c : Code) (k : Kept) → IsText form c text → c.event ≡ false → kept_at old code ≡ Some k
+    → share_of c.size ≤ k.room → value_at_size c.size (held_at new code) ≡ Some (value_with c.size (model_form form) text)
 
-module _ (v : HeadView) (h : Header) (old new : Table) (items : List BodyItem) (place : ℕ) (form : Form) (text : List ℕ) (c : IdCode) (views : IsViewOf v h) (declared : slice_get h.codes place ≡ Some c) (held : AreHeld old h items)
+module _ (v : HeadView) (h : Header) (old new : Table) (items : List BodyItem) (place : ℕ) (form : Form) (text : List ℕ) (c : IdCode)
+    (views : IsViewOf v h) (declared : slice_get h.codes place ≡ Some c) (held : AreHeld old h items)
     (f : Kept → Kept) (room : (k : Kept) → (f k).room ≡ k.room) (changes : ChangesCode place f old new) where
   -- the room of all codes stays
   room_stays : (other : ℕ) (k : Kept) → kept_at old other ≡ Some k → (k' : Kept) × (kept_at new other ≡ Some k') × (k'.room ≡ k.room)
@@ -77,7 +79,8 @@ module _ (v : HeadView) (h : Header) (old new : Table) (items : List BodyItem) (
   setting = BodyItem.Changes (record { code = c; form = model_form form; text = text })
 
   -- the code that is set has the value of the item
-  set_there : ((d : Code) → slice_get v.codes.now place ≡ Some d → IsText form d text) → SetsValue form text place old new → c.event ≡ false → value_at_size c.size (held_at new place) ≡ final_value (items ++ setting ∷ []) c
+  set_there : ((d : Code) → slice_get v.codes.now place ≡ Some d → IsText form d text) → SetsValue form text place old new → c.event ≡ false
+      → value_at_size c.size (held_at new place) ≡ final_value (items ++ setting ∷ []) c
   set_there good sets event =
       let m = code_at v.text.now v.codes.now h.codes place c views.codes declared in
       let k = held.shares place c declared in
@@ -100,7 +103,8 @@ module _ (v : HeadView) (h : Header) (old new : Table) (items : List BodyItem) (
     shares = shares_stay;
   }
     where
-      by_test : (other : ℕ) (d : IdCode) → slice_get h.codes other ≡ Some d → d.event ≡ false → (b : Bool) → (other == place) ≡ b → value_at_size d.size (held_at new other) ≡ final_value (items ++ setting ∷ []) d
+      by_test : (other : ℕ) (d : IdCode) → slice_get h.codes other ≡ Some d → d.event ≡ false → (b : Bool) → (other == place) ≡ b
+          → value_at_size d.size (held_at new other) ≡ final_value (items ++ setting ∷ []) d
       by_test other d there event true e =
           let one = eqb-true other place e in
           let same : d ≡ c = same_Some d c (sym there ∙ ap (slice_get h.codes) one ∙ declared) in
@@ -110,8 +114,10 @@ module _ (v : HeadView) (h : Header) (old new : Table) (items : List BodyItem) (
           ∙ sym (final_other d items setting (gives_none other d there e (same_code d c) refl))
 
 -- so it is where the text alone was set
-pub set_holds : (v : HeadView) (h : Header) (old new : Table) (items : List BodyItem) (place : ℕ) (form : Form) (text : List ℕ) (c : IdCode) → IsViewOf v h → slice_get h.codes place ≡ Some c → AreHeld old h items → ChangesCode place (with_text form text) old new → IsLaidOut new
-    → ((d : Code) → slice_get v.codes.now place ≡ Some d → IsText form d text) → SetsValue form text place old new → AreHeld new h (items ++ BodyItem.Changes (record { code = c; form = model_form form; text = text }) ∷ [])
+pub set_holds : (v : HeadView) (h : Header) (old new : Table) (items : List BodyItem) (place : ℕ) (form : Form) (text : List ℕ) (c : IdCode)
+    → IsViewOf v h → slice_get h.codes place ≡ Some c → AreHeld old h items → ChangesCode place (with_text form text) old new → IsLaidOut new
+    → ((d : Code) → slice_get v.codes.now place ≡ Some d → IsText form d text) → SetsValue form text place old new
+    → AreHeld new h (items ++ BodyItem.Changes (record { code = c; form = model_form form; text = text }) ∷ [])
 set_holds v h old new items place form text c views declared held changes = change_holds v h old new items place form text c views declared held (with_text form text) (λ k. refl) changes
 
 -- ---- a text without the digits that its value does not need
@@ -174,7 +180,8 @@ text_holds item place form text other old new is same sets value view h items x 
     (gives_same form text other place old new same (value laid)))
 
 -- what is read gives no value where it is no change
-pub other_gives : (codes : List IdCode) (text : List ℕ) (item : Item) (x : BodyItem) → IsItem codes text item x → ((place : ℕ) (form : Form) → item ≢ Change place form) → (c : IdCode) → gives_to c x ≡ false
+pub other_gives : (codes : List IdCode) (text : List ℕ) (item : Item) (x : BodyItem) → IsItem codes text item x
+    → ((place : ℕ) (form : Form) → item ≢ Change place form) → (c : IdCode) → gives_to c x ≡ false
 other_gives codes text (Time t) x is none c = rw is refl
 other_gives codes text (Begin s) x is none c = rw is refl
 other_gives codes text End x is none c = rw is refl
@@ -184,8 +191,11 @@ other_gives codes text Finish x is none c = absurd is
 -- ---- a change whose text is given as a number too
 
 -- the code has the value of its digits
-pub bits_hold : (v : HeadView) (h : Header) (old new : Table) (items : List BodyItem) (i : Item) (text : List ℕ) (b : Bits) (place : ℕ) (form : Form) (x : BodyItem) → IsViewOf v h → AreHeld old h items → i ≡ Change place form → HasBits i text (Some b) → HasGoodText v.codes.now text i → IsItem h.codes text i x
-    → ((k : Kept) → kept_at old place ≡ Some k → 8 ≤ k.room → ChangesCode place (with_text Vector (binary_digits b.len b.number)) old new) → IsLaidOut new → SetsValue Vector (binary_digits b.len b.number) place old new → AreHeld new h (items ++ x ∷ [])
+pub bits_hold : (v : HeadView) (h : Header) (old new : Table) (items : List BodyItem) (i : Item) (text : List ℕ) (b : Bits) (place : ℕ) (form : Form)
+    (x : BodyItem) → IsViewOf v h → AreHeld old h items → i ≡ Change place form → HasBits i text (Some b) → HasGoodText v.codes.now text i
+    → IsItem h.codes text i x
+    → ((k : Kept) → kept_at old place ≡ Some k → 8 ≤ k.room → ChangesCode place (with_text Vector (binary_digits b.len b.number)) old new)
+    → IsLaidOut new → SetsValue Vector (binary_digits b.len b.number) place old new → AreHeld new h (items ++ x ∷ [])
 bits_hold v h old new items i text b place form x views held is has good read changes laid sets =
     let digits = binary_digits b.len b.number in
     let codes = v.codes.now in
@@ -195,5 +205,7 @@ bits_hold v h old new items i text b place form x views held is has good read ch
     let there = ap (slice_get h.codes) same ∙ change.1 in
     let k = held.shares place change.0 there in
     let enough = k.2 in
-    let fits : (d : Code) → slice_get codes place ≡ Some d → IsText Vector d digits = λ d there. subst (IsText Vector d) has.2 (good_text codes text has.0 Vector d sound (ap (slice_get codes) (sym same) ∙ there)) in
-    subst (λ (y : BodyItem). AreHeld new h (items ++ y ∷ [])) (sym (rw (sym has.2) change.2)) (set_holds v h old new items place Vector digits change.0 views there held (changes k.0 k.1 (omega (arith, enough))) laid fits sets)
+    let fits : (d : Code) → slice_get codes place ≡ Some d → IsText Vector d digits = λ d there. subst (IsText Vector d) has.2
+    (good_text codes text has.0 Vector d sound (ap (slice_get codes) (sym same) ∙ there)) in
+    subst (λ (y : BodyItem). AreHeld new h (items ++ y ∷ [])) (sym (rw (sym has.2) change.2))
+    (set_holds v h old new items place Vector digits change.0 views there held (changes k.0 k.1 (omega (arith, enough))) laid fits sets)

@@ -16,7 +16,8 @@ code_digit (suc (suc (suc zero))) h = refl
 code_digit (suc (suc (suc (suc c)))) h = absurd (omega arith)
 
 -- a digit this many places before the last, of values that are the same
-pub end_digit : (ds text : List ℕ) (size back d : ℕ) → back < length ds → back < length text → extend ds size ≡ extend (str_to_ascii_lowercase text) size → slice_get ds (length ds - 1 - back) ≡ Some d
+pub end_digit : (ds text : List ℕ) (size back d : ℕ) → back < length ds → back < length text
+    → extend ds size ≡ extend (str_to_ascii_lowercase text) size → slice_get ds (length ds - 1 - back) ≡ Some d
     → d ≡ to_ascii_lowercase (get_or text (length text - 1 - back) 0)
 end_digit ds text size back d few less e at =
     let lower = str_to_ascii_lowercase text in
@@ -29,14 +30,17 @@ end_digit ds text size back d few less e at =
     cc same
 
 -- its code
-end_code : (ds text : List ℕ) (size back d : ℕ) → back < length ds → back < length text → ((i : ℕ) → Fits w8 (get_or text i 0)) → extend ds size ≡ extend (str_to_ascii_lowercase text) size → slice_get ds (length ds - 1 - back) ≡ Some d
+end_code : (ds text : List ℕ) (size back d : ℕ) → back < length ds → back < length text → ((i : ℕ) → Fits w8 (get_or text i 0))
+    → extend ds size ≡ extend (str_to_ascii_lowercase text) size → slice_get ds (length ds - 1 - back) ≡ Some d
     → two_bits_of d ≡ two_bits_of (get_or text (length text - 1 - back) 0)
 end_code ds text size back d few less fits e at =
     let n = length text - 1 - back in
     ap two_bits_of (end_digit ds text size back d few less e at) ∙ code_lower (get_or text n 0) (fits n).fits
 
 -- so it is of packed digits
-pub ends_same : (share text : List ℕ) (len q back size : ℕ) → q ≡ quarter_of len → back < q → back < length text → ((i : ℕ) → Fits w8 (get_or share i 0)) → ((i : ℕ) → Fits w8 (get_or text i 0)) → extend (digits_in len share) size ≡ extend (str_to_ascii_lowercase text) size
+pub ends_same : (share text : List ℕ) (len q back size : ℕ) → q ≡ quarter_of len → back < q → back < length text
+    → ((i : ℕ) → Fits w8 (get_or share i 0)) → ((i : ℕ) → Fits w8 (get_or text i 0))
+    → extend (digits_in len share) size ≡ extend (str_to_ascii_lowercase text) size
     → get_or share (q - 1 - back) 0 / 64 ≡ two_bits_of (get_or text (length text - 1 - back) 0)
 ends_same share text len q back size is few less bytes fits e =
     let l = length_digits len share in

@@ -3,21 +3,25 @@ use Rattle.vcd_body.proofs.Cited.{◌≡◌, ℕ, Bool, true, false, cond, ◌&&
 use Rattle.vcd_view.proofs.RowLemmas.{code_at as code_in_view}
 
 -- the view's code at the index of a header's code
-pub code_at : (s : HeadShown) (h : Header) → Views s h → (position : ℕ) (c : IdCode) → slice_get h.codes position ≡ Some c → (code : Code) × (slice_get s.codes position ≡ Some code) × IsCode s.text code c
+pub code_at : (s : HeadShown) (h : Header) → Views s h → (position : ℕ) (c : IdCode) → slice_get h.codes position ≡ Some c → (code : Code)
+    × (slice_get s.codes position ≡ Some code) × IsCode s.text code c
 code_at s h v position c e = code_in_view s.text s.codes h.codes position c v.codes e
 
 -- a number is what the digits spell, and is below 2^64
-pub time_spelled : (digits : List ℕ) (time : ℕ) → spelled_below digits ≡ Some time → ((is_decimal digits && nat_lt (decimal_value digits) (2 ^ 64)) ≡ true) × (decimal_value digits ≡ time)
+pub time_spelled : (digits : List ℕ) (time : ℕ) → spelled_below digits ≡ Some time
+    → ((is_decimal digits && nat_lt (decimal_value digits) (2 ^ 64)) ≡ true) × (decimal_value digits ≡ time)
 time_spelled digits time h = cond_some (is_decimal digits && nat_lt (decimal_value digits) (2 ^ 64)) (decimal_value digits) time h
 
 -- so they are digits, and the number is below 2^64
-pub time_fits : (digits : List ℕ) (time : ℕ) → (is_decimal digits && nat_lt (decimal_value digits) (2 ^ 64)) ≡ true → decimal_value digits ≡ time → (is_decimal digits ≡ true) × (decimal_value digits ≡ time) × (time < 2 ^ 64)
+pub time_fits : (digits : List ℕ) (time : ℕ) → (is_decimal digits && nat_lt (decimal_value digits) (2 ^ 64)) ≡ true → decimal_value digits ≡ time
+    → (is_decimal digits ≡ true) × (decimal_value digits ≡ time) × (time < 2 ^ 64)
 time_fits digits time both value =
     let p = and_parts (is_decimal digits) (nat_lt (decimal_value digits) (2 ^ 64)) both in
     (p.0, value, subst (λ n. n < 2 ^ 64) value (ltb-true (decimal_value digits) (2 ^ 64) p.1))
 
 -- and digits of a number below 2^64 spell it
-pub time_whole : (digits : List ℕ) (time : ℕ) → is_decimal digits ≡ true → decimal_value digits ≡ time → time < 2 ^ 64 → (is_decimal digits && nat_lt (decimal_value digits) (2 ^ 64)) ≡ true
+pub time_whole : (digits : List ℕ) (time : ℕ) → is_decimal digits ≡ true → decimal_value digits ≡ time → time < 2 ^ 64
+    → (is_decimal digits && nat_lt (decimal_value digits) (2 ^ 64)) ≡ true
 time_whole digits time decimal value less = rw (decimal, value, lt-ltb time (2 ^ 64) less) refl
 
 -- so what they spell is the time of a timestamp, and each such time is what they spell

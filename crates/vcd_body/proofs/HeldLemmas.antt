@@ -18,7 +18,8 @@ digit_behind (suc m) e zero ds h = absurd (omega arith)
 digit_behind (suc m) e (suc i) ds h = let same : i - m ≡ suc i - suc m = omega arith in digit_behind m e i ds (omega arith) ∙ ap (slice_get ds) same
 
 -- where no digits are held, the value has none
-pub no_digits : (st : State) (len size position : ℕ) (bytes : List ℕ) → 1 ≤ some_by st len → length (digits_held (held_by st len bytes)) ≡ 0 → digit_in (value_at_size size (held_by st len bytes)) position ≡ None
+pub no_digits : (st : State) (len size position : ℕ) (bytes : List ℕ) → 1 ≤ some_by st len → length (digits_held (held_by st len bytes)) ≡ 0
+    → digit_in (value_at_size size (held_by st len bytes)) position ≡ None
 no_digits state.Unset len size position bytes s e = refl
 no_digits state.Zero len size position bytes s e = absurd (omega (arith, e))
 no_digits state.One len size position bytes s e = absurd (omega (arith, e))

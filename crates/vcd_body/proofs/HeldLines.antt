@@ -28,7 +28,8 @@ some_digits state.Bits len bytes s u r = some_binary len s
 some_digits state.Real len bytes s u r = absurd (r refl)
 
 -- the definitions' line of digits
-pub line_is : (size : ℕ) (ds id : List ℕ) (event : Bool) (held : Held) → 0 < length ds → held ≡ Held.Digits ds → held_line size ds id ≡ line_if_set (record { text = id; size = size; event = event }) (value_at_size size held)
+pub line_is : (size : ℕ) (ds id : List ℕ) (event : Bool) (held : Held) → 0 < length ds → held ≡ Held.Digits ds
+    → held_line size ds id ≡ line_if_set (record { text = id; size = size; event = event }) (value_at_size size held)
 line_is size ds id event held some is = by_size (size == 1) refl ∙ sym (ap (λ h. line_if_set (record { text = id; size = size; event = event }) (value_at_size size h)) is)
   where
     by_size : (b : Bool) → (size == 1) ≡ b → held_line size ds id ≡ line_if_set (record { text = id; size = size; event = event }) (value_at_size size (Held.Digits ds))

@@ -28,13 +28,15 @@ start_most codes n k c at =
     omega (arith, e, l, all)
 
 -- a code more is laid out
-pub laid_more : (codes : List Code) (shares : List Share) (n k : ℕ) → k < length shares → ((j : ℕ) (h : Share) → j < k → slice_get shares j ≡ Some h → h ≡ share_from (start_of codes n j))
+pub laid_more : (codes : List Code) (shares : List Share) (n k : ℕ) → k < length shares
+    → ((j : ℕ) (h : Share) → j < k → slice_get shares j ≡ Some h → h ≡ share_from (start_of codes n j))
     → (j : ℕ) (h : Share) → j < k + 1 → slice_get (slice_set shares k (share_from (start_of codes n k))) j ≡ Some h → h ≡ share_from (start_of codes n j)
 laid_more codes shares n k within so_far j h l at = by_place (same_or_not j k)
   where
     by_place : (j ≡ k) ⊎ (j ≢ k) → h ≡ share_from (start_of codes n j)
     by_place (inl e) =
-        let same : share_from (start_of codes n k) ≡ h = cc (sym (get_set shares k (share_from (start_of codes n k)) within) ∙ ap (slice_get (slice_set shares k (share_from (start_of codes n k)))) (sym e) ∙ at) in
+        let same : share_from (start_of codes n k) ≡ h = cc (sym (get_set shares k (share_from (start_of codes n k)) within)
+        ∙ ap (slice_get (slice_set shares k (share_from (start_of codes n k)))) (sym e) ∙ at) in
         sym same ∙ ap (λ i. share_from (start_of codes n i)) (sym e)
     by_place (inr e) = so_far j h (omega arith) (sym (get_other shares k j (share_from (start_of codes n k)) e) ∙ at)
 
@@ -48,7 +50,9 @@ unset_more slots k d within is so_far j s l at = by_place (same_or_not j k)
         sym same ∙ is
     by_place (inr e) = so_far j s (omega arith) (sym (get_other slots k j d e) ∙ at)
 
-module _ (codes : List Code) (slots : List Slot) (shares : List Share) (n end : ℕ) (same : length codes ≡ length slots) (all : length codes ≡ length shares) (ends : end ≡ start_of codes n (length codes)) (unset_are : (k : ℕ) (s : Slot) → slice_get slots k ≡ Some s → IsUnset s) (are : (k : ℕ) (h : Share) → slice_get shares k ≡ Some h → h ≡ share_from (start_of codes n k)) where
+module _ (codes : List Code) (slots : List Slot) (shares : List Share) (n end : ℕ) (same : length codes ≡ length slots)
+    (all : length codes ≡ length shares) (ends : end ≡ start_of codes n (length codes)) (unset_are : (k : ℕ) (s : Slot) → slice_get slots k ≡ Some s
+    → IsUnset s) (are : (k : ℕ) (h : Share) → slice_get shares k ≡ Some h → h ≡ share_from (start_of codes n k)) where
   end_is : (k : ℕ) (h : Share) → slice_get shares k ≡ Some h → end_at shares end k ≡ start_of codes n (k + 1)
   end_is k h at = by_end (cases_lt (k + 1) (length shares))
     where
@@ -85,7 +89,8 @@ module _ (codes : List Code) (slots : List Slot) (shares : List Share) (n end : 
       by_slot None e =
           let past : length slots ≤ k = by_order (cases_lt k (length slots)) in
           let none = slice_get_past codes k (omega (arith, past, same)) in
-          ap (option_map (kept_with values (end_at shares (length values) k))) (no_slot slots shares k e) ∙ sym (ap (option_map (λ (c : Code). unset (start_of codes n (k + 1) - start_of codes n k))) none)
+          ap (option_map (kept_with values (end_at shares (length values) k))) (no_slot slots shares k e)
+          ∙ sym (ap (option_map (λ (c : Code). unset (start_of codes n (k + 1) - start_of codes n k))) none)
         where
           by_order : (k < length slots) ⊎ (length slots ≤ k) → length slots ≤ k
           by_order (inl h) = let t = there slots k h in absurd (let f : None ≡ Some t.0 = sym e ∙ t.1 in cc)

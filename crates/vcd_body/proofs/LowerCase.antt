@@ -8,9 +8,12 @@ either true b e = inl refl
 either false b e = inr e
 
 bit_5 : (b : ℕ) → b < 256 → (bit_and 32 b ≡ 0) ⊎ ((bit_and 32 b ≡ 32) × (to_ascii_lowercase b ≡ b))
-bit_5 b fit = by_test (either (bit_and 32 b == 0) (to_ascii_lowercase b == b) (agree_below_at (λ x. (bit_and 32 x == 0) || (to_ascii_lowercase x == x)) (λ _. true) 256 b refl fit)) (either (bit_and 32 b == 0) (bit_and 32 b == 32) (agree_below_at (λ x. (bit_and 32 x == 0) || (bit_and 32 x == 32)) (λ _. true) 256 b refl fit))
+bit_5 b fit = by_test (either (bit_and 32 b == 0) (to_ascii_lowercase b == b)
+    (agree_below_at (λ x. (bit_and 32 x == 0) || (to_ascii_lowercase x == x)) (λ _. true) 256 b refl fit))
+    (either (bit_and 32 b == 0) (bit_and 32 b == 32) (agree_below_at (λ x. (bit_and 32 x == 0) || (bit_and 32 x == 32)) (λ _. true) 256 b refl fit))
   where
-    by_test : ((bit_and 32 b == 0) ≡ true) ⊎ ((to_ascii_lowercase b == b) ≡ true) → ((bit_and 32 b == 0) ≡ true) ⊎ ((bit_and 32 b == 32) ≡ true) → (bit_and 32 b ≡ 0) ⊎ ((bit_and 32 b ≡ 32) × (to_ascii_lowercase b ≡ b))
+    by_test : ((bit_and 32 b == 0) ≡ true) ⊎ ((to_ascii_lowercase b == b) ≡ true) → ((bit_and 32 b == 0) ≡ true) ⊎ ((bit_and 32 b == 32) ≡ true)
+        → (bit_and 32 b ≡ 0) ⊎ ((bit_and 32 b ≡ 32) × (to_ascii_lowercase b ≡ b))
     by_test (inl z) other = inl (eqb-true _ _ z)
     by_test (inr low) (inl z) = inl (eqb-true _ _ z)
     by_test (inr low) (inr set) = inr (eqb-true _ _ set, eqb-true _ _ low)
@@ -30,7 +33,8 @@ low_more bytes i all inside fit (inr set, low) = by_bit (bit_5 (get_or bytes i 0
     some : all ≢ 0
     some = λ z. cc
 
-    by_bit : (bit_and 32 (get_or bytes i 0) ≡ 0) ⊎ ((bit_and 32 (get_or bytes i 0) ≡ 32) × (to_ascii_lowercase (get_or bytes i 0) ≡ get_or bytes i 0)) → AreLowBy (bit_and all (get_or bytes i 0)) (take (i + 1) bytes)
+    by_bit : (bit_and 32 (get_or bytes i 0) ≡ 0) ⊎ ((bit_and 32 (get_or bytes i 0) ≡ 32)
+        × (to_ascii_lowercase (get_or bytes i 0) ≡ get_or bytes i 0)) → AreLowBy (bit_and all (get_or bytes i 0)) (take (i + 1) bytes)
     by_bit (inl z) = (inl (same ∙ z), λ some. absurd (some (same ∙ z)))
     by_bit (inr (e, is)) = (
       inr (same ∙ e),

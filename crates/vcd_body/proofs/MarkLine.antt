@@ -18,7 +18,8 @@ digits_written ds time all value small lead =
     sym (decimal-digits_value own ds k.0 k.1 lead (subst (λ n. n < 2 ^ 64) (sym value) small)) ∙ ap decimal value
 
 -- a number sign, digits of which no zero leads, and a line feed for the byte after them
-pub mark_line : (bytes : List ℕ) (from at to time : ℕ) → HasTimestamp bytes from to at time → slice_index bytes (at - 1) ≡ 35 → (slice_index bytes at ≡ 48 → to ≡ at + 2) → line_without bytes (at - 1) to 0 ≡ time_line time
+pub mark_line : (bytes : List ℕ) (from at to time : ℕ) → HasTimestamp bytes from to at time → slice_index bytes (at - 1) ≡ 35
+    → (slice_index bytes at ≡ 48 → to ≡ at + 2) → line_without bytes (at - 1) to 0 ≡ time_line time
 mark_line bytes from at to time m first lead =
     let after = m.after in
     let before = m.before in
@@ -38,7 +39,9 @@ lead_of : (a b n : ℕ) → (not (a == 48) || (b == n)) ≡ true → a ≡ 48 �
 lead_of a b n e is = eqb-true b n (subst (λ (v : ℕ). (not (v == 48) || (b == n)) ≡ true) is e)
 
 -- the same by what is looked at
-pub mark_line_there : (bytes : List ℕ) (from at to time : ℕ) → ((slice_index bytes (at - 1) == 35) && (not (slice_index bytes at == 48) || (to == at + 2))) ≡ true → HasTimestamp bytes from to at time → line_without bytes (at - 1) to 0 ≡ time_line time
+pub mark_line_there : (bytes : List ℕ) (from at to time : ℕ)
+    → ((slice_index bytes (at - 1) == 35) && (not (slice_index bytes at == 48) || (to == at + 2))) ≡ true → HasTimestamp bytes from to at time
+    → line_without bytes (at - 1) to 0 ≡ time_line time
 mark_line_there bytes from at to time e m =
     let p = and_parts (slice_index bytes (at - 1) == 35) (not (slice_index bytes at == 48) || (to == at + 2)) e in
     mark_line bytes from at to time m (eqb-true (slice_index bytes (at - 1)) 35 p.0) (lead_of (slice_index bytes at) to (at + 2) p.1)

@@ -145,7 +145,8 @@ number_step s h l m a b size is l1 m1 p q same differ rise fall =
     )
   where
     goes : (x y : ℕ) → goes_from x y (Some (48 + a % 2)) (Some (48 + b % 2)) ≡ goes_from x y (last_or None (extend (binary_digits l a) size)) (last_or None (extend (binary_digits m b) size))
-    goes x y = ap (λ (o : Option ℕ). goes_from x y o (Some (48 + b % 2))) (sym (last_bit l a size l1)) ∙ ap (goes_from x y (last_or None (extend (binary_digits l a) size))) (sym (last_bit m b size m1))
+    goes x y = ap (λ (o : Option ℕ). goes_from x y o (Some (48 + b % 2))) (sym (last_bit l a size l1))
+        ∙ ap (goes_from x y (last_or None (extend (binary_digits l a) size))) (sym (last_bit m b size m1))
 
 -- the digit at an index, where there is one
 pub binary_get : (l n position : ℕ) → position < l → get_or (binary_digits l n) position 0 ≡ 48 + n / 2 ^ (l - 1 - position) % 2
@@ -162,7 +163,8 @@ bits_room n room few most = by_one (n == 1)
     by_one true = omega arith
     by_one false = let a = div_ceil_times n 4 (omega arith) in omega arith
 
-pub bits_kept : (s : Whole) (p l n end : ℕ) (values : List ℕ) → count_in p ≡ l → number_in p ≡ n → kept_with values end (set_whole state.Bits p s) ≡ with_number l n (kept_with values end s)
+pub bits_kept : (s : Whole) (p l n end : ℕ) (values : List ℕ) → count_in p ≡ l → number_in p ≡ n
+    → kept_with values end (set_whole state.Bits p s) ≡ with_number l n (kept_with values end s)
 bits_kept s p l n end values count number =
     ap (λ i. as_held (Held.Digits (binary_digits i (number_in p)))) count
     ∙ ap (λ i. as_held (Held.Digits (binary_digits l i))) number

@@ -26,7 +26,8 @@ pub ones_bits : (v : List ℕ) (k : ℕ) → length v ≡ 32 → k < 32 → bit_
 ones_bits v k long less =
     let lanes = pick_l 0 (v ++ v) backwards in
     let many : length backwards ≡ 32 = refl in
-    let lane : get_or lanes (31 - k) 0 ≡ get_or v k 0 = get_or-map (λ j. get_or (v ++ v) j 0) backwards (31 - k) 0 0 (omega (arith, many)) ∙ ap (λ j. get_or (v ++ v) j 0) (back_at k less) ∙ get_or_append_left v v 0 k (omega (arith, long)) in
+    let lane : get_or lanes (31 - k) 0 ≡ get_or v k 0 = get_or-map (λ j. get_or (v ++ v) j 0) backwards (31 - k) 0 0 (omega (arith, many))
+    ∙ ap (λ j. get_or (v ++ v) j 0) (back_at k less) ∙ get_or_append_left v v 0 k (omega (arith, long)) in
     ap (λ m. bit_at m (31 - k)) (is_mask v)
     ∙ bit_mask_l (map (λ x. x == 49) lanes) (31 - k)
     ∙ ap (λ (b : Bool). cond b 1 0) (get_or-map (λ x. x == 49) lanes (31 - k) 0 false (omega (arith, many)) ∙ ap (λ x. x == 49) lane)

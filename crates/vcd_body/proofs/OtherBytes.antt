@@ -64,5 +64,7 @@ again d fit other =
 pub same_lead : (k d : ℕ) (l : List ℕ) → k < length l → ((j : ℕ) → j ≤ k → get_or l j 0 ≡ d) → d < 256 → d ≢ 49 → Serves k (str_to_ascii_lowercase l)
 same_lead k d l less same fit other =
     let m = length-map l to_ascii_lowercase in
-    let at : (j : ℕ) → j ≤ k → get_or (str_to_ascii_lowercase l) j 0 ≡ to_ascii_lowercase d = λ j le. get_or-map to_ascii_lowercase l j 0 0 (omega (arith, le, less)) ∙ ap to_ascii_lowercase (same j le) in
-    lead_out k (str_to_ascii_lowercase l) (omega (arith, less, m)) (λ j few. at j (omega (arith, few)) ∙ again d fit other ∙ ap (λ x. extension (x ∷ [])) (sym (at (j + 1) (omega (arith, few)))))
+    let at : (j : ℕ) → j ≤ k → get_or (str_to_ascii_lowercase l) j 0 ≡ to_ascii_lowercase d = λ j le. get_or-map to_ascii_lowercase l j 0 0
+    (omega (arith, le, less)) ∙ ap to_ascii_lowercase (same j le) in
+    lead_out k (str_to_ascii_lowercase l) (omega (arith, less, m)) (λ j few. at j (omega (arith, few)) ∙ again d fit other
+    ∙ ap (λ x. extension (x ∷ [])) (sym (at (j + 1) (omega (arith, few)))))

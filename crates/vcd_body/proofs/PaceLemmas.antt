@@ -39,17 +39,21 @@ module _ (settled : List Token → Bool) (due : List Token → List ℕ) (limit 
   read_still text more old new read = record { task = read.task; output = λ written le. read.output written (omega (arith, length-append text more, le)) }
 
   -- what is due with tokens that have just these items is no more than what was written
-  pub read_past : {X : Type 0} {g : Ghosts X} (codes : List IdCode) (items : List BodyItem) (f : Feed X g) (before : Supply) (text : List ℕ) → limit_of f ≡ limit → chunk_len_of f ≡ chunk → ((ts : List Token) → HaveJust codes items ts → settled ts ≡ false) → ((ts : List Token) → HaveJust codes items ts → due ts ≡ text)
+  pub read_past : {X : Type 0} {g : Ghosts X} (codes : List IdCode) (items : List BodyItem) (f : Feed X g) (before : Supply) (text : List ℕ)
+      → limit_of f ≡ limit → chunk_len_of f ≡ chunk → ((ts : List Token) → HaveJust codes items ts → settled ts ≡ false)
+      → ((ts : List Token) → HaveJust codes items ts → due ts ≡ text)
       → ReadsPast codes i front items f → HasReadFor settled due limit chunk i front text before (supply_of f)
   read_past {X} {g} codes items f before text same size still is reads = record {
     task = under settled (reads before settled still);
-    output = λ written le. under (is_more_due due written) (reads before (is_more_due due written) (λ ts have. let no : nat_lt written (length text) ≡ false = grind (arith, nat_tests) in ap (λ l. nat_lt written (length l)) (is ts have) ∙ no));
+    output = λ written le. under (is_more_due due written) (reads before (is_more_due due written) (λ ts have.
+        let no : nat_lt written (length text) ≡ false = grind (arith, nat_tests) in ap (λ l. nat_lt written (length l)) (is ts have) ∙ no));
   }
     where
       under : (test : List Token → Bool) → ReadsAsNeeded (limit_of f) (chunk_len_of f) before (supply_of f) i front test → ReadsAsNeeded limit chunk before (supply_of f) i front test
       under test read = subst (λ n. ReadsAsNeeded n chunk before (supply_of f) i front test) same (subst (λ n. ReadsAsNeeded (limit_of f) n before (supply_of f) i front test) size read)
 
   -- all that is due was written, and then maybe more
-  pub keeping_up : (text more : List ℕ) (old new : Supply) (out mid out' : Device) → HasReadFor settled due limit chunk i front text old new → Appends out.held mid.held text → Appends mid.held out'.held more → KeepsUp due limit chunk i front old new out out'
+  pub keeping_up : (text more : List ℕ) (old new : Supply) (out mid out' : Device) → HasReadFor settled due limit chunk i front text old new
+      → Appends out.held mid.held text → Appends mid.held out'.held more → KeepsUp due limit chunk i front old new out out'
   keeping_up text more old new out mid out' read all then =
       (text ++ more, appends-twice out.held mid.held out'.held text more all then, read.output (length (text ++ more)) (omega (arith, length-append text more)))

@@ -56,7 +56,8 @@ abbrev pub Packs : List ℕ → ℕ → List ℕ → Type 0
 Packs text count bytes = (j : ℕ) → j < count → get_or bytes j 0 ≡ packed_byte text (quarter_of (length text)) j
 
 -- the codes of a byte
-codes_in : (text : List ℕ) (q j : ℕ) → (packed_byte text q j % 4 ≡ two_bits_or text j) × (packed_byte text q j / 4 % 4 ≡ two_bits_or text (j + q)) × (packed_byte text q j / 16 % 4 ≡ two_bits_or text (j + 2 * q)) × (packed_byte text q j / 64 ≡ two_bits_or text (j + (length text - q)))
+codes_in : (text : List ℕ) (q j : ℕ) → (packed_byte text q j % 4 ≡ two_bits_or text j) × (packed_byte text q j / 4 % 4 ≡ two_bits_or text (j + q))
+    × (packed_byte text q j / 16 % 4 ≡ two_bits_or text (j + 2 * q)) × (packed_byte text q j / 64 ≡ two_bits_or text (j + (length text - q)))
 codes_in text q j =
     let a = or_small text j in
     let b = or_small text (j + q) in
@@ -66,18 +67,38 @@ codes_in text q j =
 
 -- the byte that has a code, and what takes the code from this byte, also where it is that of a text
 abbrev Place : ℕ → ℕ → Type 0
-Place n p = (j : ℕ) × (f : ℕ → ℕ) × (j < quarter_of n) × ((bytes : List ℕ) → two_bits_at n bytes p ≡ f (get_or bytes j 0)) × ((text : List ℕ) → length text ≡ n → f (packed_byte text (quarter_of n) j) ≡ two_bits_or text p)
+Place n p = (j : ℕ) × (f : ℕ → ℕ) × (j < quarter_of n) × ((bytes : List ℕ) → two_bits_at n bytes p ≡ f (get_or bytes j 0))
+    × ((text : List ℕ) → length text ≡ n → f (packed_byte text (quarter_of n) j) ≡ two_bits_or text p)
 
 place : (n p : ℕ) → p < n → Place n p
 place n p less = elim (cases_lt p (n - q)) [
   | inl before ↦ elim (cases_lt p q) [
     | inl a ↦ (p, (λ y. y % 4), a, (λ bytes. below_test p (n - q) _ _ before ∙ below_test p q _ _ a), (λ text is. (codes_in text q p).0))
     | inr a ↦ elim (cases_lt p (2 * q)) [
-      | inl b ↦ (p - q, (λ y. y / 4 % 4), omega arith, (λ bytes. below_test p (n - q) _ _ before ∙ above_test p q _ _ a ∙ below_test p (2 * q) _ _ b), (λ text is. (codes_in text q (p - q)).1 ∙ ap (two_bits_or text) (omega arith)))
-      | inr b ↦ (p - 2 * q, (λ y. y / 16 % 4), omega (arith, whole, before), (λ bytes. below_test p (n - q) _ _ before ∙ above_test p q _ _ a ∙ above_test p (2 * q) _ _ b), (λ text is. (codes_in text q (p - 2 * q)).2 ∙ ap (two_bits_or text) (omega arith)))
+      | inl b ↦ (
+        p - q,
+        (λ y. y / 4 % 4),
+        omega arith,
+        (λ bytes. below_test p (n - q) _ _ before ∙ above_test p q _ _ a
+            ∙ below_test p (2 * q) _ _ b),
+        (λ text is. (codes_in text q (p - q)).1 ∙ ap (two_bits_or text) (omega arith)),
+      )
+      | inr b ↦ (
+        p - 2 * q,
+        (λ y. y / 16 % 4),
+        omega (arith, whole, before),
+        (λ bytes. below_test p (n - q) _ _ before ∙ above_test p q _ _ a ∙ above_test p (2 * q) _ _ b),
+        (λ text is. (codes_in text q (p - 2 * q)).2 ∙ ap (two_bits_or text) (omega arith)),
+      )
     ]
   ]
-  | inr behind ↦ (p - (n - q), (λ y. y / 64), omega (arith, less, behind), (λ bytes. in_last n bytes p behind), (λ text is. (codes_in text q (p - (n - q))).3 ∙ ap (two_bits_or text) (omega (arith, is, behind, less))))
+  | inr behind ↦ (
+    p - (n - q),
+    (λ y. y / 64),
+    omega (arith, less, behind),
+    (λ bytes. in_last n bytes p behind),
+    (λ text is. (codes_in text q (p - (n - q))).3 ∙ ap (two_bits_or text) (omega (arith, is, behind, less))),
+  )
 ]
   where
     q : ℕ
@@ -109,11 +130,13 @@ packs_again text bytes packs =
     ∙ ap digit_of (code_again text bytes p packs less)
     ∙ sym (get_or-map held_digit text p 0 0 less))
 
-pub packs_by : (text bytes : List ℕ) (q : ℕ) → q ≡ quarter_of (length text) → ((j : ℕ) → j < q → get_or bytes j 0 ≡ packed_byte text q j) → digits_in (length text) bytes ≡ map held_digit text
+pub packs_by : (text bytes : List ℕ) (q : ℕ) → q ≡ quarter_of (length text) → ((j : ℕ) → j < q → get_or bytes j 0 ≡ packed_byte text q j)
+    → digits_in (length text) bytes ≡ map held_digit text
 packs_by text bytes q is packs = packs_again text bytes (subst (λ k. (j : ℕ) → j < k → get_or bytes j 0 ≡ packed_byte text k j) is packs)
 
 -- digits with `0` after them have the same codes before 64
-pub padded_is : (text block : List ℕ) (k : ℕ) → length block ≡ 64 → ((j : ℕ) → j < length text → get_or block j 0 ≡ get_or text j 0) → ((j : ℕ) → length text ≤ j → get_or block j 0 ≡ get_or {A = ℕ} (replicate 64 48) j 0) → k < 64 → two_bits_or block k ≡ two_bits_or text k
+pub padded_is : (text block : List ℕ) (k : ℕ) → length block ≡ 64 → ((j : ℕ) → j < length text → get_or block j 0 ≡ get_or text j 0)
+    → ((j : ℕ) → length text ≤ j → get_or block j 0 ≡ get_or {A = ℕ} (replicate 64 48) j 0) → k < 64 → two_bits_or block k ≡ two_bits_or text k
 padded_is text block k long front rest less = in_text block k (omega (arith, long, less)) ∙ by_place (cases_lt k (length text))
   where
     by_place : (k < length text) ⊎ (length text ≤ k) → two_bits_of (get_or block k 0) ≡ two_bits_or text k
@@ -135,7 +158,8 @@ none_behind n bytes p h = slice_get_past (digits_in n bytes) p (let t = length_d
 pub last_code : (len : ℕ) (bytes : List ℕ) → 1 ≤ len → slice_get (digits_in len bytes) (len - 1) ≡ Some (digit_of (get_or bytes (quarter_of len - 1) 0 / 64))
 last_code len bytes some =
     let position : len - 1 - (len - quarter_of len) ≡ quarter_of len - 1 = omega (arith, some) in
-    digit_among len bytes (len - 1) (omega (arith, some)) ∙ ap (λ (n : ℕ). Some (digit_of n)) (in_last len bytes (len - 1) (omega (arith, some)) ∙ ap (λ (n : ℕ). get_or bytes n 0 / 64) position)
+    digit_among len bytes (len - 1) (omega (arith, some)) ∙ ap (λ (n : ℕ). Some (digit_of n)) (in_last len bytes (len - 1) (omega (arith, some))
+    ∙ ap (λ (n : ℕ). get_or bytes n 0 / 64) position)
 
 -- only the first bytes matter
 pub digits_of_first : (n : ℕ) (xs ys : List ℕ) → ((j : ℕ) → j < quarter_of n → get_or xs j 0 ≡ get_or ys j 0) → digits_in n xs ≡ digits_in n ys

@@ -44,7 +44,8 @@ module _ (codes : List IdCode) where
   unfolding body_fault
   start_fault earlier token s e = ap (λ x. first_failed (start_checks codes (items_of earlier) x)) e
 
-  inner_fault : (earlier : List BodyPhrase) (token : List ℕ) (before : List (List ℕ)) (t : List ℕ) (s : Start) → start_of token ≡ s → body_fault codes earlier (token ∷ before) t ≡ first_failed (inner_checks codes s t)
+  inner_fault : (earlier : List BodyPhrase) (token : List ℕ) (before : List (List ℕ)) (t : List ℕ) (s : Start) → start_of token ≡ s
+      → body_fault codes earlier (token ∷ before) t ≡ first_failed (inner_checks codes s t)
   unfolding body_fault
   inner_fault earlier token before t s e = ap (λ x. first_failed (inner_checks codes x t)) e
 
@@ -84,7 +85,8 @@ module _ (codes : List IdCode) where
       mark_refused fault (inl e) = rw e.0 (λ x. cc, time_in_section e.1)
       mark_refused fault (inr e) = rw e.0 (λ x. cc, time_back e.1 e.2)
 
-      pub time_passes : is_some r.section ≡ false → r.time ≤ decimal_value (drop 1 token) → Passes codes earlier token (BodyItem.Time (decimal_value (drop 1 token))) × (time_after (items_of earlier) ≤ decimal_value (drop 1 token))
+      pub time_passes : is_some r.section ≡ false → r.time ≤ decimal_value (drop 1 token)
+          → Passes codes earlier token (BodyItem.Time (decimal_value (drop 1 token))) × (time_after (items_of earlier) ≤ decimal_value (drop 1 token))
       time_passes o less =
           let t = k.time_is in
           let within : time_after (items_of earlier) ≤ decimal_value (drop 1 token) = omega arith in
@@ -106,10 +108,13 @@ module _ (codes : List IdCode) where
     pub unknown_code : is_empty (drop 1 token) ≡ false → declared_code codes (drop 1 token) ≡ None → body_fault codes earlier [] token ≡ Some 16
     unknown_code h d = start_fault earlier token (Digit b.0 (drop 1 token)) (start_digit token b) ∙ rw (h, d) refl
 
-    pub scalar_passes : (c : IdCode) → is_empty (drop 1 token) ≡ false → declared_code codes (drop 1 token) ≡ Some c → Passes codes earlier token (BodyItem.Changes (record { code = c; form = ChangeForm.Scalar; text = take 1 token }))
+    pub scalar_passes : (c : IdCode) → is_empty (drop 1 token) ≡ false → declared_code codes (drop 1 token) ≡ Some c
+        → Passes codes earlier token (BodyItem.Changes (record { code = c; form = ChangeForm.Scalar; text = take 1 token }))
     scalar_passes c h d = (
       start_fault earlier token (Digit b.0 (drop 1 token)) (start_digit token b) ∙ rw (h, d) refl,
-      phrase_is token [] (Digit b.0 (drop 1 token)) (start_digit token b) ∙ rw d (ap (λ t. Some (BodyPhrase.Gives (BodyItem.Changes (record { code = c; form = ChangeForm.Scalar; text = t })))) (sym (first_byte token b.0 b.1 b.3))),
+      phrase_is token [] (Digit b.0 (drop 1 token)) (start_digit token b)
+          ∙ rw d (ap (λ t. Some (BodyPhrase.Gives (BodyItem.Changes (record { code = c; form = ChangeForm.Scalar; text = t }))))
+          (sym (first_byte token b.0 b.1 b.3))),
     )
 
   -- ---- digits, and the code after them
@@ -118,17 +123,20 @@ module _ (codes : List IdCode) where
     pub bad_digits : (not (is_empty (drop 1 token)) && list_all is_value_digit (drop 1 token)) ≡ false → body_fault codes earlier [] token ≡ Some 15
     bad_digits h = start_fault earlier token (Digits (drop 1 token)) (start_digits token b) ∙ rw h refl
 
-    pub digits_begin : (not (is_empty (drop 1 token)) && list_all is_value_digit (drop 1 token)) ≡ true → (body_fault codes earlier [] token ≡ None) × (body_phrase codes (token ∷ []) ≡ None)
+    pub digits_begin : (not (is_empty (drop 1 token)) && list_all is_value_digit (drop 1 token)) ≡ true → (body_fault codes earlier [] token ≡ None)
+        × (body_phrase codes (token ∷ []) ≡ None)
     digits_begin h = (start_fault earlier token (Digits (drop 1 token)) (start_digits token b) ∙ rw h refl, phrase_is token [] (Digits (drop 1 token)) (start_digits token b))
 
     pub digits_ask : (t : List ℕ) → declared_code codes t ≡ None → body_fault codes earlier (token ∷ []) t ≡ Some 16
     digits_ask t d = inner_fault earlier token [] t (Digits (drop 1 token)) (start_digits token b) ∙ rw d refl
 
-    pub too_wide : (t : List ℕ) (c : IdCode) → declared_code codes t ≡ Some c → (c.event || nat_le (length (drop 1 token)) c.size) ≡ false → body_fault codes earlier (token ∷ []) t ≡ Some 17
+    pub too_wide : (t : List ℕ) (c : IdCode) → declared_code codes t ≡ Some c → (c.event || nat_le (length (drop 1 token)) c.size) ≡ false
+        → body_fault codes earlier (token ∷ []) t ≡ Some 17
     too_wide t c d f = inner_fault earlier token [] t (Digits (drop 1 token)) (start_digits token b) ∙ rw (d, f) refl
 
     pub vector_passes : (t : List ℕ) (c : IdCode) → declared_code codes t ≡ Some c → (c.event || nat_le (length (drop 1 token)) c.size) ≡ true
-        → (body_fault codes earlier (token ∷ []) t ≡ None) × (body_phrase codes (token ∷ t ∷ []) ≡ Some (BodyPhrase.Gives (BodyItem.Changes (record { code = c; form = ChangeForm.Vector; text = drop 1 token }))))
+        → (body_fault codes earlier (token ∷ []) t ≡ None) × (body_phrase codes (token ∷ t ∷ []) ≡ Some
+        (BodyPhrase.Gives (BodyItem.Changes (record { code = c; form = ChangeForm.Vector; text = drop 1 token }))))
     vector_passes t c d f = (
       inner_fault earlier token [] t (Digits (drop 1 token)) (start_digits token b) ∙ rw (d, f) refl,
       phrase_is token (t ∷ []) (Digits (drop 1 token)) (start_digits token b) ∙ rw d refl,
@@ -158,7 +166,8 @@ module _ (codes : List IdCode) where
     number_asks t d = inner_fault earlier token [] t (Number (drop 1 token)) (start_number token b) ∙ rw d refl
 
     pub real_passes : (t : List ℕ) (c : IdCode) → declared_code codes t ≡ Some c
-        → (body_fault codes earlier (token ∷ []) t ≡ None) × (body_phrase codes (token ∷ t ∷ []) ≡ Some (BodyPhrase.Gives (BodyItem.Changes (record { code = c; form = ChangeForm.RealText; text = drop 1 token }))))
+        → (body_fault codes earlier (token ∷ []) t ≡ None) × (body_phrase codes (token ∷ t ∷ []) ≡ Some
+        (BodyPhrase.Gives (BodyItem.Changes (record { code = c; form = ChangeForm.RealText; text = drop 1 token }))))
     real_passes t c d = (
       inner_fault earlier token [] t (Number (drop 1 token)) (start_number token b) ∙ rw d refl,
       phrase_is token (t ∷ []) (Number (drop 1 token)) (start_number token b) ∙ rw d refl,
@@ -166,26 +175,50 @@ module _ (codes : List IdCode) where
 
   -- ---- comments
 
-  pub comment_begins : (earlier : List BodyPhrase) (token : List ℕ) → token ≡ keyword_text Keyword.Comment → (body_fault codes earlier [] token ≡ None) × (body_phrase codes (token ∷ []) ≡ None)
-  comment_begins earlier token e = (start_fault earlier token (Command Keyword.Comment) (start_keyword token Keyword.Comment e), phrase_is token [] (Command Keyword.Comment) (start_keyword token Keyword.Comment e))
+  pub comment_begins : (earlier : List BodyPhrase) (token : List ℕ) → token ≡ keyword_text Keyword.Comment
+      → (body_fault codes earlier [] token ≡ None) × (body_phrase codes (token ∷ []) ≡ None)
+  comment_begins earlier token e = (
+    start_fault earlier token (Command Keyword.Comment) (start_keyword token Keyword.Comment e),
+    phrase_is token [] (Command Keyword.Comment) (start_keyword token Keyword.Comment e),
+  )
 
   pub comment_goes_on : (earlier : List BodyPhrase) (inner : List (List ℕ)) (t : List ℕ) → body_fault codes earlier (keyword_text Keyword.Comment ∷ inner) t ≡ None
   comment_goes_on earlier inner t = inner_fault earlier (keyword_text Keyword.Comment) inner t (Command Keyword.Comment) (start_of-keyword codes Keyword.Comment)
 
   pub comment_open : (inner : List (List ℕ)) (t : List ℕ) → NoEnds inner → is_end t ≡ false → body_phrase codes (keyword_text Keyword.Comment ∷ inner ++ t ∷ []) ≡ None
-  comment_open inner t none e = phrase_is (keyword_text Keyword.Comment) (inner ++ t ∷ []) (Command Keyword.Comment) (start_of-keyword codes Keyword.Comment) ∙ ap (option_map BodyPhrase.Comment) (not_until inner t none e)
+  comment_open inner t none e = phrase_is (keyword_text Keyword.Comment) (inner ++ t ∷ []) (Command Keyword.Comment)
+      (start_of-keyword codes Keyword.Comment) ∙ ap (option_map BodyPhrase.Comment) (not_until inner t none e)
 
-  pub comment_whole : (inner : List (List ℕ)) (t : List ℕ) → NoEnds inner → is_end t ≡ true → body_phrase codes (keyword_text Keyword.Comment ∷ inner ++ t ∷ []) ≡ Some (BodyPhrase.Comment inner)
-  comment_whole inner t none e = phrase_is (keyword_text Keyword.Comment) (inner ++ t ∷ []) (Command Keyword.Comment) (start_of-keyword codes Keyword.Comment) ∙ ap (option_map BodyPhrase.Comment) (until inner t none e)
+  pub comment_whole : (inner : List (List ℕ)) (t : List ℕ) → NoEnds inner → is_end t ≡ true
+      → body_phrase codes (keyword_text Keyword.Comment ∷ inner ++ t ∷ []) ≡ Some (BodyPhrase.Comment inner)
+  comment_whole inner t none e = phrase_is (keyword_text Keyword.Comment) (inner ++ t ∷ []) (Command Keyword.Comment)
+      (start_of-keyword codes Keyword.Comment) ∙ ap (option_map BodyPhrase.Comment) (until inner t none e)
 
   -- ---- sections, and what is no phrase
 
   module _ (earlier : List BodyPhrase) (token : List ℕ) (r : Regs) (k : AreRegsAfter (items_of earlier) r) where
     pub begin_passes : (s : SectionKind) → token ≡ keyword_text (section_keyword s) → is_some r.section ≡ false → Passes codes earlier token (BodyItem.Begin s)
-    begin_passes SectionKind.Vars e o = (start_fault earlier token (Command Keyword.DumpVars) (start_keyword token Keyword.DumpVars e) ∙ rw (section_open (items_of earlier) r false k o) refl, phrase_is token [] (Command Keyword.DumpVars) (start_keyword token Keyword.DumpVars e))
-    begin_passes SectionKind.Off e o = (start_fault earlier token (Command Keyword.DumpOff) (start_keyword token Keyword.DumpOff e) ∙ rw (section_open (items_of earlier) r false k o) refl, phrase_is token [] (Command Keyword.DumpOff) (start_keyword token Keyword.DumpOff e))
-    begin_passes SectionKind.On e o = (start_fault earlier token (Command Keyword.DumpOn) (start_keyword token Keyword.DumpOn e) ∙ rw (section_open (items_of earlier) r false k o) refl, phrase_is token [] (Command Keyword.DumpOn) (start_keyword token Keyword.DumpOn e))
-    begin_passes SectionKind.All e o = (start_fault earlier token (Command Keyword.DumpAll) (start_keyword token Keyword.DumpAll e) ∙ rw (section_open (items_of earlier) r false k o) refl, phrase_is token [] (Command Keyword.DumpAll) (start_keyword token Keyword.DumpAll e))
+    begin_passes SectionKind.Vars e o = (
+      start_fault earlier token (Command Keyword.DumpVars) (start_keyword token Keyword.DumpVars e)
+          ∙ rw (section_open (items_of earlier) r false k o) refl,
+      phrase_is token [] (Command Keyword.DumpVars)
+          (start_keyword token Keyword.DumpVars e),
+    )
+    begin_passes SectionKind.Off e o = (
+      start_fault earlier token (Command Keyword.DumpOff) (start_keyword token Keyword.DumpOff e)
+          ∙ rw (section_open (items_of earlier) r false k o) refl,
+      phrase_is token [] (Command Keyword.DumpOff) (start_keyword token Keyword.DumpOff e),
+    )
+    begin_passes SectionKind.On e o = (
+      start_fault earlier token (Command Keyword.DumpOn) (start_keyword token Keyword.DumpOn e)
+          ∙ rw (section_open (items_of earlier) r false k o) refl,
+      phrase_is token [] (Command Keyword.DumpOn) (start_keyword token Keyword.DumpOn e),
+    )
+    begin_passes SectionKind.All e o = (
+      start_fault earlier token (Command Keyword.DumpAll) (start_keyword token Keyword.DumpAll e)
+          ∙ rw (section_open (items_of earlier) r false k o) refl,
+      phrase_is token [] (Command Keyword.DumpAll) (start_keyword token Keyword.DumpAll e),
+    )
 
     pub begin_inside : (s : SectionKind) → token ≡ keyword_text (section_keyword s) → is_some r.section ≡ true → body_fault codes earlier [] token ≡ Some 4
     begin_inside SectionKind.Vars e o = start_fault earlier token (Command Keyword.DumpVars) (start_keyword token Keyword.DumpVars e) ∙ rw (section_open (items_of earlier) r true k o) refl
@@ -194,7 +227,11 @@ module _ (codes : List IdCode) where
     begin_inside SectionKind.All e o = start_fault earlier token (Command Keyword.DumpAll) (start_keyword token Keyword.DumpAll e) ∙ rw (section_open (items_of earlier) r true k o) refl
 
     pub end_passes : token ≡ keyword_text Keyword.End → is_some r.section ≡ true → Passes codes earlier token BodyItem.End
-    end_passes e o = (start_fault earlier token (Command Keyword.End) (start_keyword token Keyword.End e) ∙ rw (section_open (items_of earlier) r true k o) refl, phrase_is token [] (Command Keyword.End) (start_keyword token Keyword.End e))
+    end_passes e o = (
+      start_fault earlier token (Command Keyword.End) (start_keyword token Keyword.End e)
+          ∙ rw (section_open (items_of earlier) r true k o) refl,
+      phrase_is token [] (Command Keyword.End) (start_keyword token Keyword.End e),
+    )
 
     pub end_outside : token ≡ keyword_text Keyword.End → is_some r.section ≡ false → body_fault codes earlier [] token ≡ Some 4
     end_outside e o = start_fault earlier token (Command Keyword.End) (start_keyword token Keyword.End e) ∙ rw (section_open (items_of earlier) r false k o) refl

@@ -92,11 +92,13 @@ module _ (t : Table) (one other : ℕ) (s u : Slot) (laid : IsLaidOut t) (at : s
             ∙ ap (λ (h : Held). tag_of (last_digit_in (value_at_size size h))) b.is ∙ value_tag u.tag n size b.bytes less),
       )
 
-  digits_are : (k : ℕ) (v : Slot) (x : IsOfSlot t k v) → 7 ≤ v.tag → held_at t k ≡ Held.Digits (binary_digits (count_in (len_in v.tag v.number x.upper)) (number_in (len_in v.tag v.number x.upper)))
+  digits_are : (k : ℕ) (v : Slot) (x : IsOfSlot t k v) → 7 ≤ v.tag
+      → held_at t k ≡ Held.Digits (binary_digits (count_in (len_in v.tag v.number x.upper)) (number_in (len_in v.tag v.number x.upper)))
   digits_are k v x many = x.is ∙ ap (λ (st : State). held_by st (len_in v.tag v.number x.upper) x.bytes) (many_bits v.tag many)
 
   -- two numbers that fill one size
-  pub number_told : 7 ≤ s.tag → 7 ≤ u.tag → (size : ℕ) → max size (min 32 (s.tag - 7)) ≡ max size (min 32 (u.tag - 7)) → s.number < 4294967296 → u.number < 4294967296 → Decides (s.number == u.number) (value_at_size size (held_at t one) ≡ value_at_size size (held_at t other))
+  pub number_told : 7 ≤ s.tag → 7 ≤ u.tag → (size : ℕ) → max size (min 32 (s.tag - 7)) ≡ max size (min 32 (u.tag - 7)) → s.number < 4294967296
+      → u.number < 4294967296 → Decides (s.number == u.number) (value_at_size size (held_at t one) ≡ value_at_size size (held_at t other))
   number_told many many_too size same low less = (
     λ yes.
         let numbers = eq-eqb (number_in la) (number_in lb) (own.1 ∙ eqb-true s.number u.number yes ∙ sym its.1) in
@@ -148,4 +150,5 @@ module _ (t : Table) (one other : ℕ) (s u : Slot) (laid : IsLaidOut t) (at : s
       proper_other = proper lb (subst (λ (st : State). 1 ≤ some_by st lb) (many_bits u.tag many_too) b.some)
 
       told : (number_in la == number_in lb) ≡ bytes_eq (extend xs size) (extend ys size)
-      told = numbers_differ (count_in la) (count_in lb) (number_in la) (number_in lb) size (proper_count la proper_one) (proper_count lb proper_other) (proper_number la proper_one) (proper_number lb proper_other) fill
+      told = numbers_differ (count_in la) (count_in lb) (number_in la) (number_in lb) size (proper_count la proper_one)
+          (proper_count lb proper_other) (proper_number la proper_one) (proper_number lb proper_other) fill

@@ -10,7 +10,8 @@ use Rattle.vcd_body.proofs.WordLemmas.{scalar_begins}
 -- where its token was taken, it was
 pub scalar_takes : (v : HeadView) (a a' : Ahead) (r : Regs) (o : Opening) (f : Found) (text : Bor (List ℕ)) → Opens a a' o → (o.kind ≡ kind.Bit) ⊎ (o.kind ≡ kind.Scalar)
     → IsFoundScalar v o.token.now f → text.now ≡ take 1 o.token.now → (bytes : Bor (List ℕ)) → bytes.now ≡ bytes_of a' → (end : ℕ) → end ≡ passed_of a'
-    → TakesItem v a a' r (record { item = item.Change f.position form.Scalar; text = text; size_or_zero = f.size_or_zero; bytes = bytes; begin = passed_of a' - 1 - length o.token.now; at = passed_of a' - 1 - length o.token.now; code_at = passed_of a' - 1 - length o.token.now + 1; end = end; bits = None; binary = false })
+    → TakesItem v a a' r
+    (record { item = item.Change f.position form.Scalar; text = text; size_or_zero = f.size_or_zero; bytes = bytes; begin = passed_of a' - 1 - length o.token.now; at = passed_of a' - 1 - length o.token.now; code_at = passed_of a' - 1 - length o.token.now + 1; end = end; bits = None; binary = false })
 scalar_takes v a a' r o f text opens is found text_is there_in there_is end ends =
     let token = o.token.now in
     let bytes = bytes_of a in
@@ -25,7 +26,8 @@ scalar_takes v a a' r o f text opens is found text_is there_in there_is end ends
     record {
       gives = λ h limit lines bytes before items views over k g.
           let one = passes_same limit (longest_of a) lines bytes (bytes_of a) from to (start_of a' token) token over.0 over.1 (taken.gives lines) g.tokens g.passed in
-          scalar_taken h.codes limit lines bytes before items from r g k to f.position (line_ahead lines bytes (start_of a' token)) token text.now less one text_is (λ earlier. found.code h earlier views);
+          scalar_taken h.codes limit lines bytes before items from r g k to f.position
+          (line_ahead lines bytes (start_of a' token)) token text.now less one text_is (λ earlier. found.code h earlier views);
       passes = λ limit lines bytes ts over p.
           let t : Token = record { bytes = token; line = line_ahead lines bytes (start_of a' token) } in
           (t ∷ [], passes_same limit (longest_of a) lines bytes (bytes_of a) from to (start_of a' token) token over.0 over.1 (taken.gives lines) ts p);
@@ -37,7 +39,12 @@ scalar_takes v a a' r o f text opens is found text_is there_in there_is end ends
       bytes = there_is;
       before = begins_after bytes from to token there;
       ends = ends;
-      spelled = rw (there_is ∙ taken.same.0, ends) (drop 1 token, scalar_there bytes _ _ token _ begins.0 begins.1 begins.3 text_is begun, found.names, scalar_places bytes _ _ token _ begins.0 begins.1 begins.3 text_is begun);
+      spelled = rw (there_is ∙ taken.same.0, ends) (
+        drop 1 token,
+        scalar_there bytes _ _ token _ begins.0 begins.1 begins.3 text_is begun,
+        found.names,
+        scalar_places bytes _ _ token _ begins.0 begins.1 begins.3 text_is begun,
+      );
       further = less;
       within = subst (λ (bs : _). to ≤ length bs) (sym taken.same.0) taken.within;
       same = taken.same;

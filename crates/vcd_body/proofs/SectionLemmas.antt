@@ -5,7 +5,8 @@ use Rattle.vcd_body.proofs.LineLemmas.{begins_after, token_there}
 use Rattle.vcd_body.proofs.PhraseLemmas.{begin_passes, end_passes}
 use Rattle.vcd_body.proofs.ReadLemmas.{known_begin, known_end}
 
-module _ (codes : List IdCode) (limit lines : ℕ) (bytes : List ℕ) (before items : List BodyItem) (n : ℕ) (r : Regs) (g : GaveAhead codes limit lines bytes n before items) (k : AreRegsAfter (before ++ items) r) where
+module _ (codes : List IdCode) (limit lines : ℕ) (bytes : List ℕ) (before items : List BodyItem) (n : ℕ) (r : Regs)
+    (g : GaveAhead codes limit lines bytes n before items) (k : AreRegsAfter (before ++ items) r) where
   -- what is known after the items so far, and after this one
   known : (earlier : List BodyPhrase) → items_of earlier ≡ before ++ items → AreRegsAfter (items_of earlier) r
   known earlier e = subst (λ (l : List BodyItem). AreRegsAfter l r) (sym e) k
@@ -14,12 +15,15 @@ module _ (codes : List IdCode) (limit lines : ℕ) (bytes : List ℕ) (before it
   known_after x r' after = subst (λ (l : List BodyItem). AreRegsAfter l r') (append_assoc before items (x ∷ [])) after
 
   -- its keyword is a phrase of its own
-  section_taken : (n' line : ℕ) (token text : List ℕ) (it : Item) → n < n' → Passed limit lines bytes n' (g.tokens ++ record { bytes = token; line = line } ∷ []) → IsSectionAt (is_some r.section) token it → TakesOne codes limit lines bytes before items n' (regs_after r it) it text
+  section_taken : (n' line : ℕ) (token text : List ℕ) (it : Item) → n < n'
+      → Passed limit lines bytes n' (g.tokens ++ record { bytes = token; line = line } ∷ []) → IsSectionAt (is_some r.section) token it
+      → TakesOne codes limit lines bytes before items n' (regs_after r it) it text
   section_taken n' line token text (Begin s) less p is =
       let x = BodyItem.Begin (model_section s) in (
         x,
         refl,
-        one_more codes limit lines bytes before items n n' (record { bytes = token; line = line }) x g less p (λ earlier e. begin_passes codes earlier token r (known earlier e) (model_section s) is.0 is.1),
+        one_more codes limit lines bytes before items n n' (record { bytes = token; line = line }) x g less p
+            (λ earlier e. begin_passes codes earlier token r (known earlier e) (model_section s) is.0 is.1),
         known_after x _ (known_begin (before ++ items) r s is.1 k),
       )
   section_taken n' line token text End less p is = (
@@ -52,7 +56,8 @@ module _ (v : HeadView) (a a' : Ahead) (r : Regs) (o : Opening) (p : ScannedItem
   plain (Change place form) is none = absurd is
   plain Finish is none = absurd is
 
-  pub section_takes : p.text.now ≡ [] → p.size_or_zero ≡ 0 → p.bytes.now ≡ bytes_of a' → p.begin ≡ passed_of a' - 1 - length o.token.now → p.end ≡ passed_of a' → p.bits ≡ None → p.binary ≡ false → IsSectionAt (is_some r.section) o.token.now p.item → TakesItem v a a' r p
+  pub section_takes : p.text.now ≡ [] → p.size_or_zero ≡ 0 → p.bytes.now ≡ bytes_of a' → p.begin ≡ passed_of a' - 1 - length o.token.now
+      → p.end ≡ passed_of a' → p.bits ≡ None → p.binary ≡ false → IsSectionAt (is_some r.section) o.token.now p.item → TakesItem v a a' r p
   section_takes none size there_is begin ends bits binary is =
       let token = o.token.now in
       let taken = opens.token in

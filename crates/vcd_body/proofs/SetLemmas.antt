@@ -24,12 +24,17 @@ good_held form.Vector c text (some, digits, few) = ap (λ (l : List ℕ). Some (
 good_held form.RealText c text good = refl
 
 -- so what is set is its value
-pub good_value : (f : Form) (c : Code) (text : List ℕ) (k : Kept) → IsText f c text → c.event ≡ false → share_of c.size ≤ k.room → value_at_size c.size (with_text f text k).held ≡ Some (value_with c.size (model_form f) text)
+pub good_value : (f : Form) (c : Code) (text : List ℕ) (k : Kept) → IsText f c text → c.event ≡ false → share_of c.size ≤ k.room
+    → value_at_size c.size (with_text f text k).held ≡ Some (value_with c.size (model_form f) text)
 good_value f c text k good event most = ap (λ (b : Bool). value_at_size c.size (cond b (held_as f text) k.held)) (good_fits f c text k.room good event most) ∙ good_held f c text good
 
-pub set_value : (values values' : List ℕ) (slots slots' : List Slot) (shares shares' : List Share) (code : ℕ) (f : Form) (text : List ℕ) (c : Code) (k : Kept) → ChangesAt code (with_text f text) values slots shares values' slots' shares' → IsText f c text → c.event ≡ false → kept_in values slots shares code ≡ Some k → share_of c.size ≤ k.room
+pub set_value : (values values' : List ℕ) (slots slots' : List Slot) (shares shares' : List Share) (code : ℕ) (f : Form) (text : List ℕ) (c : Code)
+    (k : Kept) → ChangesAt code (with_text f text) values slots shares values' slots' shares' → IsText f c text → c.event ≡ false
+    → kept_in values slots shares code ≡ Some k → share_of c.size ≤ k.room
     → value_at_size c.size (unwrap_or (option_map (λ (x : Kept). x.held) (kept_in values' slots' shares' code)) Held.Unset) ≡ Some (value_with c.size (model_form f) text)
 set_value values values' slots slots' shares shares' code f text c k changes good event is most =
-    let now : kept_in values' slots' shares' code ≡ Some (with_text f text k) = changes code ∙ ap (λ (b : Bool). cond b (option_map (with_text f text) (kept_in values slots shares code)) (kept_in values slots shares code)) (eq-eqb code code refl) ∙ ap (option_map (with_text f text)) is in
+    let now : kept_in values' slots' shares' code ≡ Some (with_text f text k) = changes code
+    ∙ ap (λ (b : Bool). cond b (option_map (with_text f text) (kept_in values slots shares code)) (kept_in values slots shares code))
+    (eq-eqb code code refl) ∙ ap (option_map (with_text f text)) is in
     let held = ap (λ (o : Option Kept). unwrap_or (option_map (λ (x : Kept). x.held) o) Held.Unset) now in
     ap (value_at_size c.size) (held ∙ ap (λ (b : Bool). cond b (held_as f text) k.held) (good_fits f c text k.room good event most)) ∙ good_held f c text good

@@ -127,7 +127,8 @@ shortest ds from bare (within, serves) size =
     let l = length-drop from ds in
     bare_is_short (drop from ds) n bare (omega arith) ∙ ap short (serves n (omega arith) ∙ sym (extend_where_fits ds size n refl))
 
-pub short_here : (ds : List ℕ) (from : ℕ) → from + 1 < length ds → get_or ds from 0 ≢ extension (get_or ds (from + 1) 0 ∷ []) → Serves from ds → (size : ℕ) → drop from ds ≡ short (extend ds size)
+pub short_here : (ds : List ℕ) (from : ℕ) → from + 1 < length ds → get_or ds from 0 ≢ extension (get_or ds (from + 1) 0 ∷ []) → Serves from ds
+    → (size : ℕ) → drop from ds ≡ short (extend ds size)
 short_here ds from more other serves size = shortest ds from (bare_here ds from (from + 1) (omega arith) more other) serves size
 
 pub short_last : (ds : List ℕ) (from : ℕ) → length ds ≤ from + 1 → Serves from ds → (size : ℕ) → drop from ds ≡ short (extend ds size)
@@ -171,7 +172,8 @@ lower_two [] two = refl
 lower_two (d ∷ l) two = rw (two_lower d (two 0 (omega arith)), lower_two l (λ k less. two (suc k) (omega arith))) refl
 
 -- so the digits after the zeros that lead are the shortest
-pub short_behind_zeros : (k : ℕ) (l : List ℕ) → k < length l → ((j : ℕ) → j < k → get_or l j 0 ≡ 48) → (k + 1 < length l → get_or l k 0 ≢ 48) → AreBinary l → (size : ℕ) → drop k l ≡ short (extend (str_to_ascii_lowercase l) size)
+pub short_behind_zeros : (k : ℕ) (l : List ℕ) → k < length l → ((j : ℕ) → j < k → get_or l j 0 ≡ 48) → (k + 1 < length l → get_or l k 0 ≢ 48)
+    → AreBinary l → (size : ℕ) → drop k l ≡ short (extend (str_to_ascii_lowercase l) size)
 short_behind_zeros k l less zeros first two size =
     let extended : (j : ℕ) → j < length l → extension (get_or l j 0 ∷ []) ≡ 48 = λ j few. two_extended (get_or l j 0) (two j few) in
     let serves = lead_out k l less (λ j few. zeros j few ∙ sym (extended (j + 1) (omega (arith, few, less)))) in

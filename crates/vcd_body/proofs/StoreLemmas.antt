@@ -44,7 +44,8 @@ digits_first n ys = digits_of_first n (take (quarter_of n) ys) ys (λ j h. get_o
 
 -- ---- a slot and its share
 
-pub whole_is : (slots : List Slot) (shares : List Share) (k : ℕ) (s : Slot) (h : Share) → slice_get slots k ≡ Some s → slice_get shares k ≡ Some h → whole_at slots shares k ≡ Some (whole s h)
+pub whole_is : (slots : List Slot) (shares : List Share) (k : ℕ) (s : Slot) (h : Share) → slice_get slots k ≡ Some s → slice_get shares k ≡ Some h
+    → whole_at slots shares k ≡ Some (whole s h)
 whole_is slots shares k s h at there = ap (option_and_then (λ (x : Slot). option_map (whole x) (slice_get shares k))) at ∙ ap (option_map (whole s)) there
 
 pub no_slot : (slots : List Slot) (shares : List Share) (k : ℕ) → slice_get slots k ≡ None → whole_at slots shares k ≡ None
@@ -58,17 +59,20 @@ no_share slots shares k at = by_slot (slice_get slots k) (slice_get shares k) at
     by_slot (Some s) p e = ap (option_map (whole s)) e
 
 -- what they are
-pub parts_of : (slots : List Slot) (shares : List Share) (k : ℕ) (d : Whole) → whole_at slots shares k ≡ Some d → (s : Slot) × (h : Share) × (slice_get slots k ≡ Some s) × (slice_get shares k ≡ Some h) × (whole s h ≡ d)
+pub parts_of : (slots : List Slot) (shares : List Share) (k : ℕ) (d : Whole) → whole_at slots shares k ≡ Some d → (s : Slot) × (h : Share)
+    × (slice_get slots k ≡ Some s) × (slice_get shares k ≡ Some h) × (whole s h ≡ d)
 parts_of slots shares k d is = by_parts (slice_get slots k) refl (slice_get shares k) refl
   where
-    by_parts : (o : Option Slot) → slice_get slots k ≡ o → (p : Option Share) → slice_get shares k ≡ p → (s : Slot) × (h : Share) × (slice_get slots k ≡ Some s) × (slice_get shares k ≡ Some h) × (whole s h ≡ d)
+    by_parts : (o : Option Slot) → slice_get slots k ≡ o → (p : Option Share) → slice_get shares k ≡ p → (s : Slot) × (h : Share)
+        × (slice_get slots k ≡ Some s) × (slice_get shares k ≡ Some h) × (whole s h ≡ d)
     by_parts None e p f = absurd (let g : None ≡ Some d = sym (no_slot slots shares k e) ∙ is in cc)
     by_parts (Some s) e None f = absurd (let g : None ≡ Some d = sym (no_share slots shares k f) ∙ is in cc)
     by_parts (Some s) e (Some h) f = (s, h, e, f, cc (sym (whole_is slots shares k s h e f) ∙ is))
 
 -- ---- shares
 
-starts_same : (shares : List Share) (k : ℕ) (h h' : Share) → slice_get shares k ≡ Some h → h'.start ≡ h.start → (n j : ℕ) → start_or n (slice_get (slice_set shares k h') j) ≡ start_or n (slice_get shares j)
+starts_same : (shares : List Share) (k : ℕ) (h h' : Share) → slice_get shares k ≡ Some h → h'.start ≡ h.start → (n j : ℕ)
+    → start_or n (slice_get (slice_set shares k h') j) ≡ start_or n (slice_get shares j)
 starts_same shares k h h' at start n j = by_place (same_or_not j k)
   where
     by_place : (j ≡ k) ⊎ (j ≢ k) → start_or n (slice_get (slice_set shares k h') j) ≡ start_or n (slice_get shares j)
@@ -88,7 +92,8 @@ other_slots slots shares k s j e = ap (option_and_then (λ (x : Slot). option_ma
 other_shares : (slots : List Slot) (shares : List Share) (k : ℕ) (h : Share) (j : ℕ) → j ≢ k → whole_at slots (slice_set shares k h) j ≡ whole_at slots shares j
 other_shares slots shares k h j e = ap (λ (o : Option Share). option_and_then (λ (x : Slot). option_map (whole x) o) (slice_get slots j)) (get_other shares k j h e)
 
-pub slot_written : (slots : List Slot) (shares : List Share) (k : ℕ) (s s' : Slot) (h : Share) → slice_get slots k ≡ Some s → slice_get shares k ≡ Some h → AreWritten k (whole s h) (whole s' h) slots shares (slice_set slots k s') shares
+pub slot_written : (slots : List Slot) (shares : List Share) (k : ℕ) (s s' : Slot) (h : Share) → slice_get slots k ≡ Some s
+    → slice_get shares k ≡ Some h → AreWritten k (whole s h) (whole s' h) slots shares (slice_set slots k s') shares
 slot_written slots shares k s s' h at there = record {
   was = whole_is slots shares k s h at there;
   is = whole_is (slice_set slots k s') shares k s' h (get_set slots k s' (slice_get_within slots k s at)) there;
@@ -96,7 +101,9 @@ slot_written slots shares k s s' h at there = record {
   ends = λ n j. refl;
 }
 
-pub both_written : (slots : List Slot) (shares : List Share) (k : ℕ) (s s' : Slot) (h h' : Share) → slice_get slots k ≡ Some s → slice_get shares k ≡ Some h → h'.start ≡ h.start → AreWritten k (whole s h) (whole s' h') slots shares (slice_set slots k s') (slice_set shares k h')
+pub both_written : (slots : List Slot) (shares : List Share) (k : ℕ) (s s' : Slot) (h h' : Share) → slice_get slots k ≡ Some s
+    → slice_get shares k ≡ Some h → h'.start ≡ h.start → AreWritten k (whole s h) (whole s' h') slots shares (slice_set slots k s')
+    (slice_set shares k h')
 both_written slots shares k s s' h h' at there start = record {
   was = whole_is slots shares k s h at there;
   is = whole_is (slice_set slots k s') (slice_set shares k h') k s' h' (get_set slots k s' (slice_get_within slots k s at)) (get_set shares k h' (slice_get_within shares k h there));
@@ -104,7 +111,8 @@ both_written slots shares k s s' h h' at there start = record {
   ends = λ n j. starts_same shares k h h' there start n (j + 1);
 }
 
-share_written : (slots : List Slot) (shares : List Share) (k : ℕ) (s : Slot) (h h' : Share) → slice_get slots k ≡ Some s → slice_get shares k ≡ Some h → h'.start ≡ h.start → AreWritten k (whole s h) (whole s h') slots shares slots (slice_set shares k h')
+share_written : (slots : List Slot) (shares : List Share) (k : ℕ) (s : Slot) (h h' : Share) → slice_get slots k ≡ Some s
+    → slice_get shares k ≡ Some h → h'.start ≡ h.start → AreWritten k (whole s h) (whole s h') slots shares slots (slice_set shares k h')
 share_written slots shares k s h h' at there start = record {
   was = whole_is slots shares k s h at there;
   is = whole_is slots (slice_set shares k h') k s h' at (get_set shares k h' (slice_get_within shares k h there));
@@ -123,7 +131,8 @@ module _ (slots slots' : List Slot) (shares shares' : List Share) (k : ℕ) (w w
       ends_same : (j : ℕ) → end_at shares' (length values') j ≡ end_at shares (length values) j
       ends_same j = ap (λ n. end_at shares' n j) same ∙ set.ends (length values) j
 
-      other_kept : (j : ℕ) → j ≢ k → (o : Option Whole) → whole_at slots shares j ≡ o → option_map (kept_with values' (end_at shares (length values) j)) o ≡ option_map (kept_with values (end_at shares (length values) j)) o
+      other_kept : (j : ℕ) → j ≢ k → (o : Option Whole) → whole_at slots shares j ≡ o
+          → option_map (kept_with values' (end_at shares (length values) j)) o ≡ option_map (kept_with values (end_at shares (length values) j)) o
       other_kept j e None is = refl
       other_kept j e (Some d) is = ap (λ (h : Held). Some (record { held = h; counts = d.counts; chosen = d.chosen; room = end_at shares (length values) j - d.start })) (others j d e is)
 
@@ -138,7 +147,8 @@ module _ (slots slots' : List Slot) (shares shares' : List Share) (k : ℕ) (w w
           ∙ ap (λ (i : ℕ). Some (kept_with values' i w')) (ends ∙ sym ended)
           ∙ ap (λ (x : Kept). Some x) one
           ∙ ap (λ (i : ℕ). Some (f (kept_with values i w))) ended
-          ∙ sym (ap (λ (b : Bool). cond b (option_map f (kept_in values slots shares j)) (kept_in values slots shares j)) test ∙ ap (λ (o : Option Whole). option_map f (option_map (kept_with values (end_at shares (length values) j)) o)) was)
+          ∙ sym (ap (λ (b : Bool). cond b (option_map f (kept_in values slots shares j)) (kept_in values slots shares j)) test
+          ∙ ap (λ (o : Option Whole). option_map f (option_map (kept_with values (end_at shares (length values) j)) o)) was)
       by_place j (inr e) =
           let test = ne_eqb j k e in
           let there = set.others j e in
@@ -152,7 +162,8 @@ module _ (slots slots' : List Slot) (shares shares' : List Share) (k : ℕ) (w w
   code_changes values f one = changes values values f refl (one (end_at shares (length values) k)) (λ j d e there. refl)
 
 -- what was written is no code's
-unseen : (values : List ℕ) (slots slots' : List Slot) (shares shares' : List Share) (k : ℕ) (f : Kept → Kept) → whole_at slots shares k ≡ None → whole_at slots' shares' k ≡ None → ((j : ℕ) → j ≢ k → whole_at slots' shares' j ≡ whole_at slots shares j)
+unseen : (values : List ℕ) (slots slots' : List Slot) (shares shares' : List Share) (k : ℕ) (f : Kept → Kept) → whole_at slots shares k ≡ None
+    → whole_at slots' shares' k ≡ None → ((j : ℕ) → j ≢ k → whole_at slots' shares' j ≡ whole_at slots shares j)
     → ((n j : ℕ) → end_at shares' n j ≡ end_at shares n j) → ChangesAt k f values slots shares values slots' shares'
 unseen values slots slots' shares shares' k f none none' others ends = λ j. by_place j (same_or_not j k)
   where
@@ -162,10 +173,12 @@ unseen values slots slots' shares shares' k f none none' others ends = λ j. by_
         let is : kept_in values slots' shares' j ≡ None = ap (option_map (kept_with values (end_at shares' (length values) j))) (ap (whole_at slots' shares') e ∙ none') in
         rw (eq-eqb j k e) (is ∙ sym (ap (option_map f) was))
     by_place j (inr e) =
-        rw (ne_eqb j k e) (ap (option_map (kept_with values (end_at shares' (length values) j))) (others j e) ∙ ap (λ (i : ℕ). option_map (kept_with values i) (whole_at slots shares j)) (ends (length values) j))
+        rw (ne_eqb j k e) (ap (option_map (kept_with values (end_at shares' (length values) j))) (others j e)
+        ∙ ap (λ (i : ℕ). option_map (kept_with values i) (whole_at slots shares j)) (ends (length values) j))
 
 -- there is no such code
-pub nothing_there : (values : List ℕ) (slots : List Slot) (shares : List Share) (k : ℕ) (f : Kept → Kept) → whole_at slots shares k ≡ None → ChangesAt k f values slots shares values slots shares
+pub nothing_there : (values : List ℕ) (slots : List Slot) (shares : List Share) (k : ℕ) (f : Kept → Kept) → whole_at slots shares k ≡ None
+    → ChangesAt k f values slots shares values slots shares
 nothing_there values slots shares k f none = unseen values slots slots shares shares k f none none (λ j e. refl) (λ n j. refl)
 
 pub no_slot_there : (values : List ℕ) (slots : List Slot) (shares : List Share) (k : ℕ) (f : Kept → Kept) → length slots ≤ k → ChangesAt k f values slots shares values slots shares
@@ -175,16 +188,20 @@ pub no_share_there : (values : List ℕ) (slots : List Slot) (shares : List Shar
 no_share_there values slots shares k f past = nothing_there values slots shares k f (no_share slots shares k (slice_get_past shares k past))
 
 -- the slot alone was written, and nothing else was looked at
-pub slot_changes : (slots : List Slot) (k : ℕ) (s s' : Slot) → slice_get slots k ≡ Some s → (shares : List Share) (values : List ℕ) (f : Kept → Kept) → ((h : Share) (end : ℕ) → kept_with values end (whole s' h) ≡ f (kept_with values end (whole s h)))
+pub slot_changes : (slots : List Slot) (k : ℕ) (s s' : Slot) → slice_get slots k ≡ Some s → (shares : List Share) (values : List ℕ) (f : Kept → Kept)
+    → ((h : Share) (end : ℕ) → kept_with values end (whole s' h) ≡ f (kept_with values end (whole s h)))
     → ChangesAt k f values slots shares values (slice_set slots k s') shares
 slot_changes slots k s s' at shares values f one = by_share (slice_get shares k) refl
   where
     by_share : (o : Option Share) → slice_get shares k ≡ o → ChangesAt k f values slots shares values (slice_set slots k s') shares
-    by_share None e = unseen values slots (slice_set slots k s') shares shares k f (no_share slots shares k e) (no_share (slice_set slots k s') shares k e) (other_slots slots shares k s') (λ n j. refl)
+    by_share None e = unseen values slots (slice_set slots k s') shares shares k f (no_share slots shares k e)
+        (no_share (slice_set slots k s') shares k e) (other_slots slots shares k s') (λ n j. refl)
     by_share (Some h) e = code_changes slots (slice_set slots k s') shares shares k (whole s h) (whole s' h) (slot_written slots shares k s s' h at e) values f (one h)
 
 -- the slot was written, and what was left to do makes the change whole
-pub slot_leaves : (slots : List Slot) (k : ℕ) (s s' : Slot) → slice_get slots k ≡ Some s → (shares : List Share) (values : List ℕ) (f g : Kept → Kept) → ((h : Share) (end : ℕ) → f (kept_with values end (whole s' h)) ≡ g (kept_with values end (whole s h)))
+pub slot_leaves : (slots : List Slot) (k : ℕ) (s s' : Slot) → slice_get slots k ≡ Some s
+    → (shares : List Share) (values : List ℕ) (f g : Kept → Kept)
+    → ((h : Share) (end : ℕ) → f (kept_with values end (whole s' h)) ≡ g (kept_with values end (whole s h)))
     → (after : List ℕ) (counted : List Slot) (with : List Share) → ChangesAt k f values (slice_set slots k s') shares after counted with → ChangesAt k g values slots shares after counted with
 slot_leaves slots k s s' at shares values f g one after counted with rest = λ j. rest j ∙ by_place j (same_or_not j k)
   where
@@ -192,28 +209,38 @@ slot_leaves slots k s s' at shares values f g one after counted with rest = λ j
     end = end_at shares (length values) k
 
     by_share : (o : Option Share) → slice_get shares k ≡ o → option_map f (kept_in values (slice_set slots k s') shares k) ≡ option_map g (kept_in values slots shares k)
-    by_share None e = ap (λ (o : Option Whole). option_map f (option_map (kept_with values end) o)) (no_share (slice_set slots k s') shares k e) ∙ sym (ap (λ (o : Option Whole). option_map g (option_map (kept_with values end) o)) (no_share slots shares k e))
+    by_share None e = ap (λ (o : Option Whole). option_map f (option_map (kept_with values end) o)) (no_share (slice_set slots k s') shares k e)
+        ∙ sym (ap (λ (o : Option Whole). option_map g (option_map (kept_with values end) o)) (no_share slots shares k e))
     by_share (Some h) e =
         ap (λ (o : Option Whole). option_map f (option_map (kept_with values end) o)) (whole_is (slice_set slots k s') shares k s' h (get_set slots k s' (slice_get_within slots k s at)) e)
         ∙ ap (λ (x : Kept). Some x) (one h end)
         ∙ sym (ap (λ (o : Option Whole). option_map g (option_map (kept_with values end) o)) (whole_is slots shares k s h at e))
 
-    by_place : (j : ℕ) → (j ≡ k) ⊎ (j ≢ k) → cond (j == k) (option_map f (kept_in values (slice_set slots k s') shares j)) (kept_in values (slice_set slots k s') shares j) ≡ cond (j == k) (option_map g (kept_in values slots shares j)) (kept_in values slots shares j)
-    by_place j (inl e) = rw (eq-eqb j k e) (subst (λ p. option_map f (kept_in values (slice_set slots k s') shares p) ≡ option_map g (kept_in values slots shares p)) (sym e) (by_share (slice_get shares k) refl))
+    by_place : (j : ℕ) → (j ≡ k) ⊎ (j ≢ k) → cond (j == k) (option_map f (kept_in values (slice_set slots k s') shares j))
+        (kept_in values (slice_set slots k s') shares j) ≡ cond (j == k) (option_map g (kept_in values slots shares j))
+        (kept_in values slots shares j)
+    by_place j (inl e) = rw (eq-eqb j k e) (subst (λ p. option_map f (kept_in values (slice_set slots k s') shares p) ≡ option_map g
+        (kept_in values slots shares p)) (sym e) (by_share (slice_get shares k) refl))
     by_place j (inr e) = rw (ne_eqb j k e) (ap (option_map (kept_with values (end_at shares (length values) j))) (other_slots slots shares k s' j e))
 
 -- the share alone
-pub share_alone_changes : (shares : List Share) (k : ℕ) (h h' : Share) → slice_get shares k ≡ Some h → h'.start ≡ h.start → (slots : List Slot) (values : List ℕ) (f : Kept → Kept) → ((s : Slot) (end : ℕ) → kept_with values end (whole s h') ≡ f (kept_with values end (whole s h)))
+pub share_alone_changes : (shares : List Share) (k : ℕ) (h h' : Share) → slice_get shares k ≡ Some h → h'.start ≡ h.start
+    → (slots : List Slot) (values : List ℕ) (f : Kept → Kept) → ((s : Slot) (end : ℕ)
+    → kept_with values end (whole s h') ≡ f (kept_with values end (whole s h)))
     → ChangesAt k f values slots shares values slots (slice_set shares k h')
 share_alone_changes shares k h h' there start slots values f one = by_slot (slice_get slots k) refl
   where
     by_slot : (o : Option Slot) → slice_get slots k ≡ o → ChangesAt k f values slots shares values slots (slice_set shares k h')
-    by_slot None e = unseen values slots slots shares (slice_set shares k h') k f (no_slot slots shares k e) (no_slot slots (slice_set shares k h') k e) (other_shares slots shares k h') (λ n j. starts_same shares k h h' there start n (j + 1))
+    by_slot None e = unseen values slots slots shares (slice_set shares k h') k f (no_slot slots shares k e)
+        (no_slot slots (slice_set shares k h') k e) (other_shares slots shares k h') (λ n j. starts_same shares k h h' there start n (j + 1))
     by_slot (Some s) e = code_changes slots slots shares (slice_set shares k h') k (whole s h) (whole s h') (share_written slots shares k s h h' e there start) values f (one s)
 
 -- what is kept of the code is what it is to be
-pub already_so : (values : List ℕ) (slots : List Slot) (shares : List Share) (k : ℕ) (w : Whole) (f : Kept → Kept) → whole_at slots shares k ≡ Some w → kept_with values (end_at shares (length values) k) w ≡ f (kept_with values (end_at shares (length values) k) w) → ChangesAt k f values slots shares values slots shares
-already_so values slots shares k w f at same = changes slots slots shares shares k w w (record { was = at; is = at; others = λ j e. refl; ends = λ n j. refl }) values values f refl same (λ j d e there. refl)
+pub already_so : (values : List ℕ) (slots : List Slot) (shares : List Share) (k : ℕ) (w : Whole) (f : Kept → Kept) → whole_at slots shares k ≡ Some w
+    → kept_with values (end_at shares (length values) k) w ≡ f (kept_with values (end_at shares (length values) k) w)
+    → ChangesAt k f values slots shares values slots shares
+already_so values slots shares k w f at same = changes slots slots shares shares k w w
+    (record { was = at; is = at; others = λ j e. refl; ends = λ n j. refl }) values values f refl same (λ j d e there. refl)
 
 -- the share that a slot has
 pub fits_in : (shares : List Share) (n k : ℕ) (s : Slot) (h : Share) → IsLaid shares n k s → slice_get shares k ≡ Some h → h.start + used (holding_of s h) ≤ end_at shares n k
@@ -245,7 +272,8 @@ module _ (slots : List Slot) (shares : List Share) (n : ℕ) (laid : AreLaidOut 
       omega (arith, s, low, more)
 
   module _ (k : ℕ) (s : Slot) (at : slice_get slots k ≡ Some s) where
-    pub slot_laid : (s' : Slot) → ((h : Share) → slice_get shares k ≡ Some h → (h.start + used (holding_of s' h) ≤ end_at shares n k) × (1 ≤ some_by (state_in s'.tag) (len_in s'.tag s'.number h.upper))) → AreLaidOut (slice_set slots k s') shares n
+    pub slot_laid : (s' : Slot) → ((h : Share) → slice_get shares k ≡ Some h → (h.start + used (holding_of s' h) ≤ end_at shares n k)
+        × (1 ≤ some_by (state_in s'.tag) (len_in s'.tag s'.number h.upper))) → AreLaidOut (slice_set slots k s') shares n
     slot_laid s' fits = λ j d there. by_place j d there (same_or_not j k)
       where
         by_place : (j : ℕ) (d : Slot) → slice_get (slice_set slots k s') j ≡ Some d → (j ≡ k) ⊎ (j ≢ k) → IsLaid shares n j d
@@ -298,7 +326,8 @@ module _ (slots : List Slot) (shares : List Share) (n : ℕ) (laid : AreLaidOut 
 
   module _ (k : ℕ) (s : Slot) (h : Share) (at : slice_get slots k ≡ Some s) (here : slice_get shares k ≡ Some h) where
     -- both were written
-    pub both_laid : (s' : Slot) (h' : Share) → h'.start ≡ h.start → h.start + used (holding_of s' h') ≤ end_at shares n k → 1 ≤ some_by (state_in s'.tag) (len_in s'.tag s'.number h'.upper) → AreLaidOut (slice_set slots k s') (slice_set shares k h') n
+    pub both_laid : (s' : Slot) (h' : Share) → h'.start ≡ h.start → h.start + used (holding_of s' h') ≤ end_at shares n k
+        → 1 ≤ some_by (state_in s'.tag) (len_in s'.tag s'.number h'.upper) → AreLaidOut (slice_set slots k s') (slice_set shares k h') n
     both_laid s' h' start fits some = λ j d there. by_place j d there (same_or_not j k)
       where
         by_place : (j : ℕ) (d : Slot) → slice_get (slice_set slots k s') j ≡ Some d → (j ≡ k) ⊎ (j ≢ k) → IsLaid (slice_set shares k h') n j d
@@ -329,7 +358,8 @@ module _ (slots : List Slot) (shares : List Share) (n : ℕ) (laid : AreLaidOut 
             }
 
     -- other shares lie apart
-    apart : (j : ℕ) (d : Slot) (g : Share) → j ≢ k → slice_get slots j ≡ Some d → slice_get shares j ≡ Some g → (g.start + used (holding_of d g) ≤ h.start) ⊎ (end_at shares n k ≤ g.start)
+    apart : (j : ℕ) (d : Slot) (g : Share) → j ≢ k → slice_get slots j ≡ Some d → slice_get shares j ≡ Some g
+        → (g.start + used (holding_of d g) ≤ h.start) ⊎ (end_at shares n k ≤ g.start)
     apart j d g other there begins = by_order (cases_lt j k)
       where
         by_order : (j < k) ⊎ (k ≤ j) → (g.start + used (holding_of d g) ≤ h.start) ⊎ (end_at shares n k ≤ g.start)
@@ -356,7 +386,9 @@ module _ (slots : List Slot) (shares : List Share) (n : ℕ) (laid : AreLaidOut 
         let l = laid k s at in
         let high = l.within in
         ap (held_of (put_mid h.start (end_at shares n k - h.start) values ys)) (sym p.4)
-        ∙ ap (held_by (state_in p.0.tag) (len_in p.0.tag p.0.number p.1.upper)) (reads_same p.1.start (used (holding_of p.0 p.1)) h.start (end_at shares n k - h.start) values ys (omega (arith, fits, high)) same (by_apart (apart j p.0 p.1 other p.2 p.3)))
+        ∙ ap (held_by (state_in p.0.tag) (len_in p.0.tag p.0.number p.1.upper))
+        (reads_same p.1.start (used (holding_of p.0 p.1)) h.start (end_at shares n k - h.start) values ys (omega (arith, fits, high)) same
+        (by_apart (apart j p.0 p.1 other p.2 p.3)))
         ∙ ap (held_of values) p.4
       where
         by_apart : {a b : ℕ} → (a ≤ h.start) ⊎ (end_at shares n k ≤ b) → (a ≤ h.start) ⊎ (h.start + (end_at shares n k - h.start) ≤ b)
@@ -373,7 +405,9 @@ module _ (slots : List Slot) (shares : List Share) (n : ℕ) (laid : AreLaidOut 
         let high = l.within in
         let bytes = put_mid h.start (end_at shares n k - h.start) values ys in
         let size : length bytes ≡ length values = length-put_mid h.start (end_at shares n k - h.start) values ys (omega (arith, fits, high)) same in
-        changes slots (slice_set slots k s') shares (slice_set shares k h') k (whole s h) (whole s' h') (both_written slots shares k s s' h h' at here start) values bytes f size (rw long one) (λ j d e there. others_hold values ys long same j d e there)
+        changes slots (slice_set slots k s') shares (slice_set shares k h') k (whole s h) (whole s' h')
+        (both_written slots shares k s s' h h' at here start) values bytes f size (rw long one)
+        (λ j d e there. others_hold values ys long same j d e there)
 
 -- ---- what is kept of the code
 
@@ -389,7 +423,8 @@ abbrev kept_as : ℕ → Whole → Held → Kept
 kept_as end s h = record { held = h; counts = s.counts; chosen = s.chosen; room = end - s.start }
 
 -- what is read of a written part
-part_read : (start end m : ℕ) (values ys : List ℕ) → start + m ≤ end → end ≤ length values → length ys ≡ end - start → take m (drop start (put_mid start (end - start) values ys)) ≡ take m ys
+part_read : (start end m : ℕ) (values ys : List ℕ) → start + m ≤ end → end ≤ length values → length ys ≡ end - start
+    → take m (drop start (put_mid start (end - start) values ys)) ≡ take m ys
 part_read start end m values ys fits most same =
     let bytes = put_mid start (end - start) values ys in
     let part : take (end - start) (drop start bytes) ≡ ys = between-put_mid start (end - start) values ys end (omega arith) same in
@@ -409,8 +444,11 @@ too_long f n room long = and_right (nat_lt 0 n) (nat_le (room_for f n) room) (lt
 pub kept_still : (f : Form) (text values : List ℕ) (end : ℕ) (s : Whole) → fits f (length text) (end - s.start) ≡ false → kept_with values end s ≡ with_text f text (kept_with values end s)
 kept_still f text values end s out = sym (ap (λ (b : Bool). kept_as end s (cond b (held_as f text) (held_of values s))) out)
 
-pub text_stays : (values : List ℕ) (slots : List Slot) (shares : List Share) (k : ℕ) (s : Slot) (h : Share) (f : Form) (text : List ℕ) → slice_get slots k ≡ Some s → slice_get shares k ≡ Some h → fits f (length text) (end_at shares (length values) k - h.start) ≡ false → ChangesAt k (with_text f text) values slots shares values slots shares
-text_stays values slots shares k s h f text at there out = already_so values slots shares k (whole s h) (with_text f text) (whole_is slots shares k s h at there) (kept_still f text values (end_at shares (length values) k) (whole s h) out)
+pub text_stays : (values : List ℕ) (slots : List Slot) (shares : List Share) (k : ℕ) (s : Slot) (h : Share) (f : Form) (text : List ℕ)
+    → slice_get slots k ≡ Some s → slice_get shares k ≡ Some h → fits f (length text) (end_at shares (length values) k - h.start) ≡ false
+    → ChangesAt k (with_text f text) values slots shares values slots shares
+text_stays values slots shares k s h f text at there out = already_so values slots shares k (whole s h) (with_text f text)
+    (whole_is slots shares k s h at there) (kept_still f text values (end_at shares (length values) k) (whole s h) out)
 
 -- a share lies within the values
 pub not_outside : (start used end n : ℕ) → start + used ≤ end → end ≤ n → (end < start) ⊎ (n < end) → ⊥
@@ -418,7 +456,8 @@ not_outside start used end n low high (inl h) = omega arith
 not_outside start used end n low high (inr h) = omega arith
 
 -- the digits that were packed lie in the bytes that are in use
-pub packed_held : (ys text : List ℕ) → digits_in (length text) ys ≡ map held_digit text → held_by state.Packed (length text) (take (used_by state.Packed (length text)) ys) ≡ Held.Digits (map held_digit text)
+pub packed_held : (ys text : List ℕ) → digits_in (length text) ys ≡ map held_digit text
+    → held_by state.Packed (length text) (take (used_by state.Packed (length text)) ys) ≡ Held.Digits (map held_digit text)
 packed_held ys text packed = ap (λ (l : List ℕ). Held.Digits l) (digits_first (length text) ys ∙ packed)
 
 -- a form of digits
@@ -427,7 +466,8 @@ digits_form form.Scalar digits text = refl
 digits_form form.Vector digits text = refl
 digits_form form.RealText digits text = absurd (digits refl)
 
-pub packed_as : (f : Form) (ys text : List ℕ) → f ≢ form.RealText → text_bytes f (length text) ≤ length ys → digits_in (length text) ys ≡ map held_digit text → IsHeldAs f text state.Packed ys
+pub packed_as : (f : Form) (ys text : List ℕ) → f ≢ form.RealText → text_bytes f (length text) ≤ length ys
+    → digits_in (length text) ys ≡ map held_digit text → IsHeldAs f text state.Packed ys
 packed_as f ys text digits room packed = record {
   held = packed_held ys text packed ∙ digits_form f digits text;
   used = digits_bytes f (length text) digits room;
@@ -451,7 +491,8 @@ pub form_past : (f : Form) (n room : ℕ) → (f ≢ form.RealText → n ≢ 1) 
 form_past f n room several past = too_long f n room (let is = form_room f n several in omega (arith, is, past))
 
 -- the text that was put in the share
-pub form_kept : (f : Form) (st : State) (s : Whole) (end : ℕ) (values ys text : List ℕ) → (f ≢ form.RealText → length text ≢ 1) → 0 < length text → s.start + text_bytes f (length text) ≤ end → end ≤ length values → length ys ≡ end - s.start → IsHeldAs f text st ys
+pub form_kept : (f : Form) (st : State) (s : Whole) (end : ℕ) (values ys text : List ℕ) → (f ≢ form.RealText → length text ≢ 1) → 0 < length text
+    → s.start + text_bytes f (length text) ≤ end → end ≤ length values → length ys ≡ end - s.start → IsHeldAs f text st ys
     → kept_with (put_mid s.start (end - s.start) values ys) end (set_whole st (length text) s) ≡ with_text f text (kept_with values end s)
 form_kept f st s end values ys text several some enough most same is =
     let n = length text in
@@ -485,7 +526,8 @@ used_none state.Bits len d h = cc
 used_none state.Real len d h = cc
 
 -- one digit is held in the slot
-pub digit_kept : (st : State) (len : ℕ) (s : Whole) (d end : ℕ) (values : List ℕ) → one_digit st ≡ Some d → kept_with values end (set_whole st len s) ≡ with_held (Held.Digits (d ∷ [])) (kept_with values end s)
+pub digit_kept : (st : State) (len : ℕ) (s : Whole) (d end : ℕ) (values : List ℕ) → one_digit st ≡ Some d
+    → kept_with values end (set_whole st len s) ≡ with_held (Held.Digits (d ∷ [])) (kept_with values end s)
 digit_kept st len s d end values h = ap (λ (x : Held). kept_as end s x) (held_one st len d (take (used_by st len) (drop s.start values)) h)
 
 -- a state is known by its number
@@ -528,13 +570,16 @@ len_told st tag len e text = ap (λ n. len_in n (len % 4294967296) (len / 429496
     by_state state.Real h = parts
 
 -- what is kept of a code is what its slot and its share tell
-pub kept_parts : (values : List ℕ) (slots : List Slot) (shares : List Share) (k : ℕ) (kept : Kept) → kept_in values slots shares k ≡ Some kept → (s : Slot) × (h : Share) × (slice_get slots k ≡ Some s) × (slice_get shares k ≡ Some h) × (kept_with values (end_at shares (length values) k) (whole s h) ≡ kept)
+pub kept_parts : (values : List ℕ) (slots : List Slot) (shares : List Share) (k : ℕ) (kept : Kept) → kept_in values slots shares k ≡ Some kept
+    → (s : Slot) × (h : Share) × (slice_get slots k ≡ Some s) × (slice_get shares k ≡ Some h)
+    × (kept_with values (end_at shares (length values) k) (whole s h) ≡ kept)
 kept_parts values slots shares k kept is = by_whole (whole_at slots shares k) refl
   where
     end : ℕ
     end = end_at shares (length values) k
 
-    by_whole : (o : Option Whole) → whole_at slots shares k ≡ o → (s : Slot) × (h : Share) × (slice_get slots k ≡ Some s) × (slice_get shares k ≡ Some h) × (kept_with values end (whole s h) ≡ kept)
+    by_whole : (o : Option Whole) → whole_at slots shares k ≡ o → (s : Slot) × (h : Share) × (slice_get slots k ≡ Some s)
+        × (slice_get shares k ≡ Some h) × (kept_with values end (whole s h) ≡ kept)
     by_whole None e = absurd (let f : None ≡ Some kept = sym (ap (option_map (kept_with values end)) e) ∙ is in cc)
     by_whole (Some w) e =
         let p = parts_of slots shares k w e in
@@ -548,7 +593,9 @@ alone (a ∷ []) h k = refl
 alone (a ∷ b ∷ text) h k = absurd (omega arith)
 
 -- with other counters
-pub counts_kept : (s : Whole) (counts : List ℕ) (which end : ℕ) (values : List ℕ) → counts ≡ counts_with s.counts which → kept_with values end (record { state = s.state; start = s.start; len = s.len; counts = counts; chosen = s.chosen }) ≡ one_more which (kept_with values end s)
+pub counts_kept : (s : Whole) (counts : List ℕ) (which end : ℕ) (values : List ℕ) → counts ≡ counts_with s.counts which
+    → kept_with values end (record { state = s.state; start = s.start; len = s.len; counts = counts; chosen = s.chosen }) ≡ one_more which
+    (kept_with values end s)
 counts_kept s counts which end values e = rw e refl
 
 pub steps_kept : (s : Whole) (counts : List ℕ) (rises falls : Bool) (end : ℕ) (values : List ℕ) → counts ≡ counts_if falls (counts_if rises (counts_with s.counts 0) 1) 2

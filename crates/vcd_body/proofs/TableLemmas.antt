@@ -5,11 +5,16 @@ use Rattle.vcd_body.specs.declared.values.slot.Shown.TheVariants as shown
 use Rattle.vcd_body.specs.declared.values.slot.State.TheVariants as state
 use Rattle.vcd_body.proofs.StoreLemmas.{fits_in, some_in, whole_is}
 
-pub held_here : (t : Table) (code : ℕ) (s : Slot) (h : Share) → slice_get t.slots.now code ≡ Some s → slice_get t.shares.now code ≡ Some h → held_at t code ≡ held_from t.values.now h.start (holding_of s h)
-held_here t code s h at there = ap (λ (o : Option Whole). unwrap_or (option_map (λ (k : Kept). k.held) (option_map (kept_with t.values.now (end_at t.shares.now (length t.values.now) code)) o)) Held.Unset) (whole_is t.slots.now t.shares.now code s h at there)
+pub held_here : (t : Table) (code : ℕ) (s : Slot) (h : Share) → slice_get t.slots.now code ≡ Some s → slice_get t.shares.now code ≡ Some h
+    → held_at t code ≡ held_from t.values.now h.start (holding_of s h)
+held_here t code s h at there = ap (λ (o : Option Whole). unwrap_or
+    (option_map (λ (k : Kept). k.held) (option_map (kept_with t.values.now (end_at t.shares.now (length t.values.now) code)) o)) Held.Unset)
+    (whole_is t.slots.now t.shares.now code s h at there)
 
 -- its share lies within the values, and several digits are some
-pub share_there : (t : Table) (code : ℕ) (s : Slot) (h : Share) (v : Holding) → v ≡ holding_of s h → IsLaidOut t → slice_get t.slots.now code ≡ Some s → slice_get t.shares.now code ≡ Some h → (h.start + used v ≤ length t.values.now) × (1 ≤ some_by v.state (len_of v))
+pub share_there : (t : Table) (code : ℕ) (s : Slot) (h : Share) (v : Holding) → v ≡ holding_of s h → IsLaidOut t
+    → slice_get t.slots.now code ≡ Some s → slice_get t.shares.now code ≡ Some h → (h.start + used v ≤ length t.values.now)
+    × (1 ≤ some_by v.state (len_of v))
 share_there t code s h v is laid at there =
     let l = laid code s at in
     let low = fits_in t.shares.now (length t.values.now) code s h l there in
@@ -21,7 +26,8 @@ share_there t code s h v is laid at there =
 pub rest_here : (start : ℕ) (values rest : List ℕ) → rest ≡ slice_range values start (length values) → rest ≡ drop start values
 rest_here start values rest is = is ∙ take_all (length values - start) (drop start values) (omega (arith, length-drop start values))
 
-pub part_here : (start n m : ℕ) (values rest part : List ℕ) → rest ≡ slice_range values start (length values) → part ≡ slice_range rest 0 n → n ≡ m → part ≡ take m (drop start values)
+pub part_here : (start n m : ℕ) (values rest part : List ℕ) → rest ≡ slice_range values start (length values) → part ≡ slice_range rest 0 n → n ≡ m
+    → part ≡ take m (drop start values)
 part_here start n m values rest part is are same =
     let all : n - 0 ≡ n = omega arith in
     are ∙ ap (λ k. take k rest) all ∙ ap (λ (l : List ℕ). take n l) (rest_here start values rest is) ∙ ap (λ k. take k (drop start values)) same
@@ -54,7 +60,8 @@ code_there v code c at = slice_get-map (shown_code v.text.now) v.codes.now code 
 pub value_there : (v : HeadView) (t : Table) (code : ℕ) (c : Code) → slice_get v.codes.now code ≡ Some c → value_in (codes_shown v) t code ≡ value_at_size c.size (held_at t code)
 value_there v t code c e = ap (option_and_then (λ (x : IdCode). value_at_size x.size (held_at t code))) (code_there v code c e)
 
-pub line_there : (v : HeadView) (t : Table) (code : ℕ) (c : Code) → slice_get v.codes.now code ≡ Some c → line_of (codes_shown v) t code ≡ line_if_set (shown_code v.text.now c) (value_at_size c.size (held_at t code))
+pub line_there : (v : HeadView) (t : Table) (code : ℕ) (c : Code) → slice_get v.codes.now code ≡ Some c
+    → line_of (codes_shown v) t code ≡ line_if_set (shown_code v.text.now c) (value_at_size c.size (held_at t code))
 line_there v t code c e =
     ap (λ (o : Option IdCode). unwrap_or (option_map (λ (x : IdCode). line_if_set x (value_in (codes_shown v) t code)) o) []) (code_there v code c e)
     ∙ ap (line_if_set (shown_code v.text.now c)) (value_there v t code c e)
@@ -79,7 +86,8 @@ same_room text [] [] a = refl
 same_room text [] (y ∷ ys) a = absurd a
 same_room text (x ∷ xs) [] a = absurd a
 same_room text (x ∷ xs) (y ∷ ys) (is, are) =
-    sum_by-cons (λ (c : Code). share_of c.size) x xs ∙ ap (λ n. n + room_of xs) (ap share_of is.size_is) ∙ ap (λ n. value_room y + n) (same_room text xs ys are) ∙ sym (sum_by-cons value_room y ys)
+    sum_by-cons (λ (c : Code). share_of c.size) x xs ∙ ap (λ n. n + room_of xs) (ap share_of is.size_is)
+    ∙ ap (λ n. value_room y + n) (same_room text xs ys are) ∙ sym (sum_by-cons value_room y ys)
 
 -- the bytes that a header needs are those of all shares
 pub room_needed : (v : HeadView) (h : Header) → IsViewOf v h → room_of v.codes.now ≡ sum_by value_room h.codes
@@ -88,7 +96,8 @@ room_needed v h views = same_room v.text.now v.codes.now h.codes views.codes
 -- ---- a table that was written
 
 -- what was written has the same indexes
-pub keeps_laid : (t t' : Table) → length t'.slots.now ≡ length t.slots.now → length t'.shares.now ≡ length t.shares.now → length t'.values.now ≡ length t.values.now → (IsLaidOut t → AreLaidOut t'.slots.now t'.shares.now (length t.values.now)) → KeepsTable t t'
+pub keeps_laid : (t t' : Table) → length t'.slots.now ≡ length t.slots.now → length t'.shares.now ≡ length t.shares.now
+    → length t'.values.now ≡ length t.values.now → (IsLaidOut t → AreLaidOut t'.slots.now t'.shares.now (length t.values.now)) → KeepsTable t t'
 keeps_laid t t' slots shares values laid = record {
   laid = λ l. subst (AreLaidOut t'.slots.now t'.shares.now) (sym values) (laid l);
   codes = ap₂ (λ a b. min a b) slots shares;

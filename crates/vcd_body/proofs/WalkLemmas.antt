@@ -7,18 +7,30 @@ pub and_done : {A : Type 0} (result : Result (Unit {0}) WriteFailed) (a : A) →
 and_done (Ok tt) a = refl
 and_done (Err e) a = refl
 
-module _ {V C : Type 0} (takes : HeadView → Stage V C → Stage V C → Result (Unit {0}) WriteFailed → Type 0) (stands : V → C → List ℕ → Regs → Type 0) (v : HeadView) (a a' : Ahead) (r : Regs) (p : ScannedItem) (item : TakesItem v a a' r p) where
+module _ {V C : Type 0} (takes : HeadView → Stage V C → Stage V C → Result (Unit {0}) WriteFailed → Type 0) (stands : V → C → List ℕ → Regs → Type 0)
+    (v : HeadView) (a a' : Ahead) (r : Regs) (p : ScannedItem) (item : TakesItem v a a' r p) where
   -- the visit may take the item that lies in these bytes
   pub stands_there : (visit : V) (command : C) → stands visit command (bytes_of a) r → stands visit command p.bytes.now r
   stands_there visit command s = subst (λ bs. stands visit command bs r) (sym (item.bytes ∙ item.same.0)) s
 
   -- it has taken it
-  pub one_taken : (r' : Regs) (visit visit' : V) (command command' : C) (out out' : Device) (result : Result (Unit {0}) WriteFailed) → takes v (stage_at a r visit command out) (stage_at a' r' visit' command' out') result → Counts out out' result → IfOk result (λ _. stands visit' command' p.bytes.now r')
+  pub one_taken : (r' : Regs) (visit visit' : V) (command command' : C) (out out' : Device) (result : Result (Unit {0}) WriteFailed)
+      → takes v (stage_at a r visit command out) (stage_at a' r' visit' command' out') result → Counts out out' result
+      → IfOk result (λ _. stands visit' command' p.bytes.now r')
       → TakesOne takes stands v (stage_at a r visit command out) (stage_at a' r' visit' command' out') (as_done result)
-  one_taken r' visit visit' command command' out out' (Ok tt) did counts on = record { scanned = p; item = item; did = did; counts = counts; on = subst (λ bs. stands visit' command' bs r') item.bytes on }
+  one_taken r' visit visit' command command' out out'
+      (Ok tt) did counts on = record {
+        scanned = p;
+        item = item;
+        did = did;
+        counts = counts;
+        on = subst
+            (λ bs. stands visit' command' bs r') item.bytes on;
+      }
   one_taken r' visit visit' command command' out out' (Err e) did counts on = record { scanned = p; item = item; did = did; counts = counts; on = tt }
 
-module _ {V C : Type 0} (takes : HeadView → Stage V C → Stage V C → Result (Unit {0}) WriteFailed → Type 0) (stands : V → C → List ℕ → Regs → Type 0) (over : V → Bool) (v : HeadView) where
+module _ {V C : Type 0} (takes : HeadView → Stage V C → Stage V C → Result (Unit {0}) WriteFailed → Type 0) (stands : V → C → List ℕ → Regs → Type 0)
+    (over : V → Bool) (v : HeadView) where
   -- it begins with no item
   pub come_begins : (a : Stage V C) → stands a.visit a.command (bytes_of a.ahead) a.regs → passed_of a.ahead ≤ length (bytes_of a.ahead) → HasCome takes stands over v a a
   come_begins a s within = record { trail = Begins; on = s; failures = refl; same = refl; further = omega arith; within = within }

@@ -76,7 +76,8 @@ pub record FirstOfItem {X : Type 0} {g : Ghosts X} (old new : Feed X g) (result 
   pub letter_more : Begins (token_of new).bytes Vector ⊎ Begins (token_of new).bytes Real → (t : Token) × (ts : List Token) × LieAhead new (t ∷ ts)
   pub no_comment : Begins (token_of new).bytes Other → is_comment (token_of new).bytes ≡ false
 
-of_tokens : {X : Type 0} {g : Ghosts X} (old new : Feed X g) (result : Result Bool BodyFault) (ts : List Token) (n : ℕ) → TakesToken old new result → Passed (limit_of old) 0 (ahead_of old) n ts → AreWhole ts → FirstOfItem old new result
+of_tokens : {X : Type 0} {g : Ghosts X} (old new : Feed X g) (result : Result Bool BodyFault) (ts : List Token) (n : ℕ) → TakesToken old new result
+    → Passed (limit_of old) 0 (ahead_of old) n ts → AreWhole ts → FirstOfItem old new result
 of_tokens old new result [] n takes p w = absurd w
 of_tokens old new result (t ∷ []) n takes p w =
     let a = takes t [] (0, n, p) in
@@ -96,7 +97,8 @@ of_tokens old new result (t ∷ u ∷ []) n takes p w =
     }
 of_tokens old new result (t ∷ u ∷ v ∷ ts) n takes p w = absurd w
 
-pub first_of_item : {X : Type 0} {g : Ghosts X} (old new : Feed X g) (result : Result Bool BodyFault) → TakesToken old new result → HoldsItem (limit_of old) (ahead_of old) → FirstOfItem old new result
+pub first_of_item : {X : Type 0} {g : Ghosts X} (old new : Feed X g) (result : Result Bool BodyFault) → TakesToken old new result
+    → HoldsItem (limit_of old) (ahead_of old) → FirstOfItem old new result
 first_of_item old new result takes h = of_tokens old new result h.tokens h.n takes h.passed h.whole
 
 pub begins_as : (token bytes : List ℕ) (j k : PhraseKind) → Begins token j → j ≡ k → token ≡ bytes → Begins bytes k
@@ -113,5 +115,6 @@ kept_ahead old mid new still needs = λ t ts w.
     needs t ts (subst (λ n. AreFirst n (ahead_of mid) (t ∷ ts)) (sym still.limit) (subst (λ bs. AreFirst (limit_of old) bs (t ∷ ts)) (sym still.same_ahead) w)) ∙ still.same_source
 
 -- where the item lay whole ahead at first it still does, and nothing was read
-pub still_first : {X : Type 0} {g : Ghosts X} (first f : Feed X g) → (HoldsItem (limit_of first) (ahead_of first) → f ≡ first) → HoldsItem (limit_of first) (ahead_of first) → HoldsItem (limit_of f) (ahead_of f) × (source_of f ≡ source_of first)
+pub still_first : {X : Type 0} {g : Ghosts X} (first f : Feed X g) → (HoldsItem (limit_of first) (ahead_of first) → f ≡ first)
+    → HoldsItem (limit_of first) (ahead_of first) → HoldsItem (limit_of f) (ahead_of f) × (source_of f ≡ source_of first)
 still_first first f same w = let e = same w in (subst (λ h. HoldsItem (limit_of h) (ahead_of h)) (sym e) w, ap source_of e)

@@ -128,7 +128,8 @@ tops p f (x ∷ v) all fits = ap₂ (λ a b. a ∷ b) (agree_below_at (λ y. top
 
 -- lanes that were computed from a load by f, whose top bits tell which bytes pass a test: of a bit
 -- that is not set, the byte does not
-pub mask_tells : (p : ℕ → Bool) (xs : List ℕ) (i n : ℕ) (f : ℕ → ℕ) (z : List ℕ) → i + n ≤ length xs → n ≤ 64 → Each1 (Fits w8) (chunk i n xs) → z ≡ map f (chunk i n xs) → agree_below (λ x. top 7 (f x)) p 256 ≡ true
+pub mask_tells : (p : ℕ → Bool) (xs : List ℕ) (i n : ℕ) (f : ℕ → ℕ) (z : List ℕ) → i + n ≤ length xs → n ≤ 64 → Each1 (Fits w8) (chunk i n xs)
+    → z ≡ map f (chunk i n xs) → agree_below (λ x. top 7 (f x)) p 256 ≡ true
     → (k : ℕ) → k < n → bit_at (mask_l (map (top 7) z) % 2 ^ 64) k ≡ 0 → (slice_index xs (i + k) < 256) × (p (slice_index xs (i + k)) ≡ false)
 mask_tells p xs i n f z room few fits e all k less none =
     let v = chunk i n xs in
@@ -140,7 +141,8 @@ mask_tells p xs i n f z room few fits e all k less none =
     let fit : get_or v k 0 < 256 = (Each1-get_or (Fits w8) v k 0 (omega arith) fits).fits in
     (omega (arith, fit, get_or-chunk i n xs k 0 less), sym at ∙ no_bit _ (sym bit ∙ none))
 
-pub others_tell : (xs : List ℕ) (i n : ℕ) (f : ℕ → ℕ) (z : List ℕ) → i + n ≤ length xs → n ≤ 64 → Each1 (Fits w8) (chunk i n xs) → z ≡ map f (chunk i n xs) → agree_below (λ x. top 7 (f x)) differs 256 ≡ true
+pub others_tell : (xs : List ℕ) (i n : ℕ) (f : ℕ → ℕ) (z : List ℕ) → i + n ≤ length xs → n ≤ 64 → Each1 (Fits w8) (chunk i n xs)
+    → z ≡ map f (chunk i n xs) → agree_below (λ x. top 7 (f x)) differs 256 ≡ true
     → (k : ℕ) → k < n → bit_at (mask_l (map (top 7) z) % 2 ^ 64) k ≡ 0 → is_value_digit (slice_index xs (i + k)) ≡ true
 others_tell xs i n f z room few fits e all k less none = let t = mask_tells differs xs i n f z room few fits e all k less none in two_alone (slice_index xs (i + k)) t.0 t.1
 
@@ -153,7 +155,8 @@ unknown_alone : (d : ℕ) → d < 256 → is_known d ≡ false → is_value_digi
 unfolding is_value_digit
 unknown_alone d fit e = or_second (is_known d) (is_value_digit d) e (agree_below_at (λ x. is_known x || is_value_digit x) (λ _. true) 256 d refl fit)
 
-pub known_tell : (xs : List ℕ) (i n : ℕ) (f : ℕ → ℕ) (z : List ℕ) → i + n ≤ length xs → n ≤ 64 → Each1 (Fits w8) (chunk i n xs) → z ≡ map f (chunk i n xs) → agree_below (λ x. top 7 (f x)) is_known 256 ≡ true
+pub known_tell : (xs : List ℕ) (i n : ℕ) (f : ℕ → ℕ) (z : List ℕ) → i + n ≤ length xs → n ≤ 64 → Each1 (Fits w8) (chunk i n xs)
+    → z ≡ map f (chunk i n xs) → agree_below (λ x. top 7 (f x)) is_known 256 ≡ true
     → (k : ℕ) → k < n → bit_at (mask_l (map (top 7) z) % 2 ^ 64) k ≡ 0 → is_value_digit (slice_index xs (i + k)) ≡ true
 known_tell xs i n f z room few fits e all k less none = let t = mask_tells is_known xs i n f z room few fits e all k less none in unknown_alone (slice_index xs (i + k)) t.0 t.1
 
@@ -170,7 +173,8 @@ none_of_two m m' k e = by_min (bit_at m k) (bit_at m' k) (sym (bit_at_and m m' k
 two_bits : (d : ℕ) → d < 256 → differs d ≡ false → d ≡ 48 + bit_of d
 two_bits d fit e = eqb-true d (48 + bit_of d) (or_second (differs d) (d == 48 + bit_of d) e (agree_below_at (λ x. differs x || (x == 48 + bit_of x)) (λ _. true) 256 d refl fit))
 
-pub others_bits : (xs : List ℕ) (i n : ℕ) (f : ℕ → ℕ) (z : List ℕ) → i + n ≤ length xs → n ≤ 64 → Each1 (Fits w8) (chunk i n xs) → z ≡ map f (chunk i n xs) → agree_below (λ x. top 7 (f x)) differs 256 ≡ true
+pub others_bits : (xs : List ℕ) (i n : ℕ) (f : ℕ → ℕ) (z : List ℕ) → i + n ≤ length xs → n ≤ 64 → Each1 (Fits w8) (chunk i n xs)
+    → z ≡ map f (chunk i n xs) → agree_below (λ x. top 7 (f x)) differs 256 ≡ true
     → (k : ℕ) → k < n → bit_at (mask_l (map (top 7) z) % 2 ^ 64) k ≡ 0 → slice_index xs (i + k) ≡ 48 + bit_of (slice_index xs (i + k))
 others_bits xs i n f z room few fits e all k less none = let t = mask_tells differs xs i n f z room few fits e all k less none in two_bits (slice_index xs (i + k)) t.0 t.1
 
@@ -182,7 +186,8 @@ is_low x = bit_and x 32 == 0
 
 -- whatever has it set is no capital letter
 pub lower_alone : (b : ℕ) → b < 256 → is_low b ≡ false → to_ascii_lowercase b ≡ b
-lower_alone b fit e = eqb-true (to_ascii_lowercase b) b (or_second (is_low b) (to_ascii_lowercase b == b) e (agree_below_at (λ x. is_low x || (to_ascii_lowercase x == x)) (λ _. true) 256 b refl fit))
+lower_alone b fit e = eqb-true (to_ascii_lowercase b) b (or_second (is_low b) (to_ascii_lowercase b == b) e
+    (agree_below_at (λ x. is_low x || (to_ascii_lowercase x == x)) (λ _. true) 256 b refl fit))
 
 -- a mask with no bit set below n
 pub low_clear : (mask n k : ℕ) → n ≤ 32 → bit_and mask (1 * 2 ^ n % 2 ^ 64 - 1) ≡ 0 → k < n → bit_at mask k ≡ 0

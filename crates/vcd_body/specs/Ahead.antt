@@ -56,12 +56,14 @@ pub record PassBoth (codes : List IdCode) (earlier : List BodyPhrase) (first sec
 
 -- a token and that of the code that was found are the phrase of a change
 abbrev pub GivesBoth : List IdCode → ChangeForm → List ℕ → List ℕ → Found → Type 0
-GivesBoth codes form first second found = (c : IdCode) × (slice_get codes found.position ≡ Some c) × ((earlier : List BodyPhrase) → PassBoth codes earlier first second (BodyItem.Changes (record { code = c; form = form; text = drop 1 first })))
+GivesBoth codes form first second found = (c : IdCode) × (slice_get codes found.position ≡ Some c)
+    × ((earlier : List BodyPhrase) → PassBoth codes earlier first second (BodyItem.Changes (record { code = c; form = form; text = drop 1 first })))
 
 -- whatever phrases with the items before come first, the reading continues with these tokens, as
 -- these phrases
 abbrev pub ReadsOn : List IdCode → List BodyItem → List Token → List (Placed BodyPhrase) → Type 0
-ReadsOn codes before tokens placed = (given : List Token) (earlier : List (Placed BodyPhrase)) → items_of (phrases_of earlier) ≡ before → IsSoFar (body_grammar codes) given earlier [] → IsSoFar (body_grammar codes) (given ++ tokens) (earlier ++ placed) []
+ReadsOn codes before tokens placed = (given : List Token) (earlier : List (Placed BodyPhrase)) → items_of (phrases_of earlier) ≡ before
+    → IsSoFar (body_grammar codes) given earlier [] → IsSoFar (body_grammar codes) (given ++ tokens) (earlier ++ placed) []
 
 -- After these items one more lies ahead: its phrase ends with the last of some first ones of these
 -- tokens.
@@ -93,8 +95,10 @@ pub record GaveAhead (codes : List IdCode) (limit lines : ℕ) (bytes : List ℕ
 
 -- No item was passed, from one position ahead to another: comments, or nothing.
 pub record PassesNoItem (a a' : Ahead) : Type 0 where
-  pub gives : (codes : List IdCode) (limit lines : ℕ) (bytes : List ℕ) (before items : List BodyItem) → LooksOver limit bytes a → GaveAhead codes limit lines bytes (passed_of a) before items → GaveAhead codes limit lines bytes (passed_of a') before items
-  pub passes : (limit lines : ℕ) (bytes : List ℕ) (ts : List Token) → LooksOver limit bytes a → Passed limit lines bytes (passed_of a) ts → (more : List Token) × Passed limit lines bytes (passed_of a') (ts ++ more)
+  pub gives : (codes : List IdCode) (limit lines : ℕ) (bytes : List ℕ) (before items : List BodyItem) → LooksOver limit bytes a
+      → GaveAhead codes limit lines bytes (passed_of a) before items → GaveAhead codes limit lines bytes (passed_of a') before items
+  pub passes : (limit lines : ℕ) (bytes : List ℕ) (ts : List Token) → LooksOver limit bytes a → Passed limit lines bytes (passed_of a) ts
+      → (more : List Token) × Passed limit lines bytes (passed_of a') (ts ++ more)
   pub further : passed_of a ≤ passed_of a'
   pub within : passed_of a ≤ length (bytes_of a) → passed_of a' ≤ length (bytes_of a')
   pub same : (bytes_of a' ≡ bytes_of a) × (longest_of a' ≡ longest_of a)
@@ -114,12 +118,16 @@ pub record GaveLast {X : Type 0} {g : Ghosts X} (codes : List IdCode) (i : Input
 
 -- Whatever items were given before, those that the next n bytes are were given after them.
 abbrev pub GivesAhead : {X : Type 0} {g : Ghosts X} → ℕ → (old new : Feed X g) → Type 0
-GivesAhead n old new = (codes : List IdCode) (i : Input) (front : List Token) (before items : List BodyItem) (first last : Regs) → GaveItems codes i front before old first → GaveAhead codes (limit_of old) (lines_of old) (ahead_of old) n before items → AreRegsAfter (before ++ items) last
+GivesAhead n old new = (codes : List IdCode) (i : Input) (front : List Token) (before items : List BodyItem) (first last : Regs)
+    → GaveItems codes i front before old first → GaveAhead codes (limit_of old) (lines_of old) (ahead_of old) n before items
+    → AreRegsAfter (before ++ items) last
     → GaveItems codes i front (before ++ items) new last
 
 -- With the last of them no more than a chunk was read past it.
 abbrev pub GivesToLast : {X : Type 0} {g : Ghosts X} → ℕ → (old new : Feed X g) → Type 0
-GivesToLast n old new = (codes : List IdCode) (i : Input) (front : List Token) (before items : List BodyItem) (x : BodyItem) (first last : Regs) → GaveItems codes i front before old first → GaveAhead codes (limit_of old) (lines_of old) (ahead_of old) n before (items ++ x ∷ []) → AreRegsAfter (before ++ (items ++ x ∷ [])) last
+GivesToLast n old new = (codes : List IdCode) (i : Input) (front : List Token) (before items : List BodyItem) (x : BodyItem) (first last : Regs)
+    → GaveItems codes i front before old first → GaveAhead codes (limit_of old) (lines_of old) (ahead_of old) n before (items ++ x ∷ [])
+    → AreRegsAfter (before ++ (items ++ x ∷ [])) last
     → GaveLast codes i front (before ++ items) x new last
 
 -- Comments were given, and no item.

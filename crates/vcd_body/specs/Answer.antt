@@ -45,4 +45,5 @@ goes_on result = false
 -- what is left of an input: all of it; or, if a read failed, what its source gave until then, and
 -- the source still has the rest
 abbrev pub IsLeft : Input → (old new : Supply) → Input → Type 0
-IsLeft i old new left = ((new.failures ≡ old.failures) × (left ≡ i)) ⊎ ((new.failures ≡ old.failures + 1) × (n : ℕ) × (left ≡ failed_after n i) × (i.mark ≡ Clean → HasRest new.rest n i))
+IsLeft i old new left = ((new.failures ≡ old.failures) × (left ≡ i))
+    ⊎ ((new.failures ≡ old.failures + 1) × (n : ℕ) × (left ≡ failed_after n i) × (i.mark ≡ Clean → HasRest new.rest n i))

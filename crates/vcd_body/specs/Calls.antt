@@ -25,7 +25,9 @@ use Rattle.vcd_body.specs.declared.item.Regs.{Regs}
 
 -- a timestamp is taken if one may come
 abbrev pub ReadsTimestamp : List ℕ → Regs → Result ℕ BodyFault → Type 0
-ReadsTimestamp token r result = (codes : List IdCode) (earlier : List BodyPhrase) → AreRegsAfter (items_of earlier) r → MatchResult result (λ time. Passes codes earlier token (BodyItem.Time time) × (time_after (items_of earlier) ≤ time)) (Refuses codes earlier token)
+ReadsTimestamp token r result = (codes : List IdCode) (earlier : List BodyPhrase) → AreRegsAfter (items_of earlier) r
+    → MatchResult result (λ time. Passes codes earlier token (BodyItem.Time time) × (time_after (items_of earlier) ≤ time))
+    (Refuses codes earlier token)
 
 -- the token has this fault, in each header that the view shows
 abbrev pub RefusesIn : HeadView → List ℕ → BodyFault → Type 0
@@ -54,7 +56,8 @@ EndsUnread old new result = IfOk result IsSome × (source_of new ≡ source_of o
 
 -- one more token of a phrase that has begun
 abbrev pub ReadsInner : {A X : Type 0} {g : Ghosts X} → (old new : Feed X g) → Result A BodyFault → Type 0
-ReadsInner old new result = (codes : List IdCode) (i : Input) (front : List Token) (placed : List (Placed BodyPhrase)) (first : List ℕ) (before : List (List ℕ)) → Reads codes i front placed (first ∷ before) old
+ReadsInner old new result = (codes : List IdCode) (i : Input) (front : List Token) (placed : List (Placed BodyPhrase)) (first : List ℕ)
+    (before : List (List ℕ)) → Reads codes i front placed (first ∷ before) old
     → MatchResult result (λ _. Looks codes i front placed (first ∷ before) new) (FailsAfter codes i front placed new)
 
 -- the rest of a comment
@@ -64,8 +67,10 @@ ReadsComment old new result = (codes : List IdCode) (i : Input) (front : List To
 
 -- the code after a token that asks for one
 abbrev pub ReadsCode : {X : Type 0} {g : Ghosts X} → HeadView → (old new : Feed X g) → Result Found BodyFault → Type 0
-ReadsCode v old new result = (h : Header) (i : Input) (front : List Token) (placed : List (Placed BodyPhrase)) (first : List ℕ) → IsViewOf v h → AsksForCode h.codes (phrases_of placed) first → Reads h.codes i front placed (first ∷ []) old
-    → MatchResult result (λ found. (c : IdCode) × (slice_get h.codes found.position ≡ Some c) × (declared_code h.codes (token_of new).bytes ≡ Some c) × Looks h.codes i front placed (first ∷ []) new) (FailsAfter h.codes i front placed new)
+ReadsCode v old new result = (h : Header) (i : Input) (front : List Token) (placed : List (Placed BodyPhrase)) (first : List ℕ) → IsViewOf v h
+    → AsksForCode h.codes (phrases_of placed) first → Reads h.codes i front placed (first ∷ []) old
+    → MatchResult result (λ found. (c : IdCode) × (slice_get h.codes found.position ≡ Some c) × (declared_code h.codes (token_of new).bytes ≡ Some c)
+    × Looks h.codes i front placed (first ∷ []) new) (FailsAfter h.codes i front placed new)
 
 -- a change in this form, whose first token is the feed's
 abbrev pub ReadsRest : {X : Type 0} {g : Ghosts X} → HeadView → ChangeForm → (old new : Feed X g) → Result ℕ BodyFault → Type 0
@@ -82,9 +87,12 @@ ReadsCommand old new r r' result = (codes : List IdCode) (i : Input) (front : Li
 
 -- one more phrase, or the end
 abbrev pub ReadsOne : {X : Type 0} {g : Ghosts X} → HeadView → (old new : Feed X g) → (r r' : Regs) → Result (Option Item) BodyFault → Type 0
-ReadsOne v old new r r' result = (h : Header) (i : Input) (front : List Token) (items : List BodyItem) → IsViewOf v h → GaveItems h.codes i front items old r → GivesPhrase h.codes i front items new r' result
+ReadsOne v old new r r' result = (h : Header) (i : Input) (front : List Token) (items : List BodyItem) → IsViewOf v h
+    → GaveItems h.codes i front items old r → GivesPhrase h.codes i front items new r' result
 
 -- one more item, after the items given so far; at the end they are all of the body's, and it has no
 -- fault. A fault is the body's, after exactly these items
 abbrev pub ReadsItem : {X : Type 0} {g : Ghosts X} → HeadView → (old new : Feed X g) → (r r' : Regs) → Result Item BodyFault → Type 0
-ReadsItem v old new r r' result = (h : Header) (i : Input) (front : List Token) (items : List BodyItem) → IsViewOf v h → GaveItems h.codes i front items old r → MatchResult result (GivesItem h.codes i front items new r') (λ fault. Fails h.codes i front items fault new)
+ReadsItem v old new r r' result = (h : Header) (i : Input) (front : List Token) (items : List BodyItem) → IsViewOf v h
+    → GaveItems h.codes i front items old r → MatchResult result (GivesItem h.codes i front items new r')
+    (λ fault. Fails h.codes i front items fault new)

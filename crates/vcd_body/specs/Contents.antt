@@ -55,7 +55,8 @@ held_at t code = unwrap_or (option_map (λ (k : Kept). k.held) (kept_at t code))
 -- a call gives the code at an index the value of a change with this text, if the code may have that
 -- text
 abbrev pub GivesValue : Form → List ℕ → ℕ → Table → Table → Type 0
-GivesValue form text code old new = (c : Code) (k : Kept) → IsText form c text → c.event ≡ false → kept_at old code ≡ Some k → share_of c.size ≤ k.room → value_at_size c.size (held_at new code) ≡ Some (value_with c.size (model_form form) text)
+GivesValue form text code old new = (c : Code) (k : Kept) → IsText form c text → c.event ≡ false → kept_at old code ≡ Some k
+    → share_of c.size ≤ k.room → value_at_size c.size (held_at new code) ≡ Some (value_with c.size (model_form form) text)
 
 -- the same, with the form and text of a value, if the table is laid out
 abbrev pub GivesText : ChangeValue → ℕ → Table → Table → Type 0

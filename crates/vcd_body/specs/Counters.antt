@@ -8,4 +8,5 @@ count_of count steps = min (count + steps) (2 ^ 64 - 1)
 
 -- all three counters
 abbrev pub counts_of : List ℕ → List ℕ → List ℕ
-counts_of steps counts = count_of (get_or counts 0 0) (get_or steps 0 0 + get_or steps 1 0 + get_or steps 2 0) ∷ count_of (get_or counts 1 0) (get_or steps 2 0) ∷ count_of (get_or counts 2 0) (get_or steps 0 0) ∷ []
+counts_of steps counts = count_of (get_or counts 0 0) (get_or steps 0 0 + get_or steps 1 0 + get_or steps 2 0) ∷ count_of (get_or counts 1 0)
+    (get_or steps 2 0) ∷ count_of (get_or counts 2 0) (get_or steps 0 0) ∷ []

@@ -24,7 +24,8 @@ table_bytes v = min (sum_by value_bytes v.codes.now) (2 ^ 64 - 1)
 
 -- where a code may have this text it may have the other one, which gives it the same value
 abbrev pub GivesSame : Form → List ℕ → List ℕ → Type 0
-GivesSame form text other = (code : Code) → IsText form code text → IsText form code other × (code.event ≡ false → value_with code.size (model_form form) other ≡ value_with code.size (model_form form) text)
+GivesSame form text other = (code : Code) → IsText form code text → IsText form code other
+    × (code.event ≡ false → value_with code.size (model_form form) other ≡ value_with code.size (model_form form) text)
 
 -- of each code that is no event the table holds this value
 pub record HasValues (t : Table) (h : Header) (value : IdCode → Option Value) : Type 0 where

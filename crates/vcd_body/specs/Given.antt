@@ -75,7 +75,9 @@ IsGoodChange codes f item = HasGoodText codes (item_text f item) item
 
 -- a phrase was read: it gives an item, or none as a comment does; or it has a fault
 abbrev pub GivesPhrase : {X : Type 0} {g : Ghosts X} → List IdCode → Input → List Token → List BodyItem → Feed X g → Regs → Result (Option Item) BodyFault → Type 0
-GivesPhrase codes i front items f r result = MatchResult result (λ item. MatchOption item (GaveItems codes i front items f r) (λ x. GivesItem codes i front items f r x)) (λ fault. Fails codes i front items fault f)
+GivesPhrase codes i front items f r result = MatchResult result
+    (λ item. MatchOption item (GaveItems codes i front items f r) (λ x. GivesItem codes i front items f r x))
+    (λ fault. Fails codes i front items fault f)
 
 -- if it gives a change, that is one of these codes, and has a text that the code may have
 abbrev pub IsGoodPhrase : {X : Type 0} {g : Ghosts X} → List Code → Feed X g → Result (Option Item) BodyFault → Type 0

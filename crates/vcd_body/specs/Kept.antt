@@ -136,7 +136,8 @@ with_step rises falls k = record { held = k.held; counts = counts_if falls (coun
 
 -- the step from one value to another is counted, if they differ
 abbrev pub with_counted : Option Value → Value → Kept → Kept
-with_counted old new k = cond (differs old new) (with_step (goes_from (byte "0") (byte "1") (last_digit_in old) (last_digit_in (Some new))) (goes_from (byte "1") (byte "0") (last_digit_in old) (last_digit_in (Some new))) k) k
+with_counted old new k = cond (differs old new) (with_step (goes_from (byte "0") (byte "1") (last_digit_in old) (last_digit_in (Some new)))
+    (goes_from (byte "1") (byte "0") (last_digit_in old) (last_digit_in (Some new))) k) k
 
 -- the value is that of the text, if it is held, and its step at this size is counted; an empty text
 -- is ignored

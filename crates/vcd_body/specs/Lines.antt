@@ -11,11 +11,13 @@ use Rattle.vcd_body.specs.declared.item.Form.TheVariants as form
 
 -- a digit and a code, which begins at this offset, and a line feed are the line
 abbrev pub IsDigitLine : List ℕ → ℕ → ℕ → ℕ → Type 0
-IsDigitLine bytes from to code_at = (text code : List ℕ) → HasChange bytes from to form.Scalar text code → to ≡ code_at + length code + 1 → slice_range bytes from (to - 1) ≡ str_to_ascii_lowercase text ++ code
+IsDigitLine bytes from to code_at = (text code : List ℕ) → HasChange bytes from to form.Scalar text code → to ≡ code_at + length code + 1
+    → slice_range bytes from (to - 1) ≡ str_to_ascii_lowercase text ++ code
 
 -- a letter, a text, a blank and a code, which begins at this offset, and a line feed are the line
 abbrev pub IsTextLine : List ℕ → ℕ → ℕ → ℕ → List ℕ → ℕ → Type 0
-IsTextLine bytes from to first text code_at = (code : List ℕ) → HasChange bytes from to form.Vector text code → to ≡ code_at + length code + 1 → slice_range bytes from (to - 1) ≡ first ∷ text ++ (32 ∷ code)
+IsTextLine bytes from to first text code_at = (code : List ℕ) → HasChange bytes from to form.Vector text code → to ≡ code_at + length code + 1
+    → slice_range bytes from (to - 1) ≡ first ∷ text ++ (32 ∷ code)
 
 -- there may be the number of these digits
 abbrev pub MayBe : Option Bits → List ℕ → Type 0
@@ -28,7 +30,8 @@ LeavesShortest digits binary k = (k ≤ length digits) × (AreBinaryIf binary di
 
 -- without k bytes after the `b`, the bytes before the last one, and a line feed, are the line
 abbrev pub LeavesLine : List ℕ → ℕ → ℕ → List ℕ → Bool → ℕ → ℕ → Type 0
-LeavesLine bytes from to digits binary code_at k = (k ≤ length digits) × ((code : List ℕ) → HasChange bytes from to form.Vector digits code → to ≡ code_at + length code + 1 → AreBinaryIf binary digits → (size : ℕ)
+LeavesLine bytes from to digits binary code_at k = (k ≤ length digits)
+    × ((code : List ℕ) → HasChange bytes from to form.Vector digits code → to ≡ code_at + length code + 1 → AreBinaryIf binary digits → (size : ℕ)
     → bytes_without bytes from (to - 1) k ≡ 98 ∷ short (extend (str_to_ascii_lowercase digits) size) ++ (32 ∷ code))
 
 -- the line of a change of a code of this size is this front, a blank, the code and a line feed,
@@ -40,8 +43,10 @@ IsFront size form text front = (code : List ℕ) → line_under code size false 
 -- line, if the digits are binary whenever `binary` says so
 abbrev pub LeavesText : List ℕ → ℕ → ℕ → ℕ → Form → List ℕ → Bool → ℕ → ℕ → Type 0
 LeavesText bytes from to size form text binary code_at k = (from + 2 + k ≤ to) × (front : List ℕ) × (0 < length front) × IsFront size form text front
-    × ((code : List ℕ) → HasChange bytes from to form text code → to ≡ code_at + length code + 1 → AreBinaryIf binary text → bytes_without bytes from (to - 1) k ≡ front ++ (32 ∷ code))
+    × ((code : List ℕ) → HasChange bytes from to form text code → to ≡ code_at + length code + 1 → AreBinaryIf binary text
+    → bytes_without bytes from (to - 1) k ≡ front ++ (32 ∷ code))
 
 -- without k bytes after the first one, the bytes before the blank before the code are the front
 abbrev pub LeavesFront : List ℕ → ℕ → ℕ → Form → List ℕ → ℕ → ℕ → Type 0
-LeavesFront bytes from size form text code_at k = (from + 2 + k ≤ code_at) × (code_at ≤ length bytes) × (front : List ℕ) × IsFront size form text front × (bytes_without bytes from (code_at - 1) k ≡ front)
+LeavesFront bytes from size form text code_at k = (from + 2 + k ≤ code_at) × (code_at ≤ length bytes) × (front : List ℕ)
+    × IsFront size form text front × (bytes_without bytes from (code_at - 1) k ≡ front)

@@ -31,11 +31,13 @@ quarter_of n = n / 4 + min 1 (n % 4)
 
 -- the byte at an index: the digits at that index of each quarter
 abbrev pub packed_byte : List ℕ → ℕ → ℕ → ℕ
-packed_byte text quarter position = two_bits_or text position + 4 * two_bits_or text (position + quarter) + 16 * two_bits_or text (position + 2 * quarter) + 64 * two_bits_or text (position + (length text - quarter))
+packed_byte text quarter position = two_bits_or text position + 4 * two_bits_or text (position + quarter) + 16 * two_bits_or text
+    (position + 2 * quarter) + 64 * two_bits_or text (position + (length text - quarter))
 
 -- the code at an index before the last quarter, of quarters of this length
 abbrev pub two_bits_before : ℕ → List ℕ → ℕ → ℕ
-two_bits_before quarter bytes position = cond (nat_lt position quarter) (get_or bytes position 0 % 4) (cond (nat_lt position (2 * quarter)) (get_or bytes (position - quarter) 0 / 4 % 4) (get_or bytes (position - 2 * quarter) 0 / 16 % 4))
+two_bits_before quarter bytes position = cond (nat_lt position quarter) (get_or bytes position 0 % 4)
+    (cond (nat_lt position (2 * quarter)) (get_or bytes (position - quarter) 0 / 4 % 4) (get_or bytes (position - 2 * quarter) 0 / 16 % 4))
 
 -- the code at an index of n digits
 abbrev pub two_bits_at : ℕ → List ℕ → ℕ → ℕ

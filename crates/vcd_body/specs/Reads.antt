@@ -131,8 +131,10 @@ FailsAfter codes i front placed f fault = Fails codes i front (items_of (phrases
 
 -- a token is the change of the code at this index by a digit
 abbrev pub PassesScalar : List IdCode → List BodyPhrase → List ℕ → ℕ → Type 0
-PassesScalar codes earlier token position = (c : IdCode) × (slice_get codes position ≡ Some c) × Passes codes earlier token (BodyItem.Changes (record { code = c; form = ChangeForm.Scalar; text = take 1 token }))
+PassesScalar codes earlier token position = (c : IdCode) × (slice_get codes position ≡ Some c)
+    × Passes codes earlier token (BodyItem.Changes (record { code = c; form = ChangeForm.Scalar; text = take 1 token }))
 
 -- a change of the code at this index was read, by the kept value
 abbrev pub ReadsChange : {X : Type 0} {g : Ghosts X} → List IdCode → Input → List Token → List (Placed BodyPhrase) → Feed X g → ChangeForm → ℕ → Type 0
-ReadsChange codes i front placed f form position = (c : IdCode) × (slice_get codes position ≡ Some c) × ReadsPhrase codes i front placed f (BodyPhrase.Gives (BodyItem.Changes (record { code = c; form = form; text = drop 1 (value_of f) })))
+ReadsChange codes i front placed f form position = (c : IdCode) × (slice_get codes position ≡ Some c)
+    × ReadsPhrase codes i front placed f (BodyPhrase.Gives (BodyItem.Changes (record { code = c; form = form; text = drop 1 (value_of f) })))

@@ -54,7 +54,8 @@ pub record HasTimestamp (bytes : List ℕ) (from to at time : ℕ) : Type 0 wher
 -- is said
 abbrev pub IsSpelledAs : HeadView → ScannedItem → Item → Type 0
 IsSpelledAs v p (Time time) = HasTimestamp p.bytes.now p.begin p.end p.at time
-IsSpelledAs v p (Change position form) = (code : List ℕ) × HasChange p.bytes.now p.begin p.end form p.text.now code × Names v position code × HasPlaces p.bytes.now p.begin p.end p.at p.code_at p.text.now code
+IsSpelledAs v p (Change position form) = (code : List ℕ) × HasChange p.bytes.now p.begin p.end form p.text.now code × Names v position code
+    × HasPlaces p.bytes.now p.begin p.end p.at p.code_at p.text.now code
 IsSpelledAs v p item = p.begin ≤ p.end
 
 -- its bytes are what it is

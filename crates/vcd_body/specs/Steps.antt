@@ -36,7 +36,8 @@ with_steps n rises falls k = record { held = k.held; counts = counts_after n ris
 -- The slot had no room to count the step. The 256 steps that are left to count make the change
 -- whole once they are added.
 abbrev pub LeavesSteps : ℕ → (Kept → Kept) → Bool → Bool → List Slot → List Slot → Type 0
-LeavesSteps code f rises falls slots slots' = (shares : List Share) (values after : List ℕ) (counted : List Slot) (with : List Share) → ChangesAt code (with_steps 256 rises falls) values slots' shares after counted with → ChangesAt code f values slots shares after counted with
+LeavesSteps code f rises falls slots slots' = (shares : List Share) (values after : List ℕ) (counted : List Slot) (with : List Share)
+    → ChangesAt code (with_steps 256 rises falls) values slots' shares after counted with → ChangesAt code f values slots shares after counted with
 
 -- the slot has the digit, and its step is counted; or 256 steps are left to count
 abbrev pub FlipsTo : ℕ → ℕ → List Slot → List Slot → Type 0
@@ -47,10 +48,12 @@ LeavesFlip code digit rises falls slots slots' = (f : Form) → f ≢ form.RealT
 
 -- the slot has the number, and its step at a size is counted; or 256 steps are left to count
 abbrev pub StepsTo : ℕ → ℕ → Bits → List Slot → List Slot → Type 0
-StepsTo code size b slots slots' = (shares : List Share) (values : List ℕ) → AreLaidOut slots shares (length values) → ChangesAt code (with_number_change size b.len b.number) values slots shares values slots' shares
+StepsTo code size b slots slots' = (shares : List Share) (values : List ℕ) → AreLaidOut slots shares (length values)
+    → ChangesAt code (with_number_change size b.len b.number) values slots shares values slots' shares
 
 abbrev pub LeavesNumber : ℕ → ℕ → Bits → Bool → Bool → List Slot → List Slot → Type 0
-LeavesNumber code size b rises falls slots slots' = (shares : List Share) (values after : List ℕ) → AreLaidOut slots shares (length values) → (counted : List Slot) (with : List Share) → ChangesAt code (with_steps 256 rises falls) values slots' shares after counted with
+LeavesNumber code size b rises falls slots slots' = (shares : List Share) (values after : List ℕ) → AreLaidOut slots shares (length values)
+    → (counted : List Slot) (with : List Share) → ChangesAt code (with_steps 256 rises falls) values slots' shares after counted with
     → ChangesAt code (with_number_change size b.len b.number) values slots shares after counted with
 
 -- the code at an index is changed by f, if it has room for 8 bytes

@@ -159,7 +159,9 @@ kept_in values slots shares code = option_map (kept_with values (end_at shares (
 
 -- what is kept of the code at an index is what f makes of it, and what is kept of the others stays
 abbrev pub ChangesAt : ℕ → (Kept → Kept) → List ℕ → List Slot → List Share → List ℕ → List Slot → List Share → Type 0
-ChangesAt code f values slots shares values' slots' shares' = (position : ℕ) → kept_in values' slots' shares' position ≡ cond (position == code) (option_map f (kept_in values slots shares position)) (kept_in values slots shares position)
+ChangesAt code f values slots shares values' slots' shares' = (position : ℕ)
+    → kept_in values' slots' shares' position ≡ cond (position == code) (option_map f (kept_in values slots shares position))
+    (kept_in values slots shares position)
 
 -- a slot is changed by f, and no share is, whatever the shares and the values are
 abbrev pub ChangesSlot : ℕ → (Kept → Kept) → List Slot → List Slot → Type 0

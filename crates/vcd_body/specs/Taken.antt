@@ -66,10 +66,13 @@ pub record IsFound (v : HeadView) (form : Form) (first second : List ℕ) (found
 -- an item was taken, from one position ahead to another, if the registers before it are these
 pub record TakesItem (v : HeadView) (a a' : Ahead) (r : Regs) (p : ScannedItem) : Type 0 where
   -- it comes after the items given before and those taken ahead so far
-  pub gives : (h : Header) (limit lines : ℕ) (bytes : List ℕ) (before items : List BodyItem) → IsViewOf v h → LooksOver limit bytes a → AreRegsAfter (before ++ items) r → GaveAhead h.codes limit lines bytes (passed_of a) before items
-      → (x : BodyItem) × IsItem h.codes p.text.now p.item x × GaveAhead h.codes limit lines bytes (passed_of a') before (items ++ x ∷ []) × AreRegsAfter (before ++ (items ++ x ∷ [])) (regs_after r p.item)
+  pub gives : (h : Header) (limit lines : ℕ) (bytes : List ℕ) (before items : List BodyItem) → IsViewOf v h → LooksOver limit bytes a
+      → AreRegsAfter (before ++ items) r → GaveAhead h.codes limit lines bytes (passed_of a) before items
+      → (x : BodyItem) × IsItem h.codes p.text.now p.item x × GaveAhead h.codes limit lines bytes (passed_of a') before (items ++ x ∷ [])
+      × AreRegsAfter (before ++ (items ++ x ∷ [])) (regs_after r p.item)
   -- whatever the view is of, whole tokens were passed
-  pub passes : (limit lines : ℕ) (bytes : List ℕ) (ts : List Token) → LooksOver limit bytes a → Passed limit lines bytes (passed_of a) ts → (more : List Token) × Passed limit lines bytes (passed_of a') (ts ++ more)
+  pub passes : (limit lines : ℕ) (bytes : List ℕ) (ts : List Token) → LooksOver limit bytes a → Passed limit lines bytes (passed_of a) ts
+      → (more : List Token) × Passed limit lines bytes (passed_of a') (ts ++ more)
   pub sound : HasGoodText v.codes.now p.text.now p.item
   pub scanned : IsPlain p.text.now p.item
   pub sized : IsSizedItem v.codes.now p.item p.size_or_zero

@@ -24,7 +24,8 @@ module _ (test : ℕ → Bool) where
   -- one digit more
   pub number_one_more : (xs : List ℕ) (i : ℕ) → i < length xs → number_where test (take (i + 1) xs) ≡ 2 * number_where test (take i xs) + cond (test (get_or xs i 0)) 1 0
   number_one_more xs i lt =
-      let push = ap (number_where test) (take_more xs i 0 lt) ∙ ap (number_from_digits 2) (map-append bit (take i xs) (get_or xs i 0 ∷ [])) ∙ number_push 2 (map bit (take i xs)) (bit (get_or xs i 0)) in
+      let push = ap (number_where test) (take_more xs i 0 lt) ∙ ap (number_from_digits 2) (map-append bit (take i xs) (get_or xs i 0 ∷ []))
+      ∙ number_push 2 (map bit (take i xs)) (bit (get_or xs i 0)) in
       omega arith
 
   bit_below : (b : Bool) → cond b 1 0 < 2

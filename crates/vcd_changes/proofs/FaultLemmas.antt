@@ -5,7 +5,9 @@ use Rattle.vcd_head.specs.Reads as heads
 use Rattle.vcd_head.specs.declared.fault.HeadFault.TheVariants as of_head
 
 module _ {X : Type 0} {g : Ghosts X} (f : Feed X g) (i : Input) where
-  pub body_fault_is : (codes : List IdCode) (front : List Token) (items : List BodyItem) (fault : BodyFault) → (fault ≡ ReadFailed → ⊥) → Fails codes i front items fault f → BodyHas codes i front (limit_of f) items (Some (record { number = fault_number fault; line = (token_of f).line }))
+  pub body_fault_is : (codes : List IdCode) (front : List Token) (items : List BodyItem) (fault : BodyFault) → (fault ≡ ReadFailed → ⊥)
+      → Fails codes i front items fault f → BodyHas codes i front (limit_of f) items
+      (Some (record { number = fault_number fault; line = (token_of f).line }))
   body_fault_is codes front items TokenTooLong n h = h.0
   body_fault_is codes front items EndOfInput n h = h.0
   body_fault_is codes front items UnknownCommand n h = h.0
@@ -20,7 +22,8 @@ module _ {X : Type 0} {g : Ghosts X} (f : Feed X g) (i : Input) where
   body_fault_is codes front items InputTooLong n h = h.0
   body_fault_is codes front items ReadFailed n h = absurd (n refl)
 
-  pub head_fault_is : (most : ℕ) (fault : HeadFault) → (fault ≡ of_head.ReadFailed → ⊥) → (fault ≡ of_head.OutOfMemory → ⊥) → heads.Fails most i fault f → heads.HasFault most (limit_of f) i (head.fault_number fault) (token_of f).line
+  pub head_fault_is : (most : ℕ) (fault : HeadFault) → (fault ≡ of_head.ReadFailed → ⊥) → (fault ≡ of_head.OutOfMemory → ⊥)
+      → heads.Fails most i fault f → heads.HasFault most (limit_of f) i (head.fault_number fault) (token_of f).line
   head_fault_is most of_head.TokenTooLong n m h = h.0
   head_fault_is most of_head.EndOfInput n m h = h.0
   head_fault_is most of_head.UnknownCommand n m h = h.0

@@ -22,13 +22,15 @@ module _ {P : Type 0} (g : Grammar P) where
   Same front front' placed placed' = (front ≡ front') × (placed ≡ placed')
 
   -- one that continues after the other continues by nothing
-  no_more : (front front' more : List Token) (placed placed' : List (Placed P)) → IsWhole g front placed → IsWhole g front' placed' → front' ≡ front ++ more → Same front front' placed placed'
+  no_more : (front front' more : List Token) (placed placed' : List (Placed P)) → IsWhole g front placed → IsWhole g front' placed'
+      → front' ≡ front ++ more → Same front front' placed placed'
   no_more front front' more placed placed' w w' e =
       let reads = sym (whole-more g front placed more w) ∙ ap (reading_of g) (sym e) ∙ w' in
       let none : more ≡ [] = ap (λ (r : Reading P). r.rest) reads in
       (sym (e ∙ ap (λ l. front ++ l) none ∙ append-nil front), ap (λ (r : Reading P). r.placed) reads)
 
-  pub one_whole : (front front' rest rest' : List Token) (placed placed' : List (Placed P)) → IsWhole g front placed → IsWhole g front' placed' → front ++ rest ≡ front' ++ rest' → Same front front' placed placed'
+  pub one_whole : (front front' rest rest' : List Token) (placed placed' : List (Placed P)) → IsWhole g front placed → IsWhole g front' placed'
+      → front ++ rest ≡ front' ++ rest' → Same front front' placed placed'
   one_whole front front' rest rest' placed placed' w w' e = elim (prefixes front front' rest rest' e) [
     | inl l ↦ no_more front front' l.0 placed placed' w w' l.1
     | inr l ↦ let s = no_more front' front l.0 placed' placed w' w l.1 in (sym s.0, sym s.1)

@@ -19,7 +19,8 @@ module _ (a b : ℕ) (le : a ≤ b) where
   -- the streams are the same, or a token is too long for the lower limit, and the other stream
   -- begins with the tokens before it
   abbrev pub AreAlike : List ℕ → Type 0
-  AreAlike text = (stream_of a (whole text) ≡ stream_of b (whole text)) ⊎ (((stream_of a (whole text)).halt ≡ Some 1) × IsPrefixOf (stream_of a (whole text)).tokens (stream_of b (whole text)).tokens)
+  AreAlike text = (stream_of a (whole text) ≡ stream_of b (whole text))
+      ⊎ (((stream_of a (whole text)).halt ≡ Some 1) × IsPrefixOf (stream_of a (whole text)).tokens (stream_of b (whole text)).tokens)
 
   -- ---- byte by byte
 
@@ -27,18 +28,22 @@ module _ (a b : ℕ) (le : a ≤ b) where
   abbrev IsAlikeFrom : List ℕ → ℕ → Type 0
   IsAlikeFrom text n = (p r : ℕ) (given : List Token) → HasLookedAt a text p r given → p + n ≡ length text → AreAlike text
 
-  at_white : (text : List ℕ) (n : ℕ) → IsAlikeFrom text n → (p r : ℕ) (given : List Token) → HasLookedAt a text p r given → p + suc n ≡ length text → p + 1 < 2 ^ 63 → is_white_space (slice_index text p) ≡ true → AreAlike text
+  at_white : (text : List ℕ) (n : ℕ) → IsAlikeFrom text n → (p r : ℕ) (given : List Token) → HasLookedAt a text p r given → p + suc n ≡ length text
+      → p + 1 < 2 ^ 63 → is_white_space (slice_index text p) ≡ true → AreAlike text
   at_white text n on p r given l all small white = elim (before_or_from r p) [
     | inl begun ↦ on (p + 1) (p + 1) (given ++ token_to text r p ∷ []) (live-end a text p r given white begun small (omega (arith, all)) l) (omega (arith, all))
     | inr after ↦
         let same : r ≡ p = omega (arith, after, l.order) in
         let here : HasLookedAt a text p p given = subst (λ k. HasLookedAt a text p k given) same l in
-        on (p + 1) (p + 1) given (live-whites a text p 1 given (λ k lt. let e : p ≡ p + k = omega arith in subst (λ j. is_white_space (slice_index text j) ≡ true) e white) small here) (omega (arith, all))
+        on (p + 1) (p + 1) given (live-whites a text p 1 given (λ k lt. let e : p ≡ p + k = omega arith in
+        subst (λ j. is_white_space (slice_index text j) ≡ true) e white) small here) (omega (arith, all))
   ]
 
-  at_other : (text : List ℕ) (n : ℕ) → IsAlikeFrom text n → (p r : ℕ) (given : List Token) → HasLookedAt a text p r given → p + suc n ≡ length text → p + 1 < 2 ^ 63 → is_white_space (slice_index text p) ≡ false → AreAlike text
+  at_other : (text : List ℕ) (n : ℕ) → IsAlikeFrom text n → (p r : ℕ) (given : List Token) → HasLookedAt a text p r given → p + suc n ≡ length text
+      → p + 1 < 2 ^ 63 → is_white_space (slice_index text p) ≡ false → AreAlike text
   at_other text n on p r given l all small other = elim (before_or_from p (r + a)) [
-    | inl room ↦ on (p + 1) r given (live-others a text p 1 r given (λ k lt. let e : p ≡ p + k = omega arith in subst (λ j. is_white_space (slice_index text j) ≡ false) e other) small (omega (arith, room)) l) (omega (arith, all))
+    | inl room ↦ on (p + 1) r given (live-others a text p 1 r given (λ k lt. let e : p ≡ p + k = omega arith in
+        subst (λ j. is_white_space (slice_index text j) ≡ false) e other) small (omega (arith, room)) l) (omega (arith, all))
     | inr full ↦
         let fits : p ≤ length text = omega (arith, all) in
         let at : p ≡ r + a = omega (arith, full, l.room) in
@@ -47,7 +52,8 @@ module _ (a b : ℕ) (le : a ≤ b) where
         inr (ap (λ (s : Stream). s.halt) halts, subst (λ (ts : List Token). IsPrefixOf ts (stream_of b (whole text)).tokens) (sym (ap (λ (s : Stream). s.tokens) halts)) first)
   ]
 
-  at_byte : (text : List ℕ) (n : ℕ) → IsAlikeFrom text n → (p r : ℕ) (given : List Token) → HasLookedAt a text p r given → p + suc n ≡ length text → p + 1 < 2 ^ 63 → (w : Bool) → is_white_space (slice_index text p) ≡ w → AreAlike text
+  at_byte : (text : List ℕ) (n : ℕ) → IsAlikeFrom text n → (p r : ℕ) (given : List Token) → HasLookedAt a text p r given → p + suc n ≡ length text
+      → p + 1 < 2 ^ 63 → (w : Bool) → is_white_space (slice_index text p) ≡ w → AreAlike text
   at_byte text n on p r given l all small true white = at_white text n on p r given l all small white
   at_byte text n on p r given l all small false other = at_other text n on p r given l all small other
 
@@ -82,7 +88,9 @@ module _ (a b : ℕ) (le : a ≤ b) where
     | inr halted ↦ let no : ◌≡◌ {A = Option ℕ} (Some 1) None = sym halted.0 ∙ ap (λ (s : Stream). s.halt) ends in absurd (cc)
   ]
 
-  given_in : (phase : Phase) → (phase ≡ Going) ⊎ (phase ≡ Ended) → (rest : Option (List ℕ)) (chunk : List ℕ) (p : Parked) (text : List ℕ) (given : List Token) → InPhase phase a rest chunk p (whole text) given → InPhase phase b rest chunk p (whole text) given
+  given_in : (phase : Phase) → (phase ≡ Going) ⊎ (phase ≡ Ended)
+      → (rest : Option (List ℕ)) (chunk : List ℕ) (p : Parked) (text : List ℕ) (given : List Token) → InPhase phase a rest chunk p (whole text) given
+      → InPhase phase b rest chunk p (whole text) given
   given_in phase (inl is) rest chunk p text given h =
       let going : InPhase Going a rest chunk p (whole text) given = subst (λ q. InPhase q a rest chunk p (whole text) given) is h in
       let place = going.1.place in
@@ -108,4 +116,5 @@ module _ (a b : ℕ) (le : a ≤ b) where
       let rest : Option (List ℕ) = Some (drop o.bytes text) in
       let size : length (take a t) ≡ a = length-take-le a t (omega (arith, le, full)) in
       let at : HasGivenAt a rest c (registers_at o) (whole text) given = subst (λ n. HasGivenAt n rest c (registers_at o) (whole text) given) size (to c (take a t) same size).at in
-      parked-stands rest c t b (registers_at o) (whole text) given full (given_in (registers_at o).phase (open_phase o.answer «open») rest c (registers_at o) text given at) (λ some. absurd (omega (arith, some)))
+      parked-stands rest c t b (registers_at o) (whole text) given full
+      (given_in (registers_at o).phase (open_phase o.answer «open») rest c (registers_at o) text given at) (λ some. absurd (omega (arith, some)))

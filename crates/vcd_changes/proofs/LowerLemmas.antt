@@ -11,7 +11,8 @@ abbrev with_more : {P : Type 0} → Reading P → List Token → Reading P
 with_more r ys = record { placed = r.placed; before = r.before; ending = r.ending; rest = r.rest ++ ys }
 
 module _ {P : Type 0} (g : Grammar P) where
-  ends_more : (r : Reading P) (before : List Token) (ending : Ending) (rest ys : List Token) (f : Fault) → ending ≡ AtFault f → Ends g r before ending rest → Ends g (with_more r ys) before ending (rest ++ ys)
+  ends_more : (r : Reading P) (before : List Token) (ending : Ending) (rest ys : List Token) (f : Fault) → ending ≡ AtFault f
+      → Ends g r before ending rest → Ends g (with_more r ys) before ending (rest ++ ys)
   ends_more r before (AtFault f) [] ys h is ends = absurd ends
   ends_more r before (AtFault f) (t ∷ rest) ys h is ends = ends
   ends_more r before AtEnd rest ys h is ends = absurd (cc)
@@ -31,16 +32,19 @@ module _ {P : Type 0} (g : Grammar P) where
 
 faulty_body : (codes : List IdCode) (xs ys : List Token) (f : Fault) → (read_body codes xs).ending ≡ AtFault f → with_more (read_body codes xs) ys ≡ read_body codes (xs ++ ys)
 faulty_body codes xs ys f is =
-    (body_reading_is_unique codes (xs ++ ys) (with_more (read_body codes xs) ys)).0 (reads_more (body_grammar codes) xs ys (read_body codes xs) f is ((body_reading_is_unique codes xs (read_body codes xs)).1 refl))
+    (body_reading_is_unique codes (xs ++ ys) (with_more (read_body codes xs) ys)).0
+    (reads_more (body_grammar codes) xs ys (read_body codes xs) f is ((body_reading_is_unique codes xs (read_body codes xs)).1 refl))
 
 -- a phrase of a body may be followed by another
 no_last : (codes : List IdCode) (ts : List Token) → (read_body codes ts).ending ≡ AtLast → ⊥
 no_last codes ts is =
     let reads = (body_reading_is_unique codes ts (read_body codes ts)).1 refl in
-    let ends : Ends (body_grammar codes) (read_body codes ts) reads.before AtLast (read_body codes ts).rest = subst (λ e. Ends (body_grammar codes) (read_body codes ts) reads.before e (read_body codes ts).rest) is reads.ends in
+    let ends : Ends (body_grammar codes) (read_body codes ts) reads.before AtLast (read_body codes ts).rest = subst
+    (λ e. Ends (body_grammar codes) (read_body codes ts) reads.before e (read_body codes ts).rest) is reads.ends in
     let last : IsTrue false = ends.4 in absurd (cc)
 
-faulty_header : (most : ℕ) (s t : Stream) (ys : List Token) (f : Fault) → t.tokens ≡ s.tokens ++ ys → (read_header most s).ending ≡ AtFault f → with_more (read_header most s) ys ≡ read_header most t
+faulty_header : (most : ℕ) (s t : Stream) (ys : List Token) (f : Fault) → t.tokens ≡ s.tokens ++ ys → (read_header most s).ending ≡ AtFault f
+    → with_more (read_header most s) ys ≡ read_header most t
 faulty_header most s t ys f more is =
     let reads = reads_more (header_grammar most) s.tokens ys (read_header most s) f is ((header_reading_is_unique most s (read_header most s)).1 refl) in
     (header_reading_is_unique most t (with_more (read_header most s) ys)).0 (subst (λ (l : List Token). IsReading (header_grammar most) l (with_more (read_header most s) ys)) (sym more) reads)
@@ -62,7 +66,9 @@ module _ (a b : ℕ) (le : a ≤ b) (text : List ℕ) where
   abbrev high : Stream
   high = stream_of b (whole text)
 
-  body_more : (codes : List IdCode) (front : List Token) (items : List BodyItem) (fault : Option Fault) → ((f : Fault) → fault ≡ Some f → f.number ≢ 1) → BodyHas codes (whole text) front a items fault → BodyHas codes (whole text) front b items fault
+  body_more : (codes : List IdCode) (front : List Token) (items : List BodyItem) (fault : Option Fault)
+      → ((f : Fault) → fault ≡ Some f → f.number ≢ 1) → BodyHas codes (whole text) front a items fault
+      → BodyHas codes (whole text) front b items fault
   body_more codes front items fault fits has = elim (are_alike a b le text) [
     | inl same ↦ record {
       rest = has.rest;
@@ -109,7 +115,8 @@ module _ (a b : ℕ) (le : a ≤ b) (text : List ℕ) where
   codes_more : (front : List Token) (codes : List IdCode) → HasCodes a text front codes → HasCodes b text front codes
   codes_more front codes has = record { placed = has.placed; first = first_tokens a b le text front has.first; header = has.header; codes_are = has.codes_are }
 
-  after_more : (codes : List IdCode) (front : List Token) (items : List BodyItem) (p : Place) → p.offset.answer ≤ 1 → IsAfter a codes (whole text) front items p → IsAfter b codes (whole text) front items p
+  after_more : (codes : List IdCode) (front : List Token) (items : List BodyItem) (p : Place) → p.offset.answer ≤ 1
+      → IsAfter a codes (whole text) front items p → IsAfter b codes (whole text) front items p
   after_more codes front items p «open» after = record {
     given = after.given;
     placed = after.placed;
@@ -122,19 +129,33 @@ module _ (a b : ℕ) (le : a ≤ b) (text : List ℕ) where
     known = after.known;
   }
 
-  ends_at_more : (codes : List IdCode) (front : List Token) (items : List BodyItem) (r : reading.Reading) (rows : List ChangeRow) (status : ℕ) → IsLimitEnough r status → EndsAt a codes (whole text) front items r rows status → EndsAt b codes (whole text) front items r rows status
+  ends_at_more : (codes : List IdCode) (front : List Token) (items : List BodyItem) (r : reading.Reading) (rows : List ChangeRow) (status : ℕ)
+      → IsLimitEnough r status → EndsAt a codes (whole text) front items r rows status → EndsAt b codes (whole text) front items r rows status
   ends_at_more codes front items r rows status enough (inl done) = inl (done.0, body_more codes front items None (λ f e. absurd (cc)) done.1, after_more codes front items r.place enough.open done.2)
-  ends_at_more codes front items r rows status enough (inr (inl faulty)) = inr (inl (faulty.0, body_more codes front items (Some (record { number = r.fault; line = r.line })) (λ f e. λ one. enough.fits faulty.0 (number_is f e ∙ one)) faulty.1))
+  ends_at_more codes front items r rows status enough (inr (inl faulty)) = inr
+      (inl (
+        faulty.0,
+        body_more codes front items (Some (record { number = r.fault; line = r.line }))
+            (λ f e. λ one. enough.fits faulty.0 (number_is f e ∙ one)) faulty.1,
+      ))
     where
       number_is : (f : Fault) → ◌≡◌ {A = Option Fault} (Some (record { number = r.fault; line = r.line })) (Some f) → r.fault ≡ f.number
       number_is f e = let same : ◌≡◌ {A = Fault} (record { number = r.fault; line = r.line }) f = cc in ap (λ (x : Fault). x.number) same
   ends_at_more codes front items r rows status enough (inr (inr full)) = inr (inr (full.0, full.1, after_more codes front items r.place enough.open full.2))
 
-  pub finds_more : (items : List BodyItem) (code : List ℕ) (r : reading.Reading) (rows : List ChangeRow) (status : ℕ) → IsLimitEnough r status → FindsUnder a text items code r rows status → FindsUnder b text items code r rows status
+  pub finds_more : (items : List BodyItem) (code : List ℕ) (r : reading.Reading) (rows : List ChangeRow) (status : ℕ) → IsLimitEnough r status
+      → FindsUnder a text items code r rows status → FindsUnder b text items code r rows status
   finds_more items code r rows status enough (FindsUnder.Found front codes has finds) =
-      FindsUnder.Found front codes (codes_more front codes has) (record { more = finds.more; rows_are = finds.rows_are; ends = ends_at_more codes front (items ++ finds.more) r rows status enough finds.ends })
+      FindsUnder.Found front codes
+      (codes_more front codes has) (record {
+        more = finds.more;
+        rows_are = finds.rows_are;
+        ends = ends_at_more codes front
+            (items ++ finds.more) r rows status enough finds.ends;
+      })
   finds_more items code r rows status enough (FindsUnder.NoCode front codes has none count_is status_is) = FindsUnder.NoCode front codes (codes_more front codes has) none count_is status_is
-  finds_more items code r rows status enough (FindsUnder.BadHeader fault none status_is) = FindsUnder.BadHeader (header_more 16777216 (record { number = r.fault; line = r.line }) (enough.fits status_is) fault) none status_is
+  finds_more items code r rows status enough (FindsUnder.BadHeader fault none status_is) = FindsUnder.BadHeader
+      (header_more 16777216 (record { number = r.fault; line = r.line }) (enough.fits status_is) fault) none status_is
   finds_more items code r rows status enough (FindsUnder.NoMemory count_is status_is) = FindsUnder.NoMemory count_is status_is
 
 -- ---- where a call resumes
@@ -150,11 +171,23 @@ first_given limit o text front more to =
     (more ++ first.0, first.1 ∙ append_assoc front more first.0)
 
 -- a reading that has come there under the lower limit
-pub goes_on_lower : (limit : ℕ) (text : List ℕ) (items : List BodyItem) (p : Place) → (p.limit ≡ 0) ⊎ (p.limit ≡ 65536) → GoesOnUnder limit text items p → GoesOnUnder 65536 text items p
+pub goes_on_lower : (limit : ℕ) (text : List ℕ) (items : List BodyItem) (p : Place) → (p.limit ≡ 0) ⊎ (p.limit ≡ 65536)
+    → GoesOnUnder limit text items p → GoesOnUnder 65536 text items p
 goes_on_lower limit text items p lower (GoesOnUnder.AtBegin new none) = GoesOnUnder.AtBegin new none
 goes_on_lower limit text items p (inl new) (GoesOnUnder.Behind front codes has after) = absurd (after.begun new)
 goes_on_lower limit text items p (inr is) (GoesOnUnder.Behind front codes has after) =
     let stands = after.short is in
     GoesOnUnder.Behind front codes
     (record { placed = has.placed; first = first_given 65536 p.offset text front after.given stands; header = has.header; codes_are = has.codes_are })
-    (record { given = after.given; placed = after.placed; begun = after.begun; comes = after.comes; stands = stands; short = λ _. stands; so_far = after.so_far; items_are = after.items_are; known = after.known })
+    (record {
+      given = after.given;
+      placed = after.placed;
+      begun = after.begun;
+      comes = after.comes;
+      stands = stands;
+      short = λ _.
+          stands;
+      so_far = after.so_far;
+      items_are = after.items_are;
+      known = after.known;
+    })

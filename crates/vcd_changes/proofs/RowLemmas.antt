@@ -38,16 +38,19 @@ module _ (codes : List IdCode) (index : List ℕ) (is : IsIndex codes index) (pl
     | inr h ↦ not_true (bytes_eq k.text c.text) (λ t. h.1 (same_place codes index code place k c is there at ((bytes_eq-Decides k.text c.text).0 t))) ∙ sym h.0
   ]
 
-  row_here : (code : ℕ) (k : IdCode) → slice_get codes code ≡ Some k → (items : List BodyItem) (time : ℕ) (form : Form) (text : List ℕ) → time ≡ time_after (items ++ BodyItem.Changes (record { code = k; form = model_form form; text = text }) ∷ [])
+  row_here : (code : ℕ) (k : IdCode) → slice_get codes code ≡ Some k → (items : List BodyItem) (time : ℕ) (form : Form) (text : List ℕ)
+      → time ≡ time_after (items ++ BodyItem.Changes (record { code = k; form = model_form form; text = text }) ∷ [])
       → filter_map (row_in c.text) (entry_after items (BodyItem.Changes (record { code = k; form = model_form form; text = text })) ∷ []) ≡ row_added place time text (item.Change code form)
   row_here code k there items time form text e =
       let d : Change = record { code = k; form = model_form form; text = text } in
       let same : time ≡ time_after items = e ∙ time_stays items d in
       one_row (code == place) (row_of time (model_form form) text) c.text (entry_after items (BodyItem.Changes d))
-      (ap (λ b. cond b (Some (row_of (time_after items) (model_form form) text)) None) (same_text code k there) ∙ ap (λ t. cond (code == place) (Some (row_of t (model_form form) text)) None) (sym same))
+      (ap (λ b. cond b (Some (row_of (time_after items) (model_form form) text)) None) (same_text code k there)
+      ∙ ap (λ t. cond (code == place) (Some (row_of t (model_form form) text)) None) (sym same))
 
   -- an item adds its row
-  pub row_more : (text : List ℕ) (r : Regs) (items : List BodyItem) (it : Item) (x : BodyItem) → IsItem codes text it x → r.time ≡ time_after (items ++ x ∷ []) → rows_of c.text (items ++ x ∷ []) ≡ rows_of c.text items ++ row_added place r.time text it
+  pub row_more : (text : List ℕ) (r : Regs) (items : List BodyItem) (it : Item) (x : BodyItem) → IsItem codes text it x
+      → r.time ≡ time_after (items ++ x ∷ []) → rows_of c.text (items ++ x ∷ []) ≡ rows_of c.text items ++ row_added place r.time text it
   row_more text r items (Time t) x is e = rw is (rows_more c.text items (BodyItem.Time t))
   row_more text r items (Begin s) x is e = rw is (rows_more c.text items (BodyItem.Begin (model_section s)))
   row_more text r items End x is e = rw is (rows_more c.text items BodyItem.End)
@@ -58,15 +61,20 @@ module _ (codes : List IdCode) (index : List ℕ) (is : IsIndex codes index) (pl
   row_more text r items Finish x is e = absurd is
 
   abbrev Took : {X : Type 0} {g : Ghosts X} → Input → List Token → List BodyItem → Feed X g → Regs → Item → Type 0
-  Took i front items f r it = (x : BodyItem) × GaveItems codes i front (items ++ x ∷ []) f r × (rows_of c.text (items ++ x ∷ []) ≡ rows_of c.text items ++ row_added place r.time (item_text f it) it)
+  Took i front items f r it = (x : BodyItem) × GaveItems codes i front (items ++ x ∷ []) f r
+      × (rows_of c.text (items ++ x ∷ []) ≡ rows_of c.text items ++ row_added place r.time (item_text f it) it)
 
   -- the item that was given, and the row that it adds
-  pub taken : {X : Type 0} {g : Ghosts X} (i : Input) (front : List Token) (items : List BodyItem) (f : Feed X g) (r : Regs) (it : Item) → GivesItem codes i front items f r it → (it ≡ Finish → ⊥) → Took i front items f r it
+  pub taken : {X : Type 0} {g : Ghosts X} (i : Input) (front : List Token) (items : List BodyItem) (f : Feed X g) (r : Regs) (it : Item)
+      → GivesItem codes i front items f r it → (it ≡ Finish → ⊥) → Took i front items f r it
   taken i front items f r (Time t) h n = (BodyItem.Time t, h.gave, row_more [] r items (Time t) _ refl h.gave.known.time_is)
   taken i front items f r (Begin s) h n = (BodyItem.Begin (model_section s), h.gave, row_more [] r items (Begin s) _ refl h.gave.known.time_is)
   taken i front items f r End h n = (BodyItem.End, h.gave, row_more [] r items End _ refl h.gave.known.time_is)
-  taken i front items f r (item.Change code form) h n =
-      (BodyItem.Changes (record { code = h.0; form = model_form form; text = text_of form f }), h.2.gave, row_more (text_of form f) r items (item.Change code form) _ (h.0, h.1, refl) h.2.gave.known.time_is)
+  taken i front items f r (item.Change code form) h n = (
+    BodyItem.Changes (record { code = h.0; form = model_form form; text = text_of form f }),
+    h.2.gave,
+    row_more (text_of form f) r items (item.Change code form) _ (h.0, h.1, refl) h.2.gave.known.time_is,
+  )
   taken i front items f r Finish h n = absurd (n refl)
 
 module _ (code : List ℕ) where
@@ -74,7 +82,8 @@ module _ (code : List ℕ) where
   abbrev pub Filled : List BodyItem → List BodyItem → List ChangeRow → Type 0
   Filled items more rows = rows_of code (items ++ more) ≡ rows_of code items ++ rows
 
-  pub filled_more : (items more others : List BodyItem) (rows added : List ChangeRow) → Filled items more rows → rows_of code ((items ++ more) ++ others) ≡ rows_of code (items ++ more) ++ added → Filled items (more ++ others) (rows ++ added)
+  pub filled_more : (items more others : List BodyItem) (rows added : List ChangeRow) → Filled items more rows
+      → rows_of code ((items ++ more) ++ others) ≡ rows_of code (items ++ more) ++ added → Filled items (more ++ others) (rows ++ added)
   filled_more items more others rows added h e =
       ap (rows_of code) (sym (append_assoc items more others)) ∙ e ∙ ap (λ l. l ++ added) h ∙ append_assoc (rows_of code items) rows added
 
@@ -82,7 +91,8 @@ module _ (code : List ℕ) where
   filled_none items = ap (rows_of code) (append-nil items) ∙ sym (append-nil (rows_of code items))
 
   -- none was given ahead
-  pub none_ahead : {X : Type 0} {g : Ghosts X} (codes : List IdCode) (i : Input) (front : List Token) (items : List BodyItem) (f : Feed X g) (r : Regs) (rows : List ChangeRow) → GaveItems codes i front items f r → GaveRows codes i front items code f r rows rows
+  pub none_ahead : {X : Type 0} {g : Ghosts X} (codes : List IdCode) (i : Input) (front : List Token) (items : List BodyItem) (f : Feed X g)
+      (r : Regs) (rows : List ChangeRow) → GaveItems codes i front items f r → GaveRows codes i front items code f r rows rows
   none_ahead codes i front items f r rows gave = record {
     more = [];
     added = [];
@@ -92,7 +102,8 @@ module _ (code : List ℕ) where
   }
 
   -- others were given ahead, and their rows were added
-  pub filled_ahead : {X : Type 0} {g : Ghosts X} (codes : List IdCode) (i : Input) (front : List Token) (items more : List BodyItem) (f : Feed X g) (r : Regs) (old new : List ChangeRow) → Filled items more old → GaveRows codes i front (items ++ more) code f r old new
+  pub filled_ahead : {X : Type 0} {g : Ghosts X} (codes : List IdCode) (i : Input) (front : List Token) (items more : List BodyItem) (f : Feed X g)
+      (r : Regs) (old new : List ChangeRow) → Filled items more old → GaveRows codes i front (items ++ more) code f r old new
       → (all : List BodyItem) × GaveItems codes i front (items ++ all) f r × Filled items all new
   filled_ahead codes i front items more f r old new h gave = (
     more ++ gave.more,

@@ -18,7 +18,8 @@ module _ (v : HeadView) (stands : Collecting → Rows → List ℕ → Regs → 
     came_full : is_full b.visit ≡ true → Came v s c
     came_full e =
         let same = n.full e in
-        let here : passed_at b ≡ passed_at c = ap (λ (f : Bool). cond f b.visit.end (passed_of b.ahead)) e ∙ sym (ap (λ (f : Bool). cond f b.visit.end (passed_of c.ahead)) e) ∙ sym (ap (passed_with c.ahead) same.0) in record {
+        let here : passed_at b ≡ passed_at c = ap (λ (f : Bool). cond f b.visit.end (passed_of b.ahead)) e
+        ∙ sym (ap (λ (f : Bool). cond f b.visit.end (passed_of c.ahead)) e) ∙ sym (ap (passed_with c.ahead) same.0) in record {
           over = over_on;
           same = same_on;
           room = n.room;
@@ -35,7 +36,8 @@ module _ (v : HeadView) (stands : Collecting → Rows → List ℕ → Regs → 
         }
 
     -- else the item adds its row
-    adds_row : is_full b.visit ≡ false → (h : Header) (lines : ℕ) (items : List BodyItem) (code : IdCode) → IsViewOf v h → AreRegsAfter items s.regs → slice_get h.codes s.visit.index ≡ Some code → Added s h lines items code c
+    adds_row : is_full b.visit ≡ false → (h : Header) (lines : ℕ) (items : List BodyItem) (code : IdCode) → IsViewOf v h → AreRegsAfter items s.regs
+        → slice_get h.codes s.visit.index ≡ Some code → Added s h lines items code c
     adds_row e h lines items code views known at =
         let a = came.adds h lines items code views known at in
         let gave = subst (λ (k : ℕ). GaveAhead h.codes (longest_of s.ahead) lines (bytes_of s.ahead) k items a.more) (all_passed b e) a.gave in
@@ -87,7 +89,8 @@ module _ (v : HeadView) (stands : Collecting → Rows → List ℕ → Regs → 
         let a = came.adds h lines items code views known at in record {
           more = a.more;
           added = a.added;
-          gave = at_past b there (λ n. GaveAhead h.codes (longest_of s.ahead) lines (bytes_of s.ahead) n items a.more) (none.gives h.codes (longest_of s.ahead) lines (bytes_of s.ahead) items a.more came.over) a.gave;
+          gave = at_past b there (λ n. GaveAhead h.codes (longest_of s.ahead) lines (bytes_of s.ahead) n items a.more)
+              (none.gives h.codes (longest_of s.ahead) lines (bytes_of s.ahead) items a.more came.over) a.gave;
           known = a.known;
           rows_are = a.rows_are;
           filled_are = a.filled_are;

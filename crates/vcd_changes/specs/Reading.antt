@@ -83,7 +83,8 @@ pub data GoesOnUnder (limit : ℕ) (dump : List ℕ) (items : List BodyItem) (p 
 -- the header was refused, and there are no rows. If memory ran out, the status says so; otherwise
 -- the fault and its line are noted
 abbrev pub Refused : HeadFault → (line : ℕ) → Reading → (status : ℕ) → Type 0
-Refused fault line r status = (r.count ≡ 0) × (((fault ≡ OutOfMemory) × (status ≡ 3)) ⊎ ((fault ≡ OutOfMemory → ⊥) × (status ≡ 1) × (r.fault ≡ fault_number fault) × (r.line ≡ line)))
+Refused fault line r status = (r.count ≡ 0) × (((fault ≡ OutOfMemory) × (status ≡ 3))
+    ⊎ ((fault ≡ OutOfMemory → ⊥) × (status ≡ 1) × (r.fault ≡ fault_number fault) × (r.line ≡ line)))
 
 -- the status of a reading that has met no fault
 abbrev pub status_of : Filled → ℕ
@@ -112,9 +113,12 @@ pub record Finds (limit : ℕ) (codes : List IdCode) (i : Input) (front : List T
 
 -- what a call finds in a dump after these items of its body, under a token limit
 pub data FindsUnder (limit : ℕ) (dump : List ℕ) (items : List BodyItem) (code : List ℕ) (r : Reading) (rows : List ChangeRow) (status : ℕ) : Type 0 where
-  Found : (front : List Token) (codes : List IdCode) (has : HasCodes limit dump front codes) (finds : Finds limit codes (whole dump) front items code r rows status) → FindsUnder limit dump items code r rows status
-  NoCode : (front : List Token) (codes : List IdCode) (has : HasCodes limit dump front codes) (none : find (has_text code) codes ≡ None) (count_is : r.count ≡ 0) (status_is : status ≡ 2) → FindsUnder limit dump items code r rows status
-  BadHeader : (fault : header_fault_of (stream_of limit (whole dump)) (read_header 16777216 (stream_of limit (whole dump))) ≡ Some (record { number = r.fault; line = r.line })) (none : r.count ≡ 0) (status_is : status ≡ 1) → FindsUnder limit dump items code r rows status
+  Found : (front : List Token) (codes : List IdCode) (has : HasCodes limit dump front codes)
+      (finds : Finds limit codes (whole dump) front items code r rows status) → FindsUnder limit dump items code r rows status
+  NoCode : (front : List Token) (codes : List IdCode) (has : HasCodes limit dump front codes) (none : find (has_text code) codes ≡ None)
+      (count_is : r.count ≡ 0) (status_is : status ≡ 2) → FindsUnder limit dump items code r rows status
+  BadHeader : (fault : header_fault_of (stream_of limit (whole dump)) (read_header 16777216 (stream_of limit (whole dump))) ≡ Some
+      (record { number = r.fault; line = r.line })) (none : r.count ≡ 0) (status_is : status ≡ 1) → FindsUnder limit dump items code r rows status
   NoMemory : (count_is : r.count ≡ 0) (status_is : status ≡ 3) → FindsUnder limit dump items code r rows status
 
 -- What a call under a lower limit found is what it finds under the limit of callers: its fault is

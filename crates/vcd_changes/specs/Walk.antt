@@ -81,4 +81,5 @@ pub record Came (v : HeadView) (s z : RowStage) : Type 0 where
   pub same : SameRows s z
   pub room : HasRoom z.visit z.command
   pub passed : (lines : ℕ) → (ts : List Token) × Passed (longest_of s.ahead) lines (bytes_of s.ahead) (passed_at z) ts
-  pub adds : (h : Header) (lines : ℕ) (items : List BodyItem) (code : IdCode) → IsViewOf v h → AreRegsAfter items s.regs → slice_get h.codes s.visit.index ≡ Some code → Added s h lines items code z
+  pub adds : (h : Header) (lines : ℕ) (items : List BodyItem) (code : IdCode) → IsViewOf v h → AreRegsAfter items s.regs
+      → slice_get h.codes s.visit.index ≡ Some code → Added s h lines items code z

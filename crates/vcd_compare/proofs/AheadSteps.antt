@@ -20,7 +20,8 @@ module _ (v : HeadView) (s : Stage Watched Comparison) where
     pub over : LooksOver (longest_of s.ahead) (bytes_of s.ahead) z.ahead
     pub same : SameRequest s.command z.command
     pub out : z.out ≡ s.out
-    pub takes : (h : Header) (exceptions : List (List ℕ)) (ns : List Names) (lines : ℕ) (before : List BodyItem) → IsViewOf v h → AreRegsAfter before s.regs → Compares h exceptions ns before s.command s.visit → Taken h exceptions ns lines before z
+    pub takes : (h : Header) (exceptions : List (List ℕ)) (ns : List Names) (lines : ℕ) (before : List BodyItem) → IsViewOf v h
+        → AreRegsAfter before s.regs → Compares h exceptions ns before s.command s.visit → Taken h exceptions ns lines before z
 
   taken_on : (b c : Stage Watched Comparison) → HasTaken b → ComparesOne v b c (Ok tt) → HasTaken c
   taken_on b c so_far one = record {
@@ -32,7 +33,8 @@ module _ (v : HeadView) (s : Stage Watched Comparison) where
         let n = one.item.gives h (longest_of s.ahead) lines (bytes_of s.ahead) before t.more views so_far.over t.known t.gave in
         let assoc = append_assoc before t.more (n.0 ∷ []) in
         let on = one.on h exceptions ns (before ++ t.more) n.0 views n.1 t.known (subst (λ (l : List BodyItem). AreRegsAfter l (regs_after b.regs one.scanned.item)) (sym assoc) n.3) t.compares in
-        let open_is = subst (λ (a : Asked). within_open (model_asked a exceptions) h ns ((before ++ t.more) ++ n.0 ∷ []) ≡ within_open (model_asked a exceptions) h ns (before ++ t.more)) so_far.same.asked on.1 in
+        let open_is = subst (λ (a : Asked). within_open (model_asked a exceptions) h ns ((before ++ t.more) ++ n.0 ∷ []) ≡ within_open
+        (model_asked a exceptions) h ns (before ++ t.more)) so_far.same.asked on.1 in
         record {
           more = t.more ++ n.0 ∷ [];
           gave = n.2;
@@ -68,7 +70,8 @@ module _ (v : HeadView) (s : Stage Watched Comparison) where
           let nil = sym (append-nil before) in
           record {
             more = [];
-            gave = subst (λ (n : ℕ). GaveAhead h.codes (longest_of s.ahead) lines (bytes_of s.ahead) n before []) (sym first) (gave_none_ahead h.codes (longest_of s.ahead) lines (bytes_of s.ahead) before);
+            gave = subst (λ (n : ℕ). GaveAhead h.codes (longest_of s.ahead) lines (bytes_of s.ahead) n before []) (sym first)
+                (gave_none_ahead h.codes (longest_of s.ahead) lines (bytes_of s.ahead) before);
             known = subst (λ (l : List BodyItem). AreRegsAfter l s.regs) nil known;
             compares = subst (λ (l : List BodyItem). Compares h exceptions ns l s.command s.visit) nil compares;
             same_open = ap (within_open (model_asked s.command.current.asked exceptions) h ns) (append-nil before);
@@ -86,12 +89,15 @@ module _ (v : HeadView) (s : Stage Watched Comparison) where
     all_taken z (Err f) on = let e = on.2.did.done in absurd (cc)
 
   -- no write fails, and no walk is over
-  still : (z : Stage Watched Comparison) (ended : Result Bool WriteFailed) → Walks ComparesOne Counted (λ _. false) v s z ended → (z.out.failures ≡ s.out.failures) × IsCounted z.visit z.command
+  still : (z : Stage Watched Comparison) (ended : Result Bool WriteFailed) → Walks ComparesOne Counted (λ _. false) v s z ended
+      → (z.out.failures ≡ s.out.failures) × IsCounted z.visit z.command
   still z (Ok false) on = (on.failures, on.on)
   still z (Ok true) on = let e = on.3 in absurd (cc)
   still z (Err f) on = let e = on.2.did.done in absurd (cc)
 
-module _ (v : HeadView) (a a' : Ahead) (r r' : Regs) (run run' : Run) (out out' : Device) (ended : Result Bool WriteFailed) (walks : Walks ComparesOne Counted (λ _. false) v (stage_at a r run.watched run.comparison out) (stage_at a' r' run'.watched run'.comparison out') ended) where
+module _ (v : HeadView) (a a' : Ahead) (r r' : Regs) (run run' : Run) (out out' : Device) (ended : Result Bool WriteFailed)
+    (walks : Walks ComparesOne Counted (λ _. false) v (stage_at a r run.watched run.comparison out)
+    (stage_at a' r' run'.watched run'.comparison out') ended) where
   abbrev begin : Stage Watched Comparison
   begin = stage_at a r run.watched run.comparison out
 
@@ -106,7 +112,8 @@ module _ (v : HeadView) (a a' : Ahead) (r r' : Regs) (run run' : Run) (out out' 
     gives = λ p h lines before views known few has on first.
         let all = all_taken v begin first end ended walks in
         let t = all.takes h has.exceptions has.ns lines before views known has.stands.compares in
-        let by_plan : p ≡ plan_within (model_asked run'.comparison.current.asked has.exceptions) h has.ns = has.by_plan ∙ ap (λ (x : Asked). plan_within (model_asked x has.exceptions) h has.ns) (sym all.same.asked) in (
+        let by_plan : p ≡ plan_within (model_asked run'.comparison.current.asked has.exceptions) h has.ns = has.by_plan
+        ∙ ap (λ (x : Asked). plan_within (model_asked x has.exceptions) h has.ns) (sym all.same.asked) in (
           t.more,
           (
             t.gave,
@@ -117,7 +124,9 @@ module _ (v : HeadView) (a a' : Ahead) (r r' : Regs) (run run' : Run) (out out' 
               by_plan = by_plan;
               stands = record {
                 compares = t.compares;
-                differs = differs ∙ has.stands.differs ∙ ap (λ l. not (is_empty l)) (sym t.same_open) ∙ ap (λ (x : Asked). not (is_empty (within_open (model_asked x has.exceptions) h has.ns (before ++ t.more)))) (sym all.same.asked);
+                differs = differs ∙ has.stands.differs ∙ ap (λ l. not (is_empty l)) (sym t.same_open)
+                    ∙ ap (λ (x : Asked). not (is_empty (within_open (model_asked x has.exceptions) h has.ns (before ++ t.more))))
+                    (sym all.same.asked);
               };
             },
             ap (λ (q : Plan). q.ends (before ++ t.more)) by_plan ∙ not_ended h has.exceptions has.ns (before ++ t.more) run'.comparison run'.watched t.compares,

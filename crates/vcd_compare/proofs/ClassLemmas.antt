@@ -54,31 +54,40 @@ linked_more ends last code l are = record {
     len : length (ends ++ here ∷ []) ≡ suc (length ends)
     len = let m = length-append ends (here ∷ []) in omega (arith, m)
 
-    by_code : (other n : ℕ) → slice_get (set last code (suc (length ends))) other ≡ Some n → (b : Bool) → (other == code) ≡ b → IsLastEnd (ends ++ here ∷ []) (length (ends ++ here ∷ [])) other n
+    by_code : (other n : ℕ) → slice_get (set last code (suc (length ends))) other ≡ Some n → (b : Bool) → (other == code) ≡ b
+        → IsLastEnd (ends ++ here ∷ []) (length (ends ++ here ∷ [])) other n
     by_code other n at true q =
         let same = eqb-true other code q in
         let value : suc (length ends) ≡ n =
-        sym (get_or-set_same last code (suc (length ends)) 0 l) ∙ ap (λ j. get_or (set last code (suc (length ends))) j 0) (sym same) ∙ get_or_from_slice_get (set last code (suc (length ends))) other n 0 at in
-        subst (λ b. IsLastEnd (ends ++ here ∷ []) b other n) (sym len) (subst (λ m. IsLastEnd (ends ++ here ∷ []) (suc (length ends)) other m) value (subst (λ c. IsLastEnd (ends ++ here ∷ []) (suc (length ends)) c (suc (length ends))) (sym same) (last_new ends here)))
+        sym (get_or-set_same last code (suc (length ends)) 0 l) ∙ ap (λ j. get_or (set last code (suc (length ends))) j 0) (sym same)
+        ∙ get_or_from_slice_get (set last code (suc (length ends))) other n 0 at in
+        subst (λ b. IsLastEnd (ends ++ here ∷ []) b other n) (sym len)
+        (subst (λ m. IsLastEnd (ends ++ here ∷ []) (suc (length ends)) other m) value
+        (subst (λ c. IsLastEnd (ends ++ here ∷ []) (suc (length ends)) c (suc (length ends))) (sym same) (last_new ends here)))
     by_code other n at false q =
         let apart = eqb-false other code q in
         let within = slice_get_within (set last code (suc (length ends))) other n at in
         let value : get_or last other 0 ≡ n = sym (get_or-set_other last code other (suc (length ends)) 0 apart) ∙ get_or_from_slice_get (set last code (suc (length ends))) other n 0 at in
         let old = are.from other (get_or last other 0) (slice_get-get_or last other 0 (let s = length-set last code (suc (length ends)) in omega (arith, within, s))) in
-        subst (λ b. IsLastEnd (ends ++ here ∷ []) b other n) (sym len) (subst (λ m. IsLastEnd (ends ++ here ∷ []) (suc (length ends)) other m) value (last_other ends here other (get_or last other 0) (λ e. apart (sym e)) old))
+        subst (λ b. IsLastEnd (ends ++ here ∷ []) b other n) (sym len)
+        (subst (λ m. IsLastEnd (ends ++ here ∷ []) (suc (length ends)) other m) value
+        (last_other ends here other (get_or last other 0) (λ e. apart (sym e)) old))
 
 -- ---- a class more
 
 two_more : (keys : List (ℕ × ℕ)) (ends : List End) (last : List ℕ) (codes : ℕ × ℕ) → codes.0 < length last → codes.1 < length last → HasClasses keys ends last
-    → (mid new : List End) (mid_last new_last : List ℕ) → AddsEnd ends mid last mid_last codes.0 → AddsEnd mid new mid_last new_last codes.1 → EntersClass keys (keys ++ codes ∷ []) ends new last new_last codes (length keys)
+    → (mid new : List End) (mid_last new_last : List ℕ) → AddsEnd ends mid last mid_last codes.0 → AddsEnd mid new mid_last new_last codes.1
+    → EntersClass keys (keys ++ codes ∷ []) ends new last new_last codes (length keys)
 two_more keys ends last codes a b has mid new mid_last new_last one two =
     let first : End = record { code = codes.0; earlier = get_or last codes.0 0 } in
     let second : End = record { code = codes.1; earlier = get_or mid_last codes.1 0 } in
     let room_one : length mid_last ≡ length last = ap length one.last_is ∙ length-set last codes.0 (suc (length ends)) in
     let room_two : length new_last ≡ length mid_last = ap length two.last_is ∙ length-set mid_last codes.1 (suc (length mid)) in
-    let linked_one : AreLinked mid mid_last = subst (λ l. AreLinked mid l) (sym one.last_is) (subst (λ e. AreLinked e (set last codes.0 (suc (length ends)))) (sym one.ends_are) (linked_more ends last codes.0 a has.linked)) in
+    let linked_one : AreLinked mid mid_last = subst (λ l. AreLinked mid l) (sym one.last_is)
+    (subst (λ e. AreLinked e (set last codes.0 (suc (length ends)))) (sym one.ends_are) (linked_more ends last codes.0 a has.linked)) in
     let linked_two : AreLinked new new_last =
-    subst (λ l. AreLinked new l) (sym two.last_is) (subst (λ e. AreLinked e (set mid_last codes.1 (suc (length mid)))) (sym two.ends_are) (linked_more mid mid_last codes.1 (omega (arith, b, room_one)) linked_one)) in
+    subst (λ l. AreLinked new l) (sym two.last_is) (subst (λ e. AreLinked e (set mid_last codes.1 (suc (length mid)))) (sym two.ends_are)
+    (linked_more mid mid_last codes.1 (omega (arith, b, room_one)) linked_one)) in
     let grows : new ≡ ends ++ (first ∷ second ∷ []) = two.ends_are ∙ ap (λ l. l ++ second ∷ []) one.ends_are ∙ append_assoc ends (first ∷ []) (second ∷ []) in
     let lens = length-append ends (first ∷ second ∷ []) in
     let all = ap length grows in
@@ -97,7 +106,12 @@ two_more keys ends last codes a b has mid new mid_last new_last one two =
           | inr last_one ↦
               let even : 2 * class ≡ length ends = let same = last_one.0 in omega (arith, same, count) in
               let odd : suc (2 * class) ≡ length (ends ++ first ∷ []) = let l = length-append ends (first ∷ []) in omega (arith, even, l) in (
-                (first, ap (λ l. slice_get l (2 * class)) grows ∙ ap (slice_get (ends ++ first ∷ second ∷ [])) even ∙ slice_get-seam ends first (second ∷ []), sym (ap (λ (k : ℕ × ℕ). k.0) last_one.1)),
+                (
+                  first,
+                  ap (λ l. slice_get l (2 * class)) grows ∙ ap (slice_get (ends ++ first ∷ second ∷ [])) even
+                      ∙ slice_get-seam ends first (second ∷ []),
+                  sym (ap (λ (k : ℕ × ℕ). k.0) last_one.1),
+                ),
                 (
                   second,
                   ap (λ l. slice_get l (suc (2 * class))) (grows ∙ sym (append_assoc ends (first ∷ []) (second ∷ []))) ∙ ap (slice_get ((ends ++ first ∷ []) ++ second ∷ [])) odd
@@ -115,7 +129,8 @@ two_more keys ends last codes a b has mid new mid_last new_last one two =
     }
 
 -- a class that is there
-pub class_found : (keys new_keys : List (ℕ × ℕ)) (ends : List End) (last : List ℕ) (codes : ℕ × ℕ) (class : ℕ) → HasClasses keys ends last → new_keys ≡ (if list_any (same_key codes) keys then keys else keys ++ codes ∷ []) → class ≡ position_or_len (same_key codes) keys
+pub class_found : (keys new_keys : List (ℕ × ℕ)) (ends : List End) (last : List ℕ) (codes : ℕ × ℕ) (class : ℕ) → HasClasses keys ends last
+    → new_keys ≡ (if list_any (same_key codes) keys then keys else keys ++ codes ∷ []) → class ≡ position_or_len (same_key codes) keys
     → false ≡ not (list_any (same_key codes) keys) → EntersClass keys new_keys ends ends last last codes class
 class_found keys new_keys ends last codes class has e at old = by_test (list_any (same_key codes) keys) refl
   where
@@ -134,7 +149,8 @@ class_found keys new_keys ends last codes class has e at old = by_test (list_any
     by_test false q = let no_new = old ∙ ap not q in absurd (cc)
 
 -- a class that is new
-pub class_new : (keys new_keys : List (ℕ × ℕ)) (ends mid new : List End) (last mid_last new_last : List ℕ) (codes : ℕ × ℕ) (class : ℕ) → codes.0 < length last → codes.1 < length last → HasClasses keys ends last
+pub class_new : (keys new_keys : List (ℕ × ℕ)) (ends mid new : List End) (last mid_last new_last : List ℕ) (codes : ℕ × ℕ) (class : ℕ)
+    → codes.0 < length last → codes.1 < length last → HasClasses keys ends last
     → new_keys ≡ (if list_any (same_key codes) keys then keys else keys ++ codes ∷ []) → class ≡ position_or_len (same_key codes) keys → true ≡ not (list_any (same_key codes) keys)
     → AddsEnd ends mid last mid_last codes.0 → AddsEnd mid new mid_last new_last codes.1 → EntersClass keys new_keys ends new last new_last codes class
 class_new keys new_keys ends mid new last mid_last new_last codes class a b has e at is one two = by_test (list_any (same_key codes) keys) refl

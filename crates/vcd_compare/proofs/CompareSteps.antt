@@ -17,7 +17,8 @@ no_mark_above to (BodyItem.Begin s) none = refl
 no_mark_above to BodyItem.End none = refl
 no_mark_above to (BodyItem.Changes c) none = refl
 
-one_more : (to : ℕ) (items : List BodyItem) (x : BodyItem) → list_any (is_mark_above to) items ≡ false → is_mark_above to x ≡ false → list_any (is_mark_above to) (items ++ x ∷ []) ≡ false
+one_more : (to : ℕ) (items : List BodyItem) (x : BodyItem) → list_any (is_mark_above to) items ≡ false → is_mark_above to x ≡ false
+    → list_any (is_mark_above to) (items ++ x ∷ []) ≡ false
 one_more to items x on none = list_any-append (is_mark_above to) items (x ∷ []) ∙ or_from _ _ on (rw none refl)
 
 pub same_time : (items : List BodyItem) (x : BodyItem) → marks (x ∷ []) ≡ [] → time_after (items ++ x ∷ []) ≡ time_after items
@@ -47,7 +48,8 @@ current_still c h items x none current = record {
 
 -- ---- no timestamp
 
-module _ (h : Header) (exceptions : List (List ℕ)) (ns : List Names) (items : List BodyItem) (x : BodyItem) (c : Comparison) (w : Watched) (stands : Compares h exceptions ns items c w) (other : marks (x ∷ []) ≡ []) where
+module _ (h : Header) (exceptions : List (List ℕ)) (ns : List Names) (items : List BodyItem) (x : BodyItem) (c : Comparison) (w : Watched)
+    (stands : Compares h exceptions ns items c w) (other : marks (x ∷ []) ≡ []) where
   abbrev q : ModelAsked
   q = model_asked c.current.asked exceptions
 
@@ -55,7 +57,9 @@ module _ (h : Header) (exceptions : List (List ℕ)) (ns : List Names) (items : 
   open_same = open_other q h ns items x other
 
   -- with other states and flags
-  pub compares_with : (c' : Comparison) (w' : Watched) → c'.current.pairs.now ≡ c.current.pairs.now → c'.current.asked ≡ c.current.asked → w'.at ≡ w.at → AreCurrent c'.current h (items ++ x ∷ []) → AreFlags c.current.pairs.now h q (items ++ x ∷ []) c'.flags.bytes.now → Compares h exceptions ns (items ++ x ∷ []) c' w'
+  pub compares_with : (c' : Comparison) (w' : Watched) → c'.current.pairs.now ≡ c.current.pairs.now → c'.current.asked ≡ c.current.asked
+      → w'.at ≡ w.at → AreCurrent c'.current h (items ++ x ∷ []) → AreFlags c.current.pairs.now h q (items ++ x ∷ []) c'.flags.bytes.now
+      → Compares h exceptions ns (items ++ x ∷ []) c' w'
   compares_with c' w' pairs asked at current flags = record {
     pairs = rw (pairs, asked) stands.pairs;
     current = current;
@@ -72,7 +76,9 @@ module _ (h : Header) (exceptions : List (List ℕ)) (ns : List Names) (items : 
     many = stands.flags.many;
     each = λ class p below is.
         stands.flags.each class p below is
-        ∙ sym (flag_same q items (items ++ x ∷ []) (code_of p.one) (code_of p.other) (state_other items x (code_of p.one) (none (code_of p.one))) (state_other items x (code_of p.other) (none (code_of p.other))) (compared_other q items x other) (settled_other q items x other) (changes_other items x (code_of p.one) (none (code_of p.one))) (changes_other items x (code_of p.other) (none (code_of p.other))));
+        ∙ sym (flag_same q items (items ++ x ∷ []) (code_of p.one) (code_of p.other) (state_other items x (code_of p.one) (none (code_of p.one)))
+        (state_other items x (code_of p.other) (none (code_of p.other))) (compared_other q items x other) (settled_other q items x other)
+        (changes_other items x (code_of p.one) (none (code_of p.one))) (changes_other items x (code_of p.other) (none (code_of p.other))));
   }
 
   pub compares_still : ((d : IdCode) → gives_to d x ≡ false) → Compares h exceptions ns (items ++ x ∷ []) c w
@@ -88,7 +94,8 @@ module _ (h : Header) (exceptions : List (List ℕ)) (ns : List Names) (items : 
 
 -- ---- a timestamp
 
-module _ (h : Header) (exceptions : List (List ℕ)) (ns : List Names) (items : List BodyItem) (t : ℕ) (c : Comparison) (w : Watched) (stands : Compares h exceptions ns items c w) (forth : time_after items ≤ t) where
+module _ (h : Header) (exceptions : List (List ℕ)) (ns : List Names) (items : List BodyItem) (t : ℕ) (c : Comparison) (w : Watched)
+    (stands : Compares h exceptions ns items c w) (forth : time_after items ≤ t) where
   abbrev asked : ModelAsked
   asked = model_asked c.current.asked exceptions
 
@@ -108,7 +115,11 @@ module _ (h : Header) (exceptions : List (List ℕ)) (ns : List Names) (items : 
       record {
         pairs = stands.pairs;
         current = current_after;
-        flags = record { many = stands.flags.many; each = λ class p below is. stands.flags.each class p below is ∙ sym (flag_again asked items t stands.up up_after low (code_of p.one) (code_of p.other)) };
+        flags = record {
+          many = stands.flags.many;
+          each = λ class p below is. stands.flags.each class p below is
+              ∙ sym (flag_again asked items t stands.up up_after low (code_of p.one) (code_of p.other));
+        };
         at = same ∙ stands.at ∙ sym (compared_again asked items t stands.up up_after low);
         up = up_after;
         quiet = λ e. quiet_again asked h ns items t stands.up up_after low (stands.quiet e);
@@ -131,7 +142,8 @@ module _ (h : Header) (exceptions : List (List ℕ)) (ns : List Names) (items : 
     NoneNow = asked.extent ≡ Extent.First → list_any (λ p. differs asked.rule (side items) (side items) p (time_compared asked items)) (compared_in asked h ns) ≡ false
 
     pub compares_later : (c' : Comparison) (w' : Watched) → c'.current ≡ c.current → w'.at ≡ t → length c'.flags.bytes.now ≡ length c.flags.bytes.now
-        → ((k : ℕ) → k < length c.flags.bytes.now → get_or c'.flags.bytes.now k 0 ≡ settled_flag asked.extent (get_or c.flags.bytes.now k 0)) → NoneNow → Compares h exceptions ns after c' w'
+        → ((k : ℕ) → k < length c.flags.bytes.now → get_or c'.flags.bytes.now k 0 ≡ settled_flag asked.extent (get_or c.flags.bytes.now k 0))
+        → NoneNow → Compares h exceptions ns after c' w'
     compares_later c' w' same at many each none = record {
       pairs = rw same stands.pairs;
       current = rw same current_after;
@@ -153,7 +165,8 @@ module _ (h : Header) (exceptions : List (List ℕ)) (ns : List Names) (items : 
 
 -- ---- a section
 
-pub section_quiet : (codes : List IdCode) (text : List ℕ) (item : Item) (x : BodyItem) → IsSection item → IsItem codes text item x → (marks (x ∷ []) ≡ []) × ((d : IdCode) → gives_to d x ≡ false)
+pub section_quiet : (codes : List IdCode) (text : List ℕ) (item : Item) (x : BodyItem) → IsSection item → IsItem codes text item x
+    → (marks (x ∷ []) ≡ []) × ((d : IdCode) → gives_to d x ≡ false)
 section_quiet codes text (Time t) x section is = absurd section
 section_quiet codes text (Begin s) x section is = rw is (refl, λ d. refl)
 section_quiet codes text End x section is = rw is (refl, λ d. refl)
@@ -161,7 +174,9 @@ section_quiet codes text (Change place form) x section is = absurd section
 section_quiet codes text Finish x section is = absurd section
 
 -- an item that is neither a timestamp nor a change
-pub other_quiet : (codes : List IdCode) (text : List ℕ) (item : Item) (x : BodyItem) → ((time : ℕ) → item ≡ Time time → ⊥) → ((place : ℕ) (form : Form) → item ≡ Change place form → ⊥) → IsItem codes text item x → (marks (x ∷ []) ≡ []) × ((d : IdCode) → gives_to d x ≡ false)
+pub other_quiet : (codes : List IdCode) (text : List ℕ) (item : Item) (x : BodyItem) → ((time : ℕ) → item ≡ Time time → ⊥)
+    → ((place : ℕ) (form : Form) → item ≡ Change place form → ⊥) → IsItem codes text item x → (marks (x ∷ []) ≡ [])
+    × ((d : IdCode) → gives_to d x ≡ false)
 other_quiet codes text (Time t) x no_time no_change is = absurd (no_time t refl)
 other_quiet codes text (Begin s) x no_time no_change is = rw is (refl, λ d. refl)
 other_quiet codes text End x no_time no_change is = rw is (refl, λ d. refl)
@@ -189,7 +204,8 @@ none_from n (f ∷ fs) (suc k) e = none_from (n + cond (f == 1) 1 0) fs k e
 pub none_flagged : (flags : List ℕ) (k : ℕ) → differing flags ≡ 0 → (get_or flags k 0 == 1) ≡ false
 none_flagged flags k e = none_from 0 flags k e
 
-flag_now : (q : ModelAsked) (items : List BodyItem) (a b : IdCode) → q.extent ≡ Extent.First → had_line q items a b ≡ false → (flag_of q items a b == 1) ≡ codes_differ q.rule items a b (time_compared q items)
+flag_now : (q : ModelAsked) (items : List BodyItem) (a b : IdCode) → q.extent ≡ Extent.First → had_line q items a b ≡ false
+    → (flag_of q items a b == 1) ≡ codes_differ q.rule items a b (time_compared q items)
 unfolding flag_of
 flag_now q items a b e none = rw (e, none) (by_now (codes_differ q.rule items a b (time_compared q items)))
   where
@@ -202,7 +218,9 @@ module _ (ps : Pairs) (h : Header) (q : ModelAsked) (ns : List Names) (items : L
   class_below : (r : PairRow) (p : Pair) → IsPairAt h ps.ends.items r p → r.class < ps.classes
   class_below r p at = by_case (slice_get_cases ps.ends.items (2 * r.class)).1
     where
-      by_case : ((y : PairEnd) × (2 * r.class < length ps.ends.items) × (slice_get ps.ends.items (2 * r.class) ≡ Some y) × (get_or ps.ends.items (2 * r.class) y ≡ y)) ⊎ ((length ps.ends.items ≤ 2 * r.class) × (slice_get ps.ends.items (2 * r.class) ≡ None)) → r.class < ps.classes
+      by_case : ((y : PairEnd) × (2 * r.class < length ps.ends.items) × (slice_get ps.ends.items (2 * r.class) ≡ Some y)
+          × (get_or ps.ends.items (2 * r.class) y ≡ y)) ⊎ ((length ps.ends.items ≤ 2 * r.class) × (slice_get ps.ends.items (2 * r.class) ≡ None))
+          → r.class < ps.classes
       by_case (inl within) = let l = within.1 in let all = pairs.classes in omega arith
       by_case (inr past) = let no = sym past.1 ∙ at.class.one.1 in cc
 
@@ -218,14 +236,16 @@ module _ (ps : Pairs) (h : Header) (q : ModelAsked) (ns : List Names) (items : L
   pub none_for_all : differing flags ≡ 0 → AllByRecursion (λ p. (flag_for q items p == 1) ≡ false) (compared_in q h ns)
   none_for_all none = each_row ps.rows.items (compared_in q h ns) pairs.rows none
 
-none_differ : (q : ModelAsked) (items : List BodyItem) (ps : List Pair) → q.extent ≡ Extent.First → AllByRecursion (λ p. (flag_for q items p == 1) ≡ false) ps → AllByRecursion (λ p. had_line q items (code_of p.one) (code_of p.other) ≡ false) ps
+none_differ : (q : ModelAsked) (items : List BodyItem) (ps : List Pair) → q.extent ≡ Extent.First
+    → AllByRecursion (λ p. (flag_for q items p == 1) ≡ false) ps → AllByRecursion (λ p. had_line q items (code_of p.one) (code_of p.other) ≡ false) ps
     → list_any (λ p. differs q.rule (side items) (side items) p (time_compared q items)) ps ≡ false
 none_differ q items [] e flags had = refl
 none_differ q items (p ∷ ps) e flags had = or_from _ _ (sym (flag_now q items (code_of p.one) (code_of p.other) e had.0) ∙ flags.0) (none_differ q items ps e flags.1 had.1)
 
 -- ---- a timestamp before which the walk does not stop
 
-module _ (h : Header) (exceptions : List (List ℕ)) (ns : List Names) (items : List BodyItem) (t : ℕ) (c : Comparison) (w : Watched) (stands : Compares h exceptions ns items c w) (forth : time_after items ≤ t) (counted : IsCounted w c) (on : stops_before w c t ≡ false) where
+module _ (h : Header) (exceptions : List (List ℕ)) (ns : List Names) (items : List BodyItem) (t : ℕ) (c : Comparison) (w : Watched)
+    (stands : Compares h exceptions ns items c w) (forth : time_after items ≤ t) (counted : IsCounted w c) (on : stops_before w c t ≡ false) where
   abbrev its : ModelAsked
   its = model_asked c.current.asked exceptions
 
@@ -243,10 +263,12 @@ module _ (h : Header) (exceptions : List (List ℕ)) (ns : List Names) (items : 
       by_test true e = cc
       by_test false e = refl
 
-  pub timestamp_on : (w' : Watched) → w'.at ≡ max w.at t → Compares h exceptions ns (items ++ BodyItem.Time t ∷ []) c w' × (within_open its h ns (items ++ BodyItem.Time t ∷ []) ≡ within_open its h ns items)
+  pub timestamp_on : (w' : Watched) → w'.at ≡ max w.at t → Compares h exceptions ns (items ++ BodyItem.Time t ∷ []) c w'
+      × (within_open its h ns (items ++ BodyItem.Time t ∷ []) ≡ within_open its h ns items)
   timestamp_on w' at = by_order (cases_lt w.at t)
     where
-      by_order : (w.at < t) ⊎ (t ≤ w.at) → Compares h exceptions ns (items ++ BodyItem.Time t ∷ []) c w' × (within_open its h ns (items ++ BodyItem.Time t ∷ []) ≡ within_open its h ns items)
+      by_order : (w.at < t) ⊎ (t ≤ w.at) → Compares h exceptions ns (items ++ BodyItem.Time t ∷ []) c w'
+          × (within_open its h ns (items ++ BodyItem.Time t ∷ []) ≡ within_open its h ns items)
       by_order (inl high) =
           let none = none_one high in
           let flags = none_for_all c.current.pairs.now h its ns items c.flags.bytes.now stands.pairs stands.flags none in (

@@ -34,7 +34,9 @@ below_all : (last : ℕ) (f test : ℕ → Bool) (ts : List ℕ) → AllByRecurs
 below_all last f test [] low = refl
 below_all last f test (t ∷ ts) low = by_test (test t) (below_all last f test ts low.1)
   where
-    by_test : (b : Bool) → list_any (λ u. nat_lt u last && f u) (filter test ts) ≡ list_any f (filter test ts) → list_any (λ u. nat_lt u last && f u) (cond b (t ∷ filter test ts) (filter test ts)) ≡ list_any f (cond b (t ∷ filter test ts) (filter test ts))
+    by_test : (b : Bool) → list_any (λ u. nat_lt u last && f u) (filter test ts) ≡ list_any f (filter test ts)
+        → list_any (λ u. nat_lt u last && f u) (cond b (t ∷ filter test ts) (filter test ts)) ≡ list_any f
+        (cond b (t ∷ filter test ts) (filter test ts))
     by_test true e = rw (lt-ltb t last low.0, e) refl
     by_test false e = e
 
@@ -97,13 +99,15 @@ pub none_had : (q : Asked) (items : List BodyItem) (ps : List Pair) (ts : List �
 none_had q items [] ts e = tt
 none_had q items (p ∷ ps) ts e = (first ts e, none_had q items ps ts (others ts e))
   where
-    first : (ts : List ℕ) → list_any (λ u. list_any (λ o. differs q.rule (side items) (side items) o u) (p ∷ ps)) ts ≡ false → list_any (codes_differ q.rule items (code_of p.one) (code_of p.other)) ts ≡ false
+    first : (ts : List ℕ) → list_any (λ u. list_any (λ o. differs q.rule (side items) (side items) o u) (p ∷ ps)) ts ≡ false
+        → list_any (codes_differ q.rule items (code_of p.one) (code_of p.other)) ts ≡ false
     first [] e = refl
     first (t ∷ ts) e =
         let both = or_parts _ _ e in
         or_from _ _ (or_parts _ _ both.0).0 (first ts both.1)
 
-    others : (ts : List ℕ) → list_any (λ u. list_any (λ o. differs q.rule (side items) (side items) o u) (p ∷ ps)) ts ≡ false → list_any (λ u. list_any (λ o. differs q.rule (side items) (side items) o u) ps) ts ≡ false
+    others : (ts : List ℕ) → list_any (λ u. list_any (λ o. differs q.rule (side items) (side items) o u) (p ∷ ps)) ts ≡ false
+        → list_any (λ u. list_any (λ o. differs q.rule (side items) (side items) o u) ps) ts ≡ false
     others [] e = refl
     others (t ∷ ts) e =
         let both = or_parts _ _ e in
@@ -114,7 +118,8 @@ module _ (q : Asked) (h : Header) (ns : List Names) (items : List BodyItem) (up 
   line_for p = cond (flag_for q items p == 1) (value_line (side items) (side items) p (time_compared q items)) []
 
   lines_by_flags : (ps : List Pair) → (q.extent ≡ First → AllByRecursion (λ p. had_line q items (code_of p.one) (code_of p.other) ≡ false) ps)
-      → flat_map (λ p. cond (is_due q (side items) (side items) (compared_in q h ns) (times_in q items) (time_compared q items) p) (value_line (side items) (side items) p (time_compared q items)) []) ps ≡ flat_map line_for ps
+      → flat_map (λ p. cond (is_due q (side items) (side items) (compared_in q h ns) (times_in q items) (time_compared q items) p)
+      (value_line (side items) (side items) p (time_compared q items)) []) ps ≡ flat_map line_for ps
   lines_by_flags [] none = refl
   lines_by_flags (p ∷ ps) none =
       rw (due_by_flag q items up p (compared_in q h ns) (λ e. ((none e).0, quiet e)), lines_by_flags ps (λ e. (none e).1)) refl

@@ -15,7 +15,8 @@ one_from : (n : ℕ) (flags : List ℕ) → ones_from n flags ≢ n → (k : ℕ
 one_from n [] other = absurd (other refl)
 one_from n (f ∷ fs) other = by_test (f == 1) refl (one_from n fs)
   where
-    by_test : (b : Bool) → (f == 1) ≡ b → (ones_from n fs ≢ n → (k : ℕ) × (k < length fs) × (get_or fs k 0 ≡ 1)) → (k : ℕ) × (k < length (f ∷ fs)) × (get_or (f ∷ fs) k 0 ≡ 1)
+    by_test : (b : Bool) → (f == 1) ≡ b → (ones_from n fs ≢ n → (k : ℕ) × (k < length fs) × (get_or fs k 0 ≡ 1)) → (k : ℕ) × (k < length (f ∷ fs))
+        × (get_or (f ∷ fs) k 0 ≡ 1)
     by_test true e more = (0, omega arith, eqb-true f 1 e)
     by_test false e more =
         let rest = more (λ same. other (one_more n f fs e ∙ same)) in
@@ -41,7 +42,8 @@ more_lines (x ∷ a) b e = refl
 
 module _ (ps : Pairs) (h : Header) (q : Asked) (ns : List Names) (items : List BodyItem) (flags : List ℕ) (pairs : ArePairs ps h q ns) (are : AreFlags ps h q items flags) where
   -- each row has the flag of its pair
-  pub with_flags : (rows : List PairRow) (all : List Pair) → AllZip (IsPairAt h ps.ends.items) rows all → AllZip (λ row p. IsPairAt h ps.ends.items row p × (get_or flags row.class 0 ≡ flag_for q items p)) rows all
+  pub with_flags : (rows : List PairRow) (all : List Pair) → AllZip (IsPairAt h ps.ends.items) rows all
+      → AllZip (λ row p. IsPairAt h ps.ends.items row p × (get_or flags row.class 0 ≡ flag_for q items p)) rows all
   with_flags [] [] zip = tt
   with_flags [] (p ∷ all) zip = absurd zip
   with_flags (r ∷ rows) [] zip = absurd zip
@@ -53,7 +55,8 @@ module _ (ps : Pairs) (h : Header) (q : Asked) (ns : List Names) (items : List B
   has_line : (p : Pair) (rest : List ℕ) → flag_for q items p ≡ 1 → is_empty (line_now p ++ rest) ≡ false
   has_line p rest one = rw one refl
 
-  some_line : (rows : List PairRow) (all : List Pair) (n : ℕ) (r : PairRow) → AllZip (IsPairAt h ps.ends.items) rows all → slice_get rows n ≡ Some r → get_or flags r.class 0 ≡ 1 → is_empty (flat_map line_now all) ≡ false
+  some_line : (rows : List PairRow) (all : List Pair) (n : ℕ) (r : PairRow) → AllZip (IsPairAt h ps.ends.items) rows all → slice_get rows n ≡ Some r
+      → get_or flags r.class 0 ≡ 1 → is_empty (flat_map line_now all) ≡ false
   some_line [] all n r zip at one = cc
   some_line (r' ∷ rows) [] n r zip at one = absurd zip
   some_line (r' ∷ rows) (p ∷ all) zero r zip at one =
@@ -69,7 +72,8 @@ module _ (ps : Pairs) (h : Header) (q : Asked) (ns : List Names) (items : List B
       let row = pairs.covered one.0 (omega arith) in
       some_line ps.rows.items (compared_in q h ns) row.0 row.1 pairs.rows row.2 (ap (λ (k : ℕ). get_or flags k 0) row.3 ∙ one.2)
 
-  pub due_some : DoNotFall 0 (marks items) → (q.extent ≡ Extent.First → IsQuiet q h ns items) → time_compared q items ≤ q.to → 0 < differing flags → is_empty (lines_due q h ns items) ≡ false
+  pub due_some : DoNotFall 0 (marks items) → (q.extent ≡ Extent.First → IsQuiet q h ns items) → time_compared q items ≤ q.to → 0 < differing flags
+      → is_empty (lines_due q h ns items) ≡ false
   due_some up quiet asked some = ap is_empty (due_by_flags q h ns items up quiet) ∙ rw (le-leb (time_compared q items) q.to asked) (lines_some some)
 
 -- ---- no lines where no pair differs
@@ -78,8 +82,12 @@ module _ (q : Asked) (items : List BodyItem) (all : List Pair) (ts : List ℕ) w
   none_at : (t : ℕ) (ps : List Pair) → list_any (λ p. differs q.rule (side items) (side items) p t) ps ≡ false
       → flat_map (λ p. cond (is_due q (side items) (side items) all ts t p) (value_line (side items) (side items) p t) []) ps ≡ []
   none_at t [] none = refl
-  none_at t (p ∷ ps) none = let both = or_parts (differs q.rule (side items) (side items) p t) (list_any (λ o. differs q.rule (side items) (side items) o t) ps) none in rw (both.0, none_at t ps both.1) refl
+  none_at t (p ∷ ps) none = let both = or_parts (differs q.rule (side items) (side items) p t)
+      (list_any (λ o. differs q.rule (side items) (side items) o t) ps) none in rw (both.0, none_at t ps both.1) refl
 
-  pub none_of_times : (us : List ℕ) → list_any (λ u. list_any (λ p. differs q.rule (side items) (side items) p u) all) us ≡ false → flat_map (lines_at q all (side items) (side items) ts) us ≡ []
+  pub none_of_times : (us : List ℕ) → list_any (λ u. list_any (λ p. differs q.rule (side items) (side items) p u) all) us ≡ false
+      → flat_map (lines_at q all (side items) (side items) ts) us ≡ []
   none_of_times [] none = refl
-  none_of_times (u ∷ us) none = let both = or_parts (list_any (λ p. differs q.rule (side items) (side items) p u) all) (list_any (λ v. list_any (λ p. differs q.rule (side items) (side items) p v) all) us) none in rw (none_at u all both.0, none_of_times us both.1) refl
+  none_of_times (u ∷ us) none = let both = or_parts (list_any (λ p. differs q.rule (side items) (side items) p u) all)
+      (list_any (λ v. list_any (λ p. differs q.rule (side items) (side items) p v) all) us) none in
+      rw (none_at u all both.0, none_of_times us both.1) refl

@@ -89,7 +89,8 @@ or_more false true c e = refl
 or_more false false c e = e
 
 module _ (q : Asked) (h : Header) (ns : List Names) where
-  same_open : (items : List BodyItem) (x : BodyItem) → DoNotFall 0 (marks (items ++ x ∷ [])) → ends_run q h ns items ≡ true → within_open q h ns (items ++ x ∷ []) ≡ within_open q h ns items
+  same_open : (items : List BodyItem) (x : BodyItem) → DoNotFall 0 (marks (items ++ x ∷ [])) → ends_run q h ns items ≡ true
+      → within_open q h ns (items ++ x ∷ []) ≡ within_open q h ns items
   same_open items (BodyItem.Time t) up ends = by_order (cases_lt (time_compared q items) t)
     where
       by_order : (time_compared q items < t) ⊎ (t ≤ time_compared q items) → within_open q h ns (items ++ BodyItem.Time t ∷ []) ≡ within_open q h ns items
@@ -102,7 +103,8 @@ module _ (q : Asked) (h : Header) (ns : List Names) where
   same_open items (BodyItem.Changes c) up ends = open_other q h ns items (BodyItem.Changes c) refl
 
   -- these items end the run too
-  still_ends : (items : List BodyItem) (x : BodyItem) → within_open q h ns (items ++ x ∷ []) ≡ within_open q h ns items → ends_run q h ns items ≡ true → ends_run q h ns (items ++ x ∷ []) ≡ true
+  still_ends : (items : List BodyItem) (x : BodyItem) → within_open q h ns (items ++ x ∷ []) ≡ within_open q h ns items
+      → ends_run q h ns items ≡ true → ends_run q h ns (items ++ x ∷ []) ≡ true
   unfolding within_open
   still_ends items x same ends =
       let lines : lines_where q h ns (items ++ x ∷ []) (is_settled (items ++ x ∷ [])) ≡ lines_where q h ns items (is_settled items) = append_cancel_left (within_head q h ns) _ _ same in

@@ -7,12 +7,14 @@ use Rattle.vcd_compare.proofs.TriggerLemmas.{gives_no_other}
 use Rattle.vcd_compare.proofs.PairLemmas.{fit_events, marked_many, marked_other, marked_there, pair_of_class}
 
 -- the code of the first end of a class is that of the first variable
-first_code : (h : Header) (ps : Pairs) (class : ℕ) (p : Pair) (e : End) → IsClassOf h ps.ends.items class p → slice_get ps.ends.items (2 * class) ≡ Some e → slice_get h.codes e.code ≡ Some (code_of p.one)
+first_code : (h : Header) (ps : Pairs) (class : ℕ) (p : Pair) (e : End) → IsClassOf h ps.ends.items class p
+    → slice_get ps.ends.items (2 * class) ≡ Some e → slice_get h.codes e.code ≡ Some (code_of p.one)
 first_code h ps class p e is there =
     let same : is.one.0 ≡ e = same_Some is.one.0 e (sym is.one.1 ∙ there) in
     subst (λ (f : End). slice_get h.codes f.code ≡ Some (code_of p.one)) same is.one.2
 
-other_code : (h : Header) (ps : Pairs) (class : ℕ) (p : Pair) (e : End) → IsClassOf h ps.ends.items class p → slice_get ps.ends.items (suc (2 * class)) ≡ Some e → slice_get h.codes e.code ≡ Some (code_of p.other)
+other_code : (h : Header) (ps : Pairs) (class : ℕ) (p : Pair) (e : End) → IsClassOf h ps.ends.items class p
+    → slice_get ps.ends.items (suc (2 * class)) ≡ Some e → slice_get h.codes e.code ≡ Some (code_of p.other)
 other_code h ps class p e is there =
     let same : is.other.0 ≡ e = same_Some is.other.0 e (sym is.other.1 ∙ there) in
     subst (λ (f : End). slice_get h.codes f.code ≡ Some (code_of p.other)) same is.other.2
@@ -24,7 +26,8 @@ IsEnd i class = ((i ≡ 2 * class) × (partner i ≡ suc (2 * class)) × ((i % 2
 end_is : (i : ℕ) → IsEnd i (i / 2)
 end_is i = by_test (i % 2 == 0) refl
   where
-    by_test : (b : Bool) → (i % 2 == 0) ≡ b → ((i ≡ 2 * (i / 2)) × (cond b (i + 1) (i - 1) ≡ suc (2 * (i / 2))) × (b ≡ true)) ⊎ ((i ≡ suc (2 * (i / 2))) × (cond b (i + 1) (i - 1) ≡ 2 * (i / 2)) × (b ≡ false))
+    by_test : (b : Bool) → (i % 2 == 0) ≡ b → ((i ≡ 2 * (i / 2)) × (cond b (i + 1) (i - 1) ≡ suc (2 * (i / 2))) × (b ≡ true))
+        ⊎ ((i ≡ suc (2 * (i / 2))) × (cond b (i + 1) (i - 1) ≡ 2 * (i / 2)) × (b ≡ false))
     by_test true e = let zero = eqb-true (i % 2) 0 e in inl (omega arith, omega arith, refl)
     by_test false e = let some = eqb-false (i % 2) 0 e in inr (omega arith, omega arith, refl)
 
@@ -39,7 +42,8 @@ new_flag old now d e f (inl is) = rw is (by_tests (old == 2) d e)
     by_tests false true e = rw e refl
     by_tests false false e = rw e refl
 
-module _ (v : HeadView) (c : Current) (n at : ℕ) (old : List ℕ) (h : Header) (exceptions : List (List ℕ)) (ns : List Names) (items : List BodyItem) (x : BodyItem) (a : IdCode) (g : GivesNew v c n at old h exceptions ns items x a) where
+module _ (v : HeadView) (c : Current) (n at : ℕ) (old : List ℕ) (h : Header) (exceptions : List (List ℕ)) (ns : List Names) (items : List BodyItem)
+    (x : BodyItem) (a : IdCode) (g : GivesNew v c n at old h exceptions ns items x a) where
   abbrev q : ModelAsked
   q = model_asked c.asked exceptions
 
@@ -54,7 +58,8 @@ module _ (v : HeadView) (c : Current) (n at : ℕ) (old : List ℕ) (h : Header)
   in_codes : n < length h.codes
   in_codes = by_case (slice_get_cases h.codes n).1
     where
-      by_case : ((y : IdCode) × (n < length h.codes) × (slice_get h.codes n ≡ Some y) × (get_or h.codes n y ≡ y)) ⊎ ((length h.codes ≤ n) × (slice_get h.codes n ≡ None)) → n < length h.codes
+      by_case : ((y : IdCode) × (n < length h.codes) × (slice_get h.codes n ≡ Some y) × (get_or h.codes n y ≡ y))
+          ⊎ ((length h.codes ≤ n) × (slice_get h.codes n ≡ None)) → n < length h.codes
       by_case (inl within) = within.1
       by_case (inr past) = let no = sym past.1 ∙ g.there in cc
 
@@ -73,7 +78,8 @@ module _ (v : HeadView) (c : Current) (n at : ℕ) (old : List ℕ) (h : Header)
       by_end (inl (is, its, even)) = let low = end_below i e there in let all = g.pairs.classes in omega (arith, is, its, low, all)
       by_end (inr (is, its, odd)) = let low = end_below i e there in omega (arith, is, its, low)
 
-      by_case : ((y : End) × (partner i < length ends) × (slice_get ends (partner i) ≡ Some y) × (get_or ends (partner i) y ≡ y)) ⊎ ((length ends ≤ partner i) × (slice_get ends (partner i) ≡ None)) → ⊥
+      by_case : ((y : End) × (partner i < length ends) × (slice_get ends (partner i) ≡ Some y) × (get_or ends (partner i) y ≡ y))
+          ⊎ ((length ends ≤ partner i) × (slice_get ends (partner i) ≡ None)) → ⊥
       by_case (inl within) = let no = sym none ∙ within.2 in cc
       by_case (inr past) = let low = by_end (end_is i) in absurd (omega (arith, past.0, low))
 
@@ -103,13 +109,15 @@ module _ (v : HeadView) (c : Current) (n at : ℕ) (old : List ℕ) (h : Header)
 
   flag_stays : (one other : IdCode) → gives_to one x ≡ false → gives_to other x ≡ false → flag_of q (items ++ x ∷ []) one other ≡ flag_of q items one other
   flag_stays one other e f =
-      flag_same q items (items ++ x ∷ []) one other (state_other items x one e) (state_other items x other f) (compared_other q items x g.other) (settled_other q items x g.other) (changes_other items x one e) (changes_other items x other f)
+      flag_same q items (items ++ x ∷ []) one other (state_other items x one e) (state_other items x other f) (compared_other q items x g.other)
+      (settled_other q items x g.other) (changes_other items x one e) (changes_other items x other f)
 
   pub marked_last : (flags : List ℕ) → AreMarked ps h q items (items ++ x ∷ []) n 0 flags → AreFlags ps h q (items ++ x ∷ []) flags
   marked_last flags m = record { many = m.many; each = λ class p below is. by_case class p is (m.each class p below is) }
     where
       by_case : (class : ℕ) (p : Pair) → IsClassOf h ends class p
-          → (get_or flags class 0 ≡ flag_of q (items ++ x ∷ []) (code_of p.one) (code_of p.other)) ⊎ ((get_or flags class 0 ≡ flag_of q items (code_of p.one) (code_of p.other)) × HasNoEnd ends n class 0)
+          → (get_or flags class 0 ≡ flag_of q (items ++ x ∷ []) (code_of p.one) (code_of p.other))
+          ⊎ ((get_or flags class 0 ≡ flag_of q items (code_of p.one) (code_of p.other)) × HasNoEnd ends n class 0)
           → get_or flags class 0 ≡ flag_of q (items ++ x ∷ []) (code_of p.one) (code_of p.other)
       by_case class p is (inl done) = done
       by_case class p is (inr stays) =
@@ -139,12 +147,14 @@ module _ (v : HeadView) (c : Current) (n at : ℕ) (old : List ℕ) (h : Header)
     -- what the codes of two ends say of a change, the codes of their pair say too
     abbrev TellsOf : IdCode → Type 0
     TellsOf b = (p : Pair) → IsClassOf h ends class p
-        → (differ_from (i % 2 == 0) (rule_of c.asked) (items ++ x ∷ []) a b at ≡ codes_differ (rule_of c.asked) (items ++ x ∷ []) (code_of p.one) (code_of p.other) at) × ((gives_to (code_of p.one) x ≡ true) ⊎ (gives_to (code_of p.other) x ≡ true))
+        → (differ_from (i % 2 == 0) (rule_of c.asked) (items ++ x ∷ []) a b at ≡ codes_differ (rule_of c.asked) (items ++ x ∷ []) (code_of p.one)
+        (code_of p.other) at) × ((gives_to (code_of p.one) x ≡ true) ⊎ (gives_to (code_of p.other) x ≡ true))
 
     -- the code of the other end
     other_there : IsEnd i class → (b : IdCode) × AreCodes h n f.code a b × TellsOf b
     other_there (inl (at_is, its_at, even)) =
-        let first : (p : Pair) → IsClassOf h ends class p → a ≡ code_of p.one = λ p is. same_Some a (code_of p.one) (sym g.there ∙ ap (slice_get h.codes) (sym code) ∙ first_code h ps class p e is (rw at_is at there)) in
+        let first : (p : Pair) → IsClassOf h ends class p → a ≡ code_of p.one = λ p is. same_Some a (code_of p.one) (sym g.there
+        ∙ ap (slice_get h.codes) (sym code) ∙ first_code h ps class p e is (rw at_is at there)) in
         let second : (p : Pair) → IsClassOf h ends class p → slice_get h.codes f.code ≡ Some (code_of p.other) = λ p is. other_code h ps class p f is (rw its_at at its) in (
           code_of pair.0.other,
           record { one_is = g.there; other_is = second pair.0 pair.2; same = ap (λ (y : IdCode). y.event) (first pair.0 pair.2) ∙ fit_events pair.0 pair.1 },
@@ -157,7 +167,8 @@ module _ (v : HeadView) (c : Current) (n at : ℕ) (old : List ℕ) (h : Header)
               ),
         )
     other_there (inr (at_is, its_at, odd)) =
-        let second : (p : Pair) → IsClassOf h ends class p → a ≡ code_of p.other = λ p is. same_Some a (code_of p.other) (sym g.there ∙ ap (slice_get h.codes) (sym code) ∙ other_code h ps class p e is (rw at_is at there)) in
+        let second : (p : Pair) → IsClassOf h ends class p → a ≡ code_of p.other = λ p is. same_Some a (code_of p.other) (sym g.there
+        ∙ ap (slice_get h.codes) (sym code) ∙ other_code h ps class p e is (rw at_is at there)) in
         let first : (p : Pair) → IsClassOf h ends class p → slice_get h.codes f.code ≡ Some (code_of p.one) = λ p is. first_code h ps class p f is (rw its_at at its) in (
           code_of pair.0.one,
           record { one_is = g.there; other_is = first pair.0 pair.2; same = ap (λ (y : IdCode). y.event) (second pair.0 pair.2) ∙ sym (fit_events pair.0 pair.1) },
@@ -173,17 +184,21 @@ module _ (v : HeadView) (c : Current) (n at : ℕ) (old : List ℕ) (h : Header)
     pub its_code : (b : IdCode) × AreCodes h n f.code a b × TellsOf b
     its_code = other_there (end_is i)
 
-    module _ (flags : List ℕ) (m : AreMarked ps h q items (items ++ x ∷ []) n (suc i) flags) (d : Bool) (d_is : d ≡ differ_from (i % 2 == 0) (rule_of c.asked) (items ++ x ∷ []) a its_code.0 at) where
+    module _ (flags : List ℕ) (m : AreMarked ps h q items (items ++ x ∷ []) n (suc i) flags) (d : Bool)
+        (d_is : d ≡ differ_from (i % 2 == 0) (rule_of c.asked) (items ++ x ∷ []) a its_code.0 at) where
       new_there : (p : Pair) → IsClassOf h ends class p → get_or (marked flags class d) class 0 ≡ flag_of q (items ++ x ∷ []) (code_of p.one) (code_of p.other)
       new_there p is =
           let tells = its_code.2 p is in
           let changed = flag_changed q items x g.other (code_of p.one) (code_of p.other) tells.1 in
-          let told : d ≡ codes_differ (rule_of c.asked) (items ++ x ∷ []) (code_of p.one) (code_of p.other) (time_compared q items) = d_is ∙ tells.0 ∙ ap (codes_differ (rule_of c.asked) (items ++ x ∷ []) (code_of p.one) (code_of p.other)) g.at_is in
+          let told : d ≡ codes_differ (rule_of c.asked) (items ++ x ∷ []) (code_of p.one) (code_of p.other) (time_compared q items) = d_is ∙ tells.0
+          ∙ ap (codes_differ (rule_of c.asked) (items ++ x ∷ []) (code_of p.one) (code_of p.other)) g.at_is in
           marked_there flags class d (let many = m.many in let low = below in omega arith)
-          ∙ new_flag (flag_of q items (code_of p.one) (code_of p.other)) (flag_of q (items ++ x ∷ []) (code_of p.one) (code_of p.other)) d (changed ∙ ap (λ b. cond (flag_of q items (code_of p.one) (code_of p.other) == 2) 2 (cond b 1 0)) (sym told)) (get_or flags class 0)
+          ∙ new_flag (flag_of q items (code_of p.one) (code_of p.other)) (flag_of q (items ++ x ∷ []) (code_of p.one) (code_of p.other)) d (changed
+          ∙ ap (λ b. cond (flag_of q items (code_of p.one) (code_of p.other) == 2) 2 (cond b 1 0)) (sym told)) (get_or flags class 0)
           (was (m.each class p below is))
         where
-          was : (get_or flags class 0 ≡ flag_of q (items ++ x ∷ []) (code_of p.one) (code_of p.other)) ⊎ ((get_or flags class 0 ≡ flag_of q items (code_of p.one) (code_of p.other)) × HasNoEnd ends n class (suc i))
+          was : (get_or flags class 0 ≡ flag_of q (items ++ x ∷ []) (code_of p.one) (code_of p.other))
+              ⊎ ((get_or flags class 0 ≡ flag_of q items (code_of p.one) (code_of p.other)) × HasNoEnd ends n class (suc i))
               → (get_or flags class 0 ≡ flag_of q (items ++ x ∷ []) (code_of p.one) (code_of p.other)) ⊎ (get_or flags class 0 ≡ flag_of q items (code_of p.one) (code_of p.other))
           was (inl done) = inl done
           was (inr stays) = inr stays.0
@@ -204,7 +219,15 @@ module _ (v : HeadView) (c : Current) (n at : ℕ) (old : List ℕ) (h : Header)
               again (inr back) = let same : j ≡ i = omega arith in absurd (apart (sym half ∙ ap (λ (m : ℕ). m / 2) same))
 
       pub marked_on : AreMarked ps h q items (items ++ x ∷ []) n (min e.earlier i) (marked flags class d)
-      marked_on = record { many = marked_many flags class d ∙ m.many; within = (let low = linked.within in let ends_in = in_ends in omega arith); next = λ j y at at_j. let within = linked.within in let its = linked.is j (omega arith) in let same : its.0 ≡ y = same_Some its.0 y (sym its.1 ∙ at_j) in ap (λ (z : End). z.code) (sym same) ∙ its.2 ∙ code; each = λ k p low is. by_class k p low is (k == class) refl }
+      marked_on = record {
+        many = marked_many flags class d ∙ m.many;
+        within = (let low = linked.within in let ends_in = in_ends in
+            omega arith);
+        next = λ j y at at_j. let within = linked.within in let its = linked.is j (omega arith) in
+            let same : its.0 ≡ y = same_Some its.0 y (sym its.1 ∙ at_j) in
+            ap (λ (z : End). z.code) (sym same) ∙ its.2 ∙ code;
+        each = λ k p low is. by_class k p low is (k == class) refl;
+      }
         where
           by_class : (k : ℕ) (p : Pair) → k < ps.classes → IsClassOf h ends k p → (b : Bool) → (k == class) ≡ b
               → (get_or (marked flags class d) k 0 ≡ flag_of q (items ++ x ∷ []) (code_of p.one) (code_of p.other))
@@ -212,7 +235,8 @@ module _ (v : HeadView) (c : Current) (n at : ℕ) (old : List ℕ) (h : Header)
           by_class k p low is true same = inl (rw (eqb-true k class same) (new_there p (subst (λ (j : ℕ). IsClassOf h ends j p) (eqb-true k class same) is)))
           by_class k p low is false other = by_case (m.each k p low is)
             where
-              by_case : (get_or flags k 0 ≡ flag_of q (items ++ x ∷ []) (code_of p.one) (code_of p.other)) ⊎ ((get_or flags k 0 ≡ flag_of q items (code_of p.one) (code_of p.other)) × HasNoEnd ends n k (suc i))
+              by_case : (get_or flags k 0 ≡ flag_of q (items ++ x ∷ []) (code_of p.one) (code_of p.other))
+                  ⊎ ((get_or flags k 0 ≡ flag_of q items (code_of p.one) (code_of p.other)) × HasNoEnd ends n k (suc i))
                   → (get_or (marked flags class d) k 0 ≡ flag_of q (items ++ x ∷ []) (code_of p.one) (code_of p.other))
                   ⊎ ((get_or (marked flags class d) k 0 ≡ flag_of q items (code_of p.one) (code_of p.other)) × HasNoEnd ends n k (min e.earlier i))
               by_case (inl done) = inl (marked_other flags class k d (eqb-false k class other) ∙ done)

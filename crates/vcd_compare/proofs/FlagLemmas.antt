@@ -38,7 +38,8 @@ changes_after c items t l =
 
 -- ---- items with which the two codes stay as they are
 
-module _ (q : Asked) (items items' : List BodyItem) (a b : IdCode) (state_a : (t : ℕ) → state_at 1 items' a t ≡ state_at 1 items a t) (state_b : (t : ℕ) → state_at 1 items' b t ≡ state_at 1 items b t) where
+module _ (q : Asked) (items items' : List BodyItem) (a b : IdCode) (state_a : (t : ℕ) → state_at 1 items' a t ≡ state_at 1 items a t)
+    (state_b : (t : ℕ) → state_at 1 items' b t ≡ state_at 1 items b t) where
   differ_same : (t : ℕ) → codes_differ q.rule items' a b t ≡ codes_differ q.rule items a b t
   differ_same t = rw (state_a t, state_b t) refl
 
@@ -57,7 +58,8 @@ module _ (q : Asked) (items items' : List BodyItem) (a b : IdCode) (state_a : (t
     pub flag_same : flag_of q items' a b ≡ flag_of q items a b
     unfolding flag_of
     flag_same =
-        ap (λ t. cond (is_always q.extent) (cond (codes_differ q.rule items' a b t && (t == q.from || changed_at items' a b t)) 1 0) (cond (had_line q items' a b) 2 (cond (codes_differ q.rule items' a b t) 1 0))) same_time
+        ap (λ t. cond (is_always q.extent) (cond (codes_differ q.rule items' a b t && (t == q.from || changed_at items' a b t)) 1 0)
+        (cond (had_line q items' a b) 2 (cond (codes_differ q.rule items' a b t) 1 0))) same_time
         ∙ rw (had_same, differ_same (time_compared q items), changed_same (time_compared q items)) refl
 
 -- ---- a change of one of the two
@@ -73,7 +75,8 @@ right_more false true s e = refl
 right_more false false s e = e
 
 -- a flag of 2 stays, and any other says whether the two differ now
-by_parts : (always had now was changed : Bool) → ◌≡◌ {A = ℕ} (cond always (cond (now && true) 1 0) (cond had 2 (cond now 1 0))) (cond (cond always (cond (was && changed) 1 0) (cond had 2 (cond was 1 0)) == 2) 2 (cond now 1 0))
+by_parts : (always had now was changed : Bool) → ◌≡◌ {A = ℕ} (cond always (cond (now && true) 1 0) (cond had 2 (cond now 1 0)))
+    (cond (cond always (cond (was && changed) 1 0) (cond had 2 (cond was 1 0)) == 2) 2 (cond now 1 0))
 by_parts true had true true true = refl
 by_parts true had true true false = refl
 by_parts true had true false changed = refl
@@ -94,7 +97,8 @@ module _ (q : Asked) (items : List BodyItem) (x : BodyItem) (other : marks (x �
   pub settled_other : filter (is_settled (items ++ x ∷ [])) (times_in q (items ++ x ∷ [])) ≡ filter (is_settled items) (times_in q items)
   settled_other = ap (λ ms. filter (λ t. list_any (nat_lt t) ms) (filter (λ t. nat_le q.from t && nat_le t q.to) (in_order (q.from ∷ ms)))) same_marks
 
-  pub any_settled : (f g : ℕ → Bool) (ts : List ℕ) → ((t : ℕ) → is_settled items t ≡ true → f t ≡ g t) → list_any f (filter (is_settled items) ts) ≡ list_any g (filter (is_settled items) ts)
+  pub any_settled : (f g : ℕ → Bool) (ts : List ℕ) → ((t : ℕ) → is_settled items t ≡ true → f t ≡ g t)
+      → list_any f (filter (is_settled items) ts) ≡ list_any g (filter (is_settled items) ts)
   any_settled f g [] same = refl
   any_settled f g (t ∷ ts) same = by_test (is_settled items t) refl (any_settled f g ts same)
     where
@@ -132,11 +136,16 @@ module _ (q : Asked) (items : List BodyItem) (x : BodyItem) (other : marks (x �
     changed_now (inl one) = left_more (time_compared q items == q.from) (changes_at (side (items ++ x ∷ [])) a (time_compared q items)) _ (change_there a one)
     changed_now (inr two) = right_more (time_compared q items == q.from) _ (changes_at (side (items ++ x ∷ [])) b (time_compared q items)) (change_there b two)
 
-    pub flag_changed : (gives_to a x ≡ true) ⊎ (gives_to b x ≡ true) → flag_of q (items ++ x ∷ []) a b ≡ cond (flag_of q items a b == 2) 2 (cond (codes_differ q.rule (items ++ x ∷ []) a b (time_compared q items)) 1 0)
+    pub flag_changed : (gives_to a x ≡ true) ⊎ (gives_to b x ≡ true)
+        → flag_of q (items ++ x ∷ []) a b ≡ cond (flag_of q items a b == 2) 2
+        (cond (codes_differ q.rule (items ++ x ∷ []) a b (time_compared q items)) 1 0)
     unfolding flag_of
     flag_changed either =
-        ap (λ t. cond (is_always q.extent) (cond (codes_differ q.rule (items ++ x ∷ []) a b t && (t == q.from || changed_at (items ++ x ∷ []) a b t)) 1 0) (cond (had_line q (items ++ x ∷ []) a b) 2 (cond (codes_differ q.rule (items ++ x ∷ []) a b t) 1 0))) compared_other
-        ∙ rw (had_stays, changed_now either) (by_parts (is_always q.extent) (had_line q items a b) (codes_differ q.rule (items ++ x ∷ []) a b (time_compared q items)) (codes_differ q.rule items a b (time_compared q items)) (time_compared q items == q.from || changed_at items a b (time_compared q items)))
+        ap (λ t. cond (is_always q.extent) (cond (codes_differ q.rule (items ++ x ∷ []) a b t && (t == q.from || changed_at (items ++ x ∷ []) a b t))
+        1 0) (cond (had_line q (items ++ x ∷ []) a b) 2 (cond (codes_differ q.rule (items ++ x ∷ []) a b t) 1 0))) compared_other
+        ∙ rw (had_stays, changed_now either) (by_parts (is_always q.extent) (had_line q items a b)
+        (codes_differ q.rule (items ++ x ∷ []) a b (time_compared q items)) (codes_differ q.rule items a b (time_compared q items))
+        (time_compared q items == q.from || changed_at items a b (time_compared q items)))
 
 -- ---- a timestamp above the time that is compared
 
@@ -145,7 +154,9 @@ abbrev pub settled_flag : Extent → ℕ → ℕ
 settled_flag e f = cond (f == 1) (cond (is_always e) 0 2) f
 
 parts_after : (always had now late early : Bool) → (late ≡ true → now ≡ true)
-    → ◌≡◌ {A = ℕ} (cond always (cond (late && false) 1 0) (cond (had || now) 2 (cond late 1 0))) (cond (cond always (cond (now && early) 1 0) (cond had 2 (cond now 1 0)) == 1) (cond always 0 2) (cond always (cond (now && early) 1 0) (cond had 2 (cond now 1 0))))
+    → ◌≡◌ {A = ℕ} (cond always (cond (late && false) 1 0) (cond (had || now) 2 (cond late 1 0)))
+    (cond (cond always (cond (now && early) 1 0) (cond had 2 (cond now 1 0)) == 1) (cond always 0 2)
+    (cond always (cond (now && early) 1 0) (cond had 2 (cond now 1 0))))
 parts_after true had now late early g = ap (λ b. cond {A = ℕ} b 1 0) (and-false late) ∙ by_flag (now && early)
   where
     by_flag : (b : Bool) → ◌≡◌ {A = ℕ} 0 (cond (cond b 1 0 == 1) 0 (cond b 1 0))
@@ -156,7 +167,8 @@ parts_after false false true late early g = refl
 parts_after false false false true early g = let no = g refl in cc
 parts_after false false false false early g = refl
 
-module _ (q : Asked) (items : List BodyItem) (t : ℕ) (up : DoNotFall 0 (marks items)) (up' : DoNotFall 0 (marks (items ++ BodyItem.Time t ∷ []))) (high : time_compared q items < t) (asked : time_compared q items ≤ q.to) where
+module _ (q : Asked) (items : List BodyItem) (t : ℕ) (up : DoNotFall 0 (marks items)) (up' : DoNotFall 0 (marks (items ++ BodyItem.Time t ∷ [])))
+    (high : time_compared q items < t) (asked : time_compared q items ≤ q.to) where
   abbrev after : List BodyItem
   after = items ++ BodyItem.Time t ∷ []
 
@@ -206,6 +218,7 @@ module _ (q : Asked) (items : List BodyItem) (t : ℕ) (up : DoNotFall 0 (marks 
     flag_after =
         let is = compared_is q items in
         let late : (t == q.from) ≡ false = ne_eqb t q.from (λ e. omega arith) in
-        ap (λ u. cond (is_always q.extent) (cond (codes_differ q.rule after a b u && (u == q.from || changed_at after a b u)) 1 0) (cond (had_line q after a b) 2 (cond (codes_differ q.rule after a b u) 1 0))) compared_after
+        ap (λ u. cond (is_always q.extent) (cond (codes_differ q.rule after a b u && (u == q.from || changed_at after a b u)) 1 0)
+        (cond (had_line q after a b) 2 (cond (codes_differ q.rule after a b u) 1 0))) compared_after
         ∙ rw (had_after, late, changes_other items (BodyItem.Time t) a refl t ∙ changes_after a items t low, changes_other items (BodyItem.Time t) b refl t ∙ changes_after b items t low)
         (parts_after (is_always q.extent) (had_line q items a b) (codes_differ q.rule items a b last) (codes_differ q.rule after a b t) (last == q.from || changed_at items a b last) differ_after)

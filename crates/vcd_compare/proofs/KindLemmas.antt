@@ -17,9 +17,12 @@ module _ (v : Variable) where
   pub is_shortreal : bytes_eq v.type (codes "event") ≡ false → starts_with nat_eq v.type (codes "real") ≡ false → bytes_eq v.type (codes "shortreal") ≡ true → Kind.Real ≡ kind_of v
   unfolding by_tests
   is_shortreal e r t =
-      sym (ap (λ b. by_tests b (starts_with nat_eq v.type (codes "real")) (bytes_eq v.type (codes "shortreal"))) e ∙ ap (λ b. by_tests false b (bytes_eq v.type (codes "shortreal"))) r ∙ ap (λ b. by_tests false false b) t)
+      sym (ap (λ b. by_tests b (starts_with nat_eq v.type (codes "real")) (bytes_eq v.type (codes "shortreal"))) e
+      ∙ ap (λ b. by_tests false b (bytes_eq v.type (codes "shortreal"))) r ∙ ap (λ b. by_tests false false b) t)
 
-  pub is_digits : bytes_eq v.type (codes "event") ≡ false → starts_with nat_eq v.type (codes "real") ≡ false → bytes_eq v.type (codes "shortreal") ≡ false → Kind.Digits v.size ≡ kind_of v
+  pub is_digits : bytes_eq v.type (codes "event") ≡ false → starts_with nat_eq v.type (codes "real") ≡ false
+      → bytes_eq v.type (codes "shortreal") ≡ false → Kind.Digits v.size ≡ kind_of v
   unfolding by_tests
   is_digits e r t =
-      sym (ap (λ b. by_tests b (starts_with nat_eq v.type (codes "real")) (bytes_eq v.type (codes "shortreal"))) e ∙ ap (λ b. by_tests false b (bytes_eq v.type (codes "shortreal"))) r ∙ ap (λ b. by_tests false false b) t)
+      sym (ap (λ b. by_tests b (starts_with nat_eq v.type (codes "real")) (bytes_eq v.type (codes "shortreal"))) e
+      ∙ ap (λ b. by_tests false b (bytes_eq v.type (codes "shortreal"))) r ∙ ap (λ b. by_tests false false b) t)

@@ -6,7 +6,8 @@ use Rattle.vcd_compare.specs.Pairs.{IsNamedAt}
 -- ---- texts, one after the other, or a line for each of several
 
 -- what stands at an index of two lists of which this holds
-pub zip_get : {X Y : Type 0} (R : X → Y → Type 0) (xs : List X) (ys : List Y) (i : ℕ) (d : X) → AllZip R xs ys → i < length xs → (y : Y) × (slice_get ys i ≡ Some y) × R (get_or xs i d) y
+pub zip_get : {X Y : Type 0} (R : X → Y → Type 0) (xs : List X) (ys : List Y) (i : ℕ) (d : X) → AllZip R xs ys → i < length xs → (y : Y)
+    × (slice_get ys i ≡ Some y) × R (get_or xs i d) y
 zip_get R [] ys i d all l = absurd (omega arith)
 zip_get R (x ∷ xs) [] i d all l = absurd all
 zip_get R (x ∷ xs) (y ∷ ys) zero d all l = (y, refl, all.0)
@@ -53,7 +54,8 @@ module _ (old mid new : Option (List ℕ)) (ts : List (List ℕ)) (n : ℕ) (t :
   module _ {A E : Type 0} (r : Result A E) (text : List ℕ) (line : text_of ts ≡ text) where
     -- the write of one of them failed
     pub texts_cut : IsErr r → AppendsSome mid new t → Gains old new text r
-    texts_cut failed some = subst (λ l. Gains old new l r) line (takes-failed old new (text_of ts) r failed (lines_cut (λ t. t) old mid new ts n t at front (subst (AppendsSome mid new) (sym (append-nil t)) some)))
+    texts_cut failed some = subst (λ l. Gains old new l r) line (takes-failed old new (text_of ts) r failed
+        (lines_cut (λ t. t) old mid new ts n t at front (subst (AppendsSome mid new) (sym (append-nil t)) some)))
 
     -- the last one was put
     pub texts_last : take (n + 1) ts ≡ ts → Gains mid new t r → Gains old new text r
@@ -61,7 +63,8 @@ module _ (old mid new : Option (List ℕ)) (ts : List (List ℕ)) (n : ℕ) (t :
 
 -- ---- the state of a code
 
-pub event_is : (cs : List IdCode) (code : ℕ) (a : IdCode) (b : Bool) → slice_get cs code ≡ Some a → b ≡ unwrap_or (option_map (λ (c : IdCode). c.event) (slice_get cs code)) false → a.event ≡ b
+pub event_is : (cs : List IdCode) (code : ℕ) (a : IdCode) (b : Bool) → slice_get cs code ≡ Some a
+    → b ≡ unwrap_or (option_map (λ (c : IdCode). c.event) (slice_get cs code)) false → a.event ≡ b
 event_is cs code a b there e = sym (e ∙ ap (λ (o : Option IdCode). unwrap_or (option_map (λ (c : IdCode). c.event) o) false) there)
 
 pub event_shown : (items : List BodyItem) (a : IdCode) (t : ℕ) (b : Bool) → a.event ≡ true → is_triggered 1 items a t ≡ b → cond b (codes "1") (codes "-") ≡ shown (state_at 1 items a t)
@@ -73,7 +76,8 @@ event_shown items a t false event is = rw (event, is) refl
 abbrev pub state_texts : (one other : List ℕ) → List (List ℕ)
 state_texts one other = one ∷ (32 ∷ []) ∷ other ∷ (10 ∷ []) ∷ []
 
-pub state_words : (items : List BodyItem) (p : Pair) (t : ℕ) → text_of (state_texts (shown (state_at 1 items (code_of p.one) t)) (shown (state_at 1 items (code_of p.other) t))) ≡ states_of items p t
+pub state_words : (items : List BodyItem) (p : Pair) (t : ℕ)
+    → text_of (state_texts (shown (state_at 1 items (code_of p.one) t)) (shown (state_at 1 items (code_of p.other) t))) ≡ states_of items p t
 state_words items p t = simp append_assoc
 
 abbrev pub pair_texts : (time path states : List ℕ) → List (List ℕ)
@@ -82,7 +86,8 @@ pair_texts time path states = codes "differs " ∷ time ∷ (32 ∷ []) ∷ path
 pair_words : (time path one other : List ℕ) → text_of (pair_texts time path (words (one ∷ other ∷ []))) ≡ words (codes "differs" ∷ time ∷ path ∷ one ∷ other ∷ [])
 pair_words time path one other = simp (append_assoc, append-nil)
 
-pub pair_line : (items : List BodyItem) (p : Pair) (t : ℕ) (path : List ℕ) → path ≡ p.path → text_of (pair_texts (decimal t) path (states_of items p t)) ≡ value_line (side items) (side items) p t
+pub pair_line : (items : List BodyItem) (p : Pair) (t : ℕ) (path : List ℕ) → path ≡ p.path
+    → text_of (pair_texts (decimal t) path (states_of items p t)) ≡ value_line (side items) (side items) p t
 pair_line items p t path e =
     let one : t / 1 ≡ t = omega arith in
     rw (e, one) (pair_words (decimal t) p.path (shown (state_at 1 items (code_of p.one) t)) (shown (state_at 1 items (code_of p.other) t)))
@@ -120,7 +125,8 @@ bytes_of (b ∷ text) = by_test (not (b == 32)) (bytes_of text)
 abbrev pub name_texts : (path tail : List ℕ) → List (List ℕ)
 name_texts path tail = path ∷ no_blanks tail ∷ []
 
-pub name_line : (ranged : Bool) (path own tail name : List ℕ) (v : Variable) → own ≡ path → tail ≡ cond ranged (tail_of v) [] → named_by ranged path v ≡ name → text_of (name_texts own tail) ≡ name
+pub name_line : (ranged : Bool) (path own tail name : List ℕ) (v : Variable) → own ≡ path → tail ≡ cond ranged (tail_of v) []
+    → named_by ranged path v ≡ name → text_of (name_texts own tail) ≡ name
 name_line ranged path own tail name v same is name_is = rw (same, is) (by_range ranged ∙ name_is)
   where
     by_range : (b : Bool) → text_of (name_texts path (cond b (tail_of v) [])) ≡ named_by b path v
@@ -163,13 +169,15 @@ both_empty : (a b : List ℕ) → is_empty (a ++ b) ≡ (is_empty a && is_empty 
 both_empty [] b = refl
 both_empty (x ∷ a) b = refl
 
-is_nothing : {X Y : Type 0} (R : X → Y → Type 0) (xs : List X) (ys : List Y) (f : Y → List ℕ) → ((y : Y) → is_empty (f y) ≡ false) → AllZip R xs ys → is_empty (flat_map f ys) ≡ (length xs == 0)
+is_nothing : {X Y : Type 0} (R : X → Y → Type 0) (xs : List X) (ys : List Y) (f : Y → List ℕ) → ((y : Y) → is_empty (f y) ≡ false) → AllZip R xs ys
+    → is_empty (flat_map f ys) ≡ (length xs == 0)
 is_nothing R [] [] f some all = refl
 is_nothing R [] (y ∷ ys) f some all = absurd all
 is_nothing R (x ∷ xs) [] f some all = absurd all
 is_nothing R (x ∷ xs) (y ∷ ys) f some all = both_empty (f y) (flat_map f ys) ∙ rw (some y) (sym (ne_eqb (suc (length xs)) 0 (λ e. omega (arith, e))))
 
-pub head_empty : (q : Asked) (h : Header) (ns : List Names) (ps : Pairs) → ArePairs ps h q ns → is_empty (within_head q h ns) ≡ ((vec_len ps.alone_one == 0) && (vec_len ps.alone_other == 0) && (vec_len ps.unlike == 0))
+pub head_empty : (q : Asked) (h : Header) (ns : List Names) (ps : Pairs) → ArePairs ps h q ns
+    → is_empty (within_head q h ns) ≡ ((vec_len ps.alone_one == 0) && (vec_len ps.alone_other == 0) && (vec_len ps.unlike == 0))
 head_empty q h ns ps are =
     let ones = alone_lines (codes "A") (flat_map (alone_in q h) ns) in
     let others = alone_lines (codes "B") (flat_map (λ n. alone_in q h (turned n)) ns) in

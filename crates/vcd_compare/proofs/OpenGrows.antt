@@ -73,7 +73,9 @@ module _ (q : Asked) (items items' : List BodyItem) (u : ℕ) (same : SameUpTo u
     line_same : (p : Pair) → value_line (side items') (side items') p u ≡ value_line (side items) (side items) p u
     line_same p = rw (same.state (code_of p.one) u (omega arith), same.state (code_of p.other) u (omega arith)) refl
 
-    pub lines_same : (ps : List Pair) → flat_map (λ p. cond (is_due q (side items') (side items') all ts' u p) (value_line (side items') (side items') p u) []) ps ≡ flat_map (λ p. cond (is_due q (side items) (side items) all ts u p) (value_line (side items) (side items) p u) []) ps
+    pub lines_same : (ps : List Pair) → flat_map (λ p. cond (is_due q (side items') (side items') all ts' u p)
+        (value_line (side items') (side items') p u) []) ps ≡ flat_map
+        (λ p. cond (is_due q (side items) (side items) all ts u p) (value_line (side items) (side items) p u) []) ps
     lines_same [] = refl
     lines_same (p ∷ ps) = rw (due_same p, line_same p, lines_same ps) refl
 
@@ -138,7 +140,9 @@ module _ (q : Asked) (h : Header) (ns : List Names) (items : List BodyItem) wher
       ap (λ l. within_head q h ns ++ l)
       (ap (λ ms. lines_by (items ++ x ∷ []) (window ms) (filter (λ t. list_any (nat_lt t) ms) (window ms))) same
       ∙ flat_map_same _ _ (filter (is_settled items) (times_in q items))
-      (all_filtered _ (is_settled items) (times_in q items) (λ t e. lines_same q items (items ++ x ∷ []) t (up_to_past t items (x ∷ []) (below_greatest t 0 (marks items) e)) (compared_in q h ns) (times_in q items) (times_in q items) (λ f. refl) (compared_in q h ns))))
+      (all_filtered _ (is_settled items) (times_in q items) (λ t e. lines_same q items (items ++ x ∷ []) t
+      (up_to_past t items (x ∷ []) (below_greatest t 0 (marks items) e)) (compared_in q h ns) (times_in q items) (times_in q items) (λ f. refl)
+      (compared_in q h ns))))
 
   -- the times up to the last one that is asked for
   abbrev kept : List ℕ → List ℕ
@@ -149,7 +153,9 @@ module _ (q : Asked) (h : Header) (ns : List Names) (items : List BodyItem) wher
   unfolding lines_due
   due_is = by_test (nat_le (time_compared q items) q.to)
     where
-      by_test : (b : Bool) → flat_map (lines_at q (compared_in q h ns) (side items) (side items) (times_in q items)) (cond b (time_compared q items ∷ []) []) ≡ cond b (lines_at q (compared_in q h ns) (side items) (side items) (times_in q items) (time_compared q items)) []
+      by_test : (b : Bool) → flat_map (lines_at q (compared_in q h ns) (side items) (side items) (times_in q items))
+          (cond b (time_compared q items ∷ []) []) ≡ cond b (lines_at q (compared_in q h ns) (side items) (side items) (times_in q items)
+          (time_compared q items)) []
       by_test true = append-nil (lines_at q (compared_in q h ns) (side items) (side items) (times_in q items) (time_compared q items))
       by_test false = refl
 
@@ -211,9 +217,11 @@ module _ (q : Asked) (h : Header) (ns : List Names) (items : List BodyItem) wher
       pub later_times : times_in q after ≡ times_in q items ++ kept (t ∷ [])
       later_times =
           times_are q after up'
-          ∙ rw (later_past, later_compared) (ap (λ l. l ++ kept (t ∷ [])) (filter-append (λ t. nat_le t q.to) (past q.from (marks items)) (time_compared q items ∷ []) ∙ sym (times_are q items up)))
+          ∙ rw (later_past, later_compared) (ap (λ l. l ++ kept (t ∷ []))
+          (filter-append (λ t. nat_le t q.to) (past q.from (marks items)) (time_compared q items ∷ []) ∙ sym (times_are q items up)))
 
-      none_before : (u : ℕ) (f : ℕ → Bool) → u ≤ time_compared q items → list_any (λ v. nat_lt v u && f v) (times_in q items ++ kept (t ∷ [])) ≡ list_any (λ v. nat_lt v u && f v) (times_in q items)
+      none_before : (u : ℕ) (f : ℕ → Bool) → u ≤ time_compared q items
+          → list_any (λ v. nat_lt v u && f v) (times_in q items ++ kept (t ∷ [])) ≡ list_any (λ v. nat_lt v u && f v) (times_in q items)
       none_before u f le =
           list_any-append (λ v. nat_lt v u && f v) (times_in q items) (kept (t ∷ []))
           ∙ ap (λ b. list_any (λ v. nat_lt v u && f v) (times_in q items) || b) (by_test (nat_le t q.to))

@@ -60,7 +60,8 @@ module _ (q : Asked) (h : Header) (ns : List Names) where
     }
 
     -- the outcome of the definitions is that of the plan
-    planned : (stream : Stream) (rest : List Token) → within_dump q ns name (record { header = h; stream = stream; rest = rest }) ≡ over_plan (plan_within q h ns) (ways_within q h ns name) (body_items (read_body h.codes rest)) (body_fault_of stream (read_body h.codes rest))
+    planned : (stream : Stream) (rest : List Token) → within_dump q ns name (record { header = h; stream = stream; rest = rest }) ≡ over_plan
+        (plan_within q h ns) (ways_within q h ns name) (body_items (read_body h.codes rest)) (body_fault_of stream (read_body h.codes rest))
     unfolding within_dump body_of over_plan
     planned stream rest = refl
 
@@ -77,12 +78,14 @@ opened_is : (limit : ℕ) (i : Input) → header_fault_of (stream_of limit i) (h
 unfolding open_from
 opened_is limit i e = rw (e, open_from) refl
 
-opened_outcome : (q : Asked) (limit : ℕ) (ns : List Names) (name : List ℕ) (i : Input) → header_fault_of (stream_of limit i) (head_of limit i) ≡ None → within q limit ns name i ≡ within_dump q ns name (opened_as limit i (head_of limit i))
+opened_outcome : (q : Asked) (limit : ℕ) (ns : List Names) (name : List ℕ) (i : Input) → header_fault_of (stream_of limit i) (head_of limit i) ≡ None
+    → within q limit ns name i ≡ within_dump q ns name (opened_as limit i (head_of limit i))
 unfolding within
 opened_outcome q limit ns name i e = rw (opened_is limit i e, within) refl
 
 -- tokens of a whole header, and these after it
-over_header : (q : Asked) (limit : ℕ) (ns : List Names) (name : List ℕ) (i : Input) (front rest : List Token) (placed : List (Placed HeaderPhrase)) → IsWhole (header_grammar declarations_allowed) front placed → (stream_of limit i).tokens ≡ front ++ rest
+over_header : (q : Asked) (limit : ℕ) (ns : List Names) (name : List ℕ) (i : Input) (front rest : List Token) (placed : List (Placed HeaderPhrase))
+    → IsWhole (header_grammar declarations_allowed) front placed → (stream_of limit i).tokens ≡ front ++ rest
     → within q limit ns name i ≡ within_dump q ns name (record { header = header_of (phrases_of placed); stream = stream_of limit i; rest = rest })
 unfolding read_header
 over_header q limit ns name i front rest placed whole e =

@@ -193,10 +193,12 @@ module _ (parts : List (List ℕ)) (nodes : List (ℕ × ℕ)) (texts : List (Li
 
 -- ---- some pair is around two names
 
-any_around : (n u : Names) (ns : List Names) → ((m : Names) → is_within n m ≡ (same_names u m || is_within u m)) → list_any (is_within n) ns ≡ (list_any (same_names u) ns || list_any (is_within u) ns)
+any_around : (n u : Names) (ns : List Names) → ((m : Names) → is_within n m ≡ (same_names u m || is_within u m))
+    → list_any (is_within n) ns ≡ (list_any (same_names u) ns || list_any (is_within u) ns)
 any_around n u [] is = refl
 any_around n u (m ∷ ns) is =
-    ap (λ b. b || list_any (is_within n) ns) (is m) ∙ ap (λ b. (same_names u m || is_within u m) || b) (any_around n u ns is) ∙ regroup (same_names u m) (is_within u m) (list_any (same_names u) ns) (list_any (is_within u) ns)
+    ap (λ b. b || list_any (is_within n) ns) (is m) ∙ ap (λ b. (same_names u m || is_within u m) || b) (any_around n u ns is)
+    ∙ regroup (same_names u m) (is_within u m) (list_any (same_names u) ns) (list_any (is_within u) ns)
   where
     regroup : (a b c d : Bool) → ((a || b) || (c || d)) ≡ ((a || c) || (b || d))
     regroup true b c d = refl
@@ -232,7 +234,8 @@ module _ (texts : List (List ℕ)) (pair : ℕ × ℕ) (n : Names) (ns : List Na
 -- ---- each two names once
 
 same_numbers : (texts : List (List ℕ)) (a b : ℕ × ℕ) (n m : Names) → AreApart texts → AreNumbersOf texts a n → AreNumbersOf texts b m → same_key a b ≡ same_names n m
-same_numbers texts a b n m apart x y = ap (λ t. t && nat_eq a.1 b.1) (same_number texts a.0 b.0 n.0 m.0 apart x.0 y.0) ∙ ap (λ t. bytes_eq n.0 m.0 && t) (same_number texts a.1 b.1 n.1 m.1 apart x.1 y.1)
+same_numbers texts a b n m apart x y = ap (λ t. t && nat_eq a.1 b.1) (same_number texts a.0 b.0 n.0 m.0 apart x.0 y.0)
+    ∙ ap (λ t. bytes_eq n.0 m.0 && t) (same_number texts a.1 b.1 n.1 m.1 apart x.1 y.1)
 
 firsts-more : (ns : List Names) (n : Names) → firsts (ns ++ n ∷ []) ≡ firsts ns ++ filter_map (λ o. o) (if_first ns n ∷ [])
 firsts-more ns n = ap (filter_map (λ o. o)) (each_after-append if_first [] ns (n ∷ [])) ∙ filter_map-append (λ o. o) (each_after if_first [] ns) (if_first ns n ∷ [])
@@ -242,7 +245,8 @@ pub record AreDistinct (texts : List (List ℕ)) (keys : List (ℕ × ℕ)) (ns 
   pub zip : AllZip (AreNumbersOf texts) keys (firsts ns)
   pub are : AreKeysOf texts keys ns
 
-pub distinct_more : (texts : List (List ℕ)) (keys new : List (ℕ × ℕ)) (ns : List Names) (i : ℕ) (pair : ℕ × ℕ) (n : Names) → AreApart texts → slice_get ns i ≡ Some n → AreNumbersOf texts pair n → new ≡ (if list_any (same_key pair) keys then keys else keys ++ pair ∷ [])
+pub distinct_more : (texts : List (List ℕ)) (keys new : List (ℕ × ℕ)) (ns : List Names) (i : ℕ) (pair : ℕ × ℕ) (n : Names) → AreApart texts
+    → slice_get ns i ≡ Some n → AreNumbersOf texts pair n → new ≡ (if list_any (same_key pair) keys then keys else keys ++ pair ∷ [])
     → AreDistinct texts keys (take i ns) → AreDistinct texts new (take (suc i) ns)
 distinct_more texts keys new ns i pair n apart at numbers is s =
     subst (AreDistinct texts new) (sym (take_next ns i n at)) (by_test (list_any (same_key pair) keys) refl)
@@ -261,7 +265,8 @@ distinct_more texts keys new ns i pair n apart at numbers is s =
         let keys_are : new ≡ keys = is ∙ ap (λ b. if b then keys else keys ++ pair ∷ []) q in
         let found : list_any (same_names n) before ≡ true = sym there ∙ q in
         subst (λ l. AreDistinct texts l (before ++ n ∷ [])) (sym keys_are) (record {
-          zip = subst (AllZip (AreNumbersOf texts) keys) (sym (firsts-more before n ∙ ap (λ b. firsts before ++ filter_map (λ o. o) (cond b None (Some n) ∷ [])) found ∙ append-nil (firsts before))) s.zip;
+          zip = subst (AllZip (AreNumbersOf texts) keys) (sym (firsts-more before n
+              ∙ ap (λ b. firsts before ++ filter_map (λ o. o) (cond b None (Some n) ∷ [])) found ∙ append-nil (firsts before))) s.zip;
           are = λ a m x. s.are a m x ∙ sym (any_more m ∙ by_same m (same_names m n) refl found);
         })
       where
@@ -272,8 +277,12 @@ distinct_more texts keys new ns i pair n apart at numbers is s =
         let keys_are : new ≡ keys ++ pair ∷ [] = is ∙ ap (λ b. if b then keys else keys ++ pair ∷ []) q in
         let found : list_any (same_names n) before ≡ false = sym there ∙ q in
         subst (λ l. AreDistinct texts l (before ++ n ∷ [])) (sym keys_are) (record {
-          zip = subst (AllZip (AreNumbersOf texts) (keys ++ pair ∷ [])) (sym (firsts-more before n ∙ ap (λ b. firsts before ++ filter_map (λ o. o) (cond b None (Some n) ∷ [])) found)) (all_zip_push (AreNumbersOf texts) keys (firsts before) pair n s.zip numbers);
-          are = λ a m x. list_any-append (same_key a) keys (pair ∷ []) ∙ ap (λ b. list_any (same_key a) keys || b) (or-false (same_key a pair) ∙ same_numbers texts a pair m n apart x numbers) ∙ ap (λ b. b || same_names m n) (s.are a m x) ∙ sym (any_more m);
+          zip = subst (AllZip (AreNumbersOf texts) (keys ++ pair ∷ []))
+              (sym (firsts-more before n ∙ ap (λ b. firsts before ++ filter_map (λ o. o) (cond b None (Some n) ∷ [])) found))
+              (all_zip_push (AreNumbersOf texts) keys (firsts before) pair n s.zip numbers);
+          are = λ a m x. list_any-append (same_key a) keys (pair ∷ [])
+              ∙ ap (λ b. list_any (same_key a) keys || b) (or-false (same_key a pair) ∙ same_numbers texts a pair m n apart x numbers)
+              ∙ ap (λ b. b || same_names m n) (s.are a m x) ∙ sym (any_more m);
         })
 
 -- ---- the outermost
@@ -285,7 +294,8 @@ is_out ns n = not (list_any (is_within n) ns)
 any_covers : (n : Names) (ns : List Names) → list_any (λ m. covers m n) ns ≡ (list_any (same_names n) ns || list_any (is_within n) ns)
 any_covers n [] = refl
 any_covers n (m ∷ ns) =
-    ap (λ b. b || list_any (λ x. covers x n) ns) (covers_is n m) ∙ ap (λ b. (same_names n m || is_within n m) || b) (any_covers n ns) ∙ regroup (same_names n m) (is_within n m) (list_any (same_names n) ns) (list_any (is_within n) ns)
+    ap (λ b. b || list_any (λ x. covers x n) ns) (covers_is n m) ∙ ap (λ b. (same_names n m || is_within n m) || b) (any_covers n ns)
+    ∙ regroup (same_names n m) (is_within n m) (list_any (same_names n) ns) (list_any (is_within n) ns)
   where
     regroup : (a b c d : Bool) → ((a || b) || (c || d)) ≡ ((a || c) || (b || d))
     regroup true b c d = refl
@@ -293,13 +303,18 @@ any_covers n (m ∷ ns) =
     regroup false true false d = refl
     regroup false false c d = refl
 
-outermost_after : (all earlier xs : List Names) → all ≡ earlier ++ xs → filter_map (λ o. o) (each_after (if_outermost all) earlier xs) ≡ filter (is_out all) (filter_map (λ o. o) (each_after if_first earlier xs))
+outermost_after : (all earlier xs : List Names) → all ≡ earlier ++ xs
+    → filter_map (λ o. o) (each_after (if_outermost all) earlier xs) ≡ filter (is_out all) (filter_map (λ o. o) (each_after if_first earlier xs))
 outermost_after all earlier [] is = refl
 outermost_after all earlier (x ∷ xs) is =
     let rest = outermost_after all (earlier ++ x ∷ []) xs (is ∙ sym (append_assoc earlier (x ∷ []) xs)) in
     let test : (list_any (λ m. covers m x) earlier || list_any (is_within x) all) ≡ (list_any (same_names x) earlier || list_any (is_within x) all) =
-    ap (λ b. b || list_any (is_within x) all) (any_covers x earlier) ∙ ap (λ b. (list_any (same_names x) earlier || list_any (is_within x) earlier) || b) within ∙ twice (list_any (same_names x) earlier) (list_any (is_within x) earlier) (list_any (is_within x) (x ∷ xs)) ∙ ap (λ b. list_any (same_names x) earlier || b) (sym within) in
-    ap (λ b. filter_map (λ o. o) (cond b None (Some x) ∷ each_after (if_outermost all) (earlier ++ x ∷ []) xs)) test ∙ by_tests (list_any (same_names x) earlier) refl (list_any (is_within x) all) refl rest
+    ap (λ b. b || list_any (is_within x) all) (any_covers x earlier)
+    ∙ ap (λ b. (list_any (same_names x) earlier || list_any (is_within x) earlier) || b) within
+    ∙ twice (list_any (same_names x) earlier) (list_any (is_within x) earlier) (list_any (is_within x) (x ∷ xs))
+    ∙ ap (λ b. list_any (same_names x) earlier || b) (sym within) in
+    ap (λ b. filter_map (λ o. o) (cond b None (Some x) ∷ each_after (if_outermost all) (earlier ++ x ∷ []) xs)) test
+    ∙ by_tests (list_any (same_names x) earlier) refl (list_any (is_within x) all) refl rest
   where
     within : list_any (is_within x) all ≡ (list_any (is_within x) earlier || list_any (is_within x) (x ∷ xs))
     within = ap (list_any (is_within x)) is ∙ list_any-append (is_within x) earlier (x ∷ xs)
@@ -322,7 +337,8 @@ unfolding outermost
 outermost_is ns = sym (outermost_after ns [] ns refl)
 
 -- one pair more was looked at
-pub out_more : (texts : List (List ℕ)) (ns : List Names) (keys out new : List (ℕ × ℕ)) (i : ℕ) (pair : ℕ × ℕ) (n : Names) → slice_get (firsts ns) i ≡ Some n → AreNumbersOf texts pair n → new ≡ out ++ cond (list_any (is_within n) ns) [] (pair ∷ [])
+pub out_more : (texts : List (List ℕ)) (ns : List Names) (keys out new : List (ℕ × ℕ)) (i : ℕ) (pair : ℕ × ℕ) (n : Names)
+    → slice_get (firsts ns) i ≡ Some n → AreNumbersOf texts pair n → new ≡ out ++ cond (list_any (is_within n) ns) [] (pair ∷ [])
     → AllZip (AreNumbersOf texts) out (filter (is_out ns) (take i (firsts ns))) → AllZip (AreNumbersOf texts) new (filter (is_out ns) (take (suc i) (firsts ns)))
 out_more texts ns keys out new i pair n at numbers is zip =
     subst (AllZip (AreNumbersOf texts) new) (sym (ap (filter (is_out ns)) (take_next (firsts ns) i n at) ∙ filter-append (is_out ns) before (n ∷ []))) (by_test (list_any (is_within n) ns) refl)
@@ -333,16 +349,20 @@ out_more texts ns keys out new i pair n at numbers is zip =
     by_test : (b : Bool) → list_any (is_within n) ns ≡ b → AllZip (AreNumbersOf texts) new (filter (is_out ns) before ++ filter (is_out ns) (n ∷ []))
     by_test true q =
         let same : new ≡ out = is ∙ ap (λ b. out ++ cond b [] (pair ∷ [])) q ∙ append-nil out in
-        let kept : filter (is_out ns) before ++ filter (is_out ns) (n ∷ []) ≡ filter (is_out ns) before = ap (λ b. filter (is_out ns) before ++ cond (not b) (n ∷ []) []) q ∙ append-nil (filter (is_out ns) before) in
+        let kept : filter (is_out ns) before ++ filter (is_out ns) (n ∷ []) ≡ filter (is_out ns) before = ap
+        (λ b. filter (is_out ns) before ++ cond (not b) (n ∷ []) []) q ∙ append-nil (filter (is_out ns) before) in
         subst (λ l. AllZip (AreNumbersOf texts) l (filter (is_out ns) before ++ filter (is_out ns) (n ∷ []))) (sym same) (subst (AllZip (AreNumbersOf texts) out) (sym kept) zip)
     by_test false q =
         let same : new ≡ out ++ pair ∷ [] = is ∙ ap (λ b. out ++ cond b [] (pair ∷ [])) q in
         let kept : filter (is_out ns) before ++ filter (is_out ns) (n ∷ []) ≡ filter (is_out ns) before ++ n ∷ [] = ap (λ b. filter (is_out ns) before ++ cond (not b) (n ∷ []) []) q in
-        subst (λ l. AllZip (AreNumbersOf texts) l (filter (is_out ns) before ++ filter (is_out ns) (n ∷ []))) (sym same) (subst (AllZip (AreNumbersOf texts) (out ++ pair ∷ [])) (sym kept) (all_zip_push (AreNumbersOf texts) out (filter (is_out ns) before) pair n zip numbers))
+        subst (λ l. AllZip (AreNumbersOf texts) l (filter (is_out ns) before ++ filter (is_out ns) (n ∷ []))) (sym same)
+        (subst (AllZip (AreNumbersOf texts) (out ++ pair ∷ [])) (sym kept)
+        (all_zip_push (AreNumbersOf texts) out (filter (is_out ns) before) pair n zip numbers))
 
 -- ---- the numbers of the names that are left
 
-outermost_names : (all earlier xs : List Names) (w : List ℕ) → is_one_of (both_names (filter_map (λ o. o) (each_after (if_outermost all) earlier xs))) w ≡ true → is_one_of (both_names xs) w ≡ true
+outermost_names : (all earlier xs : List Names) (w : List ℕ)
+    → is_one_of (both_names (filter_map (λ o. o) (each_after (if_outermost all) earlier xs))) w ≡ true → is_one_of (both_names xs) w ≡ true
 outermost_names all earlier [] w h = h
 outermost_names all earlier (x ∷ xs) w h = by_kept (list_any (λ m. covers m x) earlier || list_any (is_within x) all) (outermost_names all (earlier ++ x ∷ []) xs w) h
   where
@@ -354,7 +374,9 @@ outermost_names all earlier (x ∷ xs) w h = by_kept (list_any (λ m. covers m x
     rest : List Names
     rest = filter_map (λ o. o) (each_after (if_outermost all) (earlier ++ x ∷ []) xs)
 
-    by_kept : (b : Bool) → (is_one_of (both_names rest) w ≡ true → is_one_of (both_names xs) w ≡ true) → is_one_of (both_names (filter_map (λ o. o) (cond b None (Some x) ∷ each_after (if_outermost all) (earlier ++ x ∷ []) xs))) w ≡ true → is_one_of (both_names (x ∷ xs)) w ≡ true
+    by_kept : (b : Bool) → (is_one_of (both_names rest) w ≡ true → is_one_of (both_names xs) w ≡ true)
+        → is_one_of (both_names (filter_map (λ o. o) (cond b None (Some x) ∷ each_after (if_outermost all) (earlier ++ x ∷ []) xs))) w ≡ true
+        → is_one_of (both_names (x ∷ xs)) w ≡ true
     by_kept true more h = or_right (bytes_eq w x.0) (bytes_eq w x.1 || is_one_of (both_names xs) w) (or_right (bytes_eq w x.1) (is_one_of (both_names xs) w) (more h))
     by_kept false more h = either (bytes_eq w x.0) (bytes_eq w x.1) (is_one_of (both_names rest) w) (is_one_of (both_names xs) w) more h
 

@@ -44,19 +44,29 @@ fit_events p fit =
 
 -- ---- the pair of a class
 
-pub pair_of_class : (ps : Pairs) (h : Header) (q : Asked) (ns : List Names) (class : ℕ) → ArePairs ps h q ns → class < ps.classes → (p : Pair) × (is_fit p ≡ true) × IsClassOf h ps.ends.items class p
+pub pair_of_class : (ps : Pairs) (h : Header) (q : Asked) (ns : List Names) (class : ℕ) → ArePairs ps h q ns → class < ps.classes → (p : Pair)
+    × (is_fit p ≡ true) × IsClassOf h ps.ends.items class p
 pair_of_class ps h q ns class are below =
     let (n, r, there, is) = are.covered class below in
     let zipped = AllZip-left (IsPairAt h ps.ends.items) ps.rows.items (compared_in q h ns) are.rows n in
-    let some : IsSomeAnd (slice_get (compared_in q h ns) n) (λ p. IsPairAt h ps.ends.items r p) = subst (λ (o : Option PairRow). MatchOption o (Unit {0}) (λ r. IsSomeAnd (slice_get (compared_in q h ns) n) (IsPairAt h ps.ends.items r))) there zipped in
+    let some : IsSomeAnd (slice_get (compared_in q h ns) n) (λ p. IsPairAt h ps.ends.items r p) = subst
+    (λ (o : Option PairRow). MatchOption o (Unit {0}) (λ r. IsSomeAnd (slice_get (compared_in q h ns) n) (IsPairAt h ps.ends.items r)))
+    there zipped in
     found (slice_get (compared_in q h ns) n) refl some
   where
-    found : (o : Option Pair) → slice_get (compared_in q h ns) (are.covered class below).0 ≡ o → IsSomeAnd o (λ p. IsPairAt h ps.ends.items (are.covered class below).1 p) → (p : Pair) × (is_fit p ≡ true) × IsClassOf h ps.ends.items class p
+    found : (o : Option Pair) → slice_get (compared_in q h ns) (are.covered class below).0 ≡ o
+        → IsSomeAnd o (λ p. IsPairAt h ps.ends.items (are.covered class below).1 p) → (p : Pair) × (is_fit p ≡ true)
+        × IsClassOf h ps.ends.items class p
     found None e is = absurd is
-    found (Some p) e is = (p, kept is_fit (flat_map (λ n. filter_map (pair_at h) (places_of q h n)) ns) (are.covered class below).0 p e, subst (λ (k : ℕ). IsClassOf h ps.ends.items k p) (are.covered class below).3 is.class)
+    found (Some p) e is = (
+      p,
+      kept is_fit (flat_map (λ n. filter_map (pair_at h) (places_of q h n)) ns) (are.covered class below).0 p e,
+      subst (λ (k : ℕ). IsClassOf h ps.ends.items k p) (are.covered class below).3 is.class,
+    )
 
 -- all pairs of a class are of the same codes
-pub class_events : (ps : Pairs) (h : Header) (q : Asked) (ns : List Names) (class : ℕ) (p : Pair) → ArePairs ps h q ns → class < ps.classes → IsClassOf h ps.ends.items class p → (code_of p.one).event ≡ (code_of p.other).event
+pub class_events : (ps : Pairs) (h : Header) (q : Asked) (ns : List Names) (class : ℕ) (p : Pair) → ArePairs ps h q ns → class < ps.classes
+    → IsClassOf h ps.ends.items class p → (code_of p.one).event ≡ (code_of p.other).event
 class_events ps h q ns class p are below is =
     let (o, fit, its) = pair_of_class ps h q ns class are below in
     let one : its.one.0 ≡ is.one.0 = same_Some its.one.0 is.one.0 (sym its.one.1 ∙ is.one.1) in

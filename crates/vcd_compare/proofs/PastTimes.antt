@@ -21,7 +21,8 @@ ordered : (m : ℕ) (ms : List ℕ) → DoNotFall m ms → in_order (m ∷ ms) �
 ordered m [] up = refl
 ordered m (n ∷ ns) up = ap (with_time m) (ordered n ns up.1) ∙ by_tests (m == n) (nat_lt m n) refl refl
   where
-    by_tests : (same less : Bool) → (m == n) ≡ same → nat_lt m n ≡ less → cond same (n ∷ rises n ns) (cond less (m ∷ n ∷ rises n ns) (n ∷ with_time m (rises n ns))) ≡ m ∷ cond less (n ∷ rises n ns) (rises m ns)
+    by_tests : (same less : Bool) → (m == n) ≡ same → nat_lt m n ≡ less
+        → cond same (n ∷ rises n ns) (cond less (m ∷ n ∷ rises n ns) (n ∷ with_time m (rises n ns))) ≡ m ∷ cond less (n ∷ rises n ns) (rises m ns)
     by_tests true true e f = let is = eqb-true m n e in let low = ltb-true m n f in absurd (omega arith)
     by_tests true false e f = rw (eqb-true m n e) refl
     by_tests false true e f = refl
@@ -32,7 +33,9 @@ kept_from : (from low : ℕ) (ms : List ℕ) → from ≤ low → filter (nat_le
 kept_from from low [] le = refl
 kept_from from low (m ∷ ms) le = by_test (nat_lt low m) refl (λ more. kept_from from m ms more) (kept_from from low ms le)
   where
-    by_test : (b : Bool) → nat_lt low m ≡ b → (from ≤ m → filter (nat_le from) (rises m ms) ≡ rises m ms) → filter (nat_le from) (rises low ms) ≡ rises low ms → filter (nat_le from) (cond b (m ∷ rises m ms) (rises low ms)) ≡ cond b (m ∷ rises m ms) (rises low ms)
+    by_test : (b : Bool) → nat_lt low m ≡ b → (from ≤ m → filter (nat_le from) (rises m ms) ≡ rises m ms)
+        → filter (nat_le from) (rises low ms) ≡ rises low ms → filter (nat_le from) (cond b (m ∷ rises m ms) (rises low ms)) ≡ cond b
+        (m ∷ rises m ms) (rises low ms)
     by_test true e above same = let up = ltb-true low m e in rw (le-leb from m (omega arith), above (omega arith)) refl
     by_test false e above same = same
 
@@ -80,8 +83,10 @@ pub past_more : (low : ℕ) (ms : List ℕ) (m : ℕ) → past low (ms ++ m ∷ 
 past_more low [] m = refl
 past_more low (n ∷ ns) m = by_test (nat_lt low n) refl (past_more n ns m) (past_more low ns m)
   where
-    by_test : (b : Bool) → nat_lt low n ≡ b → past n (ns ++ m ∷ []) ≡ past n ns ++ cond (nat_lt (fold max n ns) m) (fold max n ns ∷ []) [] → past low (ns ++ m ∷ []) ≡ past low ns ++ cond (nat_lt (fold max low ns) m) (fold max low ns ∷ []) []
-        → cond b (low ∷ past n (ns ++ m ∷ [])) (past low (ns ++ m ∷ [])) ≡ cond b (low ∷ past n ns) (past low ns) ++ cond (nat_lt (fold max (max low n) ns) m) (fold max (max low n) ns ∷ []) []
+    by_test : (b : Bool) → nat_lt low n ≡ b → past n (ns ++ m ∷ []) ≡ past n ns ++ cond (nat_lt (fold max n ns) m) (fold max n ns ∷ []) []
+        → past low (ns ++ m ∷ []) ≡ past low ns ++ cond (nat_lt (fold max low ns) m) (fold max low ns ∷ []) []
+        → cond b (low ∷ past n (ns ++ m ∷ [])) (past low (ns ++ m ∷ [])) ≡ cond b (low ∷ past n ns) (past low ns) ++ cond
+        (nat_lt (fold max (max low n) ns) m) (fold max (max low n) ns ∷ []) []
     by_test true e above same = let up = ltb-true low n e in let is : max low n ≡ n = omega arith in rw is (ap (λ l. low ∷ l) above)
     by_test false e above same = let le = ltb-false low n e in let is : max low n ≡ low = omega arith in rw is same
 
@@ -89,7 +94,8 @@ both_tests : (f g : ℕ → Bool) (ts : List ℕ) → filter (λ t. f t && g t) 
 both_tests f g [] = refl
 both_tests f g (t ∷ ts) = by_test (f t) (both_tests f g ts)
   where
-    by_test : (b : Bool) → filter (λ t. f t && g t) ts ≡ filter g (filter f ts) → cond (b && g t) (t ∷ filter (λ t. f t && g t) ts) (filter (λ t. f t && g t) ts) ≡ filter g (cond b (t ∷ filter f ts) (filter f ts))
+    by_test : (b : Bool) → filter (λ t. f t && g t) ts ≡ filter g (filter f ts)
+        → cond (b && g t) (t ∷ filter (λ t. f t && g t) ts) (filter (λ t. f t && g t) ts) ≡ filter g (cond b (t ∷ filter f ts) (filter f ts))
     by_test true e = ap (λ l. cond (g t) (t ∷ l) l) e
     by_test false e = e
 
@@ -110,7 +116,8 @@ past_below low (m ∷ ms) = by_test (nat_lt low m) refl (past_below m ms) (past_
   where
     by_test : (b : Bool) → nat_lt low m ≡ b → AllByRecursion (λ t. t < fold max m ms) (past m ms) → AllByRecursion (λ t. t < fold max low ms) (past low ms)
         → AllByRecursion (λ t. t < fold max (max low m) ms) (cond b (low ∷ past m ms) (past low ms))
-    by_test true e above same = let up = ltb-true low m e in let is : max low m ≡ m = omega arith in let g = greatest_from m ms in subst (λ (k : ℕ). AllByRecursion (λ t. t < fold max k ms) (low ∷ past m ms)) (sym is) (omega arith, above)
+    by_test true e above same = let up = ltb-true low m e in let is : max low m ≡ m = omega arith in let g = greatest_from m ms in
+        subst (λ (k : ℕ). AllByRecursion (λ t. t < fold max k ms) (low ∷ past m ms)) (sym is) (omega arith, above)
     by_test false e above same = let le = ltb-false low m e in let is : max low m ≡ low = omega arith in subst (λ (k : ℕ). AllByRecursion (λ t. t < fold max k ms) (past low ms)) (sym is) same
 
 weaker : (m : ℕ) (ms ts : List ℕ) → AllByRecursion (λ t. list_any (nat_lt t) ms ≡ true) ts → AllByRecursion (λ t. list_any (nat_lt t) (m ∷ ms) ≡ true) ts
@@ -121,7 +128,8 @@ past_settled : (low : ℕ) (ms : List ℕ) → AllByRecursion (λ t. list_any (n
 past_settled low [] = tt
 past_settled low (m ∷ ms) = by_test (nat_lt low m) refl (weaker m ms (past m ms) (past_settled m ms)) (weaker m ms (past low ms) (past_settled low ms))
   where
-    by_test : (b : Bool) → nat_lt low m ≡ b → AllByRecursion (λ t. list_any (nat_lt t) (m ∷ ms) ≡ true) (past m ms) → AllByRecursion (λ t. list_any (nat_lt t) (m ∷ ms) ≡ true) (past low ms)
+    by_test : (b : Bool) → nat_lt low m ≡ b → AllByRecursion (λ t. list_any (nat_lt t) (m ∷ ms) ≡ true) (past m ms)
+        → AllByRecursion (λ t. list_any (nat_lt t) (m ∷ ms) ≡ true) (past low ms)
         → AllByRecursion (λ t. list_any (nat_lt t) (m ∷ ms) ≡ true) (cond b (low ∷ past m ms) (past low ms))
     by_test true e above same = (or_left (nat_lt low m) (list_any (nat_lt low) ms) e, above)
     by_test false e above same = same
@@ -163,10 +171,18 @@ module _ (q : Asked) (items : List BodyItem) (up : DoNotFall 0 (marks items)) wh
   settled_times =
       ap (filter (is_settled items)) (times_are q items up)
       ∙ filter-append (is_settled items) (filter (λ t. nat_le t q.to) (past q.from (marks items))) (filter (λ t. nat_le t q.to) last)
-      ∙ rw (all_kept (is_settled items) (λ t. nat_le t q.to) (past q.from (marks items)) (past_settled q.from (marks items)), none_kept (is_settled items) (λ t. nat_le t q.to) last (last_open q items, tt)) (append-nil (filter (λ t. nat_le t q.to) (past q.from (marks items))))
+      ∙ rw (
+        all_kept (is_settled items) (λ t. nat_le t q.to) (past q.from (marks items)) (past_settled q.from (marks items)),
+        none_kept (is_settled items) (λ t. nat_le t q.to) last (last_open q items, tt),
+      )
+      (append-nil (filter (λ t. nat_le t q.to) (past q.from (marks items))))
 
   pub other_times : filter (λ t. not (is_settled items t)) (times_in q items) ≡ filter (λ t. nat_le t q.to) last
   other_times =
       ap (filter (λ t. not (is_settled items t))) (times_are q items up)
       ∙ filter-append (λ t. not (is_settled items t)) (filter (λ t. nat_le t q.to) (past q.from (marks items))) (filter (λ t. nat_le t q.to) last)
-      ∙ rw (none_kept (λ t. not (is_settled items t)) (λ t. nat_le t q.to) (past q.from (marks items)) (all_not (is_settled items) (past q.from (marks items)) (past_settled q.from (marks items))), all_kept (λ t. not (is_settled items t)) (λ t. nat_le t q.to) last (ap not (last_open q items), tt)) refl
+      ∙ rw (
+        none_kept (λ t. not (is_settled items t)) (λ t. nat_le t q.to) (past q.from (marks items))
+            (all_not (is_settled items) (past q.from (marks items)) (past_settled q.from (marks items))),
+        all_kept (λ t. not (is_settled items t)) (λ t. nat_le t q.to) last (ap not (last_open q items), tt),
+      ) refl

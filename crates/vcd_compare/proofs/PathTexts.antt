@@ -42,7 +42,8 @@ joined_more texts more (suc i) p l =
 
 module _ (parts : List (List ℕ)) (nodes : List (ℕ × ℕ)) (texts : List (List ℕ)) (are : AreTexts parts nodes texts) where
   -- the path with this text
-  pub node_of : (i a k : ℕ) (p : List ℕ) → slice_get texts i ≡ Some (joined texts a p) → a ≤ length texts → has_dot p ≡ false → slice_get parts k ≡ Some p → slice_get nodes i ≡ Some (a, k)
+  pub node_of : (i a k : ℕ) (p : List ℕ) → slice_get texts i ≡ Some (joined texts a p) → a ≤ length texts → has_dot p ≡ false
+      → slice_get parts k ≡ Some p → slice_get nodes i ≡ Some (a, k)
   node_of i a k p at l plain part =
       let within = slice_get_within texts i (joined texts a p) at in
       let node = there nodes i (omega (arith, within, are.len)) in
@@ -82,10 +83,12 @@ apart_more texts t apart new i j x at other =
     ]
 
 -- further parts
-pub parts_more : (parts more : List (List ℕ)) (nodes : List (ℕ × ℕ)) (texts : List (List ℕ)) → AreApart (parts ++ more) → AreTexts parts nodes texts → AreTexts (parts ++ more) nodes texts
+pub parts_more : (parts more : List (List ℕ)) (nodes : List (ℕ × ℕ)) (texts : List (List ℕ)) → AreApart (parts ++ more) → AreTexts parts nodes texts
+    → AreTexts (parts ++ more) nodes texts
 parts_more parts more nodes texts apart are = record {
   len = are.len;
-  each = λ i node at. let is = are.each i node at in record { around = is.around; part = is.part; part_is = slice_get-front parts more node.1 is.part is.part_is; plain = is.plain; text_is = is.text_is };
+  each = λ i node at. let is = are.each i node at in
+      record { around = is.around; part = is.part; part_is = slice_get-front parts more node.1 is.part is.part_is; plain = is.plain; text_is = is.text_is };
   apart = are.apart;
   parts_apart = apart;
 }
@@ -111,7 +114,8 @@ pub first_passes : {X : Type 0} (test : X → Bool) (xs : List X) → list_any t
 first_passes test [] e = cc
 first_passes test (x ∷ xs) e = by_test (test x) refl (first_passes test xs)
   where
-    by_test : (b : Bool) → test x ≡ b → (list_any test xs ≡ true → (y : _) × (slice_get xs (position_or_len test xs) ≡ Some y) × (test y ≡ true)) → (y : _) × (slice_get (x ∷ xs) (position_or_len test (x ∷ xs)) ≡ Some y) × (test y ≡ true)
+    by_test : (b : Bool) → test x ≡ b → (list_any test xs ≡ true → (y : _) × (slice_get xs (position_or_len test xs) ≡ Some y) × (test y ≡ true))
+        → (y : _) × (slice_get (x ∷ xs) (position_or_len test (x ∷ xs)) ≡ Some y) × (test y ≡ true)
     by_test true p more = (x, rw p refl, p)
     by_test false p more =
         let m = more (sym (ap (λ b. b || list_any test xs) p) ∙ e) in
@@ -125,7 +129,8 @@ none_first test (x ∷ xs) e =
     let more = none_first test xs one.1 in
     ap (λ b. cond (not b) (1 + position_or_len test xs) 0) one.0 ∙ (omega (arith, more))
 
-module _ (parts : List (List ℕ)) (nodes : List (ℕ × ℕ)) (texts : List (List ℕ)) (are : AreTexts parts nodes texts) (a k : ℕ) (p : List ℕ) (part : slice_get parts k ≡ Some p) (plain : has_dot p ≡ false) (l : a ≤ length texts) where
+module _ (parts : List (List ℕ)) (nodes : List (ℕ × ℕ)) (texts : List (List ℕ)) (are : AreTexts parts nodes texts) (a k : ℕ) (p : List ℕ)
+    (part : slice_get parts k ≡ Some p) (plain : has_dot p ≡ false) (l : a ≤ length texts) where
   -- the texts after it is entered
   pub record Entered (new : List (ℕ × ℕ)) (index : ℕ) : Type 0 where
     pub more : List (List ℕ)
@@ -156,14 +161,17 @@ module _ (parts : List (List ℕ)) (nodes : List (ℕ × ℕ)) (texts : List (Li
             part = p;
             part_is = ap (slice_get parts) (ap (λ (n : ℕ × ℕ). n.1) last.1) ∙ part;
             plain = plain;
-            text_is = ap (slice_get (texts ++ t ∷ [])) (last.0 ∙ sym same_len) ∙ slice_get-seam texts t [] ∙ ap Some (sym (joined_more texts (t ∷ []) a p l) ∙ ap (λ n. joined (texts ++ t ∷ []) n p) (sym (ap (λ (n : ℕ × ℕ). n.0) last.1)));
+            text_is = ap (slice_get (texts ++ t ∷ [])) (last.0 ∙ sym same_len) ∙ slice_get-seam texts t []
+                ∙ ap Some (sym (joined_more texts (t ∷ []) a p l) ∙ ap (λ n. joined (texts ++ t ∷ []) n p) (sym (ap (λ (n : ℕ × ℕ). n.0) last.1)));
           }
         ];
-        apart = apart_more texts t are.apart (λ i at. let b = not_there (same_node (a, k)) nodes i (a, k) none (node_of parts nodes texts are i a k p at l plain part) in let c = is_same (a, k) in cc);
+        apart = apart_more texts t are.apart (λ i at. let b = not_there (same_node (a, k)) nodes i (a, k) none
+            (node_of parts nodes texts are i a k p at l plain part) in let c = is_same (a, k) in cc);
         parts_apart = are.parts_apart;
       }
 
-  pub entered : (new : List (ℕ × ℕ)) (index : ℕ) → new ≡ (if list_any (same_node (a, k)) nodes then nodes else nodes ++ (a, k) ∷ []) → index ≡ position_or_len (same_node (a, k)) nodes → Entered new index
+  pub entered : (new : List (ℕ × ℕ)) (index : ℕ) → new ≡ (if list_any (same_node (a, k)) nodes then nodes else nodes ++ (a, k) ∷ [])
+      → index ≡ position_or_len (same_node (a, k)) nodes → Entered new index
   entered new index e at = by_test (list_any (same_node (a, k)) nodes) refl
     where
       by_test : (b : Bool) → list_any (same_node (a, k)) nodes ≡ b → Entered new index
@@ -190,7 +198,8 @@ same_text v w = bytes_eq v.items w.items
 abbrev items_of : Vec ℕ → List ℕ
 items_of v = v.items
 
-pub text_entered : (old new : HashSet (Vec ℕ) CodeSeed) (v : Vec ℕ) (t : List ℕ) (index : ℕ) → v.items ≡ t → new.keys ≡ (if list_any (same_text v) old.keys then old.keys else old.keys ++ v ∷ [])
+pub text_entered : (old new : HashSet (Vec ℕ) CodeSeed) (v : Vec ℕ) (t : List ℕ) (index : ℕ) → v.items ≡ t
+    → new.keys ≡ (if list_any (same_text v) old.keys then old.keys else old.keys ++ v ∷ [])
     → index ≡ position_or_len (same_text v) old.keys → EntersText old new t index
 text_entered old new v t index same e at = by_test (list_any (same_text v) old.keys) refl
   where
@@ -268,8 +277,10 @@ text_found set t index e =
     )
 
 -- the path of a part that was entered
-pub path_entered : (old mid new : Paths) (part : List ℕ) (around k index number : ℕ) → EntersText old.parts mid.parts part k → mid.nodes.keys ≡ old.nodes.keys → new.parts.keys ≡ mid.parts.keys
-    → new.nodes.keys ≡ (if list_any (same_node (around, k)) mid.nodes.keys then mid.nodes.keys else mid.nodes.keys ++ (around, k) ∷ []) → index ≡ position_or_len (same_node (around, k)) mid.nodes.keys → number ≡ suc index
+pub path_entered : (old mid new : Paths) (part : List ℕ) (around k index number : ℕ) → EntersText old.parts mid.parts part k
+    → mid.nodes.keys ≡ old.nodes.keys → new.parts.keys ≡ mid.parts.keys
+    → new.nodes.keys ≡ (if list_any (same_node (around, k)) mid.nodes.keys then mid.nodes.keys else mid.nodes.keys ++ (around, k) ∷ [])
+    → index ≡ position_or_len (same_node (around, k)) mid.nodes.keys → number ≡ suc index
     → (texts : List (List ℕ)) → HasTexts old texts → around ≤ length texts → has_dot part ≡ false → EntersPath texts new (joined texts around part) number
 path_entered old mid new part around k index number text nodes parts keys at is texts has l plain =
     let apart = subst AreApart text.1 (text.3 has.parts_apart) in
@@ -310,7 +321,8 @@ number_within texts n t is = let l = slice_get_within texts is.0 t is.2 in omega
 pub joined_number : (texts : List (List ℕ)) (n : ℕ) (t p : List ℕ) → IsNumberOf texts n t → joined texts n p ≡ t ++ 46 ∷ p
 joined_number texts n t p is = ap (λ m. joined texts m p) is.1 ∙ ap (λ u. u ++ 46 ∷ p) (get_or_from_slice_get texts is.0 t [] is.2)
 
-pub entering_more : (texts : List (List ℕ)) (around : ℕ) (name : List ℕ) (old new : Paths) (number next : ℕ) (rest part more : List ℕ) (e : IsEntering texts around name old number rest) → rest ≡ part ++ 46 ∷ more
+pub entering_more : (texts : List (List ℕ)) (around : ℕ) (name : List ℕ) (old new : Paths) (number next : ℕ) (rest part more : List ℕ)
+    (e : IsEntering texts around name old number rest) → rest ≡ part ++ 46 ∷ more
     → EntersPath (texts ++ e.more) new (joined (texts ++ e.more) number part) next → IsEntering texts around name new next more
 entering_more texts around name old new number next rest part more e split p =
     let all = texts ++ e.more in
@@ -319,7 +331,8 @@ entering_more texts around name old new number next rest part more e split p =
       more = e.more ++ p.0;
       has = subst (HasTexts new) same p.1;
       within = subst (λ ts. next ≤ length ts) same (number_within (all ++ p.0) next (joined all number part) p.2);
-      is = ap (λ ts. joined ts next more) (sym same) ∙ joined_number (all ++ p.0) next (joined all number part) more p.2 ∙ joined-append all number part more ∙ ap (joined all number) (sym split) ∙ e.is;
+      is = ap (λ ts. joined ts next more) (sym same) ∙ joined_number (all ++ p.0) next (joined all number part) more p.2
+          ∙ joined-append all number part more ∙ ap (joined all number) (sym split) ∙ e.is;
     }
 
 pub entering_last : (texts : List (List ℕ)) (around : ℕ) (name : List ℕ) (old new : Paths) (number last : ℕ) (rest : List ℕ) (e : IsEntering texts around name old number rest)

@@ -30,12 +30,16 @@ and_next P k below here i l = elim (cases_lt i k) [ inl b ↦ below i b | inr pa
 
 -- ---- what is settled in a turn
 
-module _ (n : Names) (texts : List (List ℕ)) (old new : Places) (k : ℕ) (t : List ℕ) (place : Option ℕ) (s : Settles old new k place) (is : IsNumberOf texts k t) (ready : IsReady (length texts) old) where
+module _ (n : Names) (texts : List (List ℕ)) (old new : Places) (k : ℕ) (t : List ℕ) (place : Option ℕ) (s : Settles old new k place)
+    (is : IsNumberOf texts k t) (ready : IsReady (length texts) old) where
   -- a path is the one that is settled, or nothing of it changes
-  turn_either : (m : ℕ) → ((k ≡ m) × IsSettled new m × (get_or new.numbers.items m None ≡ place)) ⊎ ((k ≢ m) × (get_or new.turns.items m 0 ≡ get_or old.turns.items m 0) × (get_or new.numbers.items m None ≡ get_or old.numbers.items m None))
+  turn_either : (m : ℕ) → ((k ≡ m) × IsSettled new m × (get_or new.numbers.items m None ≡ place))
+      ⊎ ((k ≢ m) × (get_or new.turns.items m 0 ≡ get_or old.turns.items m 0) × (get_or new.numbers.items m None ≡ get_or old.numbers.items m None))
   turn_either m = by_test (nat_eq k m) refl
     where
-      by_test : (b : Bool) → nat_eq k m ≡ b → ((k ≡ m) × IsSettled new m × (get_or new.numbers.items m None ≡ place)) ⊎ ((k ≢ m) × (get_or new.turns.items m 0 ≡ get_or old.turns.items m 0) × (get_or new.numbers.items m None ≡ get_or old.numbers.items m None))
+      by_test : (b : Bool) → nat_eq k m ≡ b → ((k ≡ m) × IsSettled new m × (get_or new.numbers.items m None ≡ place))
+          ⊎ ((k ≢ m) × (get_or new.turns.items m 0 ≡ get_or old.turns.items m 0)
+          × (get_or new.numbers.items m None ≡ get_or old.numbers.items m None))
       by_test true q =
           let same = eqb-true k m q in
           let l = number_within texts k t is in
@@ -43,15 +47,21 @@ module _ (n : Names) (texts : List (List ℕ)) (old new : Places) (k : ℕ) (t :
           let two = ready.1 in
           inl (
             same,
-            ap (λ ts. get_or ts m 0) s.turns ∙ ap (λ j. get_or (set old.turns.items k old.turn) j 0) (sym same) ∙ get_or-set_same old.turns.items k old.turn 0 (omega (arith, l, two)) ∙ sym s.turn,
+            ap (λ ts. get_or ts m 0) s.turns ∙ ap (λ j. get_or (set old.turns.items k old.turn) j 0) (sym same)
+                ∙ get_or-set_same old.turns.items k old.turn 0 (omega (arith, l, two)) ∙ sym s.turn,
             ap (λ ns. get_or ns m None) s.numbers ∙ ap (λ j. get_or (set old.numbers.items k place) j None) (sym same) ∙ get_or-set_same old.numbers.items k place None (omega (arith, l, one)),
           )
       by_test false q =
           let differs = eqb-false k m q in
           let turned : m ≢ k = λ e. differs (sym e) in
-          inr (differs, ap (λ ts. get_or ts m 0) s.turns ∙ get_or-set_other old.turns.items k m old.turn 0 turned, ap (λ ns. get_or ns m None) s.numbers ∙ get_or-set_other old.numbers.items k m place None turned)
+          inr (
+            differs,
+            ap (λ ts. get_or ts m 0) s.turns ∙ get_or-set_other old.turns.items k m old.turn 0 turned,
+            ap (λ ns. get_or ns m None) s.numbers ∙ get_or-set_other old.numbers.items k m place None turned,
+          )
 
-  settled_more : selects_path t n.0 ≡ true → IsCounterpart texts n t place → AreCounterparts n texts old → IsReady (length texts) new × AreCounterparts n texts new × IsSettled new k × StaySettled old new
+  settled_more : selects_path t n.0 ≡ true → IsCounterpart texts n t place → AreCounterparts n texts old → IsReady (length texts) new
+      × AreCounterparts n texts new × IsSettled new k × StaySettled old new
   settled_more selected here each = (
     (
       ap length s.numbers ∙ length-set old.numbers.items k place ∙ ready.0,
@@ -67,10 +77,13 @@ module _ (n : Names) (texts : List (List ℕ)) (old new : Places) (k : ℕ) (t :
   )
 
 -- the first name is settled first: in a new turn nothing is
-pub placing_first : (n : Names) (texts : List (List ℕ)) (one other turn : ℕ) (old new : Places) → AreApart texts → IsNumberOf texts one n.0 → IsNumberOf texts other n.1 → IsReady (length texts) old → turn ≡ old.turn + 1 → Settles (record old { turn = turn }) new one (Some other) → IsPlacing n texts new
+pub placing_first : (n : Names) (texts : List (List ℕ)) (one other turn : ℕ) (old new : Places) → AreApart texts → IsNumberOf texts one n.0
+    → IsNumberOf texts other n.1 → IsReady (length texts) old → turn ≡ old.turn + 1 → Settles (record old { turn = turn }) new one (Some other)
+    → IsPlacing n texts new
 placing_first n texts one other turn old new apart a b ready next s =
     let begun : IsReady (length texts) (record old { turn = turn }) = (ready.0, ready.1, λ m. let l = ready.2 m in omega (arith, l, next)) in
-    let more = settled_more n texts (record old { turn = turn }) new one n.0 (Some other) s a begun (selects_itself n.0) (subst (IsNumberOf texts other) (sym (replaced_itself n)) b) (λ m at. let l = ready.2 m in absurd (omega (arith, l, next, at))) in
+    let more = settled_more n texts (record old { turn = turn }) new one n.0 (Some other) s a begun (selects_itself n.0)
+    (subst (IsNumberOf texts other) (sym (replaced_itself n)) b) (λ m at. let l = ready.2 m in absurd (omega (arith, l, next, at))) in
     (more.0, λ m is. subst (IsSettled new) (a.1 ∙ ap suc (apart a.0 is.0 n.0 a.2 is.2) ∙ sym is.1) more.2, more.1)
 
 -- ---- counterparts of paths
@@ -108,7 +121,8 @@ module _ (parts : List (List ℕ)) (nodes : List (ℕ × ℕ)) (texts : List (Li
 
   module _ (n : Names) where
     -- of a path inside another one
-    place_inside : (k : ℕ) (p u : List ℕ) (old : Option ℕ) → has_dot p ≡ false → slice_get parts k ≡ Some p → selects_path u n.0 ≡ true → IsCounterpart texts n u old → IsCounterpart texts n (u ++ 46 ∷ p) (option_map suc (looked_up nodes k old))
+    place_inside : (k : ℕ) (p u : List ℕ) (old : Option ℕ) → has_dot p ≡ false → slice_get parts k ≡ Some p → selects_path u n.0 ≡ true
+        → IsCounterpart texts n u old → IsCounterpart texts n (u ++ 46 ∷ p) (option_map suc (looked_up nodes k old))
     place_inside k p u None plain part selected is = λ i at. let j = around_there i (replaced n u) p plain (at ∙ ap Some (replaced_inside n u p selected)) in is j.0 j.1
     place_inside k p u (Some m) plain part selected is = by_found (position (same_key (m, k)) nodes) refl
       where
@@ -137,7 +151,8 @@ module _ (parts : List (List ℕ)) (nodes : List (ℕ × ℕ)) (texts : List (Li
         let node_is = are.each i node at in
         let l = node_is.around in
         let e = is.1 in
-        subst (λ (x : ℕ × ℕ). IsBelow n texts x.0 × (x.0 < m)) (sym (ap (node_at nodes) is.1)) (by_around node.0 (omega (arith, l, within)) node_is.part node_is.plain (same_Some _ _ (sym node_is.text_is ∙ is.2)), omega (arith, l, e))
+        subst (λ (x : ℕ × ℕ). IsBelow n texts x.0 × (x.0 < m)) (sym (ap (node_at nodes) is.1))
+        (by_around node.0 (omega (arith, l, within)) node_is.part node_is.plain (same_Some _ _ (sym node_is.text_is ∙ is.2)), omega (arith, l, e))
       where
         by_around : (a : ℕ) → a ≤ length texts → (p : List ℕ) → has_dot p ≡ false → joined texts a p ≡ t → IsBelow n texts a
         by_around zero l p plain e = absurd (differs (plain_selected t n.0 (ap has_dot (sym e) ∙ plain) selected))
@@ -147,7 +162,8 @@ module _ (parts : List (List ℕ)) (nodes : List (ℕ × ℕ)) (texts : List (Li
             (u, (j, refl, slice_get-get_or texts j [] (omega (arith, l))), one)
 
     -- one path further up
-    pub climbs_on : (from m : ℕ) (ms : List ℕ) (b : IsBelow n texts m) → b.0 ≢ n.0 → Climbs nodes n texts from ms m → let next : ℕ = min (node_at nodes m).0 (m - 1) in Climbs nodes n texts from (ms ++ m ∷ []) next × IsBelow n texts next
+    pub climbs_on : (from m : ℕ) (ms : List ℕ) (b : IsBelow n texts m) → b.0 ≢ n.0 → Climbs nodes n texts from ms m →
+        let next : ℕ = min (node_at nodes m).0 (m - 1) in Climbs nodes n texts from (ms ++ m ∷ []) next × IsBelow n texts next
     climbs_on from m ms b differs c =
         let around = below_around m b differs in
         let l = around.1 in
@@ -168,7 +184,8 @@ module _ (parts : List (List ℕ)) (nodes : List (ℕ × ℕ)) (texts : List (Li
     climbs_none from top (k ∷ ms) e c = cc
 
     -- a path is settled after the one around it
-    pub placing_next : (old new : Places) (m top : ℕ) → IsPlacing n texts old → IsBelow n texts m → (node_at nodes m).0 ≡ top → IsSettled old top → Settles old new m (place_of_node nodes old.numbers.items m) → IsPlacing n texts new × IsSettled new m × StaySettled old new
+    pub placing_next : (old new : Places) (m top : ℕ) → IsPlacing n texts old → IsBelow n texts m → (node_at nodes m).0 ≡ top → IsSettled old top
+        → Settles old new m (place_of_node nodes old.numbers.items m) → IsPlacing n texts new × IsSettled new m × StaySettled old new
     placing_next old new m top p (t, is, selected) around at s =
         let more = settled_more n texts old new m t (place_of_node nodes old.numbers.items m) s is p.0 selected here p.2 in
         ((more.0, λ k own. more.3 k (p.1 k own), more.1), more.2, more.3)
@@ -181,7 +198,8 @@ module _ (parts : List (List ℕ)) (nodes : List (ℕ × ℕ)) (texts : List (Li
             let node_is = are.each i node (slice_get-get_or nodes i (0, 0) (let l = are.len in omega (arith, within, l))) in
             let up : node.0 ≡ top = ap (λ k. (node_at nodes k).0) (sym is.1) ∙ around in
             let outer = p.2 top at in
-            let text : outer.0 ++ 46 ∷ node_is.part ≡ t = sym (joined_number texts top outer.0 node_is.part outer.1) ∙ ap (λ k. joined texts k node_is.part) (sym up) ∙ same_Some _ _ (sym node_is.text_is ∙ is.2) in
+            let text : outer.0 ++ 46 ∷ node_is.part ≡ t = sym (joined_number texts top outer.0 node_is.part outer.1)
+            ∙ ap (λ k. joined texts k node_is.part) (sym up) ∙ same_Some _ _ (sym node_is.text_is ∙ is.2) in
             let inside = place_inside node.1 node_is.part outer.0 (get_or old.numbers.items top None) node_is.plain node_is.part_is outer.2 outer.3 in
             subst (IsCounterpart texts n t) (sym (ap (place_of_node nodes old.numbers.items) is.1 ∙ ap (λ k. option_map suc (looked_up nodes node.1 (get_or old.numbers.items k None))) up))
             (subst (λ x. IsCounterpart texts n x (option_map suc (looked_up nodes node.1 (get_or old.numbers.items top None)))) text inside)
@@ -189,7 +207,8 @@ module _ (parts : List (List ℕ)) (nodes : List (ℕ × ℕ)) (texts : List (Li
 -- ---- counterparts of variables
 
 -- a number is among those of the exceptions if and only if its text is one
-pub marked_is : (texts : List (List ℕ)) (n : ℕ) (t : List ℕ) (ns : List ℕ) (es : List (List ℕ)) → AreApart texts → IsNumberOf texts n t → AllZip (IsNumberOf texts) ns es → list_any (λ m. m == n) ns ≡ list_any (λ e. bytes_eq t e) es
+pub marked_is : (texts : List (List ℕ)) (n : ℕ) (t : List ℕ) (ns : List ℕ) (es : List (List ℕ)) → AreApart texts → IsNumberOf texts n t
+    → AllZip (IsNumberOf texts) ns es → list_any (λ m. m == n) ns ≡ list_any (λ e. bytes_eq t e) es
 marked_is texts n t [] [] apart is all = refl
 marked_is texts n t [] (e ∷ es) apart is all = absurd all
 marked_is texts n t (m ∷ ns) [] apart is all = absurd all
@@ -206,7 +225,8 @@ nat_flip a b = by_test (nat_eq b a) refl
 abbrev pub at_place : List ℕ → List ℕ → ℕ → Named → Bool
 at_place path range nth w = bytes_eq w.path path && (bytes_eq (range_of w.variable) range && (w.nth == nth))
 
-same_test : (list : List (List ℕ × List ℕ)) (m nth : ℕ) (path range : List ℕ) (k : ℕ × ℕ) (w : Named) → ((i j : ℕ) (z : List ℕ × List ℕ) → slice_get list i ≡ Some z → slice_get list j ≡ Some z → i ≡ j)
+same_test : (list : List (List ℕ × List ℕ)) (m nth : ℕ) (path range : List ℕ) (k : ℕ × ℕ) (w : Named)
+    → ((i j : ℕ) (z : List ℕ × List ℕ) → slice_get list i ≡ Some z → slice_get list j ≡ Some z → i ≡ j)
     → slice_get list m ≡ Some (path, range) → IsKeyOf list k w → same_key (m, nth) k ≡ at_place path range nth w
 same_test list m nth path range k w apart is key =
     let one : nat_eq m k.0 ≡ (bytes_eq w.path path && bytes_eq (range_of w.variable) range) =
@@ -218,7 +238,8 @@ same_test list m nth path range k w apart is key =
     grouped true b c = refl
     grouped false b c = refl
 
-first_same : (list : List (List ℕ × List ℕ)) (m nth : ℕ) (path range : List ℕ) (keys : List (ℕ × ℕ)) (vs : List Named) → ((i j : ℕ) (z : List ℕ × List ℕ) → slice_get list i ≡ Some z → slice_get list j ≡ Some z → i ≡ j)
+first_same : (list : List (List ℕ × List ℕ)) (m nth : ℕ) (path range : List ℕ) (keys : List (ℕ × ℕ)) (vs : List Named)
+    → ((i j : ℕ) (z : List ℕ × List ℕ) → slice_get list i ≡ Some z → slice_get list j ≡ Some z → i ≡ j)
     → slice_get list m ≡ Some (path, range) → AllZip (IsKeyOf list) keys vs → position_or_len (same_key (m, nth)) keys ≡ position_or_len (at_place path range nth) vs
 first_same list m nth path range [] [] apart is all = refl
 first_same list m nth path range [] (w ∷ vs) apart is all = absurd all
@@ -227,7 +248,8 @@ first_same list m nth path range (k ∷ ks) (w ∷ vs) apart is all =
     ap (λ b. cond (not b) (1 + position_or_len (same_key (m, nth)) ks) 0) (same_test list m nth path range k w apart is all.0)
     ∙ ap (λ j. cond (not (at_place path range nth w)) (1 + j) 0) (first_same list m nth path range ks vs apart is all.1)
 
-none_found : (list : List (List ℕ × List ℕ)) (path range : List ℕ) (nth : ℕ) (keys : List (ℕ × ℕ)) (vs : List Named) → ((i : ℕ) → slice_get list i ≢ Some (path, range)) → AllZip (IsKeyOf list) keys vs → find (at_place path range nth) vs ≡ None
+none_found : (list : List (List ℕ × List ℕ)) (path range : List ℕ) (nth : ℕ) (keys : List (ℕ × ℕ)) (vs : List Named)
+    → ((i : ℕ) → slice_get list i ≢ Some (path, range)) → AllZip (IsKeyOf list) keys vs → find (at_place path range nth) vs ≡ None
 none_found list path range nth [] [] absent all = refl
 none_found list path range nth [] (w ∷ vs) absent all = absurd all
 none_found list path range nth (k ∷ ks) [] absent all = absurd all
@@ -243,18 +265,21 @@ pub kept : {X : Type 0} (f : X → Bool) (xs : List X) (n : ℕ) (x : X) → sli
 kept f [] n x e = cc
 kept f (y ∷ ys) n x e = by_test (f y) refl n e (λ n e. kept f ys n x e)
   where
-    by_test : (b : Bool) → f y ≡ b → (n : ℕ) → slice_get (cond b (y ∷ filter f ys) (filter f ys)) n ≡ Some x → ((n : ℕ) → slice_get (filter f ys) n ≡ Some x → f x ≡ true) → f x ≡ true
+    by_test : (b : Bool) → f y ≡ b → (n : ℕ) → slice_get (cond b (y ∷ filter f ys) (filter f ys)) n ≡ Some x
+        → ((n : ℕ) → slice_get (filter f ys) n ≡ Some x → f x ≡ true) → f x ≡ true
     by_test true e zero g more = let same : y ≡ x = same_Some y x g in rw (← same) e
     by_test true e (suc n) g more = more n g
     by_test false e n g more = more n g
 
 -- a variable that is selected is not left out
-pub selected_nth : (q : Asked) (h : Header) (n : Names) (j : ℕ) (v : Named) → slice_get (selected_in q h n) j ≡ Some v → (is_kept q.exceptions v.path ≡ true) × (selects_path v.path n.0 ≡ true)
+pub selected_nth : (q : Asked) (h : Header) (n : Names) (j : ℕ) (v : Named) → slice_get (selected_in q h n) j ≡ Some v
+    → (is_kept q.exceptions v.path ≡ true) × (selects_path v.path n.0 ≡ true)
 selected_nth q h n j v at = and_parts (is_kept q.exceptions v.path) (selects_path v.path n.0) (kept (λ (w : Named). is_kept q.exceptions w.path && selects_path w.path n.0) (all_named h) j v at)
 
 module _ (h : Header) (texts : List (List ℕ)) (vs : Variables) (are : AreVariables h texts vs) where
   -- a variable by the number of its path and its range
-  pub by_slice : (path range : List ℕ) (nth : ℕ) (slice : Option ℕ) → IsSliceAt are.list (path, range) slice → IsFound h (find (at_place path range nth) (all_named h)) (looked_up vs.keys.keys nth slice)
+  pub by_slice : (path range : List ℕ) (nth : ℕ) (slice : Option ℕ) → IsSliceAt are.list (path, range) slice
+      → IsFound h (find (at_place path range nth) (all_named h)) (looked_up vs.keys.keys nth slice)
   by_slice path range nth None is = none_found are.list path range nth vs.keys.keys (all_named h) is are.keys
   by_slice path range nth (Some m) is = by_found (position (same_key (m, nth)) vs.keys.keys) refl
     where
@@ -263,14 +288,17 @@ module _ (h : Header) (texts : List (List ℕ)) (vs : Variables) (are : AreVaria
 
       by_found : (o : Option ℕ) → position (same_key (m, nth)) vs.keys.keys ≡ o → IsFound h (find (at_place path range nth) (all_named h)) o
       by_found (Some f) e =
-          let first : position_or_len test (all_named h) ≡ f = sym (first_same are.list m nth path range vs.keys.keys (all_named h) are.slices.apart is are.keys) ∙ position_first (same_key (m, nth)) vs.keys.keys f e in
+          let first : position_or_len test (all_named h) ≡ f = sym (first_same are.list m nth path range vs.keys.keys
+          (all_named h) are.slices.apart is are.keys) ∙ position_first (same_key (m, nth)) vs.keys.keys f e in
           let found = position_passes (same_key (m, nth)) vs.keys.keys f e in
           let within = slice_get_within vs.keys.keys f found.0 found.1 in
           let w = there (all_named h) f (omega (arith, within, same_len (IsKeyOf are.list) vs.keys.keys (all_named h) are.keys)) in
           (w.0, find_at test (all_named h) ∙ ap (slice_get (all_named h)) first ∙ w.1, w.1)
       by_found None e =
           let none = none_first (same_key (m, nth)) vs.keys.keys (position_none (same_key (m, nth)) vs.keys.keys e) in
-          let last : position_or_len test (all_named h) ≡ length (all_named h) = sym (first_same are.list m nth path range vs.keys.keys (all_named h) are.slices.apart is are.keys) ∙ none ∙ same_len (IsKeyOf are.list) vs.keys.keys (all_named h) are.keys in
+          let last : position_or_len test (all_named h) ≡ length (all_named h) = sym
+          (first_same are.list m nth path range vs.keys.keys (all_named h) are.slices.apart is are.keys) ∙ none
+          ∙ same_len (IsKeyOf are.list) vs.keys.keys (all_named h) are.keys in
           find_at test (all_named h) ∙ slice_get_past (all_named h) (position_or_len test (all_named h)) (omega (arith, last))
 
   -- the keys of a variable
@@ -280,7 +308,8 @@ module _ (h : Header) (texts : List (List ℕ)) (vs : Variables) (are : AreVaria
     pub number : IsNumberOf texts path v.path
     pub path_is : slice.0 ≡ path
 
-  pub keys_of : (index : ℕ) (v : Named) (key slice : ℕ × ℕ) (path : ℕ) → AreApart texts → IsNth h index v → key ≡ get_or vs.keys.keys index (0, 0) → slice ≡ get_or vs.slices.pairs.keys key.0 (0, 0) → path ≡ get_or vs.paths.items index 0 → HasKeys v key slice path
+  pub keys_of : (index : ℕ) (v : Named) (key slice : ℕ × ℕ) (path : ℕ) → AreApart texts → IsNth h index v → key ≡ get_or vs.keys.keys index (0, 0)
+      → slice ≡ get_or vs.slices.pairs.keys key.0 (0, 0) → path ≡ get_or vs.paths.items index 0 → HasKeys v key slice path
   keys_of index v key slice path apart nth key_at slice_at path_at =
       let k = zip_at (IsKeyOf are.list) vs.keys.keys (all_named h) index v are.keys nth in
       let key_is : key ≡ k.0 = key_at ∙ get_or_from_slice_get vs.keys.keys index k.0 (0, 0) k.1 in
@@ -298,7 +327,8 @@ module _ (h : Header) (texts : List (List ℕ)) (vs : Variables) (are : AreVaria
       }
 
   -- the number of its range
-  pub range_number : (index : ℕ) (v : Named) (key slice : ℕ × ℕ) → IsNth h index v → key ≡ get_or vs.keys.keys index (0, 0) → slice ≡ get_or vs.slices.pairs.keys key.0 (0, 0) → slice_get (texts_in vs.slices.ranges) slice.1 ≡ Some (range_of v.variable)
+  pub range_number : (index : ℕ) (v : Named) (key slice : ℕ × ℕ) → IsNth h index v → key ≡ get_or vs.keys.keys index (0, 0)
+      → slice ≡ get_or vs.slices.pairs.keys key.0 (0, 0) → slice_get (texts_in vs.slices.ranges) slice.1 ≡ Some (range_of v.variable)
   range_number index v key slice nth key_at slice_at =
       let k = zip_at (IsKeyOf are.list) vs.keys.keys (all_named h) index v are.keys nth in
       let key_is : key ≡ k.0 = key_at ∙ get_or_from_slice_get vs.keys.keys index k.0 (0, 0) k.1 in
@@ -328,20 +358,27 @@ module _ (h : Header) (texts : List (List ℕ)) (vs : Variables) (are : AreVaria
           ap (λ b. cond b (w ∷ filter (λ w. bytes_eq w.path t) ws) (filter (λ w. bytes_eq w.path t) ws)) other ∙ none ns ws all.1
 
 -- the place of a variable's path
-pub placed_at : (q : Asked) (h : Header) (n : Names) (texts : List (List ℕ)) (vs : Variables) (places : List (Option ℕ)) (j m : ℕ) (v : Named) (place : Option ℕ) → FindPlaces q h n texts vs places → slice_get (selected_in q h n) j ≡ Some v → IsNumberOf texts m v.path
+pub placed_at : (q : Asked) (h : Header) (n : Names) (texts : List (List ℕ)) (vs : Variables) (places : List (Option ℕ)) (j m : ℕ) (v : Named)
+    (place : Option ℕ) → FindPlaces q h n texts vs places → slice_get (selected_in q h n) j ≡ Some v → IsNumberOf texts m v.path
     → place ≡ get_or places m None → IsCounterpart texts n v.path place
 placed_at q h n texts vs places j m v place finds at number is = subst (IsCounterpart texts n v.path) (sym is) (finds.placed j m v at number)
 
 -- what the code finds with the same range
-pub ranged_place : (q : Asked) (h : Header) (n : Names) (texts : List (List ℕ)) (vs : Variables) (places : List (Option ℕ)) (index j : ℕ) (v : Named) (key slice : ℕ × ℕ) (place found result : Option ℕ) → FindPlaces q h n texts vs places → IsNth h index v → slice_get (selected_in q h n) j ≡ Some v
-    → key ≡ get_or vs.keys.keys index (0, 0) → slice ≡ get_or vs.slices.pairs.keys key.0 (0, 0) → place ≡ get_or places slice.0 None → found ≡ looked_up vs.slices.pairs.keys slice.1 place → result ≡ looked_up vs.keys.keys key.1 found → IsFound h (with_range h n v) result
+pub ranged_place : (q : Asked) (h : Header) (n : Names) (texts : List (List ℕ)) (vs : Variables) (places : List (Option ℕ)) (index j : ℕ) (v : Named)
+    (key slice : ℕ × ℕ) (place found result : Option ℕ) → FindPlaces q h n texts vs places → IsNth h index v
+    → slice_get (selected_in q h n) j ≡ Some v
+    → key ≡ get_or vs.keys.keys index (0, 0) → slice ≡ get_or vs.slices.pairs.keys key.0 (0, 0) → place ≡ get_or places slice.0 None
+    → found ≡ looked_up vs.slices.pairs.keys slice.1 place → result ≡ looked_up vs.keys.keys key.1 found → IsFound h (with_range h n v) result
 ranged_place q h n texts vs places index j v key slice place found result finds nth at key_is slice_is place_is found_is result_is =
     let has = keys_of h texts vs finds.are index v key slice (get_or vs.paths.items index 0) finds.apart nth key_is slice_is refl in
     let counter = placed_at q h n texts vs places j slice.0 v place finds at (subst (λ m. IsNumberOf texts m v.path) (sym has.path_is) has.number) place_is in
-    let there : IsSliceAt finds.are.list (replaced n v.path, range_of v.variable) found = subst (IsSliceAt finds.are.list (replaced n v.path, range_of v.variable)) (sym found_is) (by_place place has.is.1 counter) in
-    subst (IsFound h (with_range h n v)) (sym (result_is ∙ ap (λ m. looked_up vs.keys.keys m found) has.nth)) (by_slice h texts vs finds.are (replaced n v.path) (range_of v.variable) v.nth found there)
+    let there : IsSliceAt finds.are.list (replaced n v.path, range_of v.variable) found = subst
+    (IsSliceAt finds.are.list (replaced n v.path, range_of v.variable)) (sym found_is) (by_place place has.is.1 counter) in
+    subst (IsFound h (with_range h n v)) (sym (result_is ∙ ap (λ m. looked_up vs.keys.keys m found) has.nth))
+    (by_slice h texts vs finds.are (replaced n v.path) (range_of v.variable) v.nth found there)
   where
-    by_place : (place : Option ℕ) → slice_get (texts_in vs.slices.ranges) slice.1 ≡ Some (range_of v.variable) → IsCounterpart texts n v.path place → IsSliceAt finds.are.list (replaced n v.path, range_of v.variable) (looked_up vs.slices.pairs.keys slice.1 place)
+    by_place : (place : Option ℕ) → slice_get (texts_in vs.slices.ranges) slice.1 ≡ Some (range_of v.variable) → IsCounterpart texts n v.path place
+        → IsSliceAt finds.are.list (replaced n v.path, range_of v.variable) (looked_up vs.slices.pairs.keys slice.1 place)
     by_place None range is = slice_absent texts vs.slices finds.are.list finds.apart finds.are.slices (range_of v.variable) slice.1 range (replaced n v.path) is
     by_place (Some m) range is = slice_found texts vs.slices finds.are.list finds.apart finds.are.slices (range_of v.variable) slice.1 range m (replaced n v.path) is
 
@@ -368,7 +405,8 @@ found_some h o None e = ap is_some e
 found_some h o (Some j) e = ap is_some e.1
 
 -- without a range, by what is known of both paths
-pub lone_both : (h : Header) (v : Named) (own other : Option Named) (i : Option ℕ) (j : ℕ) (one two : Bool) → IsFound h own i → (b : IsFound h other (Some j)) → one ≡ is_empty (range_of v.variable) → two ≡ is_empty (range_of b.0.variable)
+pub lone_both : (h : Header) (v : Named) (own other : Option Named) (i : Option ℕ) (j : ℕ) (one two : Bool) → IsFound h own i
+    → (b : IsFound h other (Some j)) → one ≡ is_empty (range_of v.variable) → two ≡ is_empty (range_of b.0.variable)
     → IsFound h (lone own v other) (cond (is_some i && (one || two)) (Some j) None)
 lone_both h v own other i j one two a b e f =
     subst (λ o. IsFound h (lone own v o) (cond (is_some i && (one || two)) (Some j) None)) (sym b.1)
@@ -391,25 +429,32 @@ module _ (q : Asked) (h : Header) (n : Names) (texts : List (List ℕ)) (vs : Va
       subst (IsBelow n texts) (sym (get_or_from_slice_get vs.paths.items index k.0 0 k.1)) (v.0.path, k.2, (selected_nth q h n i v.0 v.1).1)
 
   -- their places are found once their paths are settled
-  pub places_found : (p : Places) → AreApart texts → AreCounterparts n texts p → ((i : ℕ) → i < length list → IsSettled p (get_or vs.paths.items (get_or list i 0) 0)) → ArePlaces q h n texts p.numbers.items
+  pub places_found : (p : Places) → AreApart texts → AreCounterparts n texts p
+      → ((i : ℕ) → i < length list → IsSettled p (get_or vs.paths.items (get_or list i 0) 0)) → ArePlaces q h n texts p.numbers.items
   places_found p apart each settled j m v at is =
       let index = zip_at (IsNth h) list (selected_in q h n) j v selected at in
       let k = zip_at (IsPathOf texts) vs.paths.items (all_named h) index.0 v are.paths index.2 in
       let path = k.2 in
       let key : get_or vs.paths.items (get_or list j 0) 0 ≡ m =
-      ap (λ i. get_or vs.paths.items i 0) (get_or_from_slice_get list j index.0 0 index.1) ∙ get_or_from_slice_get vs.paths.items index.0 k.0 0 k.1 ∙ path.1 ∙ ap suc (apart path.0 is.0 v.path path.2 is.2) ∙ sym is.1 in
+      ap (λ i. get_or vs.paths.items i 0) (get_or_from_slice_get list j index.0 0 index.1) ∙ get_or_from_slice_get vs.paths.items index.0 k.0 0 k.1
+      ∙ path.1 ∙ ap suc (apart path.0 is.0 v.path path.2 is.2) ∙ sym is.1 in
       let its = each m (subst (IsSettled p) key (settled j (slice_get_within list j index.0 index.1))) in
       let number = its.1 in
       let text : its.0 ≡ v.path = same_Some its.0 v.path (sym number.2 ∙ ap (slice_get texts) (let a = number.1 in let b = is.1 in omega (arith, a, b)) ∙ is.2) in
       subst (λ t. IsCounterpart texts n t (get_or p.numbers.items m None)) text its.3
 
 -- the variables that a name selects are those that are inside its path
-pub selected_zip : (q : Asked) (h : Header) (n : Names) (texts : List (List ℕ)) (vs : Variables) (list : List ℕ) → AreVariables h texts vs → list ≡ chosen (λ i. is_inside texts q.exceptions n.0 (get_or vs.paths.items i 0)) (length vs.paths.items) → AreSelected q h n list
+pub selected_zip : (q : Asked) (h : Header) (n : Names) (texts : List (List ℕ)) (vs : Variables) (list : List ℕ) → AreVariables h texts vs
+    → list ≡ chosen (λ i. is_inside texts q.exceptions n.0 (get_or vs.paths.items i 0)) (length vs.paths.items) → AreSelected q h n list
 selected_zip q h n texts vs list are is =
     let paths = vs.paths.items in
     let len = same_len (IsPathOf texts) paths (all_named h) are.paths in
-    subst (AreSelected q h n) (sym is) (subst (λ l. AllZip (IsNth h) (chosen (λ i. is_inside texts q.exceptions n.0 (get_or paths i 0)) (length paths)) (filter (λ (v : Named). is_kept q.exceptions v.path && selects_path v.path n.0) l)) (take_all (length paths) (all_named h) (omega (arith, len)))
-    (chosen_zip (all_named h) (λ i. is_inside texts q.exceptions n.0 (get_or paths i 0)) (λ (v : Named). is_kept q.exceptions v.path && selects_path v.path n.0) same (length paths) (omega (arith, len))))
+    subst (AreSelected q h n) (sym is) (subst (λ l. AllZip (IsNth h)
+    (chosen (λ i. is_inside texts q.exceptions n.0 (get_or paths i 0)) (length paths))
+    (filter (λ (v : Named). is_kept q.exceptions v.path && selects_path v.path n.0) l))
+    (take_all (length paths) (all_named h) (omega (arith, len)))
+    (chosen_zip (all_named h) (λ i. is_inside texts q.exceptions n.0 (get_or paths i 0))
+    (λ (v : Named). is_kept q.exceptions v.path && selects_path v.path n.0) same (length paths) (omega (arith, len))))
   where
     same : (i : ℕ) (v : Named) → slice_get (all_named h) i ≡ Some v → is_inside texts q.exceptions n.0 (get_or vs.paths.items i 0) ≡ (is_kept q.exceptions v.path && selects_path v.path n.0)
     same i v at =
@@ -428,6 +473,8 @@ paths_within h texts vs are = λ i x at.
     omega (arith, l, e)
 
 -- what is listed for a name of some pair of names
-pub listed_variables : (paths : Paths) (vs : Variables) (lists : List (Vec ℕ)) (q : Asked) (h : Header) (ns : List Names) (texts : List (List ℕ)) → HasSelected paths vs lists q h ns texts → (n : Names) (one : ℕ) → IsNumberOf texts one n.0 → is_one_of (both_names ns) n.0 ≡ true → (list : List ℕ)
+pub listed_variables : (paths : Paths) (vs : Variables) (lists : List (Vec ℕ)) (q : Asked) (h : Header) (ns : List Names) (texts : List (List ℕ))
+    → HasSelected paths vs lists q h ns texts → (n : Names) (one : ℕ) → IsNumberOf texts one n.0 → is_one_of (both_names ns) n.0 ≡ true
+    → (list : List ℕ)
     → list ≡ get_or (lists_in lists) one [] → AreSelected q h n list
 listed_variables paths vs lists q h ns texts ready n one number name list is = selected_zip q h n texts vs list ready.are (is ∙ ready.inside one n.0 number name)

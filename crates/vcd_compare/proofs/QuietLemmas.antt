@@ -27,7 +27,8 @@ module _ (q : Asked) (items : List BodyItem) (t : ℕ) (up : DoNotFall 0 (marks 
   settled_again : filter (is_settled after) (times_in q after) ≡ filter (is_settled items) (times_in q items)
   settled_again =
       settled_times q after up'
-      ∙ ap (filter (λ u. nat_le u q.to)) (ap (past q.from) (marks-append items (BodyItem.Time t ∷ [])) ∙ past_more q.from (marks items) t ∙ rw (le-ltb (time_compared q items) t low) (append-nil (past q.from (marks items))))
+      ∙ ap (filter (λ u. nat_le u q.to)) (ap (past q.from) (marks-append items (BodyItem.Time t ∷ [])) ∙ past_more q.from (marks items) t
+      ∙ rw (le-ltb (time_compared q items) t low) (append-nil (past q.from (marks items))))
       ∙ sym (settled_times q items up)
 
   pub flag_again : (a b : IdCode) → flag_of q after a b ≡ flag_of q items a b
@@ -53,13 +54,15 @@ module _ (q : Asked) (h : Header) (ns : List Names) (items : List BodyItem) wher
   pub quiet_other : (x : BodyItem) → marks (x ∷ []) ≡ [] → IsQuiet q h ns items → IsQuiet q h ns (items ++ x ∷ [])
   quiet_other x other quiet =
       ap (list_any (some_at (items ++ x ∷ []))) (settled_other q items x other)
-      ∙ any_settled q items x other (some_at (items ++ x ∷ [])) (some_at items) (times_in q items) (λ t e. any_pairs _ _ (compared_in q h ns) (λ p. differed_same q items x other (code_of p.one) (code_of p.other) t e))
+      ∙ any_settled q items x other (some_at (items ++ x ∷ [])) (some_at items) (times_in q items)
+      (λ t e. any_pairs _ _ (compared_in q h ns) (λ p. differed_same q items x other (code_of p.one) (code_of p.other) t e))
       ∙ quiet
 
   some_still : (t u : ℕ) → some_at (items ++ BodyItem.Time t ∷ []) u ≡ some_at items u
   some_still t u = any_pairs _ _ (compared_in q h ns) (λ p. rw (state_other items (BodyItem.Time t) (code_of p.one) refl u, state_other items (BodyItem.Time t) (code_of p.other) refl u) refl)
 
-  pub quiet_again : (t : ℕ) → DoNotFall 0 (marks items) → DoNotFall 0 (marks (items ++ BodyItem.Time t ∷ [])) → t ≤ time_compared q items → IsQuiet q h ns items → IsQuiet q h ns (items ++ BodyItem.Time t ∷ [])
+  pub quiet_again : (t : ℕ) → DoNotFall 0 (marks items) → DoNotFall 0 (marks (items ++ BodyItem.Time t ∷ [])) → t ≤ time_compared q items
+      → IsQuiet q h ns items → IsQuiet q h ns (items ++ BodyItem.Time t ∷ [])
   quiet_again t up up' low quiet =
       ap (list_any (some_at (items ++ BodyItem.Time t ∷ []))) (settled_again q items t up up' low)
       ∙ any_times (some_at (items ++ BodyItem.Time t ∷ [])) (some_at items) (filter (is_settled items) (times_in q items)) (some_still t)

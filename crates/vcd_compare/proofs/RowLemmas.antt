@@ -115,11 +115,13 @@ last_split : (m : ℕ) (xs : List ℕ) → length xs ≡ suc m → xs ≡ take m
 last_split m xs len = sym (take_all (m + 1) xs (omega (arith, len))) ∙ take_more xs m 0 (omega (arith, len))
 
 -- what does not fall, and has each number that passes once and no other, is these in order
-pub sorted_is : (f : ℕ → Bool) (n : ℕ) (xs : List ℕ) → IsNonDecreasing xs → ((i : ℕ) → i < n → times i xs ≡ cond (f i) 1 0) → ((i : ℕ) → n ≤ i → times i xs ≡ 0) → xs ≡ chosen f n
+pub sorted_is : (f : ℕ → Bool) (n : ℕ) (xs : List ℕ) → IsNonDecreasing xs → ((i : ℕ) → i < n → times i xs ≡ cond (f i) 1 0)
+    → ((i : ℕ) → n ≤ i → times i xs ≡ 0) → xs ≡ chosen f n
 sorted_is f zero xs up once none = none_there xs (λ i. none i (omega arith))
 sorted_is f (suc n) xs up once none = by_test (sorted_is f n) (f n) refl
   where
-    by_test : ((ys : List ℕ) → IsNonDecreasing ys → ((i : ℕ) → i < n → times i ys ≡ cond (f i) 1 0) → ((i : ℕ) → n ≤ i → times i ys ≡ 0) → ys ≡ chosen f n) → (b : Bool) → f n ≡ b → xs ≡ chosen f (suc n)
+    by_test : ((ys : List ℕ) → IsNonDecreasing ys → ((i : ℕ) → i < n → times i ys ≡ cond (f i) 1 0) → ((i : ℕ) → n ≤ i → times i ys ≡ 0)
+        → ys ≡ chosen f n) → (b : Bool) → f n ≡ b → xs ≡ chosen f (suc n)
     by_test front_is false e =
         let no : times n xs ≡ 0 = once n (omega arith) ∙ ap (λ b. cond {A = ℕ} b 1 0) e in
         let rest = front_is xs up (λ i lt. once i (omega (arith, lt))) (λ i le. by_bound no i (cases_eq i n) le) in
@@ -146,7 +148,8 @@ sorted_is f (suc n) xs up once none = by_test (sorted_is f n) (f n) refl
             let low : n ≤ y = (let lt = at.1 in let u = up at.0 m 0 (omega (arith, lt, len)) (omega (arith, len)) in subst (λ k. k ≤ y) at.2 u) in
             let is : y ≡ n = last_is y split low in
             let rest = front_is front (IsNonDecreasingBy-take (λ x. x) m xs up)
-            (λ i lt. let all = many i in let mine = once i (omega (arith, lt)) in let other : is_it i y ≡ 0 = ap (λ b. cond {A = ℕ} b 1 0) (ne_eqb y i (λ q. omega (arith, q, is, lt))) in omega (arith, all, mine, other))
+            (λ i lt. let all = many i in let mine = once i (omega (arith, lt)) in
+            let other : is_it i y ≡ 0 = ap (λ b. cond {A = ℕ} b 1 0) (ne_eqb y i (λ q. omega (arith, q, is, lt))) in omega (arith, all, mine, other))
             (λ i le. by_bound i y is (many i) (cases_eq i n) le) in
             split ∙ ap (λ l. l ++ y ∷ []) rest ∙ ap (λ k. chosen f n ++ k ∷ []) is ∙ ap (λ b. chosen f n ++ cond b (n ∷ []) []) (sym e)
           where
@@ -162,7 +165,8 @@ sorted_is f (suc n) xs up once none = by_test (sorted_is f n) (f n) refl
                 by_order (inr le) = omega (arith, low, le)
 
             by_bound : (i y : ℕ) → y ≡ n → times i xs ≡ times i (take m xs) + is_it i y → (i ≡ n) ⊎ (i ≢ n) → n ≤ i → times i (take m xs) ≡ 0
-            by_bound i y is all (inl same) le = let mine : times i xs ≡ 1 = ap (λ j. times j xs) same ∙ one in let it : is_it i y ≡ 1 = ap (λ b. cond {A = ℕ} b 1 0) (eq-eqb y i (omega (arith, is, same))) in omega (arith, mine, it, all)
+            by_bound i y is all (inl same) le = let mine : times i xs ≡ 1 = ap (λ j. times j xs) same ∙ one in
+                let it : is_it i y ≡ 1 = ap (λ b. cond {A = ℕ} b 1 0) (eq-eqb y i (omega (arith, is, same))) in omega (arith, mine, it, all)
             by_bound i y is all (inr d) le = let no = none i (omega (arith, d, le)) in omega (arith, no, all)
 
 -- ---- the rows of a class
@@ -205,7 +209,8 @@ linked_next classes last earlier k class at room s = record {
     each i c lt here low (inl e) =
         let is : c ≡ class = same_Some c class (sym here ∙ ap (slice_get classes) e ∙ at) in
         let within = slice_get_within classes k class at in
-        let there : get_or (set earlier k (get_or last class 0)) i 0 ≡ get_or last c 0 = ap (λ j. get_or (set earlier k (get_or last class 0)) j 0) e ∙ get_or-set_same earlier k (get_or last class 0) 0 (omega (arith, within, room)) ∙ ap (λ j. get_or last j 0) (sym is) in
+        let there : get_or (set earlier k (get_or last class 0)) i 0 ≡ get_or last c 0 = ap (λ j. get_or (set earlier k (get_or last class 0)) j 0) e
+        ∙ get_or-set_same earlier k (get_or last class 0) 0 (omega (arith, within, room)) ∙ ap (λ j. get_or last j 0) (sym is) in
         subst (IsLastRow classes i c) (sym there) (subst (λ j. IsLastRow classes j c (get_or last c 0)) (sym e) (s.from c low))
     each i c lt here low (inr d) = subst (IsLastRow classes i c) (sym (get_or-set_other earlier k i (get_or last class 0) 0 d)) (s.each i c (omega (arith, lt, d)) here low)
 
@@ -238,9 +243,11 @@ module _ (classes : List ℕ) (class : ℕ) (passes : ℕ → Bool) where
 
           by_order : (i < left) ⊎ (left ≤ i) → passes i ≡ with_class passes classes class left i
           by_order (inl lt) = sym (ap (λ b. passes i || (b && is_of classes class i)) (le-not left i lt) ∙ or-false (passes i))
-          by_order (inr le) = sym (ap (λ b. passes i || (nat_le left i && b)) (is_of_false classes class i (none i le)) ∙ ap (λ b. passes i || b) (and-false (nat_le left i)) ∙ or-false (passes i))
+          by_order (inr le) = sym (ap (λ b. passes i || (nat_le left i && b)) (is_of_false classes class i (none i le))
+              ∙ ap (λ b. passes i || b) (and-false (nat_le left i)) ∙ or-false (passes i))
 
-  pub class_next : (due : List ℕ) (count row next : ℕ) → length classes ≤ length due → ((i : ℕ) → length classes ≤ i → passes i ≡ false) → passes row ≡ false → slice_get classes row ≡ Some class → IsLastRow classes row class next
+  pub class_next : (due : List ℕ) (count row next : ℕ) → length classes ≤ length due → ((i : ℕ) → length classes ≤ i → passes i ≡ false)
+      → passes row ≡ false → slice_get classes row ≡ Some class → IsLastRow classes row class next
       → AreDue due count (with_class passes classes class (suc row)) → (count < length classes) × AreDue (set due count row) (count + 1) (with_class passes classes class next)
   class_next due count row next room low not_row at is s = (below, record { within = (let len = length-set due count row in omega (arith, below, room, len)); once = λ i. once i })
     where
@@ -255,7 +262,8 @@ module _ (classes : List ℕ) (class : ℕ) (passes : ℕ → Bool) where
           by_order (inl a) (inr b) = let w = is.within in absurd (omega (arith, a, b, w))
           by_order (inr a) (inl b) =
               let no = is_of_false classes class i (is.none i a (omega (arith, b, d))) in
-              ap (λ c. passes i || (nat_le (suc row) i && c)) no ∙ ap (λ c. passes i || c) (and-false (nat_le (suc row) i) ∙ sym (and-false (nat_le next i))) ∙ ap (λ c. passes i || (nat_le next i && c)) (sym no)
+              ap (λ c. passes i || (nat_le (suc row) i && c)) no ∙ ap (λ c. passes i || c) (and-false (nat_le (suc row) i)
+              ∙ sym (and-false (nat_le next i))) ∙ ap (λ c. passes i || (nat_le next i && c)) (sym no)
           by_order (inr a) (inr b) = ap (λ c. passes i || (c && is_of classes class i)) (le-leb (suc row) i b ∙ sym (le-leb next i a))
 
       its_row : with_class passes classes class next row ≡ true
@@ -351,11 +359,13 @@ module _ (bytes classes : List ℕ) (class after : ℕ) (other : after ≢ 1) wh
         by_old one (inl e) = sym e ∙ one
         by_old one (inr p) = p.0
 
-        by_class : get_or bytes class 0 ≡ 1 → (k ≡ class) ⊎ (k ≢ class) → (get_or (taken class after bytes) k 0 ≡ get_or old k 0) ⊎ ((get_or old k 0 ≡ 1) × (get_or (taken class after bytes) k 0 ≡ after))
+        by_class : get_or bytes class 0 ≡ 1 → (k ≡ class) ⊎ (k ≢ class) → (get_or (taken class after bytes) k 0 ≡ get_or old k 0)
+            ⊎ ((get_or old k 0 ≡ 1) × (get_or (taken class after bytes) k 0 ≡ after))
         by_class one (inl e) = inr (ap (λ j. get_or old j 0) e ∙ by_old one (each class), ap (λ j. get_or (taken class after bytes) j 0) e ∙ taken_here one)
         by_class one (inr d) = subst (λ n. (n ≡ get_or old k 0) ⊎ ((get_or old k 0 ≡ 1) × (n ≡ after))) (sym (taken_there k d)) (each k)
 
-        by_one : (get_or bytes class 0 ≡ 1) ⊎ (get_or bytes class 0 ≢ 1) → (get_or (taken class after bytes) k 0 ≡ get_or old k 0) ⊎ ((get_or old k 0 ≡ 1) × (get_or (taken class after bytes) k 0 ≡ after))
+        by_one : (get_or bytes class 0 ≡ 1) ⊎ (get_or bytes class 0 ≢ 1) → (get_or (taken class after bytes) k 0 ≡ get_or old k 0)
+            ⊎ ((get_or old k 0 ≡ 1) × (get_or (taken class after bytes) k 0 ≡ after))
         by_one (inl one) = by_class one (cases_eq k class)
         by_one (inr d) = subst (λ l. (get_or l k 0 ≡ get_or old k 0) ⊎ ((get_or old k 0 ≡ 1) × (get_or l k 0 ≡ after))) (sym (taken_not d)) (each k)
 
@@ -365,7 +375,8 @@ module _ (bytes classes : List ℕ) (class after : ℕ) (other : after ≢ 1) wh
         c : ℕ
         c = get_or classes i 0
 
-        by_bound : (i < length classes) ⊎ (length classes ≤ i) → (was_flagged old bytes classes i || (get_or bytes class 0 == 1 && is_of classes class i)) ≡ was_flagged old (taken class after bytes) classes i
+        by_bound : (i < length classes) ⊎ (length classes ≤ i) → (was_flagged old bytes classes i ||
+            (get_or bytes class 0 == 1 && is_of classes class i)) ≡ was_flagged old (taken class after bytes) classes i
         by_bound (inr le) =
             let none = no_row old classes i le in
             let past = is_of_false classes class i (λ at. let w = slice_get_within classes i class at in omega (arith, le, w)) in
@@ -384,18 +395,25 @@ module _ (bytes classes : List ℕ) (class after : ℕ) (other : after ≢ 1) wh
             old_one one (inl e) = sym e ∙ one
             old_one one (inr p) = p.0
 
-            by_class : (c ≡ class) ⊎ (c ≢ class) → (get_or bytes class 0 ≡ 1) ⊎ (get_or bytes class 0 ≢ 1) → (was_flagged old bytes classes i || (get_or bytes class 0 == 1 && is_of classes class i)) ≡ was_flagged old (taken class after bytes) classes i
+            by_class : (c ≡ class) ⊎ (c ≢ class) → (get_or bytes class 0 ≡ 1) ⊎ (get_or bytes class 0 ≢ 1)
+                → (was_flagged old bytes classes i || (get_or bytes class 0 == 1 && is_of classes class i)) ≡ was_flagged old
+                (taken class after bytes) classes i
             by_class same (inr d) =
-                ap (λ b. was_flagged old bytes classes i || (b && is_of classes class i)) (ne_eqb (get_or bytes class 0) 1 d) ∙ or-false (was_flagged old bytes classes i) ∙ ap (λ l. was_flagged old l classes i) (sym (taken_not d))
+                ap (λ b. was_flagged old bytes classes i || (b && is_of classes class i)) (ne_eqb (get_or bytes class 0) 1 d)
+                ∙ or-false (was_flagged old bytes classes i) ∙ ap (λ l. was_flagged old l classes i) (sym (taken_not d))
             by_class (inl e) (inl one) =
                 let mine = is_of_true classes class i (at ∙ ap (λ n. Some n) e) in
                 let was_one : get_or old c 0 ≡ 1 = ap (λ j. get_or old j 0) e ∙ old_one one (each class) in
                 let now : get_or (taken class after bytes) c 0 ≡ after = ap (λ j. get_or (taken class after bytes) j 0) e ∙ taken_here one in
-                ap (λ b. was_flagged old bytes classes i || (b && is_of classes class i)) (eq-eqb (get_or bytes class 0) 1 one) ∙ ap (λ b. was_flagged old bytes classes i || b) mine ∙ or-true (was_flagged old bytes classes i)
-                ∙ sym (was (taken class after bytes) ∙ ap (λ b. b && not (get_or (taken class after bytes) c 0 == 1)) (eq-eqb (get_or old c 0) 1 was_one) ∙ ap (λ n. not (n == 1)) now ∙ ap not (ne_eqb after 1 other))
+                ap (λ b. was_flagged old bytes classes i || (b && is_of classes class i)) (eq-eqb (get_or bytes class 0) 1 one)
+                ∙ ap (λ b. was_flagged old bytes classes i || b) mine ∙ or-true (was_flagged old bytes classes i)
+                ∙ sym (was (taken class after bytes) ∙ ap (λ b. b && not (get_or (taken class after bytes) c 0 == 1))
+                (eq-eqb (get_or old c 0) 1 was_one) ∙ ap (λ n. not (n == 1)) now ∙ ap not (ne_eqb after 1 other))
             by_class (inr d) (inl one) =
                 let not_mine = is_of_false classes class i (λ here. d (same_Some c class (sym at ∙ here))) in
-                ap (λ b. was_flagged old bytes classes i || (get_or bytes class 0 == 1 && b)) not_mine ∙ ap (λ b. was_flagged old bytes classes i || b) (and-false (get_or bytes class 0 == 1)) ∙ or-false (was_flagged old bytes classes i)
+                ap (λ b. was_flagged old bytes classes i || (get_or bytes class 0 == 1 && b)) not_mine
+                ∙ ap (λ b. was_flagged old bytes classes i || b) (and-false (get_or bytes class 0 == 1))
+                ∙ or-false (was_flagged old bytes classes i)
                 ∙ was bytes ∙ ap (λ n. get_or old c 0 == 1 && not (n == 1)) (sym (taken_there c d)) ∙ sym (was (taken class after bytes))
 
     pub not_past : (i : ℕ) → length classes ≤ i → was_flagged old bytes classes i ≡ false
@@ -407,7 +425,8 @@ module _ (bytes classes : List ℕ) (class after : ℕ) (other : after ≢ 1) wh
   pub not_one_next : (k : ℕ) → (get_or bytes k 0 ≢ 1) ⊎ (k ≡ class) → get_or (taken class after bytes) k 0 ≢ 1
   not_one_next k known = by_one known (cases_eq (get_or bytes class 0) 1) (cases_eq k class)
     where
-      by_one : (get_or bytes k 0 ≢ 1) ⊎ (k ≡ class) → (get_or bytes class 0 ≡ 1) ⊎ (get_or bytes class 0 ≢ 1) → (k ≡ class) ⊎ (k ≢ class) → get_or (taken class after bytes) k 0 ≢ 1
+      by_one : (get_or bytes k 0 ≢ 1) ⊎ (k ≡ class) → (get_or bytes class 0 ≡ 1) ⊎ (get_or bytes class 0 ≢ 1) → (k ≡ class) ⊎ (k ≢ class)
+          → get_or (taken class after bytes) k 0 ≢ 1
       by_one known (inl one) (inl e) = λ q. other (sym (ap (λ j. get_or (taken class after bytes) j 0) e ∙ taken_here one) ∙ q)
       by_one (inl d) (inl one) (inr n) = λ q. d (sym (taken_there k n) ∙ q)
       by_one (inr e) (inl one) (inr n) = absurd (n e)
@@ -426,7 +445,8 @@ abbrev pub candidate : Bool → List ℕ → ℕ → ℕ
 candidate fits classes i = cond fits (get_or classes i 0) i
 
 -- a class whose flag is 1 is a candidate
-pub found : (bytes classes : List ℕ) (listed k : ℕ) (fits : Bool) → nat_le listed (length classes) ≡ fits → AreListed bytes classes listed → get_or bytes k 0 ≡ 1 → (i : ℕ) × (i < cond fits listed (length bytes)) × (candidate fits classes i ≡ k)
+pub found : (bytes classes : List ℕ) (listed k : ℕ) (fits : Bool) → nat_le listed (length classes) ≡ fits → AreListed bytes classes listed
+    → get_or bytes k 0 ≡ 1 → (i : ℕ) × (i < cond fits listed (length bytes)) × (candidate fits classes i ≡ k)
 found bytes classes listed k false e are one = (k, low_one bytes k one, refl)
 found bytes classes listed k true e are one =
     let le = leb-true listed (length classes) e in
@@ -439,7 +459,8 @@ found bytes classes listed k true e are one =
     index_of [] e = cc
     index_of (x ∷ xs) e = by_head (index_of xs) (cases_eq x k)
       where
-        by_head : (list_any (λ c. c == k) xs ≡ true → (i : ℕ) × (i < length xs) × (get_or xs i 0 ≡ k)) → (x ≡ k) ⊎ (x ≢ k) → (i : ℕ) × (i < length (x ∷ xs)) × (get_or (x ∷ xs) i 0 ≡ k)
+        by_head : (list_any (λ c. c == k) xs ≡ true → (i : ℕ) × (i < length xs) × (get_or xs i 0 ≡ k)) → (x ≡ k) ⊎ (x ≢ k) → (i : ℕ)
+            × (i < length (x ∷ xs)) × (get_or (x ∷ xs) i 0 ≡ k)
         by_head rest (inl same) = (0, omega arith, same)
         by_head rest (inr d) = let at = rest (sym (ap (λ b. b || list_any (λ c. c == k) xs) (ne_eqb x k d)) ∙ e) in let w = at.1 in (suc at.0, omega (arith, w), at.2)
 
@@ -448,7 +469,9 @@ and-true true = refl
 and-true false = refl
 
 -- all are settled once every candidate is
-module _ (old bytes classes : List ℕ) (listed after : ℕ) (fits : Bool) (fit : nat_le listed (length classes) ≡ fits) (are : AreListed old classes listed) (other : after ≢ 1) (each : (k : ℕ) → (get_or bytes k 0 ≡ get_or old k 0) ⊎ ((get_or old k 0 ≡ 1) × (get_or bytes k 0 ≡ after)))
+module _ (old bytes classes : List ℕ) (listed after : ℕ) (fits : Bool) (fit : nat_le listed (length classes) ≡ fits)
+    (are : AreListed old classes listed) (other : after ≢ 1) (each : (k : ℕ) → (get_or bytes k 0 ≡ get_or old k 0)
+    ⊎ ((get_or old k 0 ≡ 1) × (get_or bytes k 0 ≡ after)))
     (done : (i : ℕ) → i < cond fits listed (length old) → get_or bytes (candidate fits classes i) 0 ≢ 1) where
   none_left : (k : ℕ) → get_or bytes k 0 ≢ 1
   none_left k one = by_old (each k)
@@ -465,7 +488,8 @@ module _ (old bytes classes : List ℕ) (listed after : ℕ) (fits : Bool) (fit 
       by_old (inr p) = p.1 ∙ sym (ap (λ b. cond b after (get_or old k 0)) (eq-eqb (get_or old k 0) 1 p.0))
 
 -- then the rows whose flag was 1 and is not are all whose flag was 1
-pub settled_due : (old bytes : List ℕ) (after : ℕ) → after ≢ 1 → ((k : ℕ) → get_or bytes k 0 ≡ settled_as after (get_or old k 0)) → (cs : List ℕ) (i : ℕ) → was_flagged old bytes cs i ≡ is_flagged old cs i
+pub settled_due : (old bytes : List ℕ) (after : ℕ) → after ≢ 1 → ((k : ℕ) → get_or bytes k 0 ≡ settled_as after (get_or old k 0))
+    → (cs : List ℕ) (i : ℕ) → was_flagged old bytes cs i ≡ is_flagged old cs i
 settled_due old bytes after other settled cs i = ap (λ b. is_flagged old cs i && not b) (by_bound (cases_lt i (length cs))) ∙ and-true (is_flagged old cs i)
   where
     not_one : (f : ℕ) → (f ≡ 1) ⊎ (f ≢ 1) → (settled_as after f == 1) ≡ false
@@ -481,7 +505,9 @@ settled_due old bytes after other settled cs i = ap (λ b. is_flagged old cs i &
 -- ---- the lines of rows that are due
 
 -- the texts of what passes are those of all, if nothing else has a text
-texts_chosen : {Y : Type 0} (f : ℕ → Bool) (line : Option Y → List ℕ) (text : Y → List ℕ) (ys : List Y) (n : ℕ) → n ≤ length ys → ((i : ℕ) (y : Y) → slice_get ys i ≡ Some y → cond (f i) (line (slice_get ys i)) [] ≡ text y) → flat_map (λ i. line (slice_get ys i)) (chosen f n) ≡ flat_map text (take n ys)
+texts_chosen : {Y : Type 0} (f : ℕ → Bool) (line : Option Y → List ℕ) (text : Y → List ℕ) (ys : List Y) (n : ℕ) → n ≤ length ys
+    → ((i : ℕ) (y : Y) → slice_get ys i ≡ Some y → cond (f i) (line (slice_get ys i)) [] ≡ text y)
+    → flat_map (λ i. line (slice_get ys i)) (chosen f n) ≡ flat_map text (take n ys)
 texts_chosen f line text ys zero le same = refl
 texts_chosen {Y} f line text ys (suc n) le same = by_next (slice_get_cases ys n).1 (texts_chosen f line text ys n (omega (arith, le)) same)
   where
@@ -489,7 +515,9 @@ texts_chosen {Y} f line text ys (suc n) le same = by_next (slice_get_cases ys n)
     one true = refl
     one false = refl
 
-    by_next : ((y : Y) × (n < length ys) × (slice_get ys n ≡ Some y) × (get_or ys n y ≡ y)) ⊎ ((length ys ≤ n) × (slice_get ys n ≡ None)) → flat_map (λ i. line (slice_get ys i)) (chosen f n) ≡ flat_map text (take n ys) → flat_map (λ i. line (slice_get ys i)) (chosen f (suc n)) ≡ flat_map text (take (suc n) ys)
+    by_next : ((y : Y) × (n < length ys) × (slice_get ys n ≡ Some y) × (get_or ys n y ≡ y)) ⊎ ((length ys ≤ n) × (slice_get ys n ≡ None))
+        → flat_map (λ i. line (slice_get ys i)) (chosen f n) ≡ flat_map text (take n ys)
+        → flat_map (λ i. line (slice_get ys i)) (chosen f (suc n)) ≡ flat_map text (take (suc n) ys)
     by_next (inr past) rest = let over = past.0 in absurd (omega (arith, le, over))
     by_next (inl at) rest =
         flat_map-append (λ i. line (slice_get ys i)) (chosen f n) (cond (f n) (n ∷ []) [])
@@ -502,7 +530,9 @@ first_holds R S [] (y ∷ ys) all = absurd all
 first_holds R S (x ∷ xs) [] all = absurd all
 first_holds R S (x ∷ xs) (y ∷ ys) all = (all.0.0, first_holds R S xs ys all.1)
 
-pub pair_lines : (v : HeadView) (current : Current) (rows flags : List ℕ) (time : ℕ) (takes : List ℕ → Type 0) → (let prs : List PairRow = current.pairs.now.rows.items in rows ≡ chosen (is_flagged flags (classes_of prs)) (length prs)) → AreRowLines v current rows time takes → ArePairLines v current flags time takes
+pub pair_lines : (v : HeadView) (current : Current) (rows flags : List ℕ) (time : ℕ) (takes : List ℕ → Type 0)
+    → (let prs : List PairRow = current.pairs.now.rows.items in rows ≡ chosen (is_flagged flags (classes_of prs)) (length prs))
+    → AreRowLines v current rows time takes → ArePairLines v current flags time takes
 pair_lines v current rows flags time takes is lines h items ps flag views now late all =
     let prs : List PairRow = current.pairs.now.rows.items in
     let ends = current.pairs.now.ends.items in
@@ -512,7 +542,10 @@ pair_lines v current rows flags time takes is lines h items ps flag views now la
     let same = λ (i : ℕ) (p : Pair) (at : slice_get ps i ≡ Some p).
     (let row = zip_at both prs ps i p all at in
     let class : slice_get (classes_of prs) i ≡ Some row.0.class = slice_get-map (λ (r : PairRow). r.class) prs i ∙ ap (option_map (λ (r : PairRow). r.class)) row.1 in
-    ap (λ b. cond b (line_at items time (slice_get ps i)) []) (its_flag flags (classes_of prs) row.0.class i class ∙ ap (λ n. n == 1) row.2.1) ∙ ap (λ o. cond (flag p == 1) (line_at items time o) []) at) in
+    ap (λ b. cond b (line_at items time (slice_get ps i)) []) (its_flag flags (classes_of prs) row.0.class i class ∙ ap (λ n. n == 1) row.2.1)
+    ∙ ap (λ o. cond (flag p == 1) (line_at items time o) []) at) in
     subst takes
-    (ap (flat_map (λ i. line_at items time (slice_get ps i))) is ∙ texts_chosen (is_flagged flags (classes_of prs)) (line_at items time) text ps (length prs) (omega (arith, long)) same ∙ ap (flat_map text) (take_all (length prs) ps (omega (arith, long))))
+    (ap (flat_map (λ i. line_at items time (slice_get ps i))) is
+    ∙ texts_chosen (is_flagged flags (classes_of prs)) (line_at items time) text ps (length prs) (omega (arith, long)) same
+    ∙ ap (flat_map text) (take_all (length prs) ps (omega (arith, long))))
     (lines h items ps views now late (first_holds (IsPairAt h ends) (λ r p. get_or flags r.class 0 ≡ flag p) prs ps all))

@@ -6,7 +6,8 @@ use Rattle.vcd_compare.proofs.PathTexts.{joined_number, number_within}
 
 -- ---- paths
 
-path_inside : (ds : List Declaration) (i p : ℕ) (d e : Declaration) → parent (take i ds) ≡ Some p → slice_get ds p ≡ Some e → path_of (take i ds) d ≡ path_of (take p ds) e ++ 46 ∷ name_of d
+path_inside : (ds : List Declaration) (i p : ℕ) (d e : Declaration) → parent (take i ds) ≡ Some p → slice_get ds p ≡ Some e
+    → path_of (take i ds) d ≡ path_of (take p ds) e ++ 46 ∷ name_of d
 path_inside ds i p d e q at =
     let scopes : scopes_text (take i ds) ≡ scopes_text (take p ds) ++ (name_of e ++ 46 ∷ []) = front_is ds i ∙ ap (λ o. front ds (counted_from_one o)) q ∙ front_next ds p e at in
     path_is (take i ds) d ∙ ap (λ l. l ++ name_of d) scopes ∙ ap (λ l. l ++ name_of d) (sym (append_assoc (scopes_text (take p ds)) (name_of e) (46 ∷ [])))
@@ -29,7 +30,12 @@ module _ (h : Header) (texts : List (List ℕ)) (row : ℕ) where
       let scope = Declaration.Scope inner.type inner.name in
       let at : slice_get ds p ≡ Some scope = sym (slice_get-take ds row p before) ∙ inner.at in
       let number = are.each p scope before at in
-      subst (λ o. IsScopeNumber h texts o n) (sym e) (scope, at, subst (λ m. IsNumberOf texts m (path_of (take p ds) scope)) (sym (is ∙ get_or_from_slice_get numbers p number.0 0 number.1)) number.2)
+      subst (λ o. IsScopeNumber h texts o n) (sym e) (
+        scope,
+        at,
+        subst (λ m. IsNumberOf texts m (path_of (take p ds) scope))
+            (sym (is ∙ get_or_from_slice_get numbers p number.0 0 number.1)) number.2,
+      )
 
   -- the name there makes the path of the row
   pub around_joined : (n : ℕ) (d : Declaration) → IsAround h texts row n → (n ≤ length texts) × (joined texts n (name_of d) ≡ path_of (take row h.declarations) d)
@@ -50,7 +56,8 @@ module _ (h : Header) (texts : List (List ℕ)) (row : ℕ) where
 pub numbers_stay : (texts more : List (List ℕ)) (n : ℕ) (t : List ℕ) → IsNumberOf texts n t → IsNumberOf (texts ++ more) n t
 numbers_stay texts more n t is = (is.0, is.1, slice_get-front texts more is.0 t is.2)
 
-row_more : (h : Header) (texts more : List (List ℕ)) (numbers : List ℕ) (row n : ℕ) (d : Declaration) → slice_get h.declarations row ≡ Some d → AreNumbered h texts numbers row → IsNumberOf (texts ++ more) n (path_of (take row h.declarations) d)
+row_more : (h : Header) (texts more : List (List ℕ)) (numbers : List ℕ) (row n : ℕ) (d : Declaration) → slice_get h.declarations row ≡ Some d
+    → AreNumbered h texts numbers row → IsNumberOf (texts ++ more) n (path_of (take row h.declarations) d)
     → AreNumbered h (texts ++ more) (numbers ++ n ∷ []) (suc row)
 row_more h texts more numbers row n d there are is = record {
   len = let l = are.len in let m = length-append numbers (n ∷ []) in omega (arith, l, m);
@@ -77,7 +84,9 @@ abbrev pub NumbersSome : Header → List (List ℕ) → Paths → List ℕ → �
 NumbersSome h texts paths numbers row = (more : List (List ℕ)) × HasTexts paths (texts ++ more) × AreNumbered h (texts ++ more) numbers row
 
 -- a row more
-pub some_row : (h : Header) (texts : List (List ℕ)) (old new : Paths) (numbers : List ℕ) (row n : ℕ) (d : Declaration) → slice_get h.declarations row ≡ Some d → (s : NumbersSome h texts old numbers row) → EntersPath (texts ++ s.0) new (path_of (take row h.declarations) d) n
+pub some_row : (h : Header) (texts : List (List ℕ)) (old new : Paths) (numbers : List ℕ) (row n : ℕ) (d : Declaration)
+    → slice_get h.declarations row ≡ Some d → (s : NumbersSome h texts old numbers row)
+    → EntersPath (texts ++ s.0) new (path_of (take row h.declarations) d) n
     → NumbersSome h texts new (numbers ++ n ∷ []) (suc row)
 some_row h texts old new numbers row n d at s p =
     let same : (texts ++ s.0) ++ p.0 ≡ texts ++ (s.0 ++ p.0) = append_assoc texts s.0 p.0 in (
@@ -98,17 +107,23 @@ err_then (Err e) P Q f p = f e p
 
 -- ---- names and other texts
 
-pub names_more : (texts : List (List ℕ)) (old mid new : Paths) (ns : List Names) (numbers : List (ℕ × ℕ)) (n : Names) (one other : ℕ) (e : EntersNames texts old ns numbers) (a : EntersPath (texts ++ e.0) mid n.0 one) → EntersPath ((texts ++ e.0) ++ a.0) new n.1 other
+pub names_more : (texts : List (List ℕ)) (old mid new : Paths) (ns : List Names) (numbers : List (ℕ × ℕ)) (n : Names) (one other : ℕ)
+    (e : EntersNames texts old ns numbers) (a : EntersPath (texts ++ e.0) mid n.0 one) → EntersPath ((texts ++ e.0) ++ a.0) new n.1 other
     → EntersNames texts new (ns ++ n ∷ []) (numbers ++ (one, other) ∷ [])
 names_more texts old mid new ns numbers n one other e a b =
     let more = a.0 ++ b.0 in
     let same : ((texts ++ e.0) ++ a.0) ++ b.0 ≡ texts ++ (e.0 ++ more) = append_assoc (texts ++ e.0) a.0 b.0 ∙ append_assoc texts e.0 more in
     let stay : (texts ++ e.0) ++ more ≡ texts ++ (e.0 ++ more) = append_assoc texts e.0 more in
-    let before = zip_weaker (AreNumbersOf (texts ++ e.0)) (AreNumbersOf (texts ++ (e.0 ++ more))) numbers ns (λ m k is. subst (λ ts. AreNumbersOf ts m k) stay (numbers_stay (texts ++ e.0) more m.0 k.0 is.0, numbers_stay (texts ++ e.0) more m.1 k.1 is.1)) e.2 in
+    let before = zip_weaker (AreNumbersOf (texts ++ e.0)) (AreNumbersOf (texts ++ (e.0 ++ more))) numbers ns
+    (λ m k is. subst (λ ts. AreNumbersOf ts m k) stay (
+      numbers_stay (texts ++ e.0) more m.0 k.0 is.0,
+      numbers_stay (texts ++ e.0) more m.1 k.1 is.1,
+    )) e.2 in
     let last : AreNumbersOf (texts ++ (e.0 ++ more)) (one, other) n = subst (λ ts. AreNumbersOf ts (one, other) n) same (numbers_stay ((texts ++ e.0) ++ a.0) b.0 one n.0 a.2, b.2) in
     (e.0 ++ more, subst (HasTexts new) same b.1, all_zip_push (AreNumbersOf (texts ++ (e.0 ++ more))) numbers ns (one, other) n before last)
 
-pub texts_more : (texts : List (List ℕ)) (old new : Paths) (ts : List (List ℕ)) (numbers : List ℕ) (t : List ℕ) (number : ℕ) (e : EntersTexts texts old ts numbers) → EntersPath (texts ++ e.0) new t number → EntersTexts texts new (ts ++ t ∷ []) (numbers ++ number ∷ [])
+pub texts_more : (texts : List (List ℕ)) (old new : Paths) (ts : List (List ℕ)) (numbers : List ℕ) (t : List ℕ) (number : ℕ)
+    (e : EntersTexts texts old ts numbers) → EntersPath (texts ++ e.0) new t number → EntersTexts texts new (ts ++ t ∷ []) (numbers ++ number ∷ [])
 texts_more texts old new ts numbers t number e a =
     let same : (texts ++ e.0) ++ a.0 ≡ texts ++ (e.0 ++ a.0) = append_assoc texts e.0 a.0 in
     let before = zip_weaker (IsNumberOf (texts ++ e.0)) (IsNumberOf (texts ++ (e.0 ++ a.0))) numbers ts (λ m k is. subst (λ l. IsNumberOf l m k) same (numbers_stay (texts ++ e.0) a.0 m k is)) e.2 in

@@ -7,7 +7,8 @@ use Rattle.vcd_compare.proofs.OpenGrows.{open_again, open_later}
 use Rattle.vcd_compare.proofs.QuietLemmas.{no_fall-marks}
 
 -- items after which the comparison goes on do not end it
-pub not_ended : (h : Header) (exceptions : List (List ℕ)) (ns : List Names) (items : List BodyItem) (c : Comparison) (w : Watched) → Compares h exceptions ns items c w → ends_run (model_asked c.current.asked exceptions) h ns items ≡ false
+pub not_ended : (h : Header) (exceptions : List (List ℕ)) (ns : List Names) (items : List BodyItem) (c : Comparison) (w : Watched)
+    → Compares h exceptions ns items c w → ends_run (model_asked c.current.asked exceptions) h ns items ≡ false
 not_ended h exceptions ns items c w stands = or_from _ _ stands.on (by_extent (model_asked c.current.asked exceptions).extent refl)
   where
     by_extent : (e : Extent) → (model_asked c.current.asked exceptions).extent ≡ e → ends_with e (lines_where (model_asked c.current.asked exceptions) h ns items (is_settled items)) ≡ false
@@ -53,4 +54,5 @@ module _ (q : ModelAsked) (h : Header) (ns : List Names) (items : List BodyItem)
       pub first_ends : q.extent ≡ Extent.First → ends_run q h ns after ≡ true
       first_ends first =
           or_right (list_any (is_mark_above q.to) after) _
-          (ap (λ e. ends_with e (lines_where q h ns after (is_settled after))) first ∙ (ap not (ap is_empty values_later ∙ more_lines (lines_where q h ns items (is_settled items)) (lines_due q h ns items) some)))
+          (ap (λ e. ends_with e (lines_where q h ns after (is_settled after))) first
+          ∙ (ap not (ap is_empty values_later ∙ more_lines (lines_where q h ns items (is_settled items)) (lines_due q h ns items) some)))

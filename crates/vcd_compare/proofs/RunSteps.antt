@@ -62,38 +62,51 @@ module _ (run run' : Run) (p : Plan) (h : Header) (items : List BodyItem) (has :
       takes_time (Err e) takes = rw is (record { due = (settled_by own h has.ns items t, opens, takes.0); ends = tt; keeps_on = λ e. absurd (cc); tells_all = λ e. absurd (cc) })
 
     -- an item with which nothing is due
-    pub takes_quiet : (x : BodyItem) (out : Device) → Compares h has.exceptions has.ns (items ++ x ∷ []) run'.comparison run'.watched → within_open own h has.ns (items ++ x ∷ []) ≡ within_open own h has.ns items → run'.differs ≡ run.differs
+    pub takes_quiet : (x : BodyItem) (out : Device) → Compares h has.exceptions has.ns (items ++ x ∷ []) run'.comparison run'.watched
+        → within_open own h has.ns (items ++ x ∷ []) ≡ within_open own h has.ns items → run'.differs ≡ run.differs
         → TakesOne {E = WriteFailed} (HasHandled run' p h) (Tells run'.differs run'.last) p items x out out (Ok false)
     takes_quiet x out compares same_open differs =
         let on = not_ended h has.exceptions has.ns (items ++ x ∷ []) run'.comparison run'.watched compares in
         record {
-          due = ([], ap (λ (q : Plan). q.opens (items ++ x ∷ [])) has.by_plan ∙ same_open ∙ ap (λ (q : Plan). q.opens items) (sym has.by_plan) ∙ sym (append-nil (p.opens items)), appends-none out.held);
+          due = (
+            [],
+            ap (λ (q : Plan). q.opens (items ++ x ∷ [])) has.by_plan ∙ same_open ∙ ap (λ (q : Plan). q.opens items) (sym has.by_plan)
+                ∙ sym (append-nil (p.opens items)),
+            appends-none out.held,
+          );
           ends = sym (ap (λ (q : Plan). q.ends (items ++ x ∷ [])) has.by_plan ∙ subst (λ (a : Asked). ends_run (model_asked a has.exceptions) h has.ns (items ++ x ∷ []) ≡ false) same on);
           keeps_on = λ e.
               goes (items ++ x ∷ []) (record {
                 compares = compares;
-                differs = differs ∙ has.stands.differs ∙ ap (λ l. not (is_empty l)) (sym same_open) ∙ ap (λ (a : Asked). not (is_empty (within_open (model_asked a has.exceptions) h has.ns (items ++ x ∷ [])))) (sym same);
+                differs = differs ∙ has.stands.differs ∙ ap (λ l. not (is_empty l)) (sym same_open)
+                    ∙ ap (λ (a : Asked). not (is_empty (within_open (model_asked a has.exceptions) h has.ns (items ++ x ∷ [])))) (sym same);
               });
           tells_all = λ e. absurd (cc);
         }
 
   -- the end of the body
   module _ (counted : IsCounted run.watched run.comparison) (r : Regs) (known : AreRegsAfter items r) (last : run'.last ≡ r.time) (out out' : Device) where
-    pub closes : (result : Result (Unit {0}) WriteFailed) → Takes out out' (lines_due own h has.ns items) result → IfOk result (λ _. run'.differs ≡ not (is_empty (within_open own h has.ns items ++ within_close own h has.ns items)))
+    pub closes : (result : Result (Unit {0}) WriteFailed) → Takes out out' (lines_due own h has.ns items) result
+        → IfOk result (λ _. run'.differs ≡ not (is_empty (within_open own h has.ns items ++ within_close own h has.ns items)))
         → Takes out out' (p.closes items) result × IfOk result (λ _. Tells run'.differs run'.last items (p.opens items ++ p.closes items))
     closes result puts differs =
         subst (λ (q : Plan). Takes out out' (q.closes items) result × IfOk result (λ _. Tells run'.differs run'.last items (q.opens items ++ q.closes items))) (sym has.by_plan)
         (rw (left_due h has.exceptions has.ns items run has.stands counted) puts, by_result result differs)
       where
-        by_result : (a : Result (Unit {0}) WriteFailed) → IfOk a (λ _. run'.differs ≡ not (is_empty (within_open own h has.ns items ++ within_close own h has.ns items))) → IfOk a (λ _. Tells run'.differs run'.last items (within_open own h has.ns items ++ within_close own h has.ns items))
+        by_result : (a : Result (Unit {0}) WriteFailed) → IfOk a (λ _. run'.differs ≡ not
+            (is_empty (within_open own h has.ns items ++ within_close own h has.ns items)))
+            → IfOk a (λ _. Tells run'.differs run'.last items (within_open own h has.ns items ++ within_close own h has.ns items))
         by_result (Ok v) is = (is, last ∙ known.time_is)
         by_result (Err e) none = tt
 
 -- the begin or the end of a section
-pub takes_section : (run : Run) (p : Plan) (h : Header) (items : List BodyItem) (has : HasHandled run p h items) (text : List ℕ) (x : BodyItem) (one : Item) (out : Device) → ((s : Section) × (one ≡ item.Begin s)) ⊎ ((one ≡ item.End) ⊎ (one ≡ item.Finish)) → IsItem h.codes text one x
+pub takes_section : (run : Run) (p : Plan) (h : Header) (items : List BodyItem) (has : HasHandled run p h items) (text : List ℕ) (x : BodyItem)
+    (one : Item) (out : Device) → ((s : Section) × (one ≡ item.Begin s)) ⊎ ((one ≡ item.End) ⊎ (one ≡ item.Finish)) → IsItem h.codes text one x
     → TakesOne {E = WriteFailed} (HasHandled run p h) (Tells run.differs run.last) p items x out out (Ok false)
 takes_section run p h items has text x one out is read =
-    takes_quiet run run p h items has refl x out (compares_still h has.exceptions has.ns items x run.comparison run.watched has.stands.compares quiet.0 quiet.1) (open_same h has.exceptions has.ns items x run.comparison run.watched has.stands.compares quiet.0) refl
+    takes_quiet run run p h items has refl x out
+    (compares_still h has.exceptions has.ns items x run.comparison run.watched has.stands.compares quiet.0 quiet.1)
+    (open_same h has.exceptions has.ns items x run.comparison run.watched has.stands.compares quiet.0) refl
   where
     read_as : (other : Item) → one ≡ other → IsItem h.codes text other x
     read_as other e = subst (λ (i : Item). IsItem h.codes text i x) e read

@@ -76,7 +76,8 @@ one_of_apart : (names : List (List ℕ)) (t w : List ℕ) → is_one_of names t 
 one_of_apart names t w other one e = let same = ap (is_one_of names) e in cc
 
 -- of a path inside another one
-nearest_inside : (texts names : List (List ℕ)) (u p : List ℕ) (m : ℕ) → has_dot p ≡ false → is_one_of names (u ++ 46 ∷ p) ≡ false → IsNearest texts names u m → IsNearest texts names (u ++ 46 ∷ p) m
+nearest_inside : (texts names : List (List ℕ)) (u p : List ℕ) (m : ℕ) → has_dot p ≡ false → is_one_of names (u ++ 46 ∷ p) ≡ false
+    → IsNearest texts names u m → IsNearest texts names (u ++ 46 ∷ p) m
 nearest_inside texts names u p zero plain other is = λ w one. selects_inside u p w plain (one_of_apart names (u ++ 46 ∷ p) w other one) ∙ is w one
 nearest_inside texts names u p (suc j) plain other is = (
   is.0,
@@ -88,7 +89,8 @@ nearest_inside texts names u p (suc j) plain other is = (
 
 module _ (parts : List (List ℕ)) (nodes : List (ℕ × ℕ)) (texts : List (List ℕ)) (are : AreTexts parts nodes texts) where
   module _ (names : List (List ℕ)) where
-    nearest_next : (i : ℕ) (node : ℕ × ℕ) (t : List ℕ) (nearest : List ℕ) (mark : Bool) → slice_get nodes i ≡ Some node → slice_get texts i ≡ Some t → mark ≡ is_one_of names t → AreNearest texts names i nearest → IsNearest texts names t (cond mark (suc i) (get_or nearest node.0 0))
+    nearest_next : (i : ℕ) (node : ℕ × ℕ) (t : List ℕ) (nearest : List ℕ) (mark : Bool) → slice_get nodes i ≡ Some node → slice_get texts i ≡ Some t
+        → mark ≡ is_one_of names t → AreNearest texts names i nearest → IsNearest texts names t (cond mark (suc i) (get_or nearest node.0 0))
     nearest_next i node t nearest true at text marks old = (t, text, sym marks, selects_itself t, λ w one. refl)
     nearest_next i node t nearest false at text marks old =
         let is = are.each i node at in
@@ -97,7 +99,8 @@ module _ (parts : List (List ℕ)) (nodes : List (ℕ × ℕ)) (texts : List (Li
         by_around : (a : ℕ) → a ≤ i → joined texts a (are.each i node at).part ≡ t → IsNearest texts names t (get_or nearest a 0)
         by_around zero l e =
             let is = are.each i node at in
-            subst (IsNearest texts names t) (sym old.none) (λ w one. false_from_ne_true (selects_path t w) (λ h. one_of_apart names t w (sym marks) one (plain_selected t w (ap has_dot (sym e) ∙ is.plain) h)))
+            subst (IsNearest texts names t) (sym old.none) (λ w one. false_from_ne_true (selects_path t w)
+            (λ h. one_of_apart names t w (sym marks) one (plain_selected t w (ap has_dot (sym e) ∙ is.plain) h)))
         by_around (suc j) l e =
             let is = are.each i node at in
             let within = slice_get_within texts i t text in
@@ -106,7 +109,8 @@ module _ (parts : List (List ℕ)) (nodes : List (ℕ × ℕ)) (texts : List (Li
             subst (λ x. IsNearest texts names x (get_or nearest (suc j) 0)) e (nearest_inside texts names u is.part (get_or nearest (suc j) 0) is.plain (ap (is_one_of names) e ∙ sym marks) inner)
 
     -- one path more
-    pub nearest_more : (i : ℕ) (node : ℕ × ℕ) (nearest : List ℕ) (mark : Bool) → slice_get nodes i ≡ Some node → ((t : List ℕ) → slice_get texts i ≡ Some t → mark ≡ is_one_of names t) → AreNearest texts names i nearest
+    pub nearest_more : (i : ℕ) (node : ℕ × ℕ) (nearest : List ℕ) (mark : Bool) → slice_get nodes i ≡ Some node
+        → ((t : List ℕ) → slice_get texts i ≡ Some t → mark ≡ is_one_of names t) → AreNearest texts names i nearest
         → AreNearest texts names (suc i) (nearest ++ cond mark (suc i) (get_or nearest node.0 0) ∷ [])
     nearest_more i node nearest mark at marks old = record {
       len = let l = old.len in let m = length-append nearest (n ∷ []) in omega (arith, l, m);
@@ -149,7 +153,8 @@ module _ (parts : List (List ℕ)) (nodes : List (ℕ × ℕ)) (texts : List (Li
             let len = old.len in
             let last : suc j ≡ length nearest = omega (arith, same, len) in
             let text = ap (slice_get texts) (sym same) ∙ there in
-            subst (IsNearest texts names t) (sym (ap (λ y. get_or (nearest ++ n ∷ []) y 0) last ∙ get_or-append_seam nearest n [] 0)) (nearest_next i node t nearest mark at text (marks t text) old)
+            subst (IsNearest texts names t) (sym (ap (λ y. get_or (nearest ++ n ∷ []) y 0) last ∙ get_or-append_seam nearest n [] 0))
+            (nearest_next i node t nearest mark at text (marks t text) old)
 
   -- of a path, the other names are those of the path around it
   pub above_itself : (k : ℕ) (u : List ℕ) → slice_get texts k ≡ Some u → (node : ℕ × ℕ) → slice_get nodes k ≡ Some node → selects_number texts u node.0 ≡ false
@@ -159,7 +164,8 @@ module _ (parts : List (List ℕ)) (nodes : List (ℕ × ℕ)) (texts : List (Li
       by_around zero e = refl
       by_around (suc j) e = ap (selects_path (get_or texts j [])) (sym e) ∙ not_turned (get_or texts j []) (are.each k node at).part
 
-  pub above_other : (k : ℕ) (u w : List ℕ) → slice_get texts k ≡ Some u → (node : ℕ × ℕ) → slice_get nodes k ≡ Some node → u ≢ w → selects_number texts w node.0 ≡ selects_path u w
+  pub above_other : (k : ℕ) (u w : List ℕ) → slice_get texts k ≡ Some u → (node : ℕ × ℕ) → slice_get nodes k ≡ Some node → u ≢ w
+      → selects_number texts w node.0 ≡ selects_path u w
   above_other k u w text node at differs = let is = are.each k node at in by_around node.0 (same_Some _ _ (sym is.text_is ∙ text))
     where
       by_around : (a : ℕ) → joined texts a (are.each k node at).part ≡ u → selects_number texts w a ≡ selects_path u w
@@ -202,7 +208,8 @@ not_zero (suc n) some = refl
 
 -- ---- the lists of what is inside
 
-module _ (parts : List (List ℕ)) (nodes : List (ℕ × ℕ)) (texts : List (List ℕ)) (are : AreTexts parts nodes texts) (names : List (List ℕ)) (nearest : List ℕ) (near : AreNearest texts names (length texts) nearest) where
+module _ (parts : List (List ℕ)) (nodes : List (ℕ × ℕ)) (texts : List (List ℕ)) (are : AreTexts parts nodes texts) (names : List (List ℕ))
+    (nearest : List ℕ) (near : AreNearest texts names (length texts) nearest) where
   -- the names that select a path are those that select the nearest one
   nearest_selects : (around : ℕ) (w : List ℕ) → around ≤ length texts → is_one_of names w ≡ true → selects_number texts w around ≡ selects_number texts w (get_or nearest around 0)
   nearest_selects zero w l one = sym (ap (selects_number texts w) near.none)
@@ -242,14 +249,16 @@ module _ (parts : List (List ℕ)) (nodes : List (ℕ × ℕ)) (texts : List (Li
     len = refl;
     name = λ some. nearest_name around number l (sym is) some;
     below = λ w one h. nearest_selects around w l one ∙ ap (selects_number texts w) (sym is) ∙ h;
-    each = λ m w number_is one. sym (ap (λ b. get_or (lists_in lists) m [] ++ cond b (index ∷ []) []) (both_not _ _ (nearest_selects around w l one ∙ ap (selects_number texts w) (sym is))) ∙ append-nil (get_or (lists_in lists) m []));
+    each = λ m w number_is one. sym (ap (λ b. get_or (lists_in lists) m [] ++ cond b (index ∷ []) [])
+        (both_not _ _ (nearest_selects around w l one ∙ ap (selects_number texts w) (sym is))) ∙ append-nil (get_or (lists_in lists) m []));
   }
 
   pub putting_next : (around index number next : ℕ) (old mid new : List (Vec ℕ)) → AreNamedBelow texts names (length old) → number ≢ 0 → next ≡ first_above nodes nearest number
       → lists_in new ≡ set (lists_in mid) number (get_or (lists_in mid) number [] ++ index ∷ []) → IsPutting around index number old mid → IsPutting around index next old new
   putting_next around index zero next old mid new room some is puts s = absurd (some refl)
   putting_next around index (suc k) next old mid new room some is puts s = record {
-    len = sym (length-map new (λ (l : Vec ℕ). l.items)) ∙ ap length puts ∙ length-set (lists_in mid) (suc k) (get_or (lists_in mid) (suc k) [] ++ index ∷ []) ∙ length-map mid (λ (l : Vec ℕ). l.items) ∙ s.len;
+    len = sym (length-map new (λ (l : Vec ℕ). l.items)) ∙ ap length puts
+        ∙ length-set (lists_in mid) (suc k) (get_or (lists_in mid) (suc k) [] ++ index ∷ []) ∙ length-map mid (λ (l : Vec ℕ). l.items) ∙ s.len;
     name = λ more. nearest_name node.0 next around_within (sym next_is) more;
     below = λ w one h. by_same w one h (bytes_eq u w) refl;
     each = λ m w number_is one. by_name m w number_is one (bytes_eq u w) refl;
@@ -274,7 +283,8 @@ module _ (parts : List (List ℕ)) (nodes : List (ℕ × ℕ)) (texts : List (Li
       around_within = let w = within in let a = (are.each k node at).around in omega (arith, w, a)
 
       next_is : next ≡ get_or nearest node.0 0
-      next_is = is ∙ ap (λ b. cond b (get_or nearest node.0 0) 0) (lt-ltb (get_or nearest node.0 0) (suc k) (let w = near.within node.0 in let a = (are.each k node at).around in omega (arith, w, a)))
+      next_is = is ∙ ap (λ b. cond b (get_or nearest node.0 0) 0) (lt-ltb (get_or nearest node.0 0) (suc k) (let w = near.within node.0 in
+          let a = (are.each k node at).around in omega (arith, w, a)))
 
       above : (w : List ℕ) → is_one_of names w ≡ true → selects_number texts w next ≡ selects_number texts w node.0
       above w one = ap (selects_number texts w) next_is ∙ sym (nearest_selects node.0 w around_within one)
@@ -302,10 +312,14 @@ module _ (parts : List (List ℕ)) (nodes : List (ℕ × ℕ)) (texts : List (Li
           let around_is = s.below w one selected in
           let long : suc k < length (lists_in mid) = let n = s.name some in let r = room (suc k) n.0 n.1 n.2 in let a = s.len in omega (arith, r, a, length-map mid (λ (l : Vec ℕ). l.items)) in
           let before : get_or (lists_in mid) (suc k) [] ≡ get_or (lists_in old) (suc k) [] =
-          ap (λ x. get_or (lists_in mid) x []) (sym m_is) ∙ s.each m w number_is one ∙ ap (λ b. get_or (lists_in old) m [] ++ cond (selects_number texts w around && not b) (index ∷ []) []) selected
+          ap (λ x. get_or (lists_in mid) x []) (sym m_is) ∙ s.each m w number_is one
+          ∙ ap (λ b. get_or (lists_in old) m [] ++ cond (selects_number texts w around && not b) (index ∷ []) []) selected
           ∙ ap (λ b. get_or (lists_in old) m [] ++ cond (b && false) (index ∷ []) []) around_is ∙ append-nil (get_or (lists_in old) m []) ∙ ap (λ x. get_or (lists_in old) x []) m_is in
-          ap (λ x. get_or (lists_in new) x []) m_is ∙ ap (λ l. get_or l (suc k) []) puts ∙ get_or-set_same (lists_in mid) (suc k) (get_or (lists_in mid) (suc k) [] ++ index ∷ []) [] long ∙ ap (λ l. l ++ index ∷ []) before
-          ∙ sym (ap (λ b. get_or (lists_in old) m [] ++ cond (selects_number texts w around && not b) (index ∷ []) []) (itself w one q) ∙ ap (λ b. get_or (lists_in old) m [] ++ cond (b && true) (index ∷ []) []) around_is ∙ ap (λ x. get_or (lists_in old) x [] ++ index ∷ []) m_is)
+          ap (λ x. get_or (lists_in new) x []) m_is ∙ ap (λ l. get_or l (suc k) []) puts
+          ∙ get_or-set_same (lists_in mid) (suc k) (get_or (lists_in mid) (suc k) [] ++ index ∷ []) [] long ∙ ap (λ l. l ++ index ∷ []) before
+          ∙ sym (ap (λ b. get_or (lists_in old) m [] ++ cond (selects_number texts w around && not b) (index ∷ []) []) (itself w one q)
+          ∙ ap (λ b. get_or (lists_in old) m [] ++ cond (b && true) (index ∷ []) []) around_is
+          ∙ ap (λ x. get_or (lists_in old) x [] ++ index ∷ []) m_is)
       by_name m w number_is one false q =
           let apart : m ≢ suc k = λ e.
           let index_is : number_is.0 ≡ k = let f = number_is.1 in omega (arith, e, f) in
@@ -329,7 +343,8 @@ module _ (parts : List (List ℕ)) (nodes : List (ℕ × ℕ)) (texts : List (Li
     pub put_all : (old new : List (Vec ℕ)) → get_or left_out around 0 ≡ 0 → IsPutting around index 0 old new → IsPutInside texts names es around index old new
     put_all old new kept s = record {
       len = s.len;
-      each = λ m w number_is one. s.each m w number_is one ∙ ap (λ b. get_or (lists_in old) m [] ++ cond b (index ∷ []) []) (and_true (selects_number texts w around) ∙ sym (inside_is w ∙ ap (λ n. is_zero n && selects_number texts w around) kept));
+      each = λ m w number_is one. s.each m w number_is one ∙ ap (λ b. get_or (lists_in old) m [] ++ cond b (index ∷ []) [])
+          (and_true (selects_number texts w around) ∙ sym (inside_is w ∙ ap (λ n. is_zero n && selects_number texts w around) kept));
     }
       where
         and_true : (b : Bool) → (b && true) ≡ b
@@ -339,13 +354,15 @@ module _ (parts : List (List ℕ)) (nodes : List (ℕ × ℕ)) (texts : List (Li
     pub put_none : (lists : List (Vec ℕ)) → get_or left_out around 0 ≢ 0 → IsPutInside texts names es around index lists lists
     put_none lists out = record {
       len = refl;
-      each = λ m w number_is one. sym (ap (λ b. get_or (lists_in lists) m [] ++ cond b (index ∷ []) []) (inside_is w ∙ ap (λ b. b && selects_number texts w around) (not_zero (get_or left_out around 0) out)) ∙ append-nil (get_or (lists_in lists) m []));
+      each = λ m w number_is one. sym (ap (λ b. get_or (lists_in lists) m [] ++ cond b (index ∷ []) []) (inside_is w
+          ∙ ap (λ b. b && selects_number texts w around) (not_zero (get_or left_out around 0) out)) ∙ append-nil (get_or (lists_in lists) m []));
     }
 
 -- ---- what is chosen
 
 -- the indexes of what passes
-pub chosen_zip : {X : Type 0} (xs : List X) (f : ℕ → Bool) (g : X → Bool) → ((i : ℕ) (x : X) → slice_get xs i ≡ Some x → f i ≡ g x) → (i : ℕ) → i ≤ length xs → AllZip (λ j x. slice_get xs j ≡ Some x) (chosen f i) (filter g (take i xs))
+pub chosen_zip : {X : Type 0} (xs : List X) (f : ℕ → Bool) (g : X → Bool) → ((i : ℕ) (x : X) → slice_get xs i ≡ Some x → f i ≡ g x) → (i : ℕ)
+    → i ≤ length xs → AllZip (λ j x. slice_get xs j ≡ Some x) (chosen f i) (filter g (take i xs))
 chosen_zip xs f g same zero l = tt
 chosen_zip xs f g same (suc i) l =
     let x = there xs i (omega (arith, l)) in
@@ -356,22 +373,26 @@ chosen_zip xs f g same (suc i) l =
         → AllZip (λ j x. slice_get xs j ≡ Some x) (chosen f i ++ cond b (i ∷ []) []) (filter g (take i xs) ++ filter g (x ∷ []))
     by_test true q x at old =
         let pass : g x ≡ true = sym (same i x at) ∙ q in
-        subst (λ c. AllZip (λ j x. slice_get xs j ≡ Some x) (chosen f i ++ i ∷ []) (filter g (take i xs) ++ cond c (x ∷ []) [])) (sym pass) (all_zip_push (λ j x. slice_get xs j ≡ Some x) (chosen f i) (filter g (take i xs)) i x old at)
+        subst (λ c. AllZip (λ j x. slice_get xs j ≡ Some x) (chosen f i ++ i ∷ []) (filter g (take i xs) ++ cond c (x ∷ []) [])) (sym pass)
+        (all_zip_push (λ j x. slice_get xs j ≡ Some x) (chosen f i) (filter g (take i xs)) i x old at)
     by_test false q x at old =
         let pass : g x ≡ false = sym (same i x at) ∙ q in
         subst (λ c. AllZip (λ j x. slice_get xs j ≡ Some x) (chosen f i ++ []) (filter g (take i xs) ++ cond c (x ∷ []) [])) (sym pass)
-        (subst (λ a. AllZip (λ j x. slice_get xs j ≡ Some x) a (filter g (take i xs) ++ [])) (sym (append-nil (chosen f i))) (subst (AllZip (λ j x. slice_get xs j ≡ Some x) (chosen f i)) (sym (append-nil (filter g (take i xs)))) old))
+        (subst (λ a. AllZip (λ j x. slice_get xs j ≡ Some x) a (filter g (take i xs) ++ [])) (sym (append-nil (chosen f i)))
+        (subst (AllZip (λ j x. slice_get xs j ≡ Some x) (chosen f i)) (sym (append-nil (filter g (take i xs)))) old))
 
 -- ---- two names
 
-pub both_zip : (texts : List (List ℕ)) (numbers : List (ℕ × ℕ)) (ns : List Names) → AllZip (AreNumbersOf texts) numbers ns → AllZip (IsNumberOf texts) (flat_map (λ (m : ℕ × ℕ). m.0 ∷ m.1 ∷ []) numbers) (both_names ns)
+pub both_zip : (texts : List (List ℕ)) (numbers : List (ℕ × ℕ)) (ns : List Names) → AllZip (AreNumbersOf texts) numbers ns
+    → AllZip (IsNumberOf texts) (flat_map (λ (m : ℕ × ℕ). m.0 ∷ m.1 ∷ []) numbers) (both_names ns)
 both_zip texts [] [] all = tt
 both_zip texts [] (n ∷ ns) all = absurd all
 both_zip texts (m ∷ numbers) [] all = absurd all
 both_zip texts (m ∷ numbers) (n ∷ ns) all = (all.0.0, (all.0.1, both_zip texts numbers ns all.1))
 
 -- a name has a number if all have
-one_number : (texts : List (List ℕ)) (numbers : List ℕ) (names : List (List ℕ)) (w : List ℕ) → AllZip (IsNumberOf texts) numbers names → is_one_of names w ≡ true → (m : ℕ) × IsNumberOf texts m w
+one_number : (texts : List (List ℕ)) (numbers : List ℕ) (names : List (List ℕ)) (w : List ℕ) → AllZip (IsNumberOf texts) numbers names
+    → is_one_of names w ≡ true → (m : ℕ) × IsNumberOf texts m w
 one_number texts [] [] w all one = cc
 one_number texts [] (e ∷ names) w all one = absurd all
 one_number texts (m ∷ numbers) [] w all one = absurd all
@@ -382,7 +403,8 @@ one_number texts (m ∷ numbers) (e ∷ names) w all one = by_test (bytes_eq w e
     by_test false q more = more (sym (ap (λ b. b || is_one_of names w) q) ∙ one)
 
 -- the numbers of the names stay below those of what is entered after them
-pub named_below : (known more : List (List ℕ)) (numbers : List (ℕ × ℕ)) (ns : List Names) → AreApart (known ++ more) → AllZip (AreNumbersOf known) numbers ns → AreNamedBelow (known ++ more) (both_names ns) (length known + 1)
+pub named_below : (known more : List (List ℕ)) (numbers : List (ℕ × ℕ)) (ns : List Names) → AreApart (known ++ more)
+    → AllZip (AreNumbersOf known) numbers ns → AreNamedBelow (known ++ more) (both_names ns) (length known + 1)
 named_below known more numbers ns apart all = λ m w is one.
     let known_is = (one_number known (flat_map (λ (m : ℕ × ℕ). m.0 ∷ m.1 ∷ []) numbers) (both_names ns) w (both_zip known numbers ns all) one).1 in
     let same = apart is.0 known_is.0 w is.2 (slice_get-front known more known_is.0 w known_is.2) in

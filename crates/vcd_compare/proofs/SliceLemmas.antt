@@ -13,7 +13,8 @@ zip_at R (x ∷ xs) [] i y all at = absurd all
 zip_at R (x ∷ xs) (z ∷ ys) zero y all at = (x, refl, subst (R x) (same_Some z y at) all.0)
 zip_at R (x ∷ xs) (z ∷ ys) (suc i) y all at = zip_at R xs ys i y all.1 at
 
-pub zip_from : {X Y : Type 0} (R : X → Y → Type 0) (xs : List X) (ys : List Y) (i : ℕ) (x : X) → AllZip R xs ys → slice_get xs i ≡ Some x → (y : Y) × (slice_get ys i ≡ Some y) × R x y
+pub zip_from : {X Y : Type 0} (R : X → Y → Type 0) (xs : List X) (ys : List Y) (i : ℕ) (x : X) → AllZip R xs ys → slice_get xs i ≡ Some x → (y : Y)
+    × (slice_get ys i ≡ Some y) × R x y
 zip_from R [] ys i x all at = cc
 zip_from R (w ∷ xs) [] i x all at = absurd all
 zip_from R (w ∷ xs) (y ∷ ys) zero x all at = (y, refl, subst (λ z. R z y) (same_Some w x at) all.0)
@@ -62,7 +63,8 @@ one_number texts m n t apart a b = a.1 ∙ ap suc (apart a.0 b.0 t a.2 b.2) ∙ 
 slice_is : (texts ranges : List (List ℕ)) (k : ℕ × ℕ) (x y : List ℕ × List ℕ) → IsSlice texts ranges k x → IsSlice texts ranges k y → x ≡ y
 slice_is texts ranges k x y a b = ap₂ (λ (p q : List ℕ). (p, q)) (one_text texts k.0 x.0 y.0 a.0 b.0) (same_Some x.1 y.1 (sym a.1 ∙ b.1))
 
-slice_numbers : (texts ranges : List (List ℕ)) (k l : ℕ × ℕ) (x : List ℕ × List ℕ) → AreApart texts → AreApart ranges → IsSlice texts ranges k x → IsSlice texts ranges l x → k ≡ l
+slice_numbers : (texts ranges : List (List ℕ)) (k l : ℕ × ℕ) (x : List ℕ × List ℕ) → AreApart texts → AreApart ranges → IsSlice texts ranges k x
+    → IsSlice texts ranges l x → k ≡ l
 slice_numbers texts ranges k l x apart ranges_apart a b = ap₂ (λ (p q : ℕ). (p, q)) (one_number texts k.0 l.0 x.0 apart a.0 b.0) (ranges_apart k.1 l.1 x.1 a.1 b.1)
 
 pub slices_none : (s : Slices) (texts : List (List ℕ)) → s.pairs.keys ≡ [] → texts_in s.ranges ≡ [] → HasSlices texts s []
@@ -73,8 +75,11 @@ slices_none s texts pairs ranges = record {
 }
 
 -- a pair that was entered
-pub slice_entered : (texts : List (List ℕ)) (list : List (List ℕ × List ℕ)) (x : List ℕ × List ℕ) (old new : Slices) (key : ℕ × ℕ) (index : ℕ) → AreApart texts → HasSlices texts old list → IsNumberOf texts key.0 x.0
-    → EntersText old.ranges new.ranges x.1 key.1 → new.pairs.keys ≡ (if list_any (same_key key) old.pairs.keys then old.pairs.keys else old.pairs.keys ++ key ∷ []) → index ≡ position_or_len (same_key key) old.pairs.keys → EntersSlice texts list new x index
+pub slice_entered : (texts : List (List ℕ)) (list : List (List ℕ × List ℕ)) (x : List ℕ × List ℕ) (old new : Slices) (key : ℕ × ℕ) (index : ℕ)
+    → AreApart texts → HasSlices texts old list → IsNumberOf texts key.0 x.0
+    → EntersText old.ranges new.ranges x.1 key.1 → new.pairs.keys ≡
+    (if list_any (same_key key) old.pairs.keys then old.pairs.keys else old.pairs.keys ++ key ∷ [])
+    → index ≡ position_or_len (same_key key) old.pairs.keys → EntersSlice texts list new x index
 slice_entered texts list x old new key index apart has number enters keys at = by_test (list_any (same_key key) old.pairs.keys) refl
   where
     ranges : List (List ℕ)
@@ -95,7 +100,8 @@ slice_entered texts list x old new key index apart has number enters keys at = b
         let is : there.0 ≡ x = slice_is texts (texts_in new.ranges) key there.0 x (subst (λ k. IsSlice texts (texts_in new.ranges) k there.0) (sym (same_is key first.0 first.2)) there.2) own in (
           [],
           record {
-            each = subst (λ ks. AllZip (IsSlice texts (texts_in new.ranges)) ks (list ++ [])) (sym same) (subst (AllZip (IsSlice texts (texts_in new.ranges)) old.pairs.keys) (sym (append-nil list)) grown);
+            each = subst (λ ks. AllZip (IsSlice texts (texts_in new.ranges)) ks (list ++ [])) (sym same)
+                (subst (AllZip (IsSlice texts (texts_in new.ranges)) old.pairs.keys) (sym (append-nil list)) grown);
             apart = λ i j y a b. has.apart i j y (sym (ap (λ l. slice_get l i) (append-nil list)) ∙ a) (sym (ap (λ l. slice_get l j) (append-nil list)) ∙ b);
             ranges_apart = enters.3 has.ranges_apart;
           },
@@ -106,7 +112,8 @@ slice_entered texts list x old new key index apart has number enters keys at = b
         let last : index ≡ length list = at ∙ none_first (same_key key) old.pairs.keys q ∙ same_len (IsSlice texts (texts_in new.ranges)) old.pairs.keys list grown in (
           x ∷ [],
           record {
-            each = subst (λ ks. AllZip (IsSlice texts (texts_in new.ranges)) ks (list ++ x ∷ [])) (sym same) (all_zip_push (IsSlice texts (texts_in new.ranges)) old.pairs.keys list key x grown own);
+            each = subst (λ ks. AllZip (IsSlice texts (texts_in new.ranges)) ks (list ++ x ∷ [])) (sym same)
+                (all_zip_push (IsSlice texts (texts_in new.ranges)) old.pairs.keys list key x grown own);
             apart = distinct_more list x has.apart is_new;
             ranges_apart = enters.3 has.ranges_apart;
           },
@@ -123,7 +130,8 @@ slice_entered texts list x old new key index apart has number enters keys at = b
             absurd (cc)
 
 -- two numbers are the same if and only if the pairs are
-pub same_slice : (list : List (List ℕ × List ℕ)) (m n : ℕ) (x y : List ℕ × List ℕ) → ((i j : ℕ) (z : List ℕ × List ℕ) → slice_get list i ≡ Some z → slice_get list j ≡ Some z → i ≡ j)
+pub same_slice : (list : List (List ℕ × List ℕ)) (m n : ℕ) (x y : List ℕ × List ℕ)
+    → ((i j : ℕ) (z : List ℕ × List ℕ) → slice_get list i ≡ Some z → slice_get list j ≡ Some z → i ≡ j)
     → slice_get list m ≡ Some x → slice_get list n ≡ Some y → (m == n) ≡ (bytes_eq x.0 y.0 && bytes_eq x.1 y.1)
 same_slice list m n x y apart a b = by_test (bytes_eq x.0 y.0 && bytes_eq x.1 y.1) refl
   where
@@ -134,7 +142,8 @@ same_slice list m n x y apart a b = by_test (bytes_eq x.0 y.0 && bytes_eq x.1 y.
         eq-eqb m n (apart m n y (a ∙ ap Some same) b)
     by_test false q = ne_eqb m n (λ e.
         let same : x ≡ y = same_Some x y (sym a ∙ ap (slice_get list) e ∙ b) in
-        let yes = and_from (bytes_eq x.0 y.0) (bytes_eq x.1 y.1) ((bytes_eq-Decides x.0 y.0).1 (ap (λ (z : List ℕ × List ℕ). z.0) same)) ((bytes_eq-Decides x.1 y.1).1 (ap (λ (z : List ℕ × List ℕ). z.1) same)) in
+        let yes = and_from (bytes_eq x.0 y.0) (bytes_eq x.1 y.1) ((bytes_eq-Decides x.0 y.0).1 (ap (λ (z : List ℕ × List ℕ). z.0) same))
+        ((bytes_eq-Decides x.1 y.1).1 (ap (λ (z : List ℕ × List ℕ). z.1) same)) in
         absurd (cc))
 
 -- the number of a pair, or none if it is not there
@@ -142,7 +151,8 @@ abbrev pub IsSliceAt : List (List ℕ × List ℕ) → List ℕ × List ℕ → 
 IsSliceAt list x None = (i : ℕ) → slice_get list i ≢ Some x
 IsSliceAt list x (Some j) = slice_get list j ≡ Some x
 
-module _ (texts : List (List ℕ)) (s : Slices) (list : List (List ℕ × List ℕ)) (apart : AreApart texts) (has : HasSlices texts s list) (range : List ℕ) (r : ℕ) (range_at : slice_get (texts_in s.ranges) r ≡ Some range) where
+module _ (texts : List (List ℕ)) (s : Slices) (list : List (List ℕ × List ℕ)) (apart : AreApart texts) (has : HasSlices texts s list)
+    (range : List ℕ) (r : ℕ) (range_at : slice_get (texts_in s.ranges) r ≡ Some range) where
   -- a search for a path that has a number
   pub slice_found : (m : ℕ) (path : List ℕ) → IsNumberOf texts m path → IsSliceAt list (path, range) (looked_up s.pairs.keys r (Some m))
   slice_found m path number = by_found (position (same_key (m, r)) s.pairs.keys) refl
@@ -151,7 +161,8 @@ module _ (texts : List (List ℕ)) (s : Slices) (list : List (List ℕ × List �
       by_found (Some j) e =
           let found = position_passes (same_key (m, r)) s.pairs.keys j e in
           let y = zip_from (IsSlice texts (texts_in s.ranges)) s.pairs.keys list j found.0 has.each found.1 in
-          let is : y.0 ≡ (path, range) = slice_is texts (texts_in s.ranges) found.0 y.0 (path, range) y.2 (subst (λ k. IsSlice texts (texts_in s.ranges) k (path, range)) (same_is (m, r) found.0 found.2) (number, range_at)) in
+          let is : y.0 ≡ (path, range) = slice_is texts (texts_in s.ranges) found.0 y.0 (path, range) y.2
+          (subst (λ k. IsSlice texts (texts_in s.ranges) k (path, range)) (same_is (m, r) found.0 found.2) (number, range_at)) in
           y.1 ∙ ap Some is
       by_found None e = λ i there.
           let k = zip_at (IsSlice texts (texts_in s.ranges)) s.pairs.keys list i (path, range) has.each there in

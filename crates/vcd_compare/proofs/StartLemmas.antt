@@ -56,8 +56,10 @@ triggers_first v h views index c at event =
 
 -- ---- a comparison
 
-pub compares_first : (v : HeadView) (h : Header) (exceptions : List (List ℕ)) (ns : List Names) (c : Comparison) (w : Watched) → IsViewOf v h → ArePairs c.current.pairs.now h (model_asked c.current.asked exceptions) ns → AreHeld c.current.table h []
-    → c.current.triggers.now ≡ replicate (length v.codes.now) None → c.flags.bytes.now ≡ replicate c.current.pairs.now.classes 0 → w.at ≡ c.current.asked.from → Compares h exceptions ns [] c w
+pub compares_first : (v : HeadView) (h : Header) (exceptions : List (List ℕ)) (ns : List Names) (c : Comparison) (w : Watched) → IsViewOf v h
+    → ArePairs c.current.pairs.now h (model_asked c.current.asked exceptions) ns → AreHeld c.current.table h []
+    → c.current.triggers.now ≡ replicate (length v.codes.now) None → c.flags.bytes.now ≡ replicate c.current.pairs.now.classes 0
+    → w.at ≡ c.current.asked.from → Compares h exceptions ns [] c w
 compares_first v h exceptions ns c w views pairs held triggers flags at = record {
   pairs = pairs;
   current = record { held = held; triggers = rw triggers (triggers_first v h views) };

@@ -39,7 +39,8 @@ triggered_stays k t p q c l =
     (or-false (list_any test (entries p)))
 
 -- nor does whether it has a change then
-pub changes_stay : (k t : ℕ) (p q : List BodyItem) (c : IdCode) → t < k * time_after p → list_any (λ e. gives_to c e.item && k * e.time == t) (entries (p ++ q)) ≡ list_any (λ e. gives_to c e.item && k * e.time == t) (entries p)
+pub changes_stay : (k t : ℕ) (p q : List BodyItem) (c : IdCode) → t < k * time_after p
+    → list_any (λ e. gives_to c e.item && k * e.time == t) (entries (p ++ q)) ≡ list_any (λ e. gives_to c e.item && k * e.time == t) (entries p)
 changes_stay k t p q c l =
     let test = λ (e : Entry). gives_to c e.item && k * e.time == t in
     rw (

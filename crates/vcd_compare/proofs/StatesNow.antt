@@ -5,7 +5,8 @@ use Rattle.vcd_compare.specs.declared.asked.Asked.{Asked}
 use Rattle.vcd_compare.proofs.FlagLemmas.{value_final}
 use Rattle.vcd_compare.proofs.MatchLemmas.{match_other, match_self}
 
-module _ (v : HeadView) (c : Current) (h : Header) (items : List BodyItem) (views : IsViewOf v h) (current : AreCurrent c h items) (code : ℕ) (a : IdCode) (there : slice_get h.codes code ≡ Some a) where
+module _ (v : HeadView) (c : Current) (h : Header) (items : List BodyItem) (views : IsViewOf v h) (current : AreCurrent c h items) (code : ℕ)
+    (a : IdCode) (there : slice_get h.codes code ≡ Some a) where
   -- a value that is held is the last one
   pub held_final : a.event ≡ false → value_in (codes_shown v) c.table code ≡ final_value items a
   held_final e =
@@ -31,7 +32,8 @@ events_match false false = refl
 
 -- if it is known whether two values are the same, and they are, or no rule is asked for, their
 -- states match just then
-pub told_same : (k : Asked) (items : List BodyItem) (a b : IdCode) (t : ℕ) → time_after items ≤ t → a.event ≡ b.event → b.event ≡ false → (same : Bool) → Decides same (final_value items a ≡ final_value items b)
+pub told_same : (k : Asked) (items : List BodyItem) (a b : IdCode) (t : ℕ) → time_after items ≤ t → a.event ≡ b.event → b.event ≡ false
+    → (same : Bool) → Decides same (final_value items a ≡ final_value items b)
     → (same ≡ true) ⊎ ((k.x_of_one ≡ false) × (k.x_of_other ≡ false)) → (is_first : Bool) → not same ≡ differ_from is_first (rule_of k) items a b t
 told_same k items a b t le alike event same told either is_first = by_order is_first
   where
@@ -78,7 +80,8 @@ apart_at r (x ∷ xs) (y ∷ ys) zero a b e f wrong = rw (same_Some x a e, same_
 apart_at r (x ∷ xs) (y ∷ ys) (suc i) a b e f wrong = and_right (digits_match r x y) (all_match r xs ys) (apart_at r xs ys i a b e f wrong)
 
 -- the same of their last digits, with one of these
-pub apart_from : (r : Rule) (k i : ℕ) (ds es : List ℕ) (a b : ℕ) → k ≤ i → slice_get ds i ≡ Some a → slice_get es i ≡ Some b → digits_match r a b ≡ false → all_match r (drop k ds) (drop k es) ≡ false
+pub apart_from : (r : Rule) (k i : ℕ) (ds es : List ℕ) (a b : ℕ) → k ≤ i → slice_get ds i ≡ Some a → slice_get es i ≡ Some b
+    → digits_match r a b ≡ false → all_match r (drop k ds) (drop k es) ≡ false
 apart_from r zero i ds es a b le e f wrong = apart_at r ds es i a b e f wrong
 apart_from r (suc k) zero ds es a b le e f wrong = absurd (omega (arith, le))
 apart_from r (suc k) (suc i) [] es a b le e f wrong = cc
@@ -97,7 +100,8 @@ drop_all (d ∷ ds) zero le = absurd (omega arith)
 drop_all (d ∷ ds) (suc n) le = drop_all ds n (omega arith)
 
 -- the digits of extended ones from an index on that is before all that are extended
-far_digits : (p q n e : ℕ) (xs : List ℕ) → n ≡ p + suc q → (drop p (replicate n e ++ xs) ≡ e ∷ (replicate q e ++ xs)) × (replicate n e ++ xs ≡ replicate p e ++ (e ∷ (replicate q e ++ xs)))
+far_digits : (p q n e : ℕ) (xs : List ℕ) → n ≡ p + suc q → (drop p (replicate n e ++ xs) ≡ e ∷ (replicate q e ++ xs))
+    × (replicate n e ++ xs ≡ replicate p e ++ (e ∷ (replicate q e ++ xs)))
 far_digits zero q n e xs is = let same : n ≡ suc q = omega (arith, is) in rw same (refl, refl)
 far_digits (suc p) q zero e xs is = absurd (omega (arith, is))
 far_digits (suc p) q (suc n) e xs is = let more = far_digits p q n e xs (omega (arith, is)) in (more.0, ap (λ (l : List ℕ). e ∷ l) more.1)
@@ -111,7 +115,8 @@ far_match r (suc k) e f ds es all = rw (first (digits_match r e f) (all_match r 
     first true b e = refl
     first false b e = cc
 
-all_from_last : (r : Rule) (xs ys : List ℕ) (m n held count back : ℕ) → length xs ≤ held → length ys ≤ held → count ≡ length (extend xs m) → count ≡ length (extend ys n) → back ≡ min count (held + 1)
+all_from_last : (r : Rule) (xs ys : List ℕ) (m n held count back : ℕ) → length xs ≤ held → length ys ≤ held → count ≡ length (extend xs m)
+    → count ≡ length (extend ys n) → back ≡ min count (held + 1)
     → all_match r (drop (count - back) (extend xs m)) (drop (count - back) (extend ys n)) ≡ true → all_match r (extend xs m) (extend ys n) ≡ true
 all_from_last r xs ys m n held count back few less one other back_is all = by_order (cases_lt (held + 1) count)
   where
@@ -129,10 +134,12 @@ all_from_last r xs ys m n held count back few less one other back_is all = by_or
         let p = count - back in
         let a = far_digits p (held - length xs) (m - length xs) (extension xs) xs (omega (arith, few, one, first, back_is, long)) in
         let b = far_digits p (held - length ys) (n - length ys) (extension ys) ys (omega (arith, less, other, second, back_is, long)) in
-        rw (a.1, b.1) (far_match r p (extension xs) (extension ys) (replicate (held - length xs) (extension xs) ++ xs) (replicate (held - length ys) (extension ys) ++ ys) (ap₂ (all_match r) (sym a.0) (sym b.0) ∙ all))
+        rw (a.1, b.1) (far_match r p (extension xs) (extension ys) (replicate (held - length xs) (extension xs) ++ xs)
+        (replicate (held - length ys) (extension ys) ++ ys) (ap₂ (all_match r) (sym a.0) (sym b.0) ∙ all))
 
 -- so the last digits tell whether all match
-pub few_match : (r : Rule) (xs ys : List ℕ) (m n held count last : ℕ) → length xs ≤ held → length ys ≤ held → count ≡ length (extend xs m) → count ≡ length (extend ys n) → count - last ≡ count - (held + 1)
+pub few_match : (r : Rule) (xs ys : List ℕ) (m n held count last : ℕ) → length xs ≤ held → length ys ≤ held → count ≡ length (extend xs m)
+    → count ≡ length (extend ys n) → count - last ≡ count - (held + 1)
     → all_match r (drop (count - last) (extend xs m)) (drop (count - last) (extend ys n)) ≡ all_match r (extend xs m) (extend ys n)
 few_match r xs ys m n held count last few less one other last_is = by_value (all_match r (drop (count - last) (extend xs m)) (drop (count - last) (extend ys n))) refl
   where
@@ -140,11 +147,14 @@ few_match r xs ys m n held count last few less one other last_is = by_value (all
     same = omega (arith, last_is)
 
     by_value : (b : Bool) → all_match r (drop (count - last) (extend xs m)) (drop (count - last) (extend ys n)) ≡ b → b ≡ all_match r (extend xs m) (extend ys n)
-    by_value true e = sym (all_from_last r xs ys m n held count (min count (held + 1)) few less one other refl (subst (λ k. all_match r (drop k (extend xs m)) (drop k (extend ys n)) ≡ true) same e))
-    by_value false e = sym (in_parts r (count - last) (extend xs m) (extend ys n) (sym one ∙ other) ∙ and_right (all_match r (take (count - last) (extend xs m)) (take (count - last) (extend ys n))) _ e)
+    by_value true e = sym (all_from_last r xs ys m n held count (min count (held + 1)) few less one other refl
+        (subst (λ k. all_match r (drop k (extend xs m)) (drop k (extend ys n)) ≡ true) same e))
+    by_value false e = sym (in_parts r (count - last) (extend xs m) (extend ys n) (sym one ∙ other)
+        ∙ and_right (all_match r (take (count - last) (extend xs m)) (take (count - last) (extend ys n))) _ e)
 
 -- the digits of a value are those that are held, extended
-pub shown_digits : (v : HeadView) (t : Table) (code : ℕ) (ds : List ℕ) → value_in (codes_shown v) t code ≡ Some (Value.Bits ds) → (m : ℕ) × (ds ≡ extend (digits_held (held_at t code)) m)
+pub shown_digits : (v : HeadView) (t : Table) (code : ℕ) (ds : List ℕ) → value_in (codes_shown v) t code ≡ Some (Value.Bits ds) → (m : ℕ)
+    × (ds ≡ extend (digits_held (held_at t code)) m)
 shown_digits v t code ds e = by_code (slice_get (codes_shown v) code) e
   where
     by_held : (h : Held) (m : ℕ) → value_at_size m h ≡ Some (Value.Bits ds) → ds ≡ extend (digits_held h) m
@@ -152,34 +162,39 @@ shown_digits v t code ds e = by_code (slice_get (codes_shown v) code) e
     by_held (Held.Digits xs) m e = cc
     by_held (Held.Text text) m e = cc
 
-    by_code : (o : Option IdCode) → option_and_then (λ (c : IdCode). value_at_size c.size (held_at t code)) o ≡ Some (Value.Bits ds) → (m : ℕ) × (ds ≡ extend (digits_held (held_at t code)) m)
+    by_code : (o : Option IdCode) → option_and_then (λ (c : IdCode). value_at_size c.size (held_at t code)) o ≡ Some (Value.Bits ds) → (m : ℕ)
+        × (ds ≡ extend (digits_held (held_at t code)) m)
     by_code None e = cc
     by_code (Some c) e = (c.size, by_held (held_at t code) c.size e)
 
 -- ---- what a table shows of two values
 
-pub unset_some : (r : Rule) (m n : ℕ) (g h : Held) (s : Shown) → shown_as g ≡ shown.Unset → shown_as h ≡ s → (s ≡ shown.Unset → ⊥) → match r (value_at_size m g) (value_at_size n h) ≡ r.x_of_one
+pub unset_some : (r : Rule) (m n : ℕ) (g h : Held) (s : Shown) → shown_as g ≡ shown.Unset → shown_as h ≡ s → (s ≡ shown.Unset → ⊥)
+    → match r (value_at_size m g) (value_at_size n h) ≡ r.x_of_one
 unset_some r m n Held.Unset Held.Unset s e f none = absurd (none (sym f))
 unset_some r m n Held.Unset (Held.Digits ds) s e f none = refl
 unset_some r m n Held.Unset (Held.Text text) s e f none = refl
 unset_some r m n (Held.Digits ds) h s e f none = cc
 unset_some r m n (Held.Text text) h s e f none = cc
 
-pub some_unset : (r : Rule) (m n : ℕ) (g h : Held) (s : Shown) → shown_as g ≡ s → shown_as h ≡ shown.Unset → (s ≡ shown.Unset → ⊥) → match r (value_at_size m g) (value_at_size n h) ≡ r.x_of_other
+pub some_unset : (r : Rule) (m n : ℕ) (g h : Held) (s : Shown) → shown_as g ≡ s → shown_as h ≡ shown.Unset → (s ≡ shown.Unset → ⊥)
+    → match r (value_at_size m g) (value_at_size n h) ≡ r.x_of_other
 some_unset r m n Held.Unset Held.Unset s e f none = absurd (none (sym e))
 some_unset r m n (Held.Digits ds) Held.Unset s e f none = refl
 some_unset r m n (Held.Text text) Held.Unset s e f none = refl
 some_unset r m n g (Held.Digits ds) s e f none = cc
 some_unset r m n g (Held.Text text) s e f none = cc
 
-pub bits_real : (r : Rule) (m n : ℕ) (g h : Held) → shown_as g ≡ shown.Bits → shown_as h ≡ shown.Real → (match r (value_at_size m g) (value_at_size n h) ≡ false) × (match r (value_at_size n h) (value_at_size m g) ≡ false)
+pub bits_real : (r : Rule) (m n : ℕ) (g h : Held) → shown_as g ≡ shown.Bits → shown_as h ≡ shown.Real
+    → (match r (value_at_size m g) (value_at_size n h) ≡ false) × (match r (value_at_size n h) (value_at_size m g) ≡ false)
 bits_real r m n (Held.Digits ds) (Held.Text text) e f = (refl, refl)
 bits_real r m n Held.Unset h e f = cc
 bits_real r m n (Held.Text text) h e f = cc
 bits_real r m n (Held.Digits ds) Held.Unset e f = cc
 bits_real r m n (Held.Digits ds) (Held.Digits es) e f = cc
 
-pub both_real : (a : Asked) (m n : ℕ) (g h : Held) → shown_as g ≡ shown.Real → shown_as h ≡ shown.Real → match (rule_of a) (value_at_size m g) (value_at_size n h) ≡ bytes_eq (real_text g) (real_text h)
+pub both_real : (a : Asked) (m n : ℕ) (g h : Held) → shown_as g ≡ shown.Real → shown_as h ≡ shown.Real
+    → match (rule_of a) (value_at_size m g) (value_at_size n h) ≡ bytes_eq (real_text g) (real_text h)
 both_real a m n (Held.Text one) (Held.Text other) e f = or_self (bytes_eq one other)
 both_real a m n Held.Unset h e f = cc
 both_real a m n (Held.Digits ds) h e f = cc

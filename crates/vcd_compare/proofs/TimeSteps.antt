@@ -54,7 +54,8 @@ module _ (h : Header) (exceptions : List (List ℕ)) (ns : List Names) (items : 
     puts_now v takes views lines =
         let ps = c.current.pairs.now in
         subst takes lines_now
-        (lines h items (compared_in q h ns) (flag_for q items) views stands.current not_before (with_flags ps h q ns items c.flags.bytes.now stands.pairs stands.flags ps.rows.items (compared_in q h ns) stands.pairs.rows))
+        (lines h items (compared_in q h ns) (flag_for q items) views stands.current not_before
+        (with_flags ps h q ns items c.flags.bytes.now stands.pairs stands.flags ps.rows.items (compared_in q h ns) stands.pairs.rows))
 
     -- and there are some
     pub some_now : IsCounted w c → is_empty (lines_due q h ns items) ≡ false
@@ -64,7 +65,8 @@ module _ (h : Header) (exceptions : List (List ℕ)) (ns : List Names) (items : 
 
 -- ---- the end of the body
 
-module _ (h : Header) (exceptions : List (List ℕ)) (ns : List Names) (items : List BodyItem) (run : Run) (stands : RunStands h exceptions ns items run) (counted : IsCounted run.watched run.comparison) where
+module _ (h : Header) (exceptions : List (List ℕ)) (ns : List Names) (items : List BodyItem) (run : Run)
+    (stands : RunStands h exceptions ns items run) (counted : IsCounted run.watched run.comparison) where
   abbrev its : ModelAsked
   its = model_asked run.comparison.current.asked exceptions
 
@@ -82,11 +84,13 @@ module _ (h : Header) (exceptions : List (List ℕ)) (ns : List Names) (items : 
 
   pub differs_some : is_due_now run.watched run.comparison ≡ true → true ≡ not (is_empty both)
   differs_some due =
-      sym (ap not (more_lines (within_open its h ns items) (within_close its h ns items) (ap is_empty left_due ∙ some_now h exceptions ns items run.comparison run.watched stands.compares due counted)))
+      sym (ap not (more_lines (within_open its h ns items) (within_close its h ns items) (ap is_empty left_due
+      ∙ some_now h exceptions ns items run.comparison run.watched stands.compares due counted)))
 
 -- ---- a timestamp
 
-module _ (h : Header) (exceptions : List (List ℕ)) (ns : List Names) (items : List BodyItem) (t : ℕ) (run : Run) (stands : RunStands h exceptions ns items run) (forth : time_after items ≤ t) where
+module _ (h : Header) (exceptions : List (List ℕ)) (ns : List Names) (items : List BodyItem) (t : ℕ) (run : Run)
+    (stands : RunStands h exceptions ns items run) (forth : time_after items ≤ t) where
   abbrev request : ModelAsked
   request = model_asked run.comparison.current.asked exceptions
 
@@ -100,7 +104,8 @@ module _ (h : Header) (exceptions : List (List ℕ)) (ns : List Names) (items : 
   to = run.comparison.current.asked.to
 
   -- the run ends if and only if the timestamp is after the last time
-  tells_past : (run' : Run) → run'.comparison.current.asked ≡ run.comparison.current.asked → (nat_lt to t ≡ false → Compares h exceptions ns after run'.comparison run'.watched) → run'.differs ≡ not (is_empty open_after)
+  tells_past : (run' : Run) → run'.comparison.current.asked ≡ run.comparison.current.asked
+      → (nat_lt to t ≡ false → Compares h exceptions ns after run'.comparison run'.watched) → run'.differs ≡ not (is_empty open_after)
       → TellsEnd request h exceptions ns after run' (nat_lt to t)
   tells_past run' same compares differs = by_test (nat_lt to t) refl
     where
@@ -171,8 +176,10 @@ module _ (h : Header) (exceptions : List (List ℕ)) (ns : List Names) (items : 
         differs = differs ∙ differs_after;
       }
 
-      pub tells_later : (run' : Run) → run'.comparison.current ≡ run.comparison.current → run'.watched.at ≡ t → length run'.comparison.flags.bytes.now ≡ length run.comparison.flags.bytes.now
-          → ((k : ℕ) → k < length run.comparison.flags.bytes.now → get_or run'.comparison.flags.bytes.now k 0 ≡ settled_as (flag_after request.extent) (get_or run.comparison.flags.bytes.now k 0)) → (request.extent ≡ Extent.First → ⊥) → run'.differs ≡ true
+      pub tells_later : (run' : Run) → run'.comparison.current ≡ run.comparison.current → run'.watched.at ≡ t
+          → length run'.comparison.flags.bytes.now ≡ length run.comparison.flags.bytes.now
+          → ((k : ℕ) → k < length run.comparison.flags.bytes.now → get_or run'.comparison.flags.bytes.now k 0 ≡ settled_as
+          (flag_after request.extent) (get_or run.comparison.flags.bytes.now k 0)) → (request.extent ≡ Extent.First → ⊥) → run'.differs ≡ true
           → TellsEnd request h exceptions ns after run' (nat_lt to t)
       tells_later run' same at many each others differs =
           tells_past run' (ap (λ c. c.asked) same)
@@ -188,12 +195,14 @@ not_one e f = by_tests (f == 1) (is_always e) refl
     by_tests true false e = refl
     by_tests false a e = e
 
-pub counted_none : (e : Extent) (old new : List ℕ) → length new ≡ length old → ((k : ℕ) → k < length old → get_or new k 0 ≡ settled_as (flag_after e) (get_or old k 0)) → 0 ≡ differing new
+pub counted_none : (e : Extent) (old new : List ℕ) → length new ≡ length old
+    → ((k : ℕ) → k < length old → get_or new k 0 ≡ settled_as (flag_after e) (get_or old k 0)) → 0 ≡ differing new
 counted_none e old new many each = sym (none_one new (λ k low. ap (λ f. f == 1) (each k (omega arith)) ∙ not_one e (get_or old k 0)))
 
 -- none of them has to be listed
 pub listed_none : (e : Extent) (old new classes : List ℕ) (listed : ℕ) → ((k : ℕ) → get_or new k 0 ≡ settled_as (flag_after e) (get_or old k 0)) → AreListed new classes listed
-listed_none e old new classes listed each le class one = let no = not_one e (get_or old class 0) in let yes = eq-eqb (get_or new class 0) 1 one in let same = ap (λ f. f == 1) (each class) in absurd (true-false (sym yes ∙ same ∙ no))
+listed_none e old new classes listed each le class one = let no = not_one e (get_or old class 0) in let yes = eq-eqb (get_or new class 0) 1 one in
+    let same = ap (λ f. f == 1) (each class) in absurd (true-false (sym yes ∙ same ∙ no))
   where
     true-false : true ≡ false → ⊥
     true-false e = cc

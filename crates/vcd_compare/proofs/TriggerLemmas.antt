@@ -26,7 +26,8 @@ module _ (items : List BodyItem) (x : BodyItem) (c : IdCode) (gives : gives_to c
   }
 
   -- outside of sections it is
-  pub trigger_now : (o : Option ℕ) → leaves_open items ≡ false → time_after (items ++ x ∷ []) ≡ time_after items → IsLastTrigger items c o → IsLastTrigger (items ++ x ∷ []) c (Some (time_after items))
+  pub trigger_now : (o : Option ℕ) → leaves_open items ≡ false → time_after (items ++ x ∷ []) ≡ time_after items → IsLastTrigger items c o
+      → IsLastTrigger (items ++ x ∷ []) c (Some (time_after items))
   trigger_now o closed same is = record {
     low = omega arith;
     is = λ t le. triggered_more t ∙ rw closed (by_order t (cases_lt (time_after items) t) (rw (← same) le));
@@ -36,7 +37,8 @@ module _ (items : List BodyItem) (x : BodyItem) (c : IdCode) (gives : gives_to c
       before None t low l = refl
       before (Some u) t low l = ne_eqb u t (λ e. omega (arith, low, l, e))
 
-      by_order : (t : ℕ) → (time_after items < t) ⊎ (t ≤ time_after items) → time_after items ≤ t → (is_triggered 1 items c t || (true && 1 * time_after items == t)) ≡ (time_after items == t)
+      by_order : (t : ℕ) → (time_after items < t) ⊎ (t ≤ time_after items) → time_after items ≤ t
+          → (is_triggered 1 items c t || (true && 1 * time_after items == t)) ≡ (time_after items == t)
       by_order t (inl later) le =
           let one : 1 * time_after items ≡ time_after items = omega arith in
           rw (is.is t le ∙ before o t is.low later, one) refl
@@ -46,7 +48,8 @@ module _ (items : List BodyItem) (x : BodyItem) (c : IdCode) (gives : gives_to c
           rw (eq-eqb (1 * time_after items) t one, eq-eqb (time_after items) t same) (or-true (is_triggered 1 items c t))
 
 -- a change gives no other code anything
-pub gives_no_other : (v : HeadView) (h : Header) → IsViewOf v h → (code : ℕ) (a : IdCode) (x : BodyItem) → slice_get h.codes code ≡ Some a → gives_to a x ≡ true → (other : ℕ) (d : IdCode) → slice_get h.codes other ≡ Some d → other ≢ code → gives_to d x ≡ false
+pub gives_no_other : (v : HeadView) (h : Header) → IsViewOf v h → (code : ℕ) (a : IdCode) (x : BodyItem) → slice_get h.codes code ≡ Some a
+    → gives_to a x ≡ true → (other : ℕ) (d : IdCode) → slice_get h.codes other ≡ Some d → other ≢ code → gives_to d x ≡ false
 gives_no_other v h views code a x declared gives other d there apart = by_item x gives
   where
     by_code : (y : IdCode) → same_code a y ≡ true → (b : Bool) → same_code d y ≡ b → b ≡ false
@@ -62,7 +65,9 @@ gives_no_other v h views code a x declared gives other d there apart = by_item x
     by_item BodyItem.End one = refl
 
 -- the last triggers of all events after it
-module _ (v : HeadView) (h : Header) (views : IsViewOf v h) (items : List BodyItem) (x : BodyItem) (code : ℕ) (a : IdCode) (declared : slice_get h.codes code ≡ Some a) (gives : gives_to a x ≡ true) (same : time_after (items ++ x ∷ []) ≡ time_after items) (r : Regs) (known : AreRegsAfter items r) where
+module _ (v : HeadView) (h : Header) (views : IsViewOf v h) (items : List BodyItem) (x : BodyItem) (code : ℕ) (a : IdCode)
+    (declared : slice_get h.codes code ≡ Some a) (gives : gives_to a x ≡ true) (same : time_after (items ++ x ∷ []) ≡ time_after items) (r : Regs)
+    (known : AreRegsAfter items r) where
   last_stays : (d : IdCode) (o : Option ℕ) → gives_to d x ≡ false → IsLastTrigger items d o → IsLastTrigger (items ++ x ∷ []) d o
   last_stays d o none is = record { low = rw same is.low; is = λ t le. triggered_other items x d none t ∙ is.is t (rw (← same) le) }
 
@@ -70,7 +75,8 @@ module _ (v : HeadView) (h : Header) (views : IsViewOf v h) (items : List BodyIt
   HasLast ts index d = (o : Option ℕ) × (slice_get ts index ≡ Some o) × IsLastTrigger (items ++ x ∷ []) d o
 
   -- of the code itself
-  own_trigger : (ts : List (Option ℕ)) (o : Option ℕ) → slice_get ts code ≡ Some o → IsLastTrigger items a o → (b : Bool) → is_none r.section ≡ b → HasLast (cond b (slice_set ts code (Some r.time)) ts) code a
+  own_trigger : (ts : List (Option ℕ)) (o : Option ℕ) → slice_get ts code ≡ Some o → IsLastTrigger items a o → (b : Bool) → is_none r.section ≡ b
+      → HasLast (cond b (slice_set ts code (Some r.time)) ts) code a
   own_trigger ts o at is true closed =
       let now : IsLastTrigger (items ++ x ∷ []) a (Some (time_after items)) = trigger_now items x a gives o (section_open items r known ∙ none_is r.section closed) same is in (
         Some r.time,
@@ -92,7 +98,8 @@ module _ (v : HeadView) (h : Header) (views : IsViewOf v h) (items : List BodyIt
       some_is (Some y) e = refl
 
   -- of another code
-  other_trigger : (ts : List (Option ℕ)) (index : ℕ) (d : IdCode) (o : Option ℕ) → index ≢ code → slice_get ts index ≡ Some o → IsLastTrigger items d o → gives_to d x ≡ false → (b : Bool) → HasLast (cond b (slice_set ts code (Some r.time)) ts) index d
+  other_trigger : (ts : List (Option ℕ)) (index : ℕ) (d : IdCode) (o : Option ℕ) → index ≢ code → slice_get ts index ≡ Some o
+      → IsLastTrigger items d o → gives_to d x ≡ false → (b : Bool) → HasLast (cond b (slice_set ts code (Some r.time)) ts) index d
   other_trigger ts index d o apart at is none true = (o, get_other ts code index (Some r.time) apart ∙ at, last_stays d o none is)
   other_trigger ts index d o apart at is none false = (o, at, last_stays d o none is)
 

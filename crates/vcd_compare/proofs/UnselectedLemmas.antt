@@ -23,11 +23,13 @@ number_on : (texts : List (List ℕ)) (t w : List ℕ) (n : ℕ) → selects_pat
 number_on texts t w zero outer h = absurd (cc)
 number_on texts t w (suc i) outer h = selects-on (get_or texts i []) t w h outer
 
-any_on : (texts : List (List ℕ)) (t w : List ℕ) (numbers : List ℕ) → selects_path t w ≡ true → list_any (selects_number texts t) numbers ≡ true → list_any (selects_number texts w) numbers ≡ true
+any_on : (texts : List (List ℕ)) (t w : List ℕ) (numbers : List ℕ) → selects_path t w ≡ true → list_any (selects_number texts t) numbers ≡ true
+    → list_any (selects_number texts w) numbers ≡ true
 any_on texts t w [] outer any = any
 any_on texts t w (n ∷ numbers) outer any = by_test (selects_number texts t n) refl (any_on texts t w numbers outer)
   where
-    by_test : (b : Bool) → selects_number texts t n ≡ b → (list_any (selects_number texts t) numbers ≡ true → list_any (selects_number texts w) numbers ≡ true) → list_any (selects_number texts w) (n ∷ numbers) ≡ true
+    by_test : (b : Bool) → selects_number texts t n ≡ b → (list_any (selects_number texts t) numbers ≡ true
+        → list_any (selects_number texts w) numbers ≡ true) → list_any (selects_number texts w) (n ∷ numbers) ≡ true
     by_test true e rest = ap (λ b. b || list_any (selects_number texts w) numbers) (number_on texts t w n outer e)
     by_test false e rest = or_right (selects_number texts w n) (list_any (selects_number texts w) numbers) (rest (sym (ap (λ b. b || list_any (selects_number texts t) numbers) e) ∙ any))
 
@@ -49,13 +51,15 @@ marking_first texts from old = record {
 }
 
 module _ (parts : List (List ℕ)) (nodes : List (ℕ × ℕ)) (texts : List (List ℕ)) (are : AreTexts parts nodes texts) (from : ℕ) (within : from ≤ length texts) (old : List Bool) where
-  pub marking_next : (number next : ℕ) (now new : List Bool) → number ≢ 0 → number < length now → new ≡ set now number true → next ≡ min (node_at nodes number).0 (number - 1) → IsMarking texts from number old now → IsMarking texts from next old new
+  pub marking_next : (number next : ℕ) (now new : List Bool) → number ≢ 0 → number < length now → new ≡ set now number true
+      → next ≡ min (node_at nodes number).0 (number - 1) → IsMarking texts from number old now → IsMarking texts from next old new
   marking_next zero next now new some inside is next_is s = absurd (some refl)
   marking_next (suc k) next now new some inside is next_is s = record {
     len = ap length is ∙ length-set now (suc k) true ∙ s.len;
     within = let w = s.within in let n = node_is in let a = around in omega (arith, w, n, a);
     each = λ m t number. ap (λ l. get_or l m false || selects_number texts t next) is ∙ by_number m t number (nat_eq m (suc k)) refl;
-    below = λ m l. ap (λ x. get_or x m false) is ∙ get_or-set_other now (suc k) m true false (let n = node_is in let a = around in omega (arith, l, n, a)) ∙ s.below m (let n = node_is in let a = around in omega (arith, l, n, a));
+    below = λ m l. ap (λ x. get_or x m false) is ∙ get_or-set_other now (suc k) m true false (let n = node_is in let a = around in
+        omega (arith, l, n, a)) ∙ s.below m (let n = node_is in let a = around in omega (arith, l, n, a));
     kept = λ m h. ap (λ x. get_or x m false) is ∙ still m (nat_eq m (suc k)) refl (s.kept m h);
   }
     where
@@ -84,7 +88,8 @@ module _ (parts : List (List ℕ)) (nodes : List (ℕ × ℕ)) (texts : List (Li
       still m true e h = ap (λ x. get_or (set now (suc k) true) x false) (eqb-true m (suc k) e) ∙ get_or-set_same now (suc k) true false inside
       still m false e h = get_or-set_other now (suc k) m true false (eqb-false m (suc k) e) ∙ h
 
-      by_number : (m : ℕ) (t : List ℕ) → IsNumberOf texts m t → (b : Bool) → nat_eq m (suc k) ≡ b → (get_or (set now (suc k) true) m false || selects_number texts t next) ≡ (get_or old m false || selects_number texts t from)
+      by_number : (m : ℕ) (t : List ℕ) → IsNumberOf texts m t → (b : Bool) → nat_eq m (suc k) ≡ b
+          → (get_or (set now (suc k) true) m false || selects_number texts t next) ≡ (get_or old m false || selects_number texts t from)
       by_number m t number true e =
           let same = eqb-true m (suc k) e in
           let n = number.1 in
@@ -107,10 +112,14 @@ module _ (parts : List (List ℕ)) (nodes : List (ℕ × ℕ)) (texts : List (Li
     pub marking_last : ((m : ℕ) (t : List ℕ) → IsNumberOf texts m t → selects_number texts t number ≡ true → get_or now m false ≡ true) → AreMarkedUp texts (before ++ from ∷ []) now
     marking_last all = record {
       len = s.len ∙ marked.len;
-      each = λ m t is. with_test m t is (selects_number texts t number) refl ∙ s.each m t is ∙ ap (λ b. b || selects_number texts t from) (marked.each m t is) ∙ sym (list_any-append (selects_number texts t) before (from ∷ []) ∙ ap (λ b. list_any (selects_number texts t) before || b) (or-false (selects_number texts t from)));
+      each = λ m t is. with_test m t is (selects_number texts t number) refl ∙ s.each m t is
+          ∙ ap (λ b. b || selects_number texts t from) (marked.each m t is)
+          ∙ sym (list_any-append (selects_number texts t) before (from ∷ [])
+          ∙ ap (λ b. list_any (selects_number texts t) before || b) (or-false (selects_number texts t from)));
     }
       where
-        with_test : (m : ℕ) (t : List ℕ) → IsNumberOf texts m t → (b : Bool) → selects_number texts t number ≡ b → get_or now m false ≡ (get_or now m false || selects_number texts t number)
+        with_test : (m : ℕ) (t : List ℕ) → IsNumberOf texts m t → (b : Bool) → selects_number texts t number ≡ b
+            → get_or now m false ≡ (get_or now m false || selects_number texts t number)
         with_test m t is true e = all m t is e ∙ sym (ap (λ b. b || selects_number texts t number) (all m t is e))
         with_test m t is false e = sym (ap (λ b. get_or now m false || b) e ∙ or-false (get_or now m false))
 
@@ -143,7 +152,8 @@ marked_none texts count is = record {
     none (suc n) zero = refl
     none (suc n) (suc m) = none n m
 
-any_variable : (texts : List (List ℕ)) (t : List ℕ) (numbers : List ℕ) (vs : List Named) → AllZip (IsPathOf texts) numbers vs → list_any (selects_number texts t) numbers ≡ list_any (λ v. selects_path v.path t) vs
+any_variable : (texts : List (List ℕ)) (t : List ℕ) (numbers : List ℕ) (vs : List Named) → AllZip (IsPathOf texts) numbers vs
+    → list_any (selects_number texts t) numbers ≡ list_any (λ v. selects_path v.path t) vs
 any_variable texts t [] [] zip = refl
 any_variable texts t [] (v ∷ vs) zip = absurd zip
 any_variable texts t (n ∷ numbers) [] zip = absurd zip
@@ -152,7 +162,8 @@ any_variable texts t (n ∷ numbers) (v ∷ vs) zip =
     let one : selects_number texts t n ≡ selects_path v.path t = ap (selects_number texts t) is.1 ∙ ap (λ x. selects_path x t) (get_or_from_slice_get texts is.0 v.path [] is.2) in
     ap (λ b. b || list_any (selects_number texts t) numbers) one ∙ ap (λ b. selects_path v.path t || b) (any_variable texts t numbers vs zip.1)
 
-pub held_all : (h : Header) (texts : List (List ℕ)) (numbers : List ℕ) (held : List Bool) → AllZip (IsPathOf texts) numbers (all_named h) → AreMarkedUp texts numbers held → AreHeld h texts held
+pub held_all : (h : Header) (texts : List (List ℕ)) (numbers : List ℕ) (held : List Bool) → AllZip (IsPathOf texts) numbers (all_named h)
+    → AreMarkedUp texts numbers held → AreHeld h texts held
 held_all h texts numbers held zip s m t is = s.each m t is ∙ any_variable texts t numbers (all_named h) zip
 
 -- ---- the first that selects nothing
@@ -167,8 +178,10 @@ module _ (h : Header) where
   names_split (m ∷ ns) (suc i) n at = let rest = names_split ns i n at in (rest.0, ap (λ l. m.0 ∷ m.1 ∷ l) rest.1)
 
   module _ (ns : List Names) (i : ℕ) (n : Names) (at : slice_get ns i ≡ Some n) (before : first_unheld h (both_names (take i ns)) ≡ None) where
-    first_here : (es : List (List ℕ)) (rest : List (List ℕ)) → both_names ns ≡ both_names (take i ns) ++ n.0 ∷ n.1 ∷ rest → first_unheld h (both_names ns ++ es) ≡ first_unheld h (n.0 ∷ n.1 ∷ rest ++ es)
-    first_here es rest is = ap (λ l. first_unheld h (l ++ es)) is ∙ ap (first_unheld h) (append_assoc (both_names (take i ns)) (n.0 ∷ n.1 ∷ rest) es) ∙ unheld_more (both_names (take i ns)) (n.0 ∷ n.1 ∷ rest ++ es) before
+    first_here : (es : List (List ℕ)) (rest : List (List ℕ)) → both_names ns ≡ both_names (take i ns) ++ n.0 ∷ n.1 ∷ rest
+        → first_unheld h (both_names ns ++ es) ≡ first_unheld h (n.0 ∷ n.1 ∷ rest ++ es)
+    first_here es rest is = ap (λ l. first_unheld h (l ++ es)) is ∙ ap (first_unheld h) (append_assoc (both_names (take i ns)) (n.0 ∷ n.1 ∷ rest) es)
+        ∙ unheld_more (both_names (take i ns)) (n.0 ∷ n.1 ∷ rest ++ es) before
 
     pub one_unheld : (q : Asked) → selects_some h n.0 ≡ false → IsFaultOf q h ns (PairsFault.One i)
     one_unheld q fails =
@@ -180,12 +193,15 @@ module _ (h : Header) where
         let rest = names_split ns i n at in (
           n.1,
           ap (option_map (λ (x : Names). x.1)) at,
-          first_here q.exceptions rest.0 rest.1 ∙ ap (λ b. cond (not b) (Some n.0) (first_unheld h (n.1 ∷ rest.0 ++ q.exceptions))) holds ∙ ap (λ b. cond (not b) (Some n.1) (first_unheld h (rest.0 ++ q.exceptions))) fails,
+          first_here q.exceptions rest.0 rest.1 ∙ ap (λ b. cond (not b) (Some n.0) (first_unheld h (n.1 ∷ rest.0 ++ q.exceptions))) holds
+              ∙ ap (λ b. cond (not b) (Some n.1) (first_unheld h (rest.0 ++ q.exceptions))) fails,
         )
 
     pub both_held : selects_some h n.0 ≡ true → selects_some h n.1 ≡ true → first_unheld h (both_names (take (suc i) ns)) ≡ None
     both_held holds also =
-        ap (λ l. first_unheld h (both_names l)) (take_next ns i n at) ∙ ap (first_unheld h) (flat_map-append (λ (x : Names). x.0 ∷ x.1 ∷ []) (take i ns) (n ∷ [])) ∙ unheld_more (both_names (take i ns)) (n.0 ∷ n.1 ∷ []) before
+        ap (λ l. first_unheld h (both_names l)) (take_next ns i n at)
+        ∙ ap (first_unheld h) (flat_map-append (λ (x : Names). x.0 ∷ x.1 ∷ []) (take i ns) (n ∷ []))
+        ∙ unheld_more (both_names (take i ns)) (n.0 ∷ n.1 ∷ []) before
         ∙ ap (λ b. cond (not b) (Some n.0) (first_unheld h (n.1 ∷ []))) holds ∙ ap (λ b. cond (not b) (Some n.1) None) also
 
   module _ (es : List (List ℕ)) (i : ℕ) (e : List ℕ) (at : slice_get es i ≡ Some e) (before : first_unheld h (take i es) ≡ None) where
@@ -194,7 +210,9 @@ module _ (h : Header) where
 
     pub exception_unheld : (ns : List Names) → first_unheld h (both_names ns) ≡ None → selects_some h e ≡ false → first_unheld h (both_names ns ++ es) ≡ Some e
     exception_unheld ns none fails =
-        unheld_more (both_names ns) es none ∙ ap (first_unheld h) (sym (take-append-drop i es)) ∙ unheld_more (take i es) (drop i es) before ∙ ap (first_unheld h) (drop-cons es i [] (slice_get_within es i e at)) ∙ ap (λ x. first_unheld h (x ∷ drop (suc i) es)) (get_or_from_slice_get es i e [] at)
+        unheld_more (both_names ns) es none ∙ ap (first_unheld h) (sym (take-append-drop i es)) ∙ unheld_more (take i es) (drop i es) before
+        ∙ ap (first_unheld h) (drop-cons es i [] (slice_get_within es i e at))
+        ∙ ap (λ x. first_unheld h (x ∷ drop (suc i) es)) (get_or_from_slice_get es i e [] at)
         ∙ ap (λ b. cond (not b) (Some e) (first_unheld h (drop (suc i) es))) fails
 
   pub all_held : (ns : List Names) (es : List (List ℕ)) → first_unheld h (both_names ns) ≡ None → first_unheld h es ≡ None → first_unheld h (both_names ns ++ es) ≡ None

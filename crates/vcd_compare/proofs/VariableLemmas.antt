@@ -22,16 +22,20 @@ selected_next ds d = ap (filter_map (λ o. o)) (each_after-append (with_path [])
 abbrev pub named_at : List Declaration → ℕ → Variable → Named
 named_at ds row v = named_after (selected [] (take row ds)) (record { path = path_of (take row ds) (Declaration.Var v); variable = v })
 
-pub named_next : (ds : List Declaration) (row : ℕ) (v : Variable) → slice_get ds row ≡ Some (Declaration.Var v) → named_in (take (suc row) ds) ≡ named_in (take row ds) ++ named_at ds row v ∷ []
+pub named_next : (ds : List Declaration) (row : ℕ) (v : Variable) → slice_get ds row ≡ Some (Declaration.Var v)
+    → named_in (take (suc row) ds) ≡ named_in (take row ds) ++ named_at ds row v ∷ []
 named_next ds row v at =
     let s : Selected = record { path = path_of (take row ds) (Declaration.Var v); variable = v } in
-    ap named_in (take_next ds row (Declaration.Var v) at) ∙ ap (each named_after) (selected_next (take row ds) (Declaration.Var v)) ∙ each_after-append named_after [] (selected [] (take row ds)) (s ∷ [])
+    ap named_in (take_next ds row (Declaration.Var v) at) ∙ ap (each named_after) (selected_next (take row ds) (Declaration.Var v))
+    ∙ each_after-append named_after [] (selected [] (take row ds)) (s ∷ [])
 
-pub named_same : (ds : List Declaration) (row : ℕ) (d : Declaration) → slice_get ds row ≡ Some d → ((v : Variable) → d ≢ Declaration.Var v) → named_in (take (suc row) ds) ≡ named_in (take row ds)
+pub named_same : (ds : List Declaration) (row : ℕ) (d : Declaration) → slice_get ds row ≡ Some d → ((v : Variable) → d ≢ Declaration.Var v)
+    → named_in (take (suc row) ds) ≡ named_in (take row ds)
 named_same ds row d at differs =
     ap named_in (take_next ds row d at) ∙ ap (each named_after) (selected_next (take row ds) d ∙ none d differs ∙ append-nil (selected [] (take row ds)))
   where
-    none : (d : Declaration) → ((v : Variable) → d ≢ Declaration.Var v) → selected [] (take row ds) ++ filter_map (λ o. o) (with_path [] (take row ds) d ∷ []) ≡ selected [] (take row ds) ++ []
+    none : (d : Declaration) → ((v : Variable) → d ≢ Declaration.Var v)
+        → selected [] (take row ds) ++ filter_map (λ o. o) (with_path [] (take row ds) d ∷ []) ≡ selected [] (take row ds) ++ []
     none (Declaration.Scope type name) differs = refl
     none Declaration.Up differs = refl
     none (Declaration.Var v) differs = absurd (differs v refl)
@@ -71,7 +75,9 @@ same_number texts m n t u apart a b = by_test (bytes_eq t u) refl
         let yes = (bytes_eq-Decides t u).1 same in
         absurd (cc))
 
-count_same : (list : List (List ℕ × List ℕ)) (n : ℕ) (x : List ℕ × List ℕ) (keys : List (ℕ × ℕ)) (vs : List Named) → ((i j : ℕ) (z : List ℕ × List ℕ) → slice_get list i ≡ Some z → slice_get list j ≡ Some z → i ≡ j) → slice_get list n ≡ Some x → AllZip (IsKeyOf list) keys vs
+count_same : (list : List (List ℕ × List ℕ)) (n : ℕ) (x : List ℕ × List ℕ) (keys : List (ℕ × ℕ)) (vs : List Named)
+    → ((i j : ℕ) (z : List ℕ × List ℕ) → slice_get list i ≡ Some z → slice_get list j ≡ Some z → i ≡ j) → slice_get list n ≡ Some x
+    → AllZip (IsKeyOf list) keys vs
     → count_by (λ (k : ℕ × ℕ). k.0 == n) keys ≡ count_by (has_slice x) vs
 count_same list n x [] [] apart is all = refl
 count_same list n x [] (v ∷ vs) apart is all = absurd all
@@ -106,7 +112,9 @@ new_key counts keys n are =
     let same = ap (λ m. count_by (λ (j : ℕ × ℕ). j.0 == m) keys) path in
     omega (arith, below, all, nth, same))
 
-pub counted_more : (counts more : List ℕ) (keys : List (ℕ × ℕ)) (n : ℕ) → AreCounted counts keys → ((m : ℕ) → get_or more m 0 ≡ cond (m == n) (suc (get_or counts n 0)) (get_or counts m 0)) → AreCounted more (keys ++ (n, get_or counts n 0) ∷ [])
+pub counted_more : (counts more : List ℕ) (keys : List (ℕ × ℕ)) (n : ℕ) → AreCounted counts keys
+    → ((m : ℕ) → get_or more m 0 ≡ cond (m == n) (suc (get_or counts n 0)) (get_or counts m 0))
+    → AreCounted more (keys ++ (n, get_or counts n 0) ∷ [])
 counted_more counts more keys n are now = record {
   counted = λ m. by_path m (m == n) refl;
   below = λ i k at. elim (at_most keys (n, get_or counts n 0) k i at) [
@@ -179,16 +187,19 @@ users_more vs x t u are = by_path (bytes_eq x.path t) refl
     by_path true e = subst (λ c. AreUsers (vs ++ x ∷ []) t (cond c (used_by (length vs) u) u)) (sym e) (one e u are)
     by_path false e = subst (λ c. AreUsers (vs ++ x ∷ []) t (cond c (used_by (length vs) u) u)) (sym e) (same e u are)
 
-has_users_more : (texts : List (List ℕ)) (vs : List Named) (x : Named) (n : ℕ) (users : List Users) → AreApart texts → IsNumberOf texts n x.path → n < length users → HasUsers texts vs users
+has_users_more : (texts : List (List ℕ)) (vs : List Named) (x : Named) (n : ℕ) (users : List Users) → AreApart texts → IsNumberOf texts n x.path
+    → n < length users → HasUsers texts vs users
     → HasUsers texts (vs ++ x ∷ []) (set users n (used_by (length vs) (get_or users n Users.None)))
 has_users_more texts vs x n users apart own within has m t number =
     subst (AreUsers (vs ++ x ∷ []) t) is (users_more vs x t (get_or users m Users.None) (has m t number))
   where
-    by_number : (b : Bool) → (n == m) ≡ b → cond b (used_by (length vs) (get_or users m Users.None)) (get_or users m Users.None) ≡ get_or (set users n (used_by (length vs) (get_or users n Users.None))) m Users.None
+    by_number : (b : Bool) → (n == m) ≡ b → cond b (used_by (length vs) (get_or users m Users.None)) (get_or users m Users.None) ≡ get_or
+        (set users n (used_by (length vs) (get_or users n Users.None))) m Users.None
     by_number true e =
         let same = eqb-true n m e in
         ap (λ j. used_by (length vs) (get_or users j Users.None)) (sym same)
-        ∙ sym (ap (λ j. get_or (set users n (used_by (length vs) (get_or users n Users.None))) j Users.None) (sym same) ∙ get_or-set_same users n (used_by (length vs) (get_or users n Users.None)) Users.None within)
+        ∙ sym (ap (λ j. get_or (set users n (used_by (length vs) (get_or users n Users.None))) j Users.None) (sym same)
+        ∙ get_or-set_same users n (used_by (length vs) (get_or users n Users.None)) Users.None within)
     by_number false e = sym (get_or-set_other users n m (used_by (length vs) (get_or users n Users.None)) Users.None (λ f. eqb-false n m e (sym f)))
 
     is : cond (bytes_eq x.path t) (used_by (length vs) (get_or users m Users.None)) (get_or users m Users.None) ≡ get_or (set users n (used_by (length vs) (get_or users n Users.None))) m Users.None
@@ -196,7 +207,9 @@ has_users_more texts vs x n users apart own within has m t number =
 
 -- ---- a row more
 
-pub some_same : (h : Header) (texts : List (List ℕ)) (row : ℕ) (vs : Variables) (counts : List ℕ) (d : Declaration) → slice_get h.declarations row ≡ Some d → ((v : Variable) → d ≢ Declaration.Var v) → HasSome h texts row vs counts → HasSome h texts (suc row) vs counts
+pub some_same : (h : Header) (texts : List (List ℕ)) (row : ℕ) (vs : Variables) (counts : List ℕ) (d : Declaration)
+    → slice_get h.declarations row ≡ Some d → ((v : Variable) → d ≢ Declaration.Var v) → HasSome h texts row vs counts
+    → HasSome h texts (suc row) vs counts
 some_same h texts row vs counts d at differs s =
     let same = sym (named_same h.declarations row d at differs) in record {
       rows = subst (AllZip (IsNamedAt h) vs.rows.items) same s.rows;
@@ -209,8 +222,10 @@ some_same h texts row vs counts d at differs s =
       room = s.room;
     }
 
-pub some_more : (h : Header) (texts : List (List ℕ)) (row n : ℕ) (old new : Variables) (counts more range : List ℕ) (v : Variable) → AreApart texts → slice_get h.declarations row ≡ Some (Declaration.Var v)
-    → IsNumberOf texts n (path_of (take row h.declarations) (Declaration.Var v)) → range ≡ range_of v → AddsVariable old new counts more row n range → HasSome h texts row old counts → HasSome h texts (suc row) new more
+pub some_more : (h : Header) (texts : List (List ℕ)) (row n : ℕ) (old new : Variables) (counts more range : List ℕ) (v : Variable) → AreApart texts
+    → slice_get h.declarations row ≡ Some (Declaration.Var v)
+    → IsNumberOf texts n (path_of (take row h.declarations) (Declaration.Var v)) → range ≡ range_of v → AddsVariable old new counts more row n range
+    → HasSome h texts row old counts → HasSome h texts (suc row) new more
 some_more h texts row n old new counts more range v apart at number range_is a s =
     let path = path_of (take row h.declarations) (Declaration.Var v) in
     let before = named_in (take row h.declarations) in
@@ -219,12 +234,14 @@ some_more h texts row n old new counts more range v apart at number range_is a s
     let enters = a.slices texts s.list path apart s.slices number in
     let list = s.list ++ enters.0 in
     let there : slice_get list a.slice ≡ Some (slice_of named) = enters.2 ∙ ap (λ r. Some (path, r)) range_is in
-    let grown : AllZip (IsKeyOf list) old.keys.keys before = zip_weaker (IsKeyOf s.list) (IsKeyOf list) old.keys.keys before (λ k w is. record { slice = slice_get-front s.list enters.0 k.0 (slice_of w) is.slice; nth = is.nth }) s.keys in
+    let grown : AllZip (IsKeyOf list) old.keys.keys before = zip_weaker (IsKeyOf s.list) (IsKeyOf list) old.keys.keys before
+    (λ k w is. record { slice = slice_get-front s.list enters.0 k.0 (slice_of w) is.slice; nth = is.nth }) s.keys in
     let key : ℕ × ℕ = (a.slice, get_or counts a.slice 0) in
     let keys : new.keys.keys ≡ old.keys.keys ++ key ∷ [] = a.keys ∙ ap (λ b. if b then old.keys.keys else old.keys.keys ++ key ∷ []) (new_key counts old.keys.keys a.slice s.counted) in
     let next = sym (named_next h.declarations row v at) in
     let nth : get_or counts a.slice 0 ≡ named.nth =
-    s.counted.counted a.slice ∙ count_same list a.slice (slice_of named) old.keys.keys before enters.1.apart there grown ∙ sym (count_named (record { path = path; variable = v }) [] (selected [] (take row h.declarations))) in
+    s.counted.counted a.slice ∙ count_same list a.slice (slice_of named) old.keys.keys before enters.1.apart there grown
+    ∙ sym (count_named (record { path = path; variable = v }) [] (selected [] (take row h.declarations))) in
     let many = same_len (IsNamedAt h) old.rows.items before s.rows in
     record {
       rows = subst (AllZip (IsNamedAt h) new.rows.items) next (subst (λ rs. AllZip (IsNamedAt h) rs (before ++ named ∷ [])) (sym a.rows)
@@ -235,14 +252,17 @@ some_more h texts row n old new counts more range v apart at number range_is a s
       slices = enters.1;
       keys = subst (AllZip (IsKeyOf list) new.keys.keys) next (subst (λ ks. AllZip (IsKeyOf list) ks (before ++ named ∷ [])) (sym keys)
           (all_zip_push (IsKeyOf list) old.keys.keys before key named grown (record { slice = there; nth = nth })));
-      users = subst (λ vs. HasUsers texts vs new.users.items) next (subst (HasUsers texts (before ++ named ∷ [])) (sym (a.users ∙ ap (λ m. set old.users.items n (used_by m (get_or old.users.items n Users.None))) many))
+      users = subst (λ vs. HasUsers texts vs new.users.items) next
+          (subst (HasUsers texts (before ++ named ∷ [])) (sym (a.users
+          ∙ ap (λ m. set old.users.items n (used_by m (get_or old.users.items n Users.None))) many))
           (has_users_more texts before named n old.users.items apart number within s.users));
       counted = subst (AreCounted more) (sym keys) (counted_more counts more old.keys.keys a.slice s.counted a.counts);
       room = ap length a.users ∙ length-set old.users.items n (used_by (length old.rows.items) (get_or old.users.items n Users.None)) ∙ s.room;
     }
 
 -- before the first row
-pub some_none : (h : Header) (texts : List (List ℕ)) (vs : Variables) (counts : List ℕ) → vs.rows.items ≡ [] → vs.paths.items ≡ [] → HasSlices texts vs.slices [] → vs.keys.keys ≡ [] → counts ≡ [] → length vs.users.items ≡ suc (length texts)
+pub some_none : (h : Header) (texts : List (List ℕ)) (vs : Variables) (counts : List ℕ) → vs.rows.items ≡ [] → vs.paths.items ≡ []
+    → HasSlices texts vs.slices [] → vs.keys.keys ≡ [] → counts ≡ [] → length vs.users.items ≡ suc (length texts)
     → ((n : ℕ) → n < length vs.users.items → get_or vs.users.items n Users.None ≡ Users.None) → HasSome h texts 0 vs counts
 unfolding selected
 some_none h texts vs counts rows paths slices keys no_counts room zeros = record {
@@ -260,12 +280,14 @@ some_none h texts vs counts rows paths slices keys no_counts room zeros = record
 }
 
 -- which rows declare no variable, and which do
-pub not_variable : (text : List ℕ) (cs : List IdCode) (e : List Declaration) (r : Row) (d : Declaration) → IsRow text cs e r d → (r.kind ≡ kind.Var → ⊥) → (v : Variable) → d ≢ Declaration.Var v
+pub not_variable : (text : List ℕ) (cs : List IdCode) (e : List Declaration) (r : Row) (d : Declaration) → IsRow text cs e r d
+    → (r.kind ≡ kind.Var → ⊥) → (v : Variable) → d ≢ Declaration.Var v
 not_variable text cs e r (Declaration.Scope type name) row n v same = cc
 not_variable text cs e r Declaration.Up row n v same = cc
 not_variable text cs e r (Declaration.Var w) row n v same = n row.own.0
 
-pub is_variable : (text : List ℕ) (cs : List IdCode) (e : List Declaration) (r : Row) (d : Declaration) → IsRow text cs e r d → r.kind ≡ kind.Var → (v : Variable) × (d ≡ Declaration.Var v)
+pub is_variable : (text : List ℕ) (cs : List IdCode) (e : List Declaration) (r : Row) (d : Declaration) → IsRow text cs e r d → r.kind ≡ kind.Var
+    → (v : Variable) × (d ≡ Declaration.Var v)
 is_variable text cs e r (Declaration.Scope type name) row k = absurd (let own = row.own.0 in cc)
 is_variable text cs e r Declaration.Up row k = absurd (let own = row.own.0 in cc)
 is_variable text cs e r (Declaration.Var v) row k = (v, refl)

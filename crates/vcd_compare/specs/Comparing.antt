@@ -139,7 +139,9 @@ stops_before w c time = nat_lt c.current.asked.to time || (nat_lt 0 w.differing 
 
 -- with one more item nothing is due, and the comparison stands after it
 abbrev pub ComparesOn : HeadView → List ℕ → Item → Regs → (c c' : Comparison) → (w w' : Watched) → Type 0
-ComparesOn v text item r c c' w w' = (h : Header) (exceptions : List (List ℕ)) (ns : List Names) (items : List BodyItem) (x : BodyItem) → IsViewOf v h → IsItem h.codes text item x → AreRegsAfter items r → AreRegsAfter (items ++ x ∷ []) (regs_after r item) → Compares h exceptions ns items c w
+ComparesOn v text item r c c' w w' = (h : Header) (exceptions : List (List ℕ)) (ns : List Names) (items : List BodyItem) (x : BodyItem)
+    → IsViewOf v h → IsItem h.codes text item x → AreRegsAfter items r → AreRegsAfter (items ++ x ∷ []) (regs_after r item)
+    → Compares h exceptions ns items c w
     → Compares h exceptions ns (items ++ x ∷ []) c' w'
     × (within_open (model_asked c.current.asked exceptions) h ns (items ++ x ∷ []) ≡ within_open (model_asked c.current.asked exceptions) h ns items)
 
@@ -155,7 +157,8 @@ pub record ComparesOne (v : HeadView) (s t : Stage Watched Comparison) (result :
 
 -- an item that is no timestamp gave the code at an index a new value, and these are the flags before
 -- it
-pub record GivesNew (v : HeadView) (c : Current) (code at : ℕ) (old : List ℕ) (h : Header) (exceptions : List (List ℕ)) (ns : List Names) (items : List BodyItem) (x : BodyItem) (a : IdCode) : Type 0 where
+pub record GivesNew (v : HeadView) (c : Current) (code at : ℕ) (old : List ℕ) (h : Header) (exceptions : List (List ℕ)) (ns : List Names)
+    (items : List BodyItem) (x : BodyItem) (a : IdCode) : Type 0 where
   pub views : IsViewOf v h
   pub there : slice_get h.codes code ≡ Some a
   pub gives : gives_to a x ≡ true
@@ -167,5 +170,6 @@ pub record GivesNew (v : HeadView) (c : Current) (code at : ℕ) (old : List ℕ
 
 -- the flags are those after it
 abbrev pub MarksChange : HeadView → Current → (code at : ℕ) → (old new : List ℕ) → Type 0
-MarksChange v c code at old new = (h : Header) (exceptions : List (List ℕ)) (ns : List Names) (items : List BodyItem) (x : BodyItem) (a : IdCode) → GivesNew v c code at old h exceptions ns items x a
+MarksChange v c code at old new = (h : Header) (exceptions : List (List ℕ)) (ns : List Names) (items : List BodyItem) (x : BodyItem) (a : IdCode)
+    → GivesNew v c code at old h exceptions ns items x a
     → AreFlags c.pairs.now h (model_asked c.asked exceptions) (items ++ x ∷ []) new

@@ -19,7 +19,8 @@ use Rattle.vcd_compare.specs.declared.pairs.UnlikeRows.{UnlikeRows}
 -- it holds of the code at an index, if the current states are those after some items, and the time
 -- is not before the last timestamp
 abbrev pub AtCode : HeadView → Current → (code time : ℕ) → (List BodyItem → IdCode → Type 0) → Type 0
-AtCode v current code time holds = (h : Header) (items : List BodyItem) (c : IdCode) → IsViewOf v h → AreCurrent current h items → slice_get h.codes code ≡ Some c → time_after items ≤ time → holds items c
+AtCode v current code time holds = (h : Header) (items : List BodyItem) (c : IdCode) → IsViewOf v h → AreCurrent current h items
+    → slice_get h.codes code ≡ Some c → time_after items ≤ time → holds items c
 
 -- the two indexes are those of the codes of the pair
 abbrev pub HasCodes : Header → ℕ × ℕ → Pair → Type 0
@@ -31,11 +32,13 @@ states_of items p t = words (shown (state_at 1 items (code_of p.one) t) ∷ show
 
 -- it holds for the pair of this class
 abbrev pub AtClass : HeadView → Current → (class time : ℕ) → (List BodyItem → Pair → Type 0) → Type 0
-AtClass v current class time holds = (h : Header) (items : List BodyItem) (p : Pair) → IsViewOf v h → AreCurrent current h items → IsClassOf h current.pairs.now.ends.items class p → time_after items ≤ time → holds items p
+AtClass v current class time holds = (h : Header) (items : List BodyItem) (p : Pair) → IsViewOf v h → AreCurrent current h items
+    → IsClassOf h current.pairs.now.ends.items class p → time_after items ≤ time → holds items p
 
 -- it holds for the pair of this row
 abbrev pub AtPair : HeadView → Current → PairRow → ℕ → (List BodyItem → Pair → Type 0) → Type 0
-AtPair v current row time holds = (h : Header) (items : List BodyItem) (p : Pair) → IsViewOf v h → AreCurrent current h items → IsPairAt h current.pairs.now.ends.items row p → time_after items ≤ time → holds items p
+AtPair v current row time holds = (h : Header) (items : List BodyItem) (p : Pair) → IsViewOf v h → AreCurrent current h items
+    → IsPairAt h current.pairs.now.ends.items row p → time_after items ≤ time → holds items p
 
 -- it holds for the variable of this row
 abbrev pub AtAlone : HeadView → ℕ → (Named → Type 0) → Type 0

@@ -28,8 +28,11 @@ ways_within q h ns name = record { early = answer_in q h ns; well = λ items lin
 -- What a run over a body leaves belongs to the outcome of its input, if these first tokens are its
 -- header.
 abbrev pub BodiesGiveOutcomes : Type 0
-BodiesGiveOutcomes = (q : ModelAsked) (ns : List Names) (name : List ℕ) (i : Input) (front : List Token) (placed : List (Placed HeaderPhrase)) (limit read : ℕ) (out out' : Device) (result : Result Answer Stop)
-    → IsWhole (header_grammar declarations_allowed) front placed → BodyGives (Answers result) (plan_within q (header_of (phrases_of placed)) ns) (header_of (phrases_of placed)) i front limit read out out' (done_of result)
+BodiesGiveOutcomes = (q : ModelAsked) (ns : List Names) (name : List ℕ) (i : Input) (front : List Token) (placed : List (Placed HeaderPhrase))
+    (limit read : ℕ) (out out' : Device) (result : Result Answer Stop)
+    → IsWhole (header_grammar declarations_allowed) front placed
+    → BodyGives (Answers result) (plan_within q (header_of (phrases_of placed)) ns) (header_of (phrases_of placed)) i front limit read out out'
+    (done_of result)
     → Belongs (Answers result) (ways_within q (header_of (phrases_of placed)) ns name) (within q limit ns name (left_of i read result)) out out' (done_of result)
 
 -- The outcome of a run that did not fail, by what it wrote, whether that is anything, and how many

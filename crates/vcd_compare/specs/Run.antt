@@ -48,7 +48,8 @@ PutsDue v run out out' result = (h : Header) (exceptions : List (List ℕ)) (ns 
 -- if some line was due, the flags are settled; otherwise nothing changes
 abbrev pub LeavesDue : Bool → Run → Run → Type 0
 LeavesDue false run run' = run' ≡ run
-LeavesDue true run run' = (count : ℕ) × Settles (flag_after (model_extent run.comparison.current.asked.extent)) run.comparison run'.comparison count × (run'.watched ≡ run.watched) × (run'.differs ≡ run.differs)
+LeavesDue true run run' = (count : ℕ) × Settles (flag_after (model_extent run.comparison.current.asked.extent)) run.comparison run'.comparison count
+    × (run'.watched ≡ run.watched) × (run'.differs ≡ run.differs)
 
 -- the lines that a timestamp of this time settles
 abbrev pub settled_by : ModelAsked → Header → List Names → List BodyItem → ℕ → List ℕ
@@ -63,7 +64,8 @@ pub record TellsEnd (q : ModelAsked) (h : Header) (exceptions : List (List ℕ))
 -- a timestamp was handled: the lines that it settles were written, and the run goes on after it, or
 -- has ended
 abbrev pub TakesTime : HeadView → ℕ → Run → Run → Device → Device → Result Bool WriteFailed → Type 0
-TakesTime v t run run' out out' result = (h : Header) (exceptions : List (List ℕ)) (ns : List Names) (items : List BodyItem) → IsViewOf v h → time_after items ≤ t → RunStands h exceptions ns items run
+TakesTime v t run run' out out' result = (h : Header) (exceptions : List (List ℕ)) (ns : List Names) (items : List BodyItem) → IsViewOf v h
+    → time_after items ≤ t → RunStands h exceptions ns items run
     → Takes out out' (settled_by (model_asked run.comparison.current.asked exceptions) h ns items t) result
     × IfOk result (TellsEnd (model_asked run.comparison.current.asked exceptions) h exceptions ns (items ++ BodyItem.Time t ∷ []) run')
 

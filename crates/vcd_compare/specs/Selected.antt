@@ -17,7 +17,8 @@ is_one_of names t = list_any (λ e. bytes_eq t e) names
 -- m is the number of the longest of the names that selects the path, or 0 if none does
 abbrev pub IsNearest : (texts names : List (List ℕ)) → List ℕ → ℕ → Type 0
 IsNearest texts names t zero = (w : List ℕ) → is_one_of names w ≡ true → selects_path t w ≡ false
-IsNearest texts names t (suc j) = (u : List ℕ) × (slice_get texts j ≡ Some u) × (is_one_of names u ≡ true) × (selects_path t u ≡ true) × ((w : List ℕ) → is_one_of names w ≡ true → selects_path t w ≡ selects_path u w)
+IsNearest texts names t (suc j) = (u : List ℕ) × (slice_get texts j ≡ Some u) × (is_one_of names u ≡ true) × (selects_path t u ≡ true)
+    × ((w : List ℕ) → is_one_of names w ≡ true → selects_path t w ≡ selects_path u w)
 
 -- the numbers of the names that are nearest to the first `count` paths, by number
 pub record AreNearest (texts names : List (List ℕ)) (count : ℕ) (nearest : List ℕ) : Type 0 where

@@ -116,7 +116,8 @@ same_key a b = nat_eq a.0 b.0 && nat_eq a.1 b.1
 -- one variable more has the path and the range, and the key goes behind the others unless it is there
 pub record AddsVariable (old new : Variables) (old_counts new_counts : List ℕ) (row path : ℕ) (range : List ℕ) : Type 0 where
   pub slice : ℕ
-  pub slices : (texts : List (List ℕ)) (list : List (List ℕ × List ℕ)) (t : List ℕ) → AreApart texts → HasSlices texts old.slices list → IsNumberOf texts path t → EntersSlice texts list new.slices (t, range) slice
+  pub slices : (texts : List (List ℕ)) (list : List (List ℕ × List ℕ)) (t : List ℕ) → AreApart texts → HasSlices texts old.slices list
+      → IsNumberOf texts path t → EntersSlice texts list new.slices (t, range) slice
   pub rows : new.rows.items ≡ old.rows.items ++ row ∷ []
   pub paths : new.paths.items ≡ old.paths.items ++ path ∷ []
   pub keys : let key : ℕ × ℕ = (slice, get_or old_counts slice 0) in new.keys.keys ≡ (if list_any (same_key key) old.keys.keys then old.keys.keys else old.keys.keys ++ key ∷ [])

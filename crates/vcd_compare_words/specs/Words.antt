@@ -16,7 +16,8 @@ lines_app app = with_rule (with_rule app (flag_rule (codes "first"))) (flag_rule
 -- `--from N` and `--to N`, without them from time 0 to the greatest time, `--x-of-a` and `--x-of-b`
 abbrev pub values_app : App → App
 values_app app =
-    with_rule (with_rule (with_rule (with_rule app (time_or_rule (codes "from") (codes "0"))) (time_or_rule (codes "to") (codes "18446744073709551615"))) (flag_rule (codes "x-of-a"))) (flag_rule (codes "x-of-b"))
+    with_rule (with_rule (with_rule (with_rule app (time_or_rule (codes "from") (codes "0")))
+    (time_or_rule (codes "to") (codes "18446744073709551615"))) (flag_rule (codes "x-of-a"))) (flag_rule (codes "x-of-b"))
 
 -- `--except NAME`, any number of times
 abbrev pub except_rule : Rule

@@ -15,7 +15,8 @@ goes_behind Request.Merge h can = ap is_some can.matched
 -- ---- the outcome of a body
 
 -- each name of the request selects something
-pub over_matched : (t : Request) (name : List ℕ) (o : Opened) → reads_body t ≡ true → first_unmatched (names_of t) o.header.declarations ≡ None → over_dump t name o ≡ over_body t o.header (items_in o) name (fault_in o)
+pub over_matched : (t : Request) (name : List ℕ) (o : Opened) → reads_body t ≡ true → first_unmatched (names_of t) o.header.declarations ≡ None
+    → over_dump t name o ≡ over_body t o.header (items_in o) name (fault_in o)
 unfolding over_dump
 over_matched Request.Check name o b e = refl
 over_matched Request.Listing name o b e = cc
@@ -26,7 +27,8 @@ over_matched (Request.Edges names) name o b e = rw (e, over_dump) refl
 over_matched Request.Merge name o b e = refl
 
 -- or one of them does not
-pub over_unmatched : (t : Request) (name : List ℕ) (o : Opened) (place : ℕ) → first_unmatched (names_of t) o.header.declarations ≡ Some place → over_dump t name o ≡ unmatched_outcome (name_at (names_of t) place)
+pub over_unmatched : (t : Request) (name : List ℕ) (o : Opened) (place : ℕ) → first_unmatched (names_of t) o.header.declarations ≡ Some place
+    → over_dump t name o ≡ unmatched_outcome (name_at (names_of t) place)
 unfolding over_dump
 over_unmatched Request.Check name o place e = cc
 over_unmatched Request.Listing name o place e = cc

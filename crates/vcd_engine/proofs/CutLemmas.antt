@@ -52,7 +52,8 @@ no_entries a p t s = kept_same (from_on a) p (BodyItem.Time t) (mark_kept_at a p
 
 module _ {E : Type 0} (h : Header) (a b : ℕ) (p : List BodyItem) (on : ends_cut b p ≡ false) (t : ℕ) (out out' : Device) (r : Result Bool E) where
   -- the start section was not wholly written
-  pub begun_some : IsErr r → is_started a p ≡ false → a ≤ t → AppendsSome out.held out'.held (start_section h a p) → TakesDue out out' (cut_open h a b p) (cut_open h a b (p ++ BodyItem.Time t ∷ [])) r
+  pub begun_some : IsErr r → is_started a p ≡ false → a ≤ t → AppendsSome out.held out'.held (start_section h a p)
+      → TakesDue out out' (cut_open h a b p) (cut_open h a b (p ++ BodyItem.Time t ∷ [])) r
   begun_some failed s le some = by_mark (is_mark_above b (BodyItem.Time t)) refl
     where
       by_mark : (m : Bool) → is_mark_above b (BodyItem.Time t) ≡ m → TakesDue out out' (cut_open h a b p) (cut_open h a b (p ++ BodyItem.Time t ∷ [])) r
@@ -64,11 +65,18 @@ module _ {E : Type 0} (h : Header) (a b : ℕ) (p : List BodyItem) (on : ends_cu
   begun_on s le low all = (start_section h a p, due_section h a b p on t (within_is b t low) s le, all)
 
   -- it was written, and the cut ends
-  pub begun_ended : (mid : Device) → is_started a p ≡ false → a ≤ t → b < t → Appends out.held mid.held (start_section h a p) → Takes mid out' (closing (times_with (a ∷ []) []) (Some b)) r → TakesDue out out' (cut_open h a b p) (cut_open h a b (p ++ BodyItem.Time t ∷ [])) r
-  begun_ended mid s le high all last = (start_section h a p ++ time_unless (a ∷ []) b, due_both h a b p on t (above_is b t high) s le, takes-twice out.held mid.held out'.held (start_section h a p) (time_unless (a ∷ []) b) r all last)
+  pub begun_ended : (mid : Device) → is_started a p ≡ false → a ≤ t → b < t → Appends out.held mid.held (start_section h a p)
+      → Takes mid out' (closing (times_with (a ∷ []) []) (Some b)) r
+      → TakesDue out out' (cut_open h a b p) (cut_open h a b (p ++ BodyItem.Time t ∷ [])) r
+  begun_ended mid s le high all last = (
+    start_section h a p ++ time_unless (a ∷ []) b,
+    due_both h a b p on t (above_is b t high) s le,
+    takes-twice out.held mid.held out'.held (start_section h a p) (time_unless (a ∷ []) b) r all last,
+  )
 
   -- it was there already, and the cut ends
-  pub ended : is_started a p ≡ true → b < t → Takes out out' (closing (times_with (a ∷ []) (cut_entries a p)) (Some b)) r → TakesDue out out' (cut_open h a b p) (cut_open h a b (p ++ BodyItem.Time t ∷ [])) r
+  pub ended : is_started a p ≡ true → b < t → Takes out out' (closing (times_with (a ∷ []) (cut_entries a p)) (Some b)) r
+      → TakesDue out out' (cut_open h a b p) (cut_open h a b (p ++ BodyItem.Time t ∷ [])) r
   ended s high last = (time_unless (a ∷ times_of (cut_entries a p)) b, due_last h a b p on t (above_is b t high) s, last)
 
 -- it is there with the timestamp or not, as before
@@ -77,7 +85,8 @@ same_start a p t (inl s) = started_more a p (BodyItem.Time t ∷ []) s ∙ sym s
 same_start a p t (inr low) = unstarted_by a p t low
 
 -- nothing is due, and the cut continues
-pub mark_passes : (h : Header) (a b : ℕ) (p : List BodyItem) (t : ℕ) → ends_cut b p ≡ false → t ≤ b → (is_started a p ≡ true) ⊎ (t < a) → cut_open h a b (p ++ BodyItem.Time t ∷ []) ≡ cut_open h a b p ++ []
+pub mark_passes : (h : Header) (a b : ℕ) (p : List BodyItem) (t : ℕ) → ends_cut b p ≡ false → t ≤ b → (is_started a p ≡ true) ⊎ (t < a)
+    → cut_open h a b (p ++ BodyItem.Time t ∷ []) ≡ cut_open h a b p ++ []
 mark_passes h a b p t on low stands = due_none h a b p on (BodyItem.Time t) (within_is b t low) (mark_kept h a b p on t) (same_start a p t stands)
 
 -- ---- what is kept after a timestamp
@@ -92,10 +101,12 @@ module _ (h : Header) (items : List BodyItem) (m : Cut) (is : AreCut m h items) 
     on = still;
     started_is = is.started_is ∙ sym (same_start m.from items t stands);
     held = λ none. held_still m.table h items (BodyItem.Time t) (λ c. refl) (is.held none);
-    written = λ has. subst (λ (es : List Entry). HasWritten (m.from ∷ []) es m.text) (sym (kept_same (from_on m.from) items (BodyItem.Time t) (mark_kept h m.from m.to items is.on t))) (is.written has);
+    written = λ has. subst (λ (es : List Entry). HasWritten (m.from ∷ []) es m.text)
+        (sym (kept_same (from_on m.from) items (BodyItem.Time t) (mark_kept h m.from m.to items is.on t))) (is.written has);
   }
 
-  pub goes_begun : (m' : Cut) → m'.from ≡ m.from → m'.to ≡ m.to → m'.started ≡ true → HasWritten (m.from ∷ []) [] m'.text → is_started m.from items ≡ false → m.from ≤ t → AreCut m' h (items ++ BodyItem.Time t ∷ [])
+  pub goes_begun : (m' : Cut) → m'.from ≡ m.from → m'.to ≡ m.to → m'.started ≡ true → HasWritten (m.from ∷ []) [] m'.text
+      → is_started m.from items ≡ false → m.from ≤ t → AreCut m' h (items ++ BodyItem.Time t ∷ [])
   goes_begun m' same_from same_to begun text none le = record {
     ordered = rw (same_from, same_to) is.ordered;
     on = rw same_to still;
@@ -107,7 +118,8 @@ module _ (h : Header) (items : List BodyItem) (m : Cut) (is : AreCut m h items) 
 -- ---- other items
 
 -- what is read is no timestamp
-no_mark : (codes : List IdCode) (text : List ℕ) (item : Item) (x : BodyItem) (b : ℕ) → IsItem codes text item x → IsNoTimestamp item → (is_mark_above b x ≡ false) × (marks (x ∷ []) ≡ [])
+no_mark : (codes : List IdCode) (text : List ℕ) (item : Item) (x : BodyItem) (b : ℕ) → IsItem codes text item x → IsNoTimestamp item
+    → (is_mark_above b x ≡ false) × (marks (x ∷ []) ≡ [])
 no_mark codes text (Time t) x b is none = absurd none
 no_mark codes text (Begin s) x b is none = rw is (refl, refl)
 no_mark codes text End x b is none = rw is (refl, refl)
@@ -122,7 +134,9 @@ kept_from_time a items x s = rw (le-leb a (time_after items) (due a items s)) re
 none_from_time : (a : ℕ) (items : List BodyItem) (x : BodyItem) → is_started a items ≡ false → keeps (from_on a) items x ≡ false
 none_from_time a items x s = rw (lt-leb a (time_after items) (not_started a items s)) refl
 
-module _ (v : HeadView) (h : Header) (items : List BodyItem) (before : Regs) (m : Cut) (text : List ℕ) (item : Item) (x : BodyItem) (views : Views (parts v) h) (known : AreRegsAfter items before) (is : AreCut m h items) (read : IsItem h.codes text item x) (none : IsNoTimestamp item) where
+module _ (v : HeadView) (h : Header) (items : List BodyItem) (before : Regs) (m : Cut) (text : List ℕ) (item : Item) (x : BodyItem)
+    (views : Views (parts v) h) (known : AreRegsAfter items before) (is : AreCut m h items) (read : IsItem h.codes text item x)
+    (none : IsNoTimestamp item) where
   low : is_mark_above m.to x ≡ false
   low = (no_mark h.codes text item x m.to read none).0
 
@@ -153,10 +167,14 @@ module _ (v : HeadView) (h : Header) (items : List BodyItem) (before : Regs) (m 
 
   -- a kept item
   pub due_item : (takes : List ℕ → Type 0) → m.started ≡ true → keeps (from_on m.from) items x ≡ true
-      → DueBy takes (text_after (m.from ∷ []) (kept_from m.from items)) (text_after (m.from ∷ []) (kept_from m.from items ++ entry_after items x ∷ [])) → DueBy takes (cut_open h m.from m.to items) (cut_open h m.from m.to (items ++ x ∷ []))
+      → DueBy takes (text_after (m.from ∷ []) (kept_from m.from items))
+      (text_after (m.from ∷ []) (kept_from m.from items ++ entry_after items x ∷ []))
+      → DueBy takes (cut_open h m.from m.to items) (cut_open h m.from m.to (items ++ x ∷ []))
   due_item takes s k d = (d.0, due_kept h m.from m.to items is.on x d.0 low (sym is.started_is ∙ s) k d.1, d.2)
 
-  pub item_kept : (t : ItemText) → m.started ≡ true → keeps (from_on m.from) items x ≡ true → HasWritten (m.from ∷ []) (kept_from m.from items ++ entry_after items x ∷ []) t → AreCut (record { from = m.from; to = m.to; table = m.table; text = t; started = m.started }) h (items ++ x ∷ [])
+  pub item_kept : (t : ItemText) → m.started ≡ true → keeps (from_on m.from) items x ≡ true
+      → HasWritten (m.from ∷ []) (kept_from m.from items ++ entry_after items x ∷ []) t
+      → AreCut (record { from = m.from; to = m.to; table = m.table; text = t; started = m.started }) h (items ++ x ∷ [])
   item_kept t s k has = record {
     ordered = is.ordered;
     on = still_in;
@@ -182,7 +200,8 @@ module _ (v : HeadView) (h : Header) (items : List BodyItem) (before : Regs) (m 
   pub none_before : m.started ≡ false → cut_open h m.from m.to (items ++ x ∷ []) ≡ cut_open h m.from m.to items ++ []
   none_before s = none_due (none_from_time m.from items x (sym is.started_is ∙ s))
 
-  pub item_held : (t : Table) → m.started ≡ false → AreHeld t h (items ++ x ∷ []) → AreCut (record { from = m.from; to = m.to; table = t; text = m.text; started = m.started }) h (items ++ x ∷ [])
+  pub item_held : (t : Table) → m.started ≡ false → AreHeld t h (items ++ x ∷ [])
+      → AreCut (record { from = m.from; to = m.to; table = t; text = m.text; started = m.started }) h (items ++ x ∷ [])
   item_held t s held = record {
     ordered = is.ordered;
     on = still_in;
@@ -234,7 +253,8 @@ module _ (h : Header) (m : Cut) (items : List BodyItem) (r : Regs) (is : AreCut 
 -- ---- the start section
 
 -- the line of a code that is no event
-pub line_at : (v : HeadView) (h : Header) (t : Table) (items : List BodyItem) (time i : ℕ) (c : IdCode) → IsViewOf v h → slice_get h.codes i ≡ Some c → c.event ≡ false → HasValues t h (λ d. value_before items d time) → line_of (codes_shown v) t i ≡ line_if_set c (value_before items c time)
+pub line_at : (v : HeadView) (h : Header) (t : Table) (items : List BodyItem) (time i : ℕ) (c : IdCode) → IsViewOf v h → slice_get h.codes i ≡ Some c
+    → c.event ≡ false → HasValues t h (λ d. value_before items d time) → line_of (codes_shown v) t i ≡ line_if_set c (value_before items c time)
 line_at v h t items time i c views there event has =
     ap (λ (cs : List IdCode). line_of cs t i) (shown_are v h views)
     ∙ ap (λ (o : Option IdCode). unwrap_or (option_map (λ (d : IdCode). line_if_set d (option_and_then (λ (e : IdCode). value_at_size e.size (held_at t i)) o)) o) []) there
@@ -245,22 +265,27 @@ values-append cs ds items time =
     ap (flat_map (λ c. line_if_set c (value_before items c time))) (filter-append (λ (c : IdCode). not c.event) cs ds)
     ∙ flat_map-append (λ c. line_if_set c (value_before items c time)) (filter (λ c. not c.event) cs) (filter (λ c. not c.event) ds)
 
-values_next : (cs : List IdCode) (items : List BodyItem) (time i : ℕ) (c : IdCode) → slice_get cs i ≡ Some c → values_text (take (i + 1) cs) items time ≡ values_text (take i cs) items time ++ values_text (c ∷ []) items time
+values_next : (cs : List IdCode) (items : List BodyItem) (time i : ℕ) (c : IdCode) → slice_get cs i ≡ Some c
+    → values_text (take (i + 1) cs) items time ≡ values_text (take i cs) items time ++ values_text (c ∷ []) items time
 values_next cs items time i c there = ap (λ l. values_text l items time) (next cs i c there) ∙ values-append (take i cs) (c ∷ []) items time
 
 -- an event's adds none
-pub values_pass : (cs : List IdCode) (items : List BodyItem) (time i : ℕ) (c : IdCode) → slice_get cs i ≡ Some c → c.event ≡ true → values_text (take (i + 1) cs) items time ≡ values_text (take i cs) items time
+pub values_pass : (cs : List IdCode) (items : List BodyItem) (time i : ℕ) (c : IdCode) → slice_get cs i ≡ Some c → c.event ≡ true
+    → values_text (take (i + 1) cs) items time ≡ values_text (take i cs) items time
 values_pass cs items time i c there event = values_next cs items time i c there ∙ rw event (append-nil (values_text (take i cs) items time))
 
-pub values_line : (cs : List IdCode) (items : List BodyItem) (time i : ℕ) (c : IdCode) → slice_get cs i ≡ Some c → c.event ≡ false → values_text (take (i + 1) cs) items time ≡ values_text (take i cs) items time ++ line_if_set c (value_before items c time)
-values_line cs items time i c there event = values_next cs items time i c there ∙ rw event (ap (λ l. values_text (take i cs) items time ++ l) (append-nil (line_if_set c (value_before items c time))))
+pub values_line : (cs : List IdCode) (items : List BodyItem) (time i : ℕ) (c : IdCode) → slice_get cs i ≡ Some c → c.event ≡ false
+    → values_text (take (i + 1) cs) items time ≡ values_text (take i cs) items time ++ line_if_set c (value_before items c time)
+values_line cs items time i c there event = values_next cs items time i c there
+    ∙ rw event (ap (λ l. values_text (take i cs) items time ++ l) (append-nil (line_if_set c (value_before items c time))))
 
 -- the lines up to an index are some of all
 pub values_rest : (cs : List IdCode) (items : List BodyItem) (time i : ℕ) → values_text cs items time ≡ values_text (take i cs) items time ++ values_text (drop i cs) items time
 values_rest cs items time i = ap (λ l. values_text l items time) (sym (take-append-drop i cs)) ∙ values-append (take i cs) (drop i cs) items time
 
 -- the code that is read at an index is a code of the header
-pub read_code : (v : HeadView) (h : Header) (i : ℕ) (d : Code) → IsViewOf v h → i < length v.codes.now → (c : IdCode) × (slice_get h.codes i ≡ Some c) × ((get_or v.codes.now i d).event ≡ c.event)
+pub read_code : (v : HeadView) (h : Header) (i : ℕ) (d : Code) → IsViewOf v h → i < length v.codes.now → (c : IdCode)
+    × (slice_get h.codes i ≡ Some c) × ((get_or v.codes.now i d).event ≡ c.event)
 read_code v h i d views within =
     let same = codes_len v.text.now v.codes.now h.codes views.codes in
     let found = there h.codes i (omega (arith, same, within)) in
@@ -282,10 +307,12 @@ stood h items m t is (inl s) = inl (sym is.started_is ∙ s)
 stood h items m t is (inr low) = inr low
 
 -- the cut continues
-pub mark_goes : {E : Type 0} (h : Header) (items : List BodyItem) (m m' : Cut) (t : ℕ) (out out' : Device) (r : Result Bool E) → r ≡ Ok false → AreCut m h items → t ≤ m.to → m'.from ≡ m.from → m'.to ≡ m.to → HasBegun h items t m m' out out' ⊎ HasNone t m m' out out'
+pub mark_goes : {E : Type 0} (h : Header) (items : List BodyItem) (m m' : Cut) (t : ℕ) (out out' : Device) (r : Result Bool E) → r ≡ Ok false
+    → AreCut m h items → t ≤ m.to → m'.from ≡ m.from → m'.to ≡ m.to → HasBegun h items t m m' out out' ⊎ HasNone t m m' out out'
     → TakesOne (AreCut m' h (items ++ BodyItem.Time t ∷ [])) (Request.Cut m.from m.to) h items (BodyItem.Time t) out out' r
 mark_goes {E} h items m m' t out out' r e is low same_from same_to (inl begun) = record {
-  due = begun_on h m.from m.to items is.on t out out' r (sym is.started_is ∙ begun.due) begun.come low (subst (λ (q : Result Bool E). Takes out out' (start_section h m.from items) q) (sym e) begun.section);
+  due = begun_on h m.from m.to items is.on t out out' r (sym is.started_is ∙ begun.due) begun.come low
+      (subst (λ (q : Result Bool E). Takes out out' (start_section h m.from items) q) (sym e) begun.section);
   ends = rw e (sym (within_is m.to t low));
   keeps = λ _. goes_begun h items m is t low m' same_from same_to begun.stands begun.text (sym is.started_is ∙ begun.due) begun.come;
 }
@@ -296,20 +323,25 @@ mark_goes {E} h items m m' t out out' r e is low same_from same_to (inr none) = 
 }
 
 -- the cut ends
-pub mark_ends : {A E : Type 0} (h : Header) (items : List BodyItem) (m m' : Cut) (t : ℕ) (out mid out' : Device) (r : Result A E) (r' : Result Bool E) → AreCut m h items → m.to < t → HasBegun h items t m m' out mid ⊎ HasNone t m m' out mid
-    → ((before : List ℕ) (kept : List Entry) → HasWritten before kept m'.text → ((u : ℕ) → Some m.to ≡ Some u → LastTells (times_with before kept) u) → Takes mid out' (closing (times_with before kept) (Some m.to)) r)
+pub mark_ends : {A E : Type 0} (h : Header) (items : List BodyItem) (m m' : Cut) (t : ℕ) (out mid out' : Device) (r : Result A E)
+    (r' : Result Bool E) → AreCut m h items → m.to < t → HasBegun h items t m m' out mid ⊎ HasNone t m m' out mid
+    → ((before : List ℕ) (kept : List Entry) → HasWritten before kept m'.text → ((u : ℕ) → Some m.to ≡ Some u → LastTells (times_with before kept) u)
+    → Takes mid out' (closing (times_with before kept) (Some m.to)) r)
     → ((l : List ℕ) → Takes mid out' l r → Takes mid out' l r')
     → TakesDue out out' (cut_open h m.from m.to items) (cut_open h m.from m.to (items ++ BodyItem.Time t ∷ [])) r'
 mark_ends h items m m' t out mid out' r r' is high (inl begun) closes same =
     begun_ended h m.from m.to items is.on t out out' r' mid (sym is.started_is ∙ begun.due) begun.come high begun.section
-    (same (closing (times_with (m.from ∷ []) []) (Some m.to)) (closes (m.from ∷ []) [] begun.text (λ u e. let one : m.to ≡ u = cc in subst (λ n. LastTells (m.from ∷ []) n) one (last_is_enough m.to m.from [] is.ordered))))
+    (same (closing (times_with (m.from ∷ []) []) (Some m.to)) (closes (m.from ∷ []) [] begun.text (λ u e. let one : m.to ≡ u = cc in
+    subst (λ n. LastTells (m.from ∷ []) n) one (last_is_enough m.to m.from [] is.ordered))))
 mark_ends h items m m' t out mid out' r r' is high (inr none) closes same =
     let stands = already none.why in
     let started = sym is.started_is ∙ stands in
     let text = subst (λ (y : Cut). HasWritten (m.from ∷ []) (kept_from m.from items) y.text) (sym none.same) (is.written stands) in
     ended h m.from m.to items is.on t out out' r' started high
     (subst (λ (d : Device). Takes d out' (closing (times_with (m.from ∷ []) (kept_from m.from items)) (Some m.to)) r') none.nothing
-    (same (closing (times_with (m.from ∷ []) (kept_from m.from items)) (Some m.to)) (closes (m.from ∷ []) (kept_from m.from items) text (λ u e. let one : m.to ≡ u = cc in subst (λ n. LastTells (times_with (m.from ∷ []) (kept_from m.from items)) n) one (end_tells h m items is)))))
+    (same (closing (times_with (m.from ∷ []) (kept_from m.from items)) (Some m.to))
+    (closes (m.from ∷ []) (kept_from m.from items) text (λ u e. let one : m.to ≡ u = cc in
+    subst (λ n. LastTells (times_with (m.from ∷ []) (kept_from m.from items)) n) one (end_tells h m items is)))))
   where
     already : (m.started ≡ true) ⊎ (t < m.from) → m.started ≡ true
     already (inl s) = s
@@ -334,7 +366,8 @@ open_some h a b old new some = by_start (is_started a []) refl
     by_start true s = rw (open_begun h a b s) (appends-first old new (head_for h []) (start_section h a []) some)
     by_start false s = rw (open_plain h a b s) some
 
-pub starts_begun : (h : Header) (m : Cut) (a b : ℕ) → m.from ≡ a → m.to ≡ b → a ≤ b → m.started ≡ true → HasWritten (a ∷ []) [] m.text → is_started a [] ≡ true → AreCut m h []
+pub starts_begun : (h : Header) (m : Cut) (a b : ℕ) → m.from ≡ a → m.to ≡ b → a ≤ b → m.started ≡ true → HasWritten (a ∷ []) [] m.text
+    → is_started a [] ≡ true → AreCut m h []
 starts_begun h m a b same_from same_to le started text now = record {
   ordered = rw (same_from, same_to) le;
   on = refl;
@@ -355,7 +388,8 @@ starts_plain h m le none held later = record {
 -- ---- items that are taken ahead
 
 module _ (h : Header) (items : List BodyItem) (m : Cut) (time : ℕ) (is : AreCut m h items) where
-  mark_quiet : time ≤ m.to → (is_started m.from items ≡ true) ⊎ (time < m.from) → TakesQuietly (AreCut m h (items ++ BodyItem.Time time ∷ [])) (Request.Cut m.from m.to) h items (BodyItem.Time time)
+  mark_quiet : time ≤ m.to → (is_started m.from items ≡ true) ⊎ (time < m.from)
+      → TakesQuietly (AreCut m h (items ++ BodyItem.Time time ∷ [])) (Request.Cut m.from m.to) h items (BodyItem.Time time)
   mark_quiet low why = record {
     due = mark_passes h m.from m.to items time is.on low why;
     on = within_is m.to time low;

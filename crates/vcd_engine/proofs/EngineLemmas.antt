@@ -31,7 +31,8 @@ none_at test (y ∷ p) x h e = both_false (test y) (list_any test p) (list_any t
 -- ---- the last timestamp
 
 -- after one item more
-pub last_more : (codes : List IdCode) (text : List ℕ) (items : List BodyItem) (r : Regs) (item : Item) (x : BodyItem) → IsItem codes text item x → last_time_of r ≡ last_mark items → last_time_of (regs_after r item) ≡ last_mark (items ++ x ∷ [])
+pub last_more : (codes : List IdCode) (text : List ℕ) (items : List BodyItem) (r : Regs) (item : Item) (x : BodyItem) → IsItem codes text item x
+    → last_time_of r ≡ last_mark items → last_time_of (regs_after r item) ≡ last_mark (items ++ x ∷ [])
 last_more codes text items r (Time t) x is last = rw is (sym (ap (last_or None) (marks_push items (BodyItem.Time t)) ∙ last_or-snoc None (marks items) t))
 last_more codes text items r (Begin s) x is last = rw is (last ∙ sym (ap (last_or None) (marks_stay items (BodyItem.Begin (model_section s)) refl)))
 last_more codes text items r End x is last = rw is (last ∙ sym (ap (last_or None) (marks_stay items BodyItem.End refl)))

@@ -16,7 +16,8 @@ code_is s h place c code views declared there =
     subst (λ (y : Code). IsCode s.text y c) same m.2
 
 -- so what is written for a change is the line of its item
-pub change_is : (s : HeadShown) (h : Header) (place : ℕ) (form : Form) (x : BodyItem) (code : Code) (id text : List ℕ) → Views s h → IsItem h.codes text (Change place form) x → slice_get s.codes place ≡ Some code
+pub change_is : (s : HeadShown) (h : Header) (place : ℕ) (form : Form) (x : BodyItem) (code : Code) (id text : List ℕ) → Views s h
+    → IsItem h.codes text (Change place form) x → slice_get s.codes place ≡ Some code
     → id ≡ text_in s.text code.start code.len
     → change_line (record { code = record { text = id; size = code.size; event = code.event }; form = model_form form; text = text }) ≡ item_line x
 change_is s h place form x code id text views is there ids =
@@ -28,16 +29,20 @@ change_is s h place form x code id text views is there ids =
 -- ---- the text with one entry more
 
 -- the line of its time, where that is due, and its own line
-pub text_with : (before : List ℕ) (kept : List Entry) (e : Entry) (time : ℕ) (t : ItemText) → e.time ≡ time → HasWritten before kept t → LastTells (times_with before kept) time → text_after before (kept ++ e ∷ []) ≡ text_after before kept ++ (time_due t.written time ++ item_line e.item)
+pub text_with : (before : List ℕ) (kept : List Entry) (e : Entry) (time : ℕ) (t : ItemText) → e.time ≡ time → HasWritten before kept t
+    → LastTells (times_with before kept) time → text_after before (kept ++ e ∷ []) ≡ text_after before kept ++
+    (time_due t.written time ++ item_line e.item)
 text_with before kept e time t is has tells =
     text_after-append before kept (e ∷ [])
     ∙ ap (λ l. text_after before kept ++ l)
-    (append-nil (time_unless (times_with before kept) e.time ++ item_line e.item) ∙ ap (λ l. l ++ item_line e.item) (ap (time_unless (times_with before kept)) is ∙ tells ∙ ap (λ o. time_due o time) (sym has.last)))
+    (append-nil (time_unless (times_with before kept) e.time ++ item_line e.item)
+    ∙ ap (λ l. l ++ item_line e.item) (ap (time_unless (times_with before kept)) is ∙ tells ∙ ap (λ o. time_due o time) (sym has.last)))
 
 -- and then its time was written last
 pub written_with : (before : List ℕ) (kept : List Entry) (e : Entry) (time : ℕ) → e.time ≡ time → HasWritten before (kept ++ e ∷ []) (record { written = Some time })
 written_with before kept e time is = record {
-  last = ap (λ t. Some t) (sym is) ∙ sym (ap (last_or None) (ap (λ l. before ++ l) (map-append (λ (x : Entry). x.time) kept (e ∷ [])) ∙ sym (append_assoc before (map (λ x. x.time) kept) (e.time ∷ []))) ∙ last_or-snoc None (times_with before kept) e.time);
+  last = ap (λ t. Some t) (sym is) ∙ sym (ap (last_or None) (ap (λ l. before ++ l) (map-append (λ (x : Entry). x.time) kept (e ∷ []))
+      ∙ sym (append_assoc before (map (λ x. x.time) kept) (e.time ∷ []))) ∙ last_or-snoc None (times_with before kept) e.time);
 }
 
 -- ---- the registers
@@ -59,7 +64,8 @@ event_is : (v : HeadView) (h : Header) (place : ℕ) (c : IdCode) → Views (par
 event_is v h place c views declared = let m = code_at (parts v).text (parts v).codes h.codes place c views.codes declared in rw m.1 m.2.event_is
 
 -- an item may be kept where the definitions may keep it
-pub may_is : (v : HeadView) (h : Header) (items : List BodyItem) (before : Regs) (text : List ℕ) (item : Item) (x : BodyItem) → Views (parts v) h → AreRegsAfter items before → IsItem h.codes text item x → may_be_kept v (regs_after before item) item ≡ may_keep x (leaves_open items)
+pub may_is : (v : HeadView) (h : Header) (items : List BodyItem) (before : Regs) (text : List ℕ) (item : Item) (x : BodyItem) → Views (parts v) h
+    → AreRegsAfter items before → IsItem h.codes text item x → may_be_kept v (regs_after before item) item ≡ may_keep x (leaves_open items)
 may_is v h items before text (Time t) x views known e = rw e refl
 may_is v h items before text (Begin s) x views known e = rw e refl
 may_is v h items before text End x views known e = rw e refl

@@ -27,19 +27,23 @@ module _ (names : List (List ℕ)) (ds : List Declaration) where
   fewer_rows i m n l none k w = none k (omega (arith, l, w))
 
   -- the same by their lines
-  pub rows_on_same : (items : List BodyItem) (time i n to : ℕ) → HaveNoLine names ds i n → i ≤ to → to ≤ i + n → rows_before (line_at items time) names ds to ≡ rows_before (line_at items time) names ds i
+  pub rows_on_same : (items : List BodyItem) (time i n to : ℕ) → HaveNoLine names ds i n → i ≤ to → to ≤ i + n
+      → rows_before (line_at items time) names ds to ≡ rows_before (line_at items time) names ds i
   rows_on_same items time i n to none low high =
       let k = to - i in
       let at : to ≡ i + k = omega (arith, low) in
-      ap (rows_before (line_at items time) names ds) at ∙ lines_are items time (selected names (take (i + k) ds)) ∙ none k (omega (arith, low, high)) items time ∙ sym (lines_are items time (selected names (take i ds)))
+      ap (rows_before (line_at items time) names ds) at ∙ lines_are items time (selected names (take (i + k) ds))
+      ∙ none k (omega (arith, low, high)) items time ∙ sym (lines_are items time (selected names (take i ds)))
 
 -- ---- a row
 
-module _ (v : HeadView) (h : Header) (names : List (List ℕ)) (i mark : ℕ) (r : Row) (views : IsViewOf v h) (at : slice_get v.rows.now i ≡ Some r) (is : get_or (marks_of names h.declarations) i 0 ≡ mark) where
+module _ (v : HeadView) (h : Header) (names : List (List ℕ)) (i mark : ℕ) (r : Row) (views : IsViewOf v h) (at : slice_get v.rows.now i ≡ Some r)
+    (is : get_or (marks_of names h.declarations) i 0 ≡ mark) where
   marked_by : (b : Bool) → (mark == 1) ≡ b → is_marked (marks_of names h.declarations) i ≡ b
   marked_by b e = ap (λ m. m == 1) (unwrap_or-slice_get (marks_of names h.declarations) i 0 ∙ is) ∙ e
 
-  none_by : ((items : List BodyItem) (time : ℕ) → rows_before (line_at items time) names h.declarations (i + 1) ≡ rows_before (line_at items time) names h.declarations i) → HaveNoLine names h.declarations i 1
+  none_by : ((items : List BodyItem) (time : ℕ) → rows_before (line_at items time) names h.declarations (i + 1) ≡ rows_before
+      (line_at items time) names h.declarations i) → HaveNoLine names h.declarations i 1
   none_by same zero l items time = let none : i + 0 ≡ i = omega arith in ap (lines_to names h.declarations items time) none
   none_by same (suc k) l items time =
       let one : i + suc k ≡ i + 1 = omega (arith, l) in
@@ -48,7 +52,8 @@ module _ (v : HeadView) (h : Header) (names : List (List ℕ)) (i mark : ℕ) (r
 
   -- one that is no variable's has no line
   pub other_has_none : (r.kind ≡ kind.Scope) ⊎ (r.kind ≡ kind.Up) → HaveNoLine names h.declarations i 1
-  other_has_none other = none_by (λ items time. rows_other (line_at items time) names (parts v) h i (marks_of names h.declarations) views refl r at (λ var. elim other [ inl e ↦ cc | inr e ↦ cc ]))
+  other_has_none other = none_by (λ items time. rows_other (line_at items time) names (parts v) h i (marks_of names h.declarations) views refl r at
+      (λ var. elim other [ inl e ↦ cc | inr e ↦ cc ]))
 
   -- a variable's has one where it is marked and no event's
   pub variable_has : r.kind ≡ kind.Var → (marked event : Bool) → (mark == 1) ≡ marked → event ≡ unwrap_or (option_map (λ c. c.event) (slice_get h.codes r.code)) false
@@ -107,13 +112,15 @@ module _ (names : List (List ℕ)) (h : Header) (marks : List ℕ) (lead : LeadO
   leads_shown_at one = subst (Leads names h.declarations i) one (lead.each i within)
 
   -- any other leads past rows that add no line
-  pub leads_same : (items : List BodyItem) (time to : ℕ) → get_or marks i 0 ≢ 1 → i ≤ to → to ≤ i + rows_on (get_or marks i 0) → rows_before (line_at items time) names h.declarations to ≡ rows_before (line_at items time) names h.declarations i
+  pub leads_same : (items : List BodyItem) (time to : ℕ) → get_or marks i 0 ≢ 1 → i ≤ to → to ≤ i + rows_on (get_or marks i 0)
+      → rows_before (line_at items time) names h.declarations to ≡ rows_before (line_at items time) names h.declarations i
   leads_same items time to other low high = rows_on_same names h.declarations items time i (rows_on (get_or marks i 0)) to none low high
     where
       none : HaveNoLine names h.declarations i (rows_on (get_or marks i 0))
       none = subst (λ b. MatchBool b (IsSelectedAt names h.declarations i) (HaveNoLine names h.declarations i (rows_on (get_or marks i 0)))) (ne_eqb (get_or marks i 0) 1 other) (lead.each i within)
 
 -- the lines of all rows, where the marks end
-pub lines_all : (names : List (List ℕ)) (h : Header) (marks : List ℕ) → LeadOn names h.declarations marks → (items : List BodyItem) (time to : ℕ) → length marks ≤ to → rows_before (line_at items time) names h.declarations to ≡ sample_lines (selected names h.declarations) items time
+pub lines_all : (names : List (List ℕ)) (h : Header) (marks : List ℕ) → LeadOn names h.declarations marks → (items : List BodyItem) (time to : ℕ)
+    → length marks ≤ to → rows_before (line_at items time) names h.declarations to ≡ sample_lines (selected names h.declarations) items time
 lines_all names h marks lead items time to past =
     ap (λ ds. flat_map (line_at items time) (selected names ds)) (take_all to h.declarations (omega (arith, past, lead.len))) ∙ lines_are items time (selected names h.declarations)

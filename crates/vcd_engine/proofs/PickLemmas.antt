@@ -33,10 +33,16 @@ last_tells h names items t e =
 
 module _ (h : Header) (names : List (List ℕ)) (items : List BodyItem) (x : BodyItem) where
   -- what is due with an entry is due with its item
-  pub due_one : (takes : List ℕ → Type 0) → keeps (picked_by h names) items x ≡ true → DueBy takes (text_after [] (pick_kept h names items)) (text_after [] (pick_kept h names items ++ entry_after items x ∷ [])) → DueBy takes (pick_open h names items) (pick_open h names (items ++ x ∷ []))
+  pub due_one : (takes : List ℕ → Type 0) → keeps (picked_by h names) items x ≡ true
+      → DueBy takes (text_after [] (pick_kept h names items)) (text_after [] (pick_kept h names items ++ entry_after items x ∷ []))
+      → DueBy takes (pick_open h names items) (pick_open h names (items ++ x ∷ []))
   unfolding pick_open
-  due_one takes k d =
-      (d.0, ap (λ es. head_for h names ++ text_after [] es) (kept_more (picked_by h names) items x true k) ∙ ap (λ l. head_for h names ++ l) d.1 ∙ sym (append_assoc (head_for h names) (text_after [] (pick_kept h names items)) d.0), d.2)
+  due_one takes k d = (
+    d.0,
+    ap (λ es. head_for h names ++ text_after [] es) (kept_more (picked_by h names) items x true k) ∙ ap (λ l. head_for h names ++ l) d.1
+        ∙ sym (append_assoc (head_for h names) (text_after [] (pick_kept h names items)) d.0),
+    d.2,
+  )
 
   -- and nothing with an item that is not kept
   pub none_due : keeps (picked_by h names) items x ≡ false → pick_open h names (items ++ x ∷ []) ≡ pick_open h names items ++ []
@@ -45,7 +51,9 @@ module _ (h : Header) (names : List (List ℕ)) (items : List BodyItem) (x : Bod
 
 module _ (h : Header) (items : List BodyItem) (p : Pick) (is : ArePicked p h items) (x : BodyItem) where
   -- what is kept after an item that was written
-  pub picks_on : (t : ItemText) → keeps (picked_by h (names_in p)) items x ≡ true → HasWritten [] (pick_kept h (names_in p) items ++ entry_after items x ∷ []) t → ArePicked (record { names = p.names; flags = p.flags; text = t }) h (items ++ x ∷ [])
+  pub picks_on : (t : ItemText) → keeps (picked_by h (names_in p)) items x ≡ true
+      → HasWritten [] (pick_kept h (names_in p) items ++ entry_after items x ∷ []) t
+      → ArePicked (record { names = p.names; flags = p.flags; text = t }) h (items ++ x ∷ [])
   picks_on t k w = record { chosen = is.chosen; written = subst (λ (es : List Entry). HasWritten [] es t) (sym (kept_more (picked_by h (names_in p)) items x true k)) w }
 
   -- and after one that was not
@@ -53,7 +61,8 @@ module _ (h : Header) (items : List BodyItem) (p : Pick) (is : ArePicked p h ite
   picks_still k = record { chosen = is.chosen; written = subst (λ (es : List Entry). HasWritten [] es p.text) (sym (kept_same (picked_by h (names_in p)) items x k)) is.written }
 
 -- the end of the text closes it
-pub closes : (h : Header) (names : List (List ℕ)) (items : List BodyItem) (last : Option ℕ) → last ≡ last_mark items → closing (times_with [] (pick_kept h names items)) last ≡ pick_close h names items
+pub closes : (h : Header) (names : List (List ℕ)) (items : List BodyItem) (last : Option ℕ) → last ≡ last_mark items
+    → closing (times_with [] (pick_kept h names items)) last ≡ pick_close h names items
 unfolding pick_close
 closes h names items last e = ap (closing (times_with [] (pick_kept h names items))) e
 

@@ -5,20 +5,24 @@ use Rattle.vcd_engine.proofs.Cited.{◌≡◌, ℕ, ◌+◌, ◌-◌, ◌≤◌,
 pub joined : (bytes : List ℕ) (a b from to : ℕ) → a ≤ b → from ≡ b → from ≤ to → slice_range bytes a b ++ slice_range bytes from to ≡ slice_range bytes a to
 joined bytes a b from to le e on =
     let all : b + (to - b) ≡ to = omega (arith, e) in
-    ap (λ n. slice_range bytes a b ++ slice_range bytes n to) e ∙ subst (λ n. slice_range bytes a b ++ slice_range bytes b n ≡ slice_range bytes a n) all (slice_range-append bytes a b (to - b) le)
+    ap (λ n. slice_range bytes a b ++ slice_range bytes n to) e ∙ subst
+    (λ n. slice_range bytes a b ++ slice_range bytes b n ≡ slice_range bytes a n) all (slice_range-append bytes a b (to - b) le)
 
 -- the bytes before a line feed, and it
-pub line_there : (bytes : List ℕ) (from to k : ℕ) → from + 2 + k ≤ to → to ≤ length bytes → slice_index bytes (to - 1) ≡ 10 → bytes_without bytes from to k ≡ line_without bytes from to k
+pub line_there : (bytes : List ℕ) (from to k : ℕ) → from + 2 + k ≤ to → to ≤ length bytes → slice_index bytes (to - 1) ≡ 10
+    → bytes_without bytes from to k ≡ line_without bytes from to k
 line_there bytes from to k few within last =
     let first = slice_range bytes from (from + 1) in
     let rest = slice_range bytes (from + 1 + k) (to - 1) in
     let all : to - 1 + 1 ≡ to = omega arith in
     let end : slice_range bytes (to - 1) (to - 1 + 1) ≡ 10 ∷ [] = one_byte bytes (to - 1) (omega arith) ∙ ap (λ b. b ∷ []) last in
-    let both : rest ++ 10 ∷ [] ≡ slice_range bytes (from + 1 + k) to = ap (λ l. rest ++ l) (sym end) ∙ slice_range-append bytes (from + 1 + k) (to - 1) 1 (omega arith) ∙ ap (slice_range bytes (from + 1 + k)) all in
+    let both : rest ++ 10 ∷ [] ≡ slice_range bytes (from + 1 + k) to = ap (λ l. rest ++ l) (sym end)
+    ∙ slice_range-append bytes (from + 1 + k) (to - 1) 1 (omega arith) ∙ ap (slice_range bytes (from + 1 + k)) all in
     ap (λ l. first ++ l) (sym both) ∙ sym (append_assoc first rest (10 ∷ []))
 
 -- two bytes and a line feed
-pub two_bytes_line : (bytes : List ℕ) (from to n : ℕ) → n ≡ 0 → to ≡ from + 3 → to ≤ length bytes → slice_index bytes from ∷ slice_index bytes (from + 1) ∷ 10 ∷ [] ≡ line_without bytes from to n
+pub two_bytes_line : (bytes : List ℕ) (from to n : ℕ) → n ≡ 0 → to ≡ from + 3 → to ≤ length bytes
+    → slice_index bytes from ∷ slice_index bytes (from + 1) ∷ 10 ∷ [] ≡ line_without bytes from to n
 two_bytes_line bytes from to n none three within =
     let next : from + 1 + n ≡ from + 1 = omega (arith, none) in
     let last : to - 1 ≡ from + 1 + 1 = omega (arith, three) in
@@ -48,7 +52,8 @@ pub none_on : (pending : List ℕ) (out : Device) → PutsAll pending pending ou
 none_on pending out = pending_on pending pending [] out (append-nil pending)
 
 -- what was pending was written, and then nothing is pending; then this was put
-pub put_on : {A E : Type 0} (pending pending' due : List ℕ) (out mid out' : Device) (r : Result A E) → Writes out mid pending → pending' ≡ [] → Puts mid out' due r → PutsOn pending pending' out out' due r
+pub put_on : {A E : Type 0} (pending pending' due : List ℕ) (out mid out' : Device) (r : Result A E) → Writes out mid pending → pending' ≡ []
+    → Puts mid out' due r → PutsOn pending pending' out out' due r
 put_on pending pending' due out mid out' (Ok v) w e puts = (pending ++ due, sym (ap (λ l. (pending ++ due) ++ l) e ∙ append-nil (pending ++ due)), both-written out mid out' pending due w puts)
 put_on pending pending' due out mid out' (Err v) w e puts = some-behind out mid out' pending due w puts
 
@@ -63,13 +68,19 @@ pub first_on : (pending a b : List ℕ) (out out' : Device) → WritesSome out o
 first_on pending a b out out' some = subst (WritesSome out out') (append_assoc pending a b) (some-first out out' (pending ++ a) b some)
 
 -- one text is due, and then another
-pub twice_on : {A E : Type 0} (pending mid pending' a b : List ℕ) (out between out' : Device) (r : Result A E) → PutsAll pending mid out between a → PutsOn mid pending' between out' b r → PutsOn pending pending' out out' (a ++ b) r
-twice_on pending mid pending' a b out between out' (Ok w) first then =
-    (first.0 ++ then.0, sym (append_assoc pending a b) ∙ ap (λ l. l ++ b) first.1 ∙ append_assoc first.0 mid b ∙ ap (λ l. first.0 ++ l) then.1 ∙ sym (append_assoc first.0 then.0 pending'), both-written out between out' first.0 then.0 first.2 then.2)
+pub twice_on : {A E : Type 0} (pending mid pending' a b : List ℕ) (out between out' : Device) (r : Result A E) → PutsAll pending mid out between a
+    → PutsOn mid pending' between out' b r → PutsOn pending pending' out out' (a ++ b) r
+twice_on pending mid pending' a b out between out' (Ok w) first then = (
+  first.0 ++ then.0,
+  sym (append_assoc pending a b) ∙ ap (λ l. l ++ b) first.1 ∙ append_assoc first.0 mid b ∙ ap (λ l. first.0 ++ l) then.1
+      ∙ sym (append_assoc first.0 then.0 pending'),
+  both-written out between out' first.0 then.0 first.2 then.2,
+)
 twice_on pending mid pending' a b out between out' (Err f) first then =
     subst (WritesSome out out') (sym (append_assoc first.0 mid b) ∙ sym (ap (λ l. l ++ b) first.1) ∙ append_assoc pending a b) (some-behind out between out' first.0 (mid ++ b) first.2 then)
 
-pub twice_behind : {A B E : Type 0} (bytes : List ℕ) (p q p' : PendingCopy) (a b : List ℕ) (out mid out' : Device) (v : B) (r : Result A E) → PutsBehind {A = B} {E = E} bytes p q out mid a (Ok v) → PutsBehind bytes q p' mid out' b r → PutsBehind bytes p p' out out' (a ++ b) r
+pub twice_behind : {A B E : Type 0} (bytes : List ℕ) (p q p' : PendingCopy) (a b : List ℕ) (out mid out' : Device) (v : B) (r : Result A E)
+    → PutsBehind {A = B} {E = E} bytes p q out mid a (Ok v) → PutsBehind bytes q p' mid out' b r → PutsBehind bytes p p' out out' (a ++ b) r
 twice_behind {A} {B} {E} bytes p q p' a b out mid out' v r first then = record {
   puts = twice_on (pending_in bytes p) (pending_in bytes q) (pending_in bytes p') a b out mid out' r first.puts then.puts;
   counts = counts-on out mid out' r first.counts then.counts;
@@ -83,7 +94,8 @@ module _ (out mid out' : Device) (pending text some : List ℕ) (g : GrowsBut ou
   pub but_on : (pending' due more : List ℕ) → more ≡ some ++ due → PutsAll pending pending' mid out' due → GrowsBut out out' pending' text more
   but_on pending' due more is p = (
     g.0 ++ p.0,
-    is ∙ ap (λ l. l ++ due) g.1 ∙ append_assoc text (g.0 ++ pending) due ∙ ap (λ l. text ++ l) (append_assoc g.0 pending due ∙ ap (λ l. g.0 ++ l) p.1 ∙ sym (append_assoc g.0 p.0 pending')),
+    is ∙ ap (λ l. l ++ due) g.1 ∙ append_assoc text (g.0 ++ pending) due
+        ∙ ap (λ l. text ++ l) (append_assoc g.0 pending due ∙ ap (λ l. g.0 ++ l) p.1 ∙ sym (append_assoc g.0 p.0 pending')),
     both-written out mid out' g.0 p.0 g.2 p.2,
   )
 
@@ -108,7 +120,8 @@ pub but_none : (out : Device) (pending text : List ℕ) → pending ≡ [] → G
 but_none out pending text e = ([], sym (ap (λ l. text ++ l) e ∙ append-nil text), writes-none out)
 
 -- of no bytes nothing is pending: what is due was written
-pub none_held : (bytes : List ℕ) (p p' : PendingCopy) (out out' : Device) (due : List ℕ) → bytes ≡ [] → IsPart bytes p → IsPart bytes p' → PutsAll (pending_in bytes p) (pending_in bytes p') out out' due → Appends out.held out'.held due
+pub none_held : (bytes : List ℕ) (p p' : PendingCopy) (out out' : Device) (due : List ℕ) → bytes ≡ [] → IsPart bytes p → IsPart bytes p'
+    → PutsAll (pending_in bytes p) (pending_in bytes p') out out' due → Appends out.held out'.held due
 none_held bytes p p' out out' due e part part' puts =
     let all : due ≡ puts.0 = sym (ap (λ l. l ++ due) (empty p part)) ∙ puts.1 ∙ ap (λ l. puts.0 ++ l) (empty p' part') ∙ append-nil puts.0 in
     subst (Appends out.held out'.held) (sym all) puts.2.0
@@ -119,7 +132,8 @@ none_held bytes p p' out out' due e part part' puts =
 -- ---- the line of a time
 
 -- that of the next item's time, where the bytes are these
-pub next_line_is : (bytes bytes' : List ℕ) (line line' : ℕ × ℕ) (time time' : ℕ) → bytes ≡ bytes' → line ≡ line' → time ≡ time' → IsLine bytes line time → IsLine bytes' line' time'
+pub next_line_is : (bytes bytes' : List ℕ) (line line' : ℕ × ℕ) (time time' : ℕ) → bytes ≡ bytes' → line ≡ line' → time ≡ time'
+    → IsLine bytes line time → IsLine bytes' line' time'
 next_line_is bytes bytes' line line' time time' e f g i = subst (λ bs. IsLine bs line' time') e (subst (λ l. IsLine bytes l time') f (subst (λ t. IsLine bytes line t) g i))
 
 -- ---- an item that was taken ahead

@@ -44,7 +44,8 @@ last_known items r known last r' known' = ap₂ (λ (b : Bool) (n : ℕ). cond b
 -- ---- the calls
 
 -- one item
-pub takes_plan : {E : Type 0} (v : HeadView) (r : Regs) (item : Item) (text : List ℕ) (m m' : TaskState) (out out' : Device) (result : Result Bool E) → SameTask m m' → TakesEach v r item text (Keeps m) (Keeps m') (request_in m) out out' result
+pub takes_plan : {E : Type 0} (v : HeadView) (r : Regs) (item : Item) (text : List ℕ) (m m' : TaskState) (out out' : Device) (result : Result Bool E)
+    → SameTask m m' → TakesEach v r item text (Keeps m) (Keeps m') (request_in m) out out' result
     → PlanTakes KeepsPlan (λ _ _ _. ⊤) v r item text m m' out out' result
 takes_plan {E = E} v r item text m m' out out' result same takes p h items before x views known after regs is few keeps on =
     let t = request_in m in
@@ -58,12 +59,16 @@ takes_plan {E = E} v r item text m m' out out' result same takes p h items befor
       tells_all = λ ends. tt;
     })
   where
-    by_result : (q : Result Bool E) → IfOk q (λ ended. ended ≡ ends_early (request_in m) x) → list_any (ends_early (request_in m)) (items ++ x ∷ []) ≡ ends_early (request_in m) x → IfOk q (λ ended. ended ≡ list_any (ends_early (request_in m)) (items ++ x ∷ []))
+    by_result : (q : Result Bool E) → IfOk q (λ ended. ended ≡ ends_early (request_in m) x)
+        → list_any (ends_early (request_in m)) (items ++ x ∷ []) ≡ ends_early (request_in m) x
+        → IfOk q (λ ended. ended ≡ list_any (ends_early (request_in m)) (items ++ x ∷ []))
     by_result (Ok b) e is = e ∙ sym is
     by_result (Err f) e is = tt
 
 -- the end of a body
-pub closes_plan : {A E : Type 0} (v : HeadView) (r : Regs) (m : TaskState) (out out' : Device) (result : Result A E) → AtClose v r (λ h items. Keeps m h items → Takes out out' (close_text (request_in m) h items) result) → ClosesOver KeepsPlan (λ _ _ _. ⊤) v r m m out out' result
+pub closes_plan : {A E : Type 0} (v : HeadView) (r : Regs) (m : TaskState) (out out' : Device) (result : Result A E)
+    → AtClose v r (λ h items. Keeps m h items → Takes out out' (close_text (request_in m) h items) result)
+    → ClosesOver KeepsPlan (λ _ _ _. ⊤) v r m m out out' result
 closes_plan {A} {E} v r m out out' result closes p h items views known keeps on =
     (subst (λ (q : Plan). Takes out out' (q.closes items) result) (sym keeps.plan) (closes h items views known (keeps.last r known) keeps.keeps), any result)
   where
@@ -72,8 +77,11 @@ closes_plan {A} {E} v r m out out' result closes p h items views known keeps on 
     any (Err e) = tt
 
 -- the items ahead
-ends_plan : {A E : Type 0} (m m' : TaskState) (p : Plan) (h : Header) (limit lines : ℕ) (bytes : List ℕ) (before : List BodyItem) (n : ℕ) (r : Regs) (out out' : Device) (result : Result A E) (more : List BodyItem) → request_in m' ≡ request_in m → p ≡ plan_of (request_in m) h
-    → list_any (ends_early (request_in m)) before ≡ false → list_any (ends_early (request_in m)) (before ++ more) ≡ false → EndsAhead (request_in m) h limit lines bytes before n m' r out out' result more → PlanEnds KeepsPlan p h limit lines bytes n m' r out out' result before more
+ends_plan : {A E : Type 0} (m m' : TaskState) (p : Plan) (h : Header) (limit lines : ℕ) (bytes : List ℕ) (before : List BodyItem) (n : ℕ) (r : Regs)
+    (out out' : Device) (result : Result A E) (more : List BodyItem) → request_in m' ≡ request_in m → p ≡ plan_of (request_in m) h
+    → list_any (ends_early (request_in m)) before ≡ false → list_any (ends_early (request_in m)) (before ++ more) ≡ false
+    → EndsAhead (request_in m) h limit lines bytes before n m' r out out' result more
+    → PlanEnds KeepsPlan p h limit lines bytes n m' r out out' result before more
 ends_plan {A} {E} m m' p h limit lines bytes before n r out out' result more same plan off on ends =
     subst (λ (q : Plan). PlanEnds KeepsPlan q h limit lines bytes n m' r out out' result before more) (sym plan) (by_result result ends)
   where

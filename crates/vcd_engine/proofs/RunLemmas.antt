@@ -23,22 +23,30 @@ none_after test (x ∷ p) q e = ap (λ (l : List BodyItem). x ∷ l) (by_first (
     or_right true c f e = cc
     or_right false c f e = e
 
-    by_first : (b : Bool) → test x ≡ b → (list_any test p ≡ true → up_to_first test (p ++ q) ≡ up_to_first test p) → cond (test x) [] (up_to_first test (p ++ q)) ≡ cond (test x) [] (up_to_first test p)
+    by_first : (b : Bool) → test x ≡ b → (list_any test p ≡ true → up_to_first test (p ++ q) ≡ up_to_first test p)
+        → cond (test x) [] (up_to_first test (p ++ q)) ≡ cond (test x) [] (up_to_first test p)
     by_first true is rest = rw is refl
     by_first false is rest = ap (λ (l : List BodyItem). cond (test x) [] l) (rest (or_right (test x) (list_any test p) is e))
 
 grows_with : (t : Request) (h : Header) → IsValid t → (items more : List BodyItem)
-    → IsPrefixOf ((plan_of t h).opens items) ((plan_of t h).opens (items ++ more)) × ((plan_of t h).ends items ≡ true → ((plan_of t h).ends (items ++ more) ≡ true) × ((plan_of t h).opens (items ++ more) ≡ (plan_of t h).opens items))
+    → IsPrefixOf ((plan_of t h).opens items) ((plan_of t h).opens (items ++ more))
+    × ((plan_of t h).ends items ≡ true → ((plan_of t h).ends (items ++ more) ≡ true)
+    × ((plan_of t h).opens (items ++ more) ≡ (plan_of t h).opens items))
 grows_with t h valid items more = by_end (list_any (ends_early t) items) refl
   where
     by_end : (b : Bool) → list_any (ends_early t) items ≡ b
-        → IsPrefixOf ((plan_of t h).opens items) ((plan_of t h).opens (items ++ more)) × ((plan_of t h).ends items ≡ true → ((plan_of t h).ends (items ++ more) ≡ true) × ((plan_of t h).opens (items ++ more) ≡ (plan_of t h).opens items))
+        → IsPrefixOf ((plan_of t h).opens items) ((plan_of t h).opens (items ++ more))
+        × ((plan_of t h).ends items ≡ true → ((plan_of t h).ends (items ++ more) ≡ true)
+        × ((plan_of t h).opens (items ++ more) ≡ (plan_of t h).opens items))
     by_end true e =
         let same = ap (open_text t h) (none_after (ends_early t) items more e) in
         (([], same ∙ sym (append-nil ((plan_of t h).opens items))), λ _. (list_any-append (ends_early t) items more ∙ ap (λ (b : Bool). b || list_any (ends_early t) more) e, same))
     by_end false e =
-        let r = nothing_revised t h items (up_to_first (ends_early t) more) valid e in
-        ((r.0, ap (open_text t h) (goes_on (ends_early t) items more e) ∙ r.1 ∙ ap (λ (l : List ℕ). l ++ r.0) (sym (opens_all t items e h))), λ ends. let both : ◌≡◌ {A = Bool} true false = sym ends ∙ e in absurd (cc))
+        let r = nothing_revised t h items (up_to_first (ends_early t) more) valid e in (
+          (r.0, ap (open_text t h) (goes_on (ends_early t) items more e) ∙ r.1 ∙ ap (λ (l : List ℕ). l ++ r.0) (sym (opens_all t items e h))),
+          λ ends.
+              let both : ◌≡◌ {A = Bool} true false = sym ends ∙ e in absurd (cc),
+        )
 
 sound_plan : (t : Request) (h : Header) → IsValid t → IsSound (plan_of t h) h.codes
 sound_plan t h valid limit i front rest items more tokens are = grows_with t h valid items more
@@ -69,13 +77,17 @@ over_same t h items name fault = by_end (list_any (ends_early t) items) refl
 pub opens_first : (t : Request) (h : Header) (items : List BodyItem) (name : List ℕ) (fault : Option Fault) → IsValid t → IsPrefixOf (open_text t h []) (over_body t h items name fault).output
 opens_first t h items name fault valid =
     let first = (grows_with t h valid [] items).0 in
-    let all = begins (plan_of t h) (ways name) (keep_output name) items fault in
-    (first.0 ++ all.0, ap (λ (o : Outcome). o.output) (sym (over_same t h items name fault)) ∙ all.1 ∙ ap (λ (l : List ℕ). l ++ all.0) first.1 ∙ append_assoc (open_text t h []) first.0 all.0)
+    let all = begins (plan_of t h) (ways name) (keep_output name) items fault in (
+      first.0 ++ all.0,
+      ap (λ (o : Outcome). o.output) (sym (over_same t h items name fault)) ∙ all.1 ∙ ap (λ (l : List ℕ). l ++ all.0) first.1
+          ∙ append_assoc (open_text t h []) first.0 all.0,
+    )
 
 -- ---- a run
 
 -- what settles it, and what is due, in other words
-reads_as : (limit chunk : ℕ) (old new : Supply) (i : Input) (front : List Token) (f g : List Token → Bool) → ((ts : List Token) → g ts ≡ f ts) → ReadsAsNeeded limit chunk old new i front f → ReadsAsNeeded limit chunk old new i front g
+reads_as : (limit chunk : ℕ) (old new : Supply) (i : Input) (front : List Token) (f g : List Token → Bool) → ((ts : List Token) → g ts ≡ f ts)
+    → ReadsAsNeeded limit chunk old new i front f → ReadsAsNeeded limit chunk old new i front g
 reads_as limit chunk old new i front f g is (Nothing same) = Nothing same
 reads_as limit chunk old new i front f g is (ToToken asked last first so_far near) = ToToken asked last first (is asked ∙ so_far) near
 reads_as limit chunk old new i front f g is (ToEnd asked all so_far near) = ToEnd asked all (is asked ∙ so_far) near
@@ -89,24 +101,28 @@ due_same (Request.Sample times names) h can ts = ap (λ place. due_of_body place
 due_same (Request.Edges names) h can ts = ap (λ place. due_of_body place (Request.Edges names) h ts) can.matched
 due_same Request.Merge h can ts = refl
 
-belongs_to : (t : Request) (o : Outcome) (name : List ℕ) (out out' : Device) (result : Result Done Stop) → PlanBelongs (λ _ _. ⊤) (ways name) o out out' result → Belongs t o name out out' result
+belongs_to : (t : Request) (o : Outcome) (name : List ℕ) (out out' : Device) (result : Result Done Stop)
+    → PlanBelongs (λ _ _. ⊤) (ways name) o out out' result → Belongs t o name out out' result
 belongs_to t o name out out' (Ok Whole) (items, text, is, written, told) = subst (λ (x : Outcome). (x ≡ clean_outcome x.output) × Writes out out' x.output) (sym is) (refl, written)
 belongs_to t o name out out' (Ok Early) (items, text, is, written, told) = subst (λ (x : Outcome). (x ≡ clean_outcome x.output) × Writes out out' x.output) (sym is) (refl, written)
 belongs_to t o name out out' (Err (Dump input line fault)) (text, first, other, is, written) =
     let f : Fault = record { number = fault; line = line } in
     let e = fault_output text name f in
-    let both = subst (λ (x : Outcome). (x ≡ fault_outcome x.output name f) × Writes out out' x.output) (sym is) (ap (λ l. fault_outcome l name f) (sym e), subst (Writes out out') (sym e) written) in
+    let both = subst (λ (x : Outcome). (x ≡ fault_outcome x.output name f) × Writes out out' x.output) (sym is)
+    (ap (λ l. fault_outcome l name f) (sym e), subst (Writes out out') (sym e) written) in
     (first, both.0, other, both.1)
 belongs_to t o name out out' (Err (Read input)) (text, line, first, is, written) =
     let f : Fault = record { number = 31; line = line } in
     let e = fault_output text name f in
-    let both = subst (λ (x : Outcome). (x ≡ fault_outcome x.output name f) × Writes out out' x.output) (sym is) (ap (λ l. fault_outcome l name f) (sym e), subst (Writes out out') (sym e) written) in
+    let both = subst (λ (x : Outcome). (x ≡ fault_outcome x.output name f) × Writes out out' x.output) (sym is)
+    (ap (λ l. fault_outcome l name f) (sym e), subst (Writes out out') (sym e) written) in
     (first, (line, both.0), both.1)
 belongs_to t o name out out' (Err Write) some = some
 belongs_to t o name out out' (Err (Unmatched place)) none = absurd none
 
 -- a run by the plan does the task
-pub follows : (t : Request) (h : Header) (i : Input) (front : List Token) (name : List ℕ) (limit chunk read : ℕ) (old new : Supply) (out out' : Device) (result : Result Done Stop) → CanRun t h → BodyGives (λ _ _. ⊤) (plan_of t h) h i front limit read out out' result
+pub follows : (t : Request) (h : Header) (i : Input) (front : List Token) (name : List ℕ) (limit chunk read : ℕ) (old new : Supply)
+    (out out' : Device) (result : Result Done Stop) → CanRun t h → BodyGives (λ _ _. ⊤) (plan_of t h) h i front limit read out out' result
     → ReadsNeeded (plan_of t h) h limit chunk i (left_of i read result) front old new out out' → Follows t limit chunk i front h name old new out out' result
 unfolding body_of
 follows t h i front name limit chunk read old new out out' result can gives needed =
@@ -150,7 +166,8 @@ begun_plan t m h is keeps = record {
 -- ---- a step
 
 -- the state of an engine goes on by the plan of its request
-pub runs_plan : {X : Type 0} {g : Ghosts X} (e : Engine) (h : Header) (i : Input) (front : List Token) (items : List BodyItem) (f : Feed X g) → Runs e h i front items f → HasTaken KeepsPlan (plan_of (request_of_engine e) h) h i front items e.task_state e.regs f
+pub runs_plan : {X : Type 0} {g : Ghosts X} (e : Engine) (h : Header) (i : Input) (front : List Token) (items : List BodyItem) (f : Feed X g)
+    → Runs e h i front items f → HasTaken KeepsPlan (plan_of (request_of_engine e) h) h i front items e.task_state e.regs f
 runs_plan e h i front items f s = record {
   gave = s.gave;
   stands = record { plan = refl; keeps = s.holds.keeps; last = last_known items e.regs s.holds.known s.holds.last };
@@ -159,14 +176,18 @@ runs_plan e h i front items f s = record {
 }
 
 -- what a step by the plan leaves, as an engine's
-pub step_plan : {X : Type 0} {g : Ghosts X} (h : Header) (i : Input) (front : List Token) (items : List BodyItem) (f f' : Feed X g) (out out' : Device) (e e' : Engine) (result : Result More Stop) → Runs e h i front items f → e'.view ≡ e.view → request_of_engine e' ≡ request_of_engine e
-    → PlanGives KeepsPlan (plan_of (request_of_engine e) h) h i front (λ _ _. ⊤) items e'.task_state e'.regs f' out out' result → StepGives (request_of_engine e) h i front items e' f' out out' result
+pub step_plan : {X : Type 0} {g : Ghosts X} (h : Header) (i : Input) (front : List Token) (items : List BodyItem) (f f' : Feed X g)
+    (out out' : Device) (e e' : Engine) (result : Result More Stop) → Runs e h i front items f → e'.view ≡ e.view
+    → request_of_engine e' ≡ request_of_engine e
+    → PlanGives KeepsPlan (plan_of (request_of_engine e) h) h i front (λ _ _. ⊤) items e'.task_state e'.regs f' out out' result
+    → StepGives (request_of_engine e) h i front items e' f' out out' result
 step_plan h i front items f f' out out' e e' result s view same gives = by_result result gives
   where
     t : Request
     t = request_of_engine e
 
-    one : (takes : List ℕ → Type 0) (x : BodyItem) → DueBy takes ((plan_of t h).opens items) ((plan_of t h).opens (items ++ x ∷ [])) → DueBy takes (open_text t h items) (open_text t h (items ++ x ∷ []))
+    one : (takes : List ℕ → Type 0) (x : BodyItem) → DueBy takes ((plan_of t h).opens items) ((plan_of t h).opens (items ++ x ∷ []))
+        → DueBy takes (open_text t h items) (open_text t h (items ++ x ∷ []))
     one takes x due = due_by takes _ _ _ _ (opens_all t items s.on h) (opens_one t items s.on h x) due
 
     by_result : (r : Result More Stop) → PlanGives KeepsPlan (plan_of t h) h i front (λ _ _. ⊤) items e'.task_state e'.regs f' out out' r → StepGives t h i front items e' f' out out' r

@@ -5,7 +5,9 @@ use Rattle.vcd_engine.specs.Sample.{names_in}
 
 -- ---- the times before one that is not below a timestamp
 
-pub first_or_len : (test : ℕ → Bool) (xs : List ℕ) (o : Option ℕ) → o ≡ cond (nat_lt (position_or_len test xs) (length xs)) (Some (position_or_len test xs)) None → unwrap_or o (length xs) ≡ position_or_len test xs
+pub first_or_len : (test : ℕ → Bool) (xs : List ℕ) (o : Option ℕ)
+    → o ≡ cond (nat_lt (position_or_len test xs) (length xs)) (Some (position_or_len test xs)) None
+    → unwrap_or o (length xs) ≡ position_or_len test xs
 first_or_len test xs o e = ap (λ p. unwrap_or p (length xs)) e ∙ by_test (nat_lt (position_or_len test xs) (length xs)) refl
   where
     by_test : (b : Bool) → nat_lt (position_or_len test xs) (length xs) ≡ b → unwrap_or (cond b (Some (position_or_len test xs)) None) (length xs) ≡ position_or_len test xs
@@ -73,7 +75,8 @@ module _ (s : Sample) (h : Header) (items : List BodyItem) (x : BodyItem) (is : 
   -- nothing is due
   none_due : open_text (asked_in s) h (items ++ x ∷ []) ≡ open_text (asked_in s) h items ++ []
   none_due =
-      subst (λ ts. sample_open h ts (names_in s) (items ++ x ∷ []) ≡ sample_open h ts (names_in s) items) (sym is.times_are) (open_same h (names_in s) items x is.done s.rest.now other is.settled is.others)
+      subst (λ ts. sample_open h ts (names_in s) (items ++ x ∷ []) ≡ sample_open h ts (names_in s) items) (sym is.times_are)
+      (open_same h (names_in s) items x is.done s.rest.now other is.settled is.others)
       ∙ sym (append-nil (open_text (asked_in s) h items))
 
 -- ---- a timestamp
@@ -194,7 +197,8 @@ module _ (s : Sample) (h : Header) (items : List BodyItem) (is : AreSampled s h 
         };
       }
 
-  pub quiet_item : (text : List ℕ) (item : Item) (x : BodyItem) → IsNoTimestamp item → IsItem h.codes text item x → (t : Table) → AreHeld t h (items ++ x ∷ []) → TakesQuietly (AreSampled (record s { table = t }) h (items ++ x ∷ [])) (asked_in s) h items x
+  pub quiet_item : (text : List ℕ) (item : Item) (x : BodyItem) → IsNoTimestamp item → IsItem h.codes text item x → (t : Table)
+      → AreHeld t h (items ++ x ∷ []) → TakesQuietly (AreSampled (record s { table = t }) h (items ++ x ∷ [])) (asked_in s) h items x
   quiet_item text item x none read t held =
       let other = no_marks h.codes text item x read none in
       record { due = none_due s h items x is other; on = goes_on_other (names_in s) s.times.now x other; keeps = samples_on s h items x is other t held }

@@ -14,7 +14,8 @@ line_is time path value =
     ap (λ l. l ++ 10 ∷ [])
     (append_assoc ((time ++ 32 ∷ []) ++ path) (32 ∷ []) value ∙ append_assoc (time ++ 32 ∷ []) path (32 ∷ value) ∙ append_assoc time (32 ∷ []) (path ++ 32 ∷ value))
 
-module _ (v : HeadView) (h : Header) (i : ℕ) (r : Row) (x : Variable) (items : List BodyItem) (time : ℕ) (views : IsViewOf v h) (at : slice_get v.rows.now i ≡ Some r) (declared : slice_get h.declarations i ≡ Some (Declaration.Var x)) where
+module _ (v : HeadView) (h : Header) (i : ℕ) (r : Row) (x : Variable) (items : List BodyItem) (time : ℕ) (views : IsViewOf v h)
+    (at : slice_get v.rows.now i ≡ Some r) (declared : slice_get h.declarations i ≡ Some (Declaration.Var x)) where
   code_there : slice_get h.codes r.code ≡ Some (code_of x)
   code_there = (row_of (parts v) h i r (Declaration.Var x) views at declared).own.2
 
@@ -38,7 +39,8 @@ module _ (v : HeadView) (h : Header) (i : ℕ) (r : Row) (x : Variable) (items :
       → line_text (decimal time) (path_of (take i h.declarations) (Declaration.Var x)) (shown (value_in (codes_shown v) t r.code)) ≡ sample_lines (declared_at h.declarations i x ∷ []) items time
   line_of t held late e =
       let value = value_is t held e ∙ sym (value_now items (code_of x) time late) in
-      rw e (line_is (decimal time) (path_of (take i h.declarations) (Declaration.Var x)) (shown (value_in (codes_shown v) t r.code)) ∙ ap (λ o. words (decimal time ∷ path_of (take i h.declarations) (Declaration.Var x) ∷ shown o ∷ [])) value ∙ sym (append-nil _))
+      rw e (line_is (decimal time) (path_of (take i h.declarations) (Declaration.Var x)) (shown (value_in (codes_shown v) t r.code))
+      ∙ ap (λ o. words (decimal time ∷ path_of (take i h.declarations) (Declaration.Var x) ∷ shown o ∷ [])) value ∙ sym (append-nil _))
 
 -- ---- the lines of all variables
 

@@ -42,7 +42,8 @@ none_around ds i h = none_below (enclosing ds) (enclosing_below ds)
     none_below (p ∷ ps) all = among_more p ps i (λ e. let l = all.0 in absurd (omega arith)) (none_below ps all.1)
 
 -- an index that is neither this one nor that of an enclosing scope is not marked for a declaration
-not_own : (names : List (List ℕ)) (earlier : List Declaration) (d : Declaration) (i : ℕ) → i ≢ length earlier → is_among (enclosing earlier) i ≡ false → is_among (own names earlier d) i ≡ false
+not_own : (names : List (List ℕ)) (earlier : List Declaration) (d : Declaration) (i : ℕ) → i ≢ length earlier
+    → is_among (enclosing earlier) i ≡ false → is_among (own names earlier d) i ≡ false
 not_own names earlier d i differs around = by_test (is_selected names earlier d)
   where
     by_test : (b : Bool) → is_among (cond b (length earlier ∷ enclosing earlier) []) i ≡ false
@@ -58,7 +59,9 @@ none_before : (names : List (List ℕ)) (earlier ds : List Declaration) (i : ℕ
 none_before names earlier [] i h = refl
 none_before names earlier (d ∷ ds) i h =
     let n = length_more earlier d in
-    among_neither (own names earlier d) (marked_from names (earlier ++ d ∷ []) ds) i (not_own names earlier d i (λ e. absurd (omega arith)) (none_around earlier i (omega arith))) (none_before names (earlier ++ d ∷ []) ds i (omega arith))
+    among_neither (own names earlier d) (marked_from names (earlier ++ d ∷ []) ds) i
+    (not_own names earlier d i (λ e. absurd (omega arith)) (none_around earlier i (omega arith)))
+    (none_before names (earlier ++ d ∷ []) ds i (omega arith))
 
 -- an index that is none of an enclosing scope stays so
 stays_none : (earlier : List Declaration) (d : Declaration) (i : ℕ) → i < length earlier → is_among (enclosing earlier) i ≡ false → is_among (enclosing (earlier ++ d ∷ [])) i ≡ false
@@ -71,11 +74,13 @@ stays_none earlier Declaration.Up i l h = rw (enclosing-up earlier) (without_fir
 stays_none earlier (Declaration.Var v) i l h = rw (enclosing-var earlier v) h
 
 -- no declaration after an index that is none of an enclosing scope marks it
-none_behind : (names : List (List ℕ)) (earlier ds : List Declaration) (i : ℕ) → i < length earlier → is_among (enclosing earlier) i ≡ false → is_among (marked_from names earlier ds) i ≡ false
+none_behind : (names : List (List ℕ)) (earlier ds : List Declaration) (i : ℕ) → i < length earlier → is_among (enclosing earlier) i ≡ false
+    → is_among (marked_from names earlier ds) i ≡ false
 none_behind names earlier [] i l h = refl
 none_behind names earlier (d ∷ ds) i l h =
     let n = length_more earlier d in
-    among_neither (own names earlier d) (marked_from names (earlier ++ d ∷ []) ds) i (not_own names earlier d i (λ e. absurd (omega arith)) h) (none_behind names (earlier ++ d ∷ []) ds i (omega arith) (stays_none earlier d i l h))
+    among_neither (own names earlier d) (marked_from names (earlier ++ d ∷ []) ds) i (not_own names earlier d i (λ e. absurd (omega arith)) h)
+    (none_behind names (earlier ++ d ∷ []) ds i (omega arith) (stays_none earlier d i l h))
 
 -- a list in two, at an element
 parted : {X : Type 0} (xs : List X) (i : ℕ) (x : X) → slice_get xs i ≡ Some x → xs ≡ take i xs ++ x ∷ drop (suc i) xs
@@ -92,7 +97,8 @@ own_is names earlier d = by_test (is_selected names earlier d)
     by_test false = refl
 
 -- the index of a variable is marked just where it is selected
-pub marked_is : (names : List (List ℕ)) (ds : List Declaration) (i : ℕ) (v : Variable) → slice_get ds i ≡ Some (Declaration.Var v) → is_among (marked_places names ds) i ≡ is_selected names (take i ds) (Declaration.Var v)
+pub marked_is : (names : List (List ℕ)) (ds : List Declaration) (i : ℕ) (v : Variable) → slice_get ds i ≡ Some (Declaration.Var v)
+    → is_among (marked_places names ds) i ≡ is_selected names (take i ds) (Declaration.Var v)
 unfolding marked_places
 marked_is names ds i v at =
     let d = Declaration.Var v in
@@ -104,7 +110,8 @@ marked_is names ds i v at =
     let behind = none_behind names (front ++ d ∷ []) rest i (let n = length_more front d in omega arith) around in
     let here : is_among (own names front d) i ≡ is_selected names front d = ap (is_among (own names front d)) (sym few) ∙ own_is names front d in
     let parts : marked_from names [] ds ≡ marked_from names [] front ++ (own names front d ++ marked_from names (front ++ d ∷ []) rest) =
-    ap (marked_from names []) (parted ds i d at) ∙ ap (flat_map (λ ps. ps)) (each_after-append (own names) [] front (d ∷ rest)) ∙ flat_map-append (λ ps. ps) (each_after (own names) [] front) (own names front d ∷ each_after (own names) (front ++ d ∷ []) rest) in
+    ap (marked_from names []) (parted ds i d at) ∙ ap (flat_map (λ ps. ps)) (each_after-append (own names) [] front (d ∷ rest))
+    ∙ flat_map-append (λ ps. ps) (each_after (own names) [] front) (own names front d ∷ each_after (own names) (front ++ d ∷ []) rest) in
     ap (λ ps. is_among ps i) parts ∙ among-append (marked_from names [] front) (own names front d ++ marked_from names (front ++ d ∷ []) rest) i
     ∙ ap (λ b. b || is_among (own names front d ++ marked_from names (front ++ d ∷ []) rest) i) before ∙ among-append (own names front d) (marked_from names (front ++ d ∷ []) rest) i
     ∙ ap (λ b. is_among (own names front d) i || b) behind ∙ or-false (is_among (own names front d) i) ∙ here
@@ -126,20 +133,26 @@ mark_test names ds i m at =
 -- ---- one declaration more
 
 -- what is selected with one declaration more
-pub selected_next : (names : List (List ℕ)) (ds : List Declaration) (i : ℕ) (d : Declaration) → slice_get ds i ≡ Some d → selected names (take (i + 1) ds) ≡ selected names (take i ds) ++ filter_map (λ o. o) (with_path names (take i ds) d ∷ [])
+pub selected_next : (names : List (List ℕ)) (ds : List Declaration) (i : ℕ) (d : Declaration) → slice_get ds i ≡ Some d
+    → selected names (take (i + 1) ds) ≡ selected names (take i ds) ++ filter_map (λ o. o) (with_path names (take i ds) d ∷ [])
 unfolding selected
 selected_next names ds i d at =
     ap (λ n. filter_map (λ o. o) (each (with_path names) (take n ds))) (add-one i) ∙ ap (λ l. filter_map (λ o. o) (each (with_path names) l)) (take-next ds i d at)
-    ∙ ap (filter_map (λ o. o)) (each_after-append (with_path names) [] (take i ds) (d ∷ [])) ∙ filter_map-append (λ o. o) (each (with_path names) (take i ds)) (with_path names (take i ds) d ∷ [])
+    ∙ ap (filter_map (λ o. o)) (each_after-append (with_path names) [] (take i ds) (d ∷ []))
+    ∙ filter_map-append (λ o. o) (each (with_path names) (take i ds)) (with_path names (take i ds) d ∷ [])
 
 -- which codes are selected with one declaration more
 code_next : (names : List (List ℕ)) (ds : List Declaration) (i : ℕ) (d : Declaration) (c : IdCode) → slice_get ds i ≡ Some d
     → selects_code (selected names (take (i + 1) ds)) c ≡ (selects_code (selected names (take i ds)) c || selects_code (filter_map (λ o. o) (with_path names (take i ds) d ∷ [])) c)
 code_next names ds i d c at =
-    ap (λ vs. selects_code vs c) (selected_next names ds i d at) ∙ list_any-append (λ s. bytes_eq s.variable.code c.text) (selected names (take i ds)) (filter_map (λ o. o) (with_path names (take i ds) d ∷ []))
+    ap (λ vs. selects_code vs c) (selected_next names ds i d at)
+    ∙ list_any-append (λ s. bytes_eq s.variable.code c.text) (selected names (take i ds))
+    (filter_map (λ o. o) (with_path names (take i ds) d ∷ []))
 
 -- a variable that is selected has the code
-own_code : (names : List (List ℕ)) (earlier : List Declaration) (v : Variable) (c : IdCode) → selects_code (filter_map (λ o. o) (with_path names earlier (Declaration.Var v) ∷ [])) c ≡ (is_selected names earlier (Declaration.Var v) && bytes_eq v.code c.text)
+own_code : (names : List (List ℕ)) (earlier : List Declaration) (v : Variable) (c : IdCode)
+    → selects_code (filter_map (λ o. o) (with_path names earlier (Declaration.Var v) ∷ [])) c ≡
+    (is_selected names earlier (Declaration.Var v) && bytes_eq v.code c.text)
 own_code names earlier v c = by_test (is_selected names earlier (Declaration.Var v))
   where
     one : Selected
@@ -156,14 +169,16 @@ abbrev chooses : Row → ℕ → ℕ → Bool
 chooses r m place = sameb the_type r.kind kind.Var && (m == 1) && (place == r.code)
 
 -- which codes are selected with one row more
-selects_next : (s : HeadShown) (h : Header) (names : List (List ℕ)) (i : ℕ) (r : Row) (m place : ℕ) (c : IdCode) → Views s h → slice_get s.rows i ≡ Some r → slice_get (marks_of names h.declarations) i ≡ Some m → slice_get h.codes place ≡ Some c
+selects_next : (s : HeadShown) (h : Header) (names : List (List ℕ)) (i : ℕ) (r : Row) (m place : ℕ) (c : IdCode) → Views s h
+    → slice_get s.rows i ≡ Some r → slice_get (marks_of names h.declarations) i ≡ Some m → slice_get h.codes place ≡ Some c
     → selects_code (selected names (take (i + 1) h.declarations)) c ≡ (selects_code (selected names (take i h.declarations)) c || chooses r m place)
 selects_next s h names i r m place c views at mark code = by_kind (row_at s h i r views at)
   where
     front : List Declaration
     front = take i h.declarations
 
-    by_kind : (d : Declaration) × (slice_get h.declarations i ≡ Some d) × IsRow s.text h.codes front r d → selects_code (selected names (take (i + 1) h.declarations)) c ≡ (selects_code (selected names front) c || chooses r m place)
+    by_kind : (d : Declaration) × (slice_get h.declarations i ≡ Some d) × IsRow s.text h.codes front r d
+        → selects_code (selected names (take (i + 1) h.declarations)) c ≡ (selects_code (selected names front) c || chooses r m place)
     by_kind (Declaration.Scope type name, is, row) = code_next names h.declarations i (Declaration.Scope type name) c is ∙ rw row.own.0 refl
     by_kind (Declaration.Up, is, row) = code_next names h.declarations i Declaration.Up c is ∙ rw row.own.0 refl
     by_kind (Declaration.Var v, is, row) =
@@ -176,7 +191,8 @@ selects_next s h names i r m place c views at mark code = by_kind (row_at s h i 
 -- the first rows have chosen what they choose, where a table chose these indexes before
 abbrev pub HaveChosen : HeadShown → List ℕ → (ℕ → Bool) → (ℕ → Bool) → ℕ → Type 0
 HaveChosen s marks old now i =
-    (h : Header) (names : List (List ℕ)) → Views s h → marks ≡ marks_of names h.declarations → (place : ℕ) (c : IdCode) → slice_get h.codes place ≡ Some c → now place ≡ (old place || selects_code (selected names (take i h.declarations)) c)
+    (h : Header) (names : List (List ℕ)) → Views s h → marks ≡ marks_of names h.declarations → (place : ℕ) (c : IdCode)
+    → slice_get h.codes place ≡ Some c → now place ≡ (old place || selects_code (selected names (take i h.declarations)) c)
 
 -- the row and the mark at an index
 pub record AreAt (rows : List Row) (marks : List ℕ) (i : ℕ) (r : Row) (m : ℕ) : Type 0 where
@@ -184,7 +200,8 @@ pub record AreAt (rows : List Row) (marks : List ℕ) (i : ℕ) (r : Row) (m : �
   mark : slice_get marks i ≡ Some m
 
 -- what was read from both lists in turn
-pub are_at : (rows : List Row) (marks : List ℕ) (i : ℕ) (r : Row) (m : ℕ) → (i < length rows) × (i < length marks) × ((d : Row) → r ≡ get_or rows i d) × ((d : ℕ) → m ≡ get_or marks i d) → AreAt rows marks i r m
+pub are_at : (rows : List Row) (marks : List ℕ) (i : ℕ) (r : Row) (m : ℕ) → (i < length rows) × (i < length marks)
+    × ((d : Row) → r ≡ get_or rows i d) × ((d : ℕ) → m ≡ get_or marks i d) → AreAt rows marks i r m
 are_at rows marks i r m t = record { row = slice_get-get_or rows i r t.0 ∙ ap Some (sym (t.2 r)); mark = slice_get-get_or marks i m t.1 ∙ ap Some (sym (t.3 m)) }
 
 -- before the first row nothing was chosen
@@ -193,7 +210,9 @@ unfolding selected
 none_chosen s marks old h names views is place c code = sym (or-false (old place))
 
 -- after the last row the codes of the selected variables are chosen
-pub all_chosen : (s : HeadShown) (marks : List ℕ) (old now : ℕ → Bool) (i : ℕ) (h : Header) (names : List (List ℕ)) (place : ℕ) (c : IdCode) → i ≡ min (length s.rows) (length marks) → HaveChosen s marks old now i → Views s h → marks ≡ marks_of names h.declarations → slice_get h.codes place ≡ Some c
+pub all_chosen : (s : HeadShown) (marks : List ℕ) (old now : ℕ → Bool) (i : ℕ) (h : Header) (names : List (List ℕ)) (place : ℕ) (c : IdCode)
+    → i ≡ min (length s.rows) (length marks) → HaveChosen s marks old now i → Views s h → marks ≡ marks_of names h.declarations
+    → slice_get h.codes place ≡ Some c
     → now place ≡ (old place || selects_code (selected names h.declarations) c)
 unfolding marks_of
 all_chosen s marks old now i h names place c end so_far views is code =
@@ -220,7 +239,8 @@ module _ (s : HeadShown) (marks : List ℕ) (old now : ℕ → Bool) (i : ℕ) (
       ∙ ap (λ b. old place || b) (sym (selects_next s h names i r m place c views there.row (ap (λ l. slice_get l i) (sym is) ∙ there.mark) code))
 
   -- a marked variable: its code is chosen
-  pub next_chosen : (new : ℕ → Bool) → sameb the_type r.kind kind.Var ≡ true → m ≡ 1 → ((place : ℕ) → new place ≡ ((place == r.code) || now place)) → HaveChosen s marks old new (i + 1)
+  pub next_chosen : (new : ℕ → Bool) → sameb the_type r.kind kind.Var ≡ true → m ≡ 1 → ((place : ℕ) → new place ≡ ((place == r.code) || now place))
+      → HaveChosen s marks old new (i + 1)
   next_chosen new var one e = next new (λ place. e place ∙ rw (var, one) refl)
 
   -- no variable: nothing is chosen

@@ -5,7 +5,8 @@ use Rattle.vcd_engine.proofs.BodyOutcomes.{over_matched, over_unmatched}
 use Rattle.vcd_engine.proofs.RunLemmas.{opens_first}
 
 -- a run whose engine was not begun
-pub never_begun : {X : Type 0} {g : Ghosts X} (t : Request) (limit : ℕ) (i : Input) (front : List Token) (h : Header) (name : List ℕ) (chunk : ℕ) (before : Supply) (out out' : Device) (f : Feed X g) (stop : Stop) → limit_of f ≡ limit → HasGiven i front f → StopsAtStart t h out out' stop
+pub never_begun : {X : Type 0} {g : Ghosts X} (t : Request) (limit : ℕ) (i : Input) (front : List Token) (h : Header) (name : List ℕ) (chunk : ℕ)
+    (before : Supply) (out out' : Device) (f : Feed X g) (stop : Stop) → limit_of f ≡ limit → HasGiven i front f → StopsAtStart t h out out' stop
     → Follows t limit chunk i front h name before before out out' (Err stop)
 unfolding body_of
 never_begun t limit i front h name chunk before out out' f stop l st starts = record {
@@ -38,8 +39,11 @@ never_begun t limit i front h name chunk before out out' f stop l st starts = re
     by_stop : (s : Stop) → StopsAtStart t h out out' s → Belongs t (over_dump t name o) name out out' (Err s)
     by_stop Write b =
         let can = b.0 in
-        let whole = opens_first t h (items_in o) name (fault_in o) can.valid in
-        (subst (AppendsSome out.held out'.held) (sym (ap (λ (x : Outcome). x.output) (over_matched t name o can.body can.matched) ∙ whole.1)) (appends-first out.held out'.held (open_text t h []) whole.0 b.1.0), b.1.1)
+        let whole = opens_first t h (items_in o) name (fault_in o) can.valid in (
+          subst (AppendsSome out.held out'.held) (sym (ap (λ (x : Outcome). x.output) (over_matched t name o can.body can.matched) ∙ whole.1))
+              (appends-first out.held out'.held (open_text t h []) whole.0 b.1.0),
+          b.1.1,
+        )
     by_stop (Unmatched place) b = let e = over_unmatched t name o place b.0 in (e, subst (λ (x : Outcome). Writes out out' x.output) (sym e) b.1)
     by_stop (Dump input line fault) b = absurd b
     by_stop (Read input) b = absurd b

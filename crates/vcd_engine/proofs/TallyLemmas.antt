@@ -113,7 +113,8 @@ module _ (n : Counts) (k : Kept) (small : AreSmall n) (is : k.counts ≡ numbers
       let z2 : n.falls ≡ n.falls + 0 = omega arith in
       by_tests fall rise e0 e1 e2 z1 z2
     where
-      by_tests : (fall rise : Bool) → min (n.changes + 1) (2 ^ 64 - 1) ≡ n.changes + 1 → min (n.rises + 1) (2 ^ 64 - 1) ≡ n.rises + 1 → min (n.falls + 1) (2 ^ 64 - 1) ≡ n.falls + 1 → n.rises ≡ n.rises + 0 → n.falls ≡ n.falls + 0
+      by_tests : (fall rise : Bool) → min (n.changes + 1) (2 ^ 64 - 1) ≡ n.changes + 1 → min (n.rises + 1) (2 ^ 64 - 1) ≡ n.rises + 1
+          → min (n.falls + 1) (2 ^ 64 - 1) ≡ n.falls + 1 → n.rises ≡ n.rises + 0 → n.falls ≡ n.falls + 0
           → (with_step rise fall k).counts ≡ (n.changes + 1) ∷ (n.rises + cond rise 1 0) ∷ (n.falls + cond fall 1 0) ∷ []
       by_tests true true e0 e1 e2 z1 z2 = rw (is, e0, e1, e2) refl
       by_tests true false e0 e1 e2 z1 z2 = rw (is, e0, e2) (ap (λ m. (n.changes + 1) ∷ m ∷ (n.falls + 1) ∷ []) z1)
@@ -193,7 +194,9 @@ module _ (v : HeadView) (h : Header) (items : List BodyItem) (place : ℕ) (c : 
         elsewhere p x there none false e = refl
 
     -- its counters, and those of the others
-    mark_counted : (t : Table) (old : Table) (inside : Bool) → inside ≡ leaves_open items → ((p : ℕ) → (p == place) ≡ false → counts_at t p ≡ counts_at old p) → counts_at t place ≡ numbers (with_mark (counts_for items c) inside) → AreTallied old h items
+    mark_counted : (t : Table) (old : Table) (inside : Bool) → inside ≡ leaves_open items
+        → ((p : ℕ) → (p == place) ≡ false → counts_at t p ≡ counts_at old p) → counts_at t place ≡ numbers (with_mark (counts_for items c) inside)
+        → AreTallied old h items
         → (p : ℕ) (x : IdCode) → slice_get h.codes p ≡ Some x → counts_at t p ≡ numbers (counts_for (items ++ BodyItem.Changes d ∷ []) x)
     mark_counted t old inside is apart one tallied p x there = by_test (p == place) refl
       where
@@ -202,17 +205,20 @@ module _ (v : HeadView) (h : Header) (items : List BodyItem) (place : ℕ) (c : 
             let at = eqb-true p place e in
             let same = here p x there e in
             let more = counts_mark c items d (ap (same_code c) of ∙ self_code) event in
-            ap (counts_at t) at ∙ one ∙ ap (λ b. numbers (with_mark (counts_for items c) b)) is ∙ ap numbers (sym more) ∙ ap (λ (y : IdCode). numbers (counts_for (items ++ BodyItem.Changes d ∷ []) y)) (sym same)
+            ap (counts_at t) at ∙ one ∙ ap (λ b. numbers (with_mark (counts_for items c) b)) is ∙ ap numbers (sym more)
+            ∙ ap (λ (y : IdCode). numbers (counts_for (items ++ BodyItem.Changes d ∷ []) y)) (sym same)
         by_test false e = apart p e ∙ tallied.counted p x there ∙ ap numbers (sym (counts_other x items (BodyItem.Changes d) (gives p x there e)))
 
     -- outside a section it counts
-    pub mark_tallied : (old new : Table) → IsLaidOut new → ChangesCode place (one_more 0) old new → false ≡ leaves_open items → length items < 2 ^ 63 → AreTallied old h items → AreTallied new h (items ++ BodyItem.Changes d ∷ [])
+    pub mark_tallied : (old new : Table) → IsLaidOut new → ChangesCode place (one_more 0) old new → false ≡ leaves_open items → length items < 2 ^ 63
+        → AreTallied old h items → AreTallied new h (items ++ BodyItem.Changes d ∷ [])
     mark_tallied old new laid changes outside few tallied =
         let k = tallied.held.shares place c declared in
         let was = ap counts_in (sym k.1) ∙ tallied.counted place c declared in
         record {
           held = mark_held new (counted_held old new place (one_more 0) changes laid (λ x. (refl, refl)) h items tallied.held);
-          counted = mark_counted new old false outside (counts_apart old new place (one_more 0) changes) (counts_there old new place (one_more 0) changes k.0 k.1 ∙ one_mark (counts_for items c) k.0 (small_counts c items few) was) tallied;
+          counted = mark_counted new old false outside (counts_apart old new place (one_more 0) changes)
+              (counts_there old new place (one_more 0) changes k.0 k.1 ∙ one_mark (counts_for items c) k.0 (small_counts c items few) was) tallied;
         }
 
     -- inside one it does not
@@ -240,7 +246,8 @@ module _ (v : HeadView) (h : Header) (items : List BodyItem) (place : ℕ) (c : 
     more_counts = counts_new c items change self_code event
 
     -- the counters of the others stay
-    value_counted : (t : Table) (old : Table) → ((p : ℕ) → (p == place) ≡ false → counts_at t p ≡ counts_at old p) → counts_at t place ≡ numbers (with_value (counts_for items c) (final_value items c) (value_of change)) → AreTallied old h items
+    value_counted : (t : Table) (old : Table) → ((p : ℕ) → (p == place) ≡ false → counts_at t p ≡ counts_at old p)
+        → counts_at t place ≡ numbers (with_value (counts_for items c) (final_value items c) (value_of change)) → AreTallied old h items
         → (p : ℕ) (x : IdCode) → slice_get h.codes p ≡ Some x → counts_at t p ≡ numbers (counts_for (items ++ BodyItem.Changes change ∷ []) x)
     value_counted t old apart one tallied p x there = by_test (p == place) refl
       where
@@ -256,14 +263,21 @@ module _ (v : HeadView) (h : Header) (items : List BodyItem) (place : ℕ) (c : 
     now_counted o n k small is = by_case (differs o (value_of change)) refl
       where
         step : Step
-        step = record { differs = differs o (value_of change); rises = goes_from 48 49 (last_digit_in o) (last_digit_in (Some (value_of change))); falls = goes_from 49 48 (last_digit_in o) (last_digit_in (Some (value_of change))) }
+        step = record {
+          differs = differs o (value_of change);
+          rises = goes_from 48 49 (last_digit_in o)
+              (last_digit_in (Some (value_of change)));
+          falls = goes_from 49 48 (last_digit_in o) (last_digit_in (Some (value_of change)));
+        }
 
         by_case : (b : Bool) → differs o (value_of change) ≡ b → (with_counted o (value_of change) k).counts ≡ numbers (with_value n o (value_of change))
         by_case true e = ap (λ (b : Bool). (cond b (with_step step.rises step.falls k) k).counts) e ∙ counted_value n k small is step o (value_of change) (refl, refl, refl) e
         by_case false e = ap (λ (b : Bool). (cond b (with_step step.rises step.falls k) k).counts) e ∙ is ∙ not_counted n o (value_of change) e
 
     -- a value that the table set and counted
-    pub follow_tallied : (old new : Table) (size : ℕ) → c.size ≡ size → IsLaidOut new → ChangesCode place (with_change size form text) old new → SetsValue form text place old new → length items < 2 ^ 63 → AreTallied old h items → AreTallied new h (items ++ BodyItem.Changes change ∷ [])
+    pub follow_tallied : (old new : Table) (size : ℕ) → c.size ≡ size → IsLaidOut new → ChangesCode place (with_change size form text) old new
+        → SetsValue form text place old new → length items < 2 ^ 63 → AreTallied old h items
+        → AreTallied new h (items ++ BodyItem.Changes change ∷ [])
     follow_tallied old new size is laid changes value few tallied =
         let k = tallied.held.shares place c declared in
         let was = ap counts_in (sym k.1) ∙ tallied.counted place c declared in
@@ -274,7 +288,8 @@ module _ (v : HeadView) (h : Header) (items : List BodyItem) (place : ℕ) (c : 
           held = change_holds v h old new items place form text c views declared tallied.held (with_change size form text) (change_room size) changes laid good value;
           counted = value_counted new old (counts_apart old new place (with_change size form text) changes)
               (counts_there old new place (with_change size form text) changes k.0 k.1
-              ∙ ap (λ (b : Bool). (cond b (with_counted (value_at_size size k.0.held) (value_with size (model_form form) text) (with_text form text k.0)) k.0).counts) (lt-ltb 0 (length text) text_there)
+              ∙ ap (λ (b : Bool). (cond b (with_counted (value_at_size size k.0.held) (value_with size (model_form form) text)
+              (with_text form text k.0)) k.0).counts) (lt-ltb 0 (length text) text_there)
               ∙ ap (λ (n : ℕ). (with_counted (value_at_size size k.0.held) (value_with n (model_form form) text) (with_text form text k.0)).counts) (sym is)
               ∙ ap (λ (o : Option Value). (with_counted o (value_of change) (with_text form text k.0)).counts) before
               ∙ now_counted (final_value items c) (counts_for items c) (with_text form text k.0) (small_counts c items few) was) tallied;
@@ -319,7 +334,8 @@ still_tallied t h items x none tallied = record {
 
 -- ---- what a view shows of a code
 
-pub shown_there : (v : HeadView) (h : Header) (place : ℕ) (d : Code) (c : IdCode) → IsViewOf v h → slice_get v.codes.now place ≡ Some d → slice_get h.codes place ≡ Some c → (c.size ≡ d.size) × (c.event ≡ d.event)
+pub shown_there : (v : HeadView) (h : Header) (place : ℕ) (d : Code) (c : IdCode) → IsViewOf v h → slice_get v.codes.now place ≡ Some d
+    → slice_get h.codes place ≡ Some c → (c.size ≡ d.size) × (c.event ≡ d.event)
 shown_there v h place d c views shown declared =
     let m = code_at v.text.now v.codes.now h.codes place c views.codes declared in
     let known = m.1 in
@@ -327,7 +343,9 @@ shown_there v h place d c views shown declared =
     (sym m.2.size_is ∙ ap (λ (y : Code). y.size) same, sym m.2.event_is ∙ ap (λ (y : Code). y.event) same)
 
 -- where a look-up gave a size, the code has it, and is no event
-pub sized_there : (v : HeadView) (h : Header) (place most : ℕ) (c : IdCode) → IsViewOf v h → IsSized v.codes.now (record { position = place; size_or_zero = most }) → slice_get h.codes place ≡ Some c → most ≢ 0 → (c.size ≡ most) × (c.event ≡ false)
+pub sized_there : (v : HeadView) (h : Header) (place most : ℕ) (c : IdCode) → IsViewOf v h
+    → IsSized v.codes.now (record { position = place; size_or_zero = most }) → slice_get h.codes place ≡ Some c → most ≢ 0 → (c.size ≡ most)
+    × (c.event ≡ false)
 sized_there v h place most c views (d, there, is) declared some =
     let shown = shown_there v h place d c views there declared in
     let told = by_tests d.event (nat_le (2 ^ 32) d.size) refl is in

@@ -11,7 +11,8 @@ text_is : (path a b c : List ℕ) → (((path ++ 32 ∷ a) ++ 32 ∷ b) ++ 32 �
 text_is path a b c = ap (λ l. l ++ 10 ∷ []) (append_assoc (path ++ 32 ∷ a) (32 ∷ b) (32 ∷ c) ∙ append_assoc path (32 ∷ a) (32 ∷ (b ++ 32 ∷ c)))
 
 -- what is written of a variable's row is its line
-pub row_is : (v : HeadView) (h : Header) (t : Table) (items : List BodyItem) (i : ℕ) (r : Row) (x : Variable) (ns : List ℕ) → IsViewOf v h → AreTallied t h items → slice_get v.rows.now i ≡ Some r → slice_get h.declarations i ≡ Some (Declaration.Var x) → ns ≡ counts_at t r.code
+pub row_is : (v : HeadView) (h : Header) (t : Table) (items : List BodyItem) (i : ℕ) (r : Row) (x : Variable) (ns : List ℕ) → IsViewOf v h
+    → AreTallied t h items → slice_get v.rows.now i ≡ Some r → slice_get h.declarations i ≡ Some (Declaration.Var x) → ns ≡ counts_at t r.code
     → row_text (path_of (take i h.declarations) (Declaration.Var x)) ns ≡ edges_line items (declared_at h.declarations i x)
 row_is v h t items i r x ns views tallied at declared is =
     let path = path_of (take i h.declarations) (Declaration.Var x) in

@@ -14,7 +14,8 @@ other_kind kind.Scope e q = cc
 other_kind kind.Up e q = cc
 other_kind kind.Var e q = cc
 
-pub read_other : (s : HeadShown) (i : ℕ) (x : Row) (b : Bool) → b ≡ sameb the_type (get_or s.rows i x).kind kind.Var → b ≡ false → i < length s.rows → (r : Row) × (slice_get s.rows i ≡ Some r) × (r.kind ≢ kind.Var)
+pub read_other : (s : HeadShown) (i : ℕ) (x : Row) (b : Bool) → b ≡ sameb the_type (get_or s.rows i x).kind kind.Var → b ≡ false → i < length s.rows
+    → (r : Row) × (slice_get s.rows i ≡ Some r) × (r.kind ≢ kind.Var)
 read_other s i x b e differs l = (get_or s.rows i x, read_row s i x l, other_kind (get_or s.rows i x).kind (sym e ∙ differs))
 
 same_kind : (k : Kind) → sameb the_type k kind.Var ≡ true → k ≡ kind.Var

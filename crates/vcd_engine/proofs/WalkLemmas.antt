@@ -11,7 +11,9 @@ abbrev PassesTo : Ahead → ℕ → Type 0
 PassesTo a to = (lines : ℕ) (ts : List Token) → Passed (longest_of a) lines (bytes_of a) (passed_of a) ts → (more : List Token) × Passed (longest_of a) lines (bytes_of a) to (ts ++ more)
 
 -- it begins with no item, and with nothing that is pending
-pub walk_begins : (v : HeadView) (a : Ahead) (r : Regs) (m : TaskState) (out : Device) (line : ℕ × ℕ) (p : PendingCopy) → passed_of a ≤ length (bytes_of a) → ((bytes : List ℕ) (time : ℕ) → IsLine bytes line time) → IsPart (bytes_of a) p → pending_in (bytes_of a) p ≡ [] → HasWalked v a r m out (walk_at a r line) p out m
+pub walk_begins : (v : HeadView) (a : Ahead) (r : Regs) (m : TaskState) (out : Device) (line : ℕ × ℕ) (p : PendingCopy)
+    → passed_of a ≤ length (bytes_of a) → ((bytes : List ℕ) (time : ℕ) → IsLine bytes line time) → IsPart (bytes_of a) p
+    → pending_in (bytes_of a) p ≡ [] → HasWalked v a r m out (walk_at a r line) p out m
 walk_begins v a r m out line p within unknown part none = record {
   over = (refl, refl);
   within = within;
@@ -65,7 +67,8 @@ module _ (v : HeadView) (a : Ahead) (r : Regs) (m : TaskState) (begin : Device) 
         }
 
     -- or a write of what is due with it failed
-    pub walk_fails : (t : AheadEnd) (failed : E) → result ≡ Err failed → t.passed ≡ passed_of w'.ahead → t.regs ≡ w'.regs → (told : _) → t.written ≡ Err told → PassesTo a (passed_of w'.ahead) → RunsOver v a r m m'' begin out' t
+    pub walk_fails : (t : AheadEnd) (failed : E) → result ≡ Err failed → t.passed ≡ passed_of w'.ahead → t.regs ≡ w'.regs → (told : _)
+        → t.written ≡ Err told → PassesTo a (passed_of w'.ahead) → RunsOver v a r m m'' begin out' t
     walk_fails t failed e passed_is regs_is told written_is passes =
         let task = request_in m in
         let limit = longest_of a in
@@ -80,7 +83,8 @@ module _ (v : HeadView) (a : Ahead) (r : Regs) (m : TaskState) (begin : Device) 
         })
 
   -- it ends, and what is pending is written
-  pub walk_ends : (out' : Device) (t : AheadEnd) → t.passed ≡ passed_of w.ahead → t.regs ≡ w.regs → PassesTo a (passed_of w.ahead) → Puts out out' (pending_in (bytes_of w.ahead) p) t.written → RunsOver v a r m m' begin out' t
+  pub walk_ends : (out' : Device) (t : AheadEnd) → t.passed ≡ passed_of w.ahead → t.regs ≡ w.regs → PassesTo a (passed_of w.ahead)
+      → Puts out out' (pending_in (bytes_of w.ahead) p) t.written → RunsOver v a r m m' begin out' t
   walk_ends out' t passed_is regs_is passes puts =
       let here = subst (λ (bs : List ℕ). Puts out out' (pending_in bs p) t.written) walked.over.1 puts in
       record {
@@ -100,7 +104,8 @@ module _ {L C : Type 0} (line : L → ℕ × ℕ) (is_ready : C → Bool) (task_
   passed_to z ended on lines ts passed = (walk_passes _ _ _ _ s (longest_of s.ahead) lines (bytes_of s.ahead) ts (refl, refl) passed z ended on).1
 
   module _ (r : Regs) (m : TaskState) (begin : Device) (walked : HasWalked v s.ahead r m begin (walk_of line s) s.visit.pending s.out (task_state s.command)) where
-    along : (z : Stage (WalkState L) C) → Trail (TakesByTask line task_state) (CanTake line is_ready) (λ _. false) v s z → HasWalked v s.ahead r m begin (walk_of line z) z.visit.pending z.out (task_state z.command)
+    along : (z : Stage (WalkState L) C) → Trail (TakesByTask line task_state) (CanTake line is_ready) (λ _. false) v s z
+        → HasWalked v s.ahead r m begin (walk_of line z) z.visit.pending z.out (task_state z.command)
     along z Begins = walked
     along _ (Further b c so_far one on) = walk_on v s.ahead r m begin _ _ _ _ (along b so_far) _ _ _ _ _ one.did tt refl
     along _ (Past b c so_far there none is) = rw is (walk_past v s.ahead r m begin _ _ _ _ (along b so_far) there none)
@@ -111,5 +116,7 @@ module _ {L C : Type 0} (line : L → ℕ × ℕ) (is_ready : C → Bool) (task_
     walk_over z true on = let e = on.3 in absurd (cc)
 
     -- or a write of what is due with one more failed
-    pub walk_wrong : (z : Stage (WalkState L) C) (e : WriteFailed) → On z (Err e) → (t : AheadEnd) → t.passed ≡ passed_of z.ahead → t.regs ≡ z.regs → t.written ≡ Err e → RunsOver v s.ahead r m (task_state z.command) begin z.out t
-    walk_wrong z e on t passed_is regs_is written_is = walk_fails v s.ahead r m begin _ _ _ _ (along on.0 on.1.trail) _ _ _ _ _ on.2.did t e refl passed_is regs_is e written_is (passed_to z (Err e) on)
+    pub walk_wrong : (z : Stage (WalkState L) C) (e : WriteFailed) → On z (Err e) → (t : AheadEnd) → t.passed ≡ passed_of z.ahead → t.regs ≡ z.regs
+        → t.written ≡ Err e → RunsOver v s.ahead r m (task_state z.command) begin z.out t
+    walk_wrong z e on t passed_is regs_is written_is = walk_fails v s.ahead r m begin _ _ _ _
+        (along on.0 on.1.trail) _ _ _ _ _ on.2.did t e refl passed_is regs_is e written_is (passed_to z (Err e) on)

@@ -35,7 +35,8 @@ module _ (task : Request) (h : Header) (limit lines : ℕ) (bytes : List ℕ) (b
   -- these failed
   abbrev pub EndsAhead : {A E : Type 0} → ℕ → TaskState → Regs → Device → Device → Result A E → List BodyItem → Type 0
   EndsAhead n m r out out' (Ok v) items = StandsAhead n items m r × Grows out out' (open_text task h before) (open_text task h (before ++ items))
-  EndsAhead n m r out out' (Err e) items = GaveAhead h.codes limit lines bytes n before items × AreRegsAfter (before ++ items) r × GrowsSome out out' (open_text task h before) (open_text task h (before ++ items))
+  EndsAhead n m r out out' (Err e) items = GaveAhead h.codes limit lines bytes n before items × AreRegsAfter (before ++ items) r
+      × GrowsSome out out' (open_text task h before) (open_text task h (before ++ items))
 
   -- some of the items were taken, of which none ends the run, and what is due with them was
   -- written, or a prefix of it if a write failed
@@ -44,7 +45,8 @@ module _ (task : Request) (h : Header) (limit lines : ℕ) (bytes : List ℕ) (b
 
 -- what a task leaves that takes the items which lie completely in the chunk, from a position on
 pub record RunsOver (v : HeadView) (a : Ahead) (r : Regs) (m m' : TaskState) (out out' : Device) (t : AheadEnd) : Type 0 where
-  pub gives : (h : Header) (lines : ℕ) (before : List BodyItem) → IsViewOf v h → length before + length (bytes_of a) < 2 ^ 63 → StandsAhead (request_in m) h (longest_of a) lines (bytes_of a) before (passed_of a) [] m r
+  pub gives : (h : Header) (lines : ℕ) (before : List BodyItem) → IsViewOf v h → length before + length (bytes_of a) < 2 ^ 63
+      → StandsAhead (request_in m) h (longest_of a) lines (bytes_of a) before (passed_of a) [] m r
       → RunsAhead (request_in m) h (longest_of a) lines (bytes_of a) before t.passed m' t.regs out out' t.written
   pub passes : (lines : ℕ) (ts : List Token) → Passed (longest_of a) lines (bytes_of a) (passed_of a) ts → (more : List Token) × Passed (longest_of a) lines (bytes_of a) t.passed (ts ++ more)
   pub counts : Counts out out' t.written

@@ -125,7 +125,8 @@ TakesOne holds task h items x out out' result = TakesOneBy (λ due. Takes out ou
 
 -- this holds of an item of any header and any items before it, after which the registers are these
 abbrev pub AtItem : HeadView → Regs → Item → List ℕ → (Header → List BodyItem → BodyItem → Type 0) → Type 0
-AtItem v r item text holds = (h : Header) (items : List BodyItem) (before : Regs) (x : BodyItem) → IsViewOf v h → AreRegsAfter items before → r ≡ regs_after before item → IsItem h.codes text item x → length items < 2 ^ 63 → holds h items x
+AtItem v r item text holds = (h : Header) (items : List BodyItem) (before : Regs) (x : BodyItem) → IsViewOf v h → AreRegsAfter items before
+    → r ≡ regs_after before item → IsItem h.codes text item x → length items < 2 ^ 63 → holds h items x
 
 -- what is due with an item of any header, after any items of which the first holds, was written;
 -- the second holds of all of them, if the item does not end the run
@@ -134,7 +135,8 @@ TakesEach v r item text holds after task out out' result = AtItem v r item text 
 
 -- what is due with a timestamp of this time was written, in this way
 abbrev pub TakesTime : {E : Type 0} → HeadView → ℕ → (holds after : Header → List BodyItem → Type 0) → Request → Device → Device → Result Bool E → Type 0
-TakesTime v time holds after task out out' result = (h : Header) (items : List BodyItem) → IsViewOf v h → holds h items → TakesOne (after h (items ++ BodyItem.Time time ∷ [])) task h items (BodyItem.Time time) out out' result
+TakesTime v time holds after task out out' result = (h : Header) (items : List BodyItem) → IsViewOf v h → holds h items
+    → TakesOne (after h (items ++ BodyItem.Time time ∷ [])) task h items (BodyItem.Time time) out out' result
 
 -- this text of any header and all items of its body was put
 abbrev pub ClosesOver : {A E : Type 0} → HeadView → (holds : Header → List BodyItem → Type 0) → (text : Header → List BodyItem → List ℕ) → Device → Device → Result A E → Type 0

@@ -34,7 +34,8 @@ LastTells written t = time_unless written t ≡ time_due (last_or None written) 
 -- an item with this text is put as one more kept entry, at this time: `takes` holds of what is due
 -- with it
 abbrev pub PutsEntry : {A E : Type 0} → (List ℕ → Type 0) → HeadView → ℕ → Item → List ℕ → ItemText → ItemText → Result A E → Type 0
-PutsEntry takes v time item text t t' result = (h : Header) (before : List ℕ) (kept : List Entry) (e : Entry) → IsViewOf v h → IsItem h.codes text item e.item → e.time ≡ time → HasWritten before kept t → LastTells (times_with before kept) time
+PutsEntry takes v time item text t t' result = (h : Header) (before : List ℕ) (kept : List Entry) (e : Entry) → IsViewOf v h
+    → IsItem h.codes text item e.item → e.time ≡ time → HasWritten before kept t → LastTells (times_with before kept) time
     → DueBy takes (text_after before kept) (text_after before (kept ++ e ∷ [])) × IfOk result (λ _. HasWritten before (kept ++ e ∷ []) t')
 
 -- the item that was read last, as an item of the definitions

@@ -38,4 +38,5 @@ pub record LeadOn (names : List (List ℕ)) (ds : List Declaration) (marks : Lis
 -- this holds of any header that the view shows, with marks that lead on for names, and of any items
 -- after which the table holds the values
 abbrev pub AnySampled : HeadView → Table → List ℕ → (Header → List BodyItem → List (List ℕ) → Type 0) → Type 0
-AnySampled view table marks Holds = (h : Header) (items : List BodyItem) (names : List (List ℕ)) → IsViewOf view h → LeadOn names h.declarations marks → AreHeld table h items → Holds h items names
+AnySampled view table marks Holds = (h : Header) (items : List BodyItem) (names : List (List ℕ)) → IsViewOf view h
+    → LeadOn names h.declarations marks → AreHeld table h items → Holds h items names

@@ -37,12 +37,14 @@ HasLine w = IsLine (bytes_of w.ahead) w.line w.regs.time
 
 -- a timestamp with which nothing is due was taken
 abbrev pub TakesTimestamp : ℕ → TaskState → TaskState → Type 0
-TakesTimestamp time m m' = (h : Header) (items : List BodyItem) → length items < 2 ^ 63 → Keeps m h items → TakesQuietly (Keeps m' h (items ++ BodyItem.Time time ∷ [])) (request_in m) h items (BodyItem.Time time)
+TakesTimestamp time m m' = (h : Header) (items : List BodyItem) → length items < 2 ^ 63 → Keeps m h items
+    → TakesQuietly (Keeps m' h (items ++ BodyItem.Time time ∷ [])) (request_in m) h items (BodyItem.Time time)
 
 -- an item was taken, and what is due with it put after the text that is pending
 abbrev pub PutsItem : {A E : Type 0} → HeadView → Regs → ScannedItem → PendingCopy → PendingCopy → Device → Device → TaskState → TaskState → Result A E → Type 0
 PutsItem v r c p p' out out' m m' result = AtItem v r c.item c.text.now (λ h items x. Keeps m h items
-    → DueBy (λ due. PutsOn (pending_in c.bytes.now p) (pending_in c.bytes.now p') out out' due result) (open_text (request_in m) h items) (open_text (request_in m) h (items ++ x ∷ [])) × IfOk result (λ _. Keeps m' h (items ++ x ∷ [])))
+    → DueBy (λ due. PutsOn (pending_in c.bytes.now p) (pending_in c.bytes.now p') out out' due result) (open_text (request_in m) h items)
+    (open_text (request_in m) h (items ++ x ∷ [])) × IfOk result (λ _. Keeps m' h (items ++ x ∷ [])))
 
 -- what is due with one more item was taken; the item does not end the run, and then this holds
 pub record TakesMore {A E : Type 0} (takes : List ℕ → Type 0) (holds : Type 0) (task : Request) (h : Header) (items : List BodyItem) (x : BodyItem) (result : Result A E) : Type 0 where
@@ -56,7 +58,8 @@ pub record TakesNext {A E : Type 0} (v : HeadView) (w w' : Walk) (p p' : Pending
   pub item : TakesItem v w.ahead w'.ahead w.regs scanned
   pub regs : w'.regs ≡ regs_after w.regs scanned.item
   pub line : HasLine w'
-  pub one : (h : Header) (items : List BodyItem) (x : BodyItem) → IsViewOf v h → AreRegsAfter items w.regs → IsItem h.codes scanned.text.now scanned.item x → length items < 2 ^ 63 → Keeps m h items
+  pub one : (h : Header) (items : List BodyItem) (x : BodyItem) → IsViewOf v h → AreRegsAfter items w.regs
+      → IsItem h.codes scanned.text.now scanned.item x → length items < 2 ^ 63 → Keeps m h items
       → TakesMore (λ due. PutsOn (pending_in (bytes_of w.ahead) p) (pending_in (bytes_of w.ahead) p') out out' due result) (Keeps m' h (items ++ x ∷ [])) (request_in m) h items x result
   pub counts : Counts out out' result
   pub part : IfOk result (λ _. IsPart (bytes_of w.ahead) p')

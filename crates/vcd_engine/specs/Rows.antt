@@ -8,4 +8,5 @@ use Rattle.vcd_view.specs.declared.view.HeadView.{HeadView}
 
 -- this holds of any header and the variable that it declares at a row, with its path
 abbrev pub AtRow : HeadView → ℕ → (Header → Selected → Type 0) → Type 0
-AtRow v row holds = (h : Header) (d : Variable) → IsViewOf v h → slice_get h.declarations row ≡ Some (Declaration.Var d) → holds h (record { path = path_of (take row h.declarations) (Declaration.Var d); variable = d })
+AtRow v row holds = (h : Header) (d : Variable) → IsViewOf v h → slice_get h.declarations row ≡ Some (Declaration.Var d)
+    → holds h (record { path = path_of (take row h.declarations) (Declaration.Var d); variable = d })

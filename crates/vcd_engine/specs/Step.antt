@@ -43,7 +43,8 @@ StepGives task h i front items e f out out' (Err (Unmatched name)) = ⊥
 
 -- the same after any items of any input
 abbrev pub Steps : {X W : Type 0} {g : Ghosts X} → (W → Device) → Engine → Engine → Feed X g → Feed X g → W → W → Result More Stop → Type 0
-Steps device e e' f f' out out' result = (h : Header) (i : Input) (front : List Token) (items : List BodyItem) → Runs e h i front items f → StepGives (request_of_engine e) h i front items e' f' (device out) (device out') result
+Steps device e e' f f' out out' result = (h : Header) (i : Input) (front : List Token) (items : List BodyItem) → Runs e h i front items f
+    → StepGives (request_of_engine e) h i front items e' f' (device out) (device out') result
 
 -- a step ends the run early only if a timestamp may end it
 abbrev pub MayEnd : Request → Result More Stop → Type 0

@@ -33,7 +33,8 @@ use Rattle.vcd_engine.specs.Room.{FitsBound}
 -- outcome; a failed write leaves a prefix of the output
 abbrev pub Belongs : Request → Outcome → List ℕ → Device → Device → Result Done Stop → Type 0
 Belongs task o name out out' (Ok done) = (o ≡ clean_outcome o.output) × Writes out out' o.output
-Belongs task o name out out' (Err (Dump input line fault)) = (input ≡ 0) × (o ≡ fault_outcome o.output name (record { number = fault; line = line })) × ((fault == 31) ≡ false) × Writes out out' o.output
+Belongs task o name out out' (Err (Dump input line fault)) = (input ≡ 0) × (o ≡ fault_outcome o.output name (record { number = fault; line = line }))
+    × ((fault == 31) ≡ false) × Writes out out' o.output
 Belongs task o name out out' (Err (Read input)) = (input ≡ 0) × ((line : ℕ) × (o ≡ fault_outcome o.output name (record { number = 31; line = line }))) × Writes out out' o.output
 Belongs task o name out out' (Err Write) = WritesSome out out' o.output
 Belongs task o name out out' (Err (Unmatched index)) = (o ≡ unmatched_outcome (name_at (names_of task) index)) × Writes out out' o.output
@@ -49,7 +50,8 @@ IsRefused task h (Unmatched index) = first_unmatched (names_of task) h.declarati
 IsRefused task h stop = Unit {0}
 
 -- after these tokens, which are those of this header, a run does this task
-pub record Follows (task : Request) (limit chunk : ℕ) (i : Input) (front : List Token) (h : Header) (name : List ℕ) (old new : Supply) (out out' : Device) (result : Result Done Stop) : Type 0 where
+pub record Follows (task : Request) (limit chunk : ℕ) (i : Input) (front : List Token) (h : Header) (name : List ℕ) (old new : Supply)
+    (out out' : Device) (result : Result Done Stop) : Type 0 where
   pub left : Input
   pub is_left : IsLeft i old new left
   pub rest : List Token
@@ -65,7 +67,8 @@ pub record Follows (task : Request) (limit chunk : ℕ) (i : Input) (front : Lis
 
 -- the same over any header and any input
 abbrev pub Does : {X : Type 0} {g : Ghosts X} → Request → HeadView → (old new : Feed X g) → (out out' : Device) → Result Done Stop → Type 0
-Does task v old new out out' result = (h : Header) (i : Input) (front : List Token) (name : List ℕ) → IsViewOf v h → HasGiven i front old → Follows task (limit_of old) (chunk_len_of old) i front h name (supply_of old) (supply_of new) out out' result
+Does task v old new out out' result = (h : Header) (i : Input) (front : List Token) (name : List ℕ) → IsViewOf v h → HasGiven i front old
+    → Follows task (limit_of old) (chunk_len_of old) i front h name (supply_of old) (supply_of new) out out' result
 
 -- it ends early only if a timestamp may end it
 abbrev pub EndsAsAsked : Request → Result Done Stop → Type 0

@@ -29,7 +29,8 @@ pub record HasWalked (v : HeadView) (a : Ahead) (r : Regs) (m : TaskState) (begi
   pub same : SameTask m m'
   pub part : IsPart (bytes_of w.ahead) p
   pub line : HasLine w
-  pub stands : (h : Header) (lines : ℕ) (before : List BodyItem) → IsViewOf v h → length before + length (bytes_of a) < 2 ^ 63 → StandsAhead (request_in m) h (longest_of a) lines (bytes_of a) before (passed_of a) [] m r
+  pub stands : (h : Header) (lines : ℕ) (before : List BodyItem) → IsViewOf v h → length before + length (bytes_of a) < 2 ^ 63
+      → StandsAhead (request_in m) h (longest_of a) lines (bytes_of a) before (passed_of a) [] m r
       → (items : List BodyItem) × StandsAhead (request_in m) h (longest_of a) lines (bytes_of a) before (passed_of w.ahead) items m' w.regs
       × GrowsBut begin out (pending_in (bytes_of a) p) (open_text (request_in m) h before) (open_text (request_in m) h (before ++ items))
 

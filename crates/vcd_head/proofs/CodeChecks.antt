@@ -8,7 +8,9 @@ not_some (Some x) h = absurd (h x refl)
 pub code_bad : (ds : List Declaration) (type digits tok : List ℕ) → list_all is_code_byte tok ≡ false → first_failed (var_checks ds (type ∷ digits ∷ []) tok) ≡ Some 7
 code_bad ds type digits tok e = rw e refl
 
-pub code_checked : (ds : List Declaration) (type digits tok : List ℕ) (b : Bool) → list_all is_code_byte tok ≡ true → agrees ds (record { type = type; size = decimal_value digits; code = tok; reference = [] }) ≡ b → first_failed (var_checks ds (type ∷ digits ∷ []) tok) ≡ cond b None (Some 8)
+pub code_checked : (ds : List Declaration) (type digits tok : List ℕ) (b : Bool) → list_all is_code_byte tok ≡ true
+    → agrees ds (record { type = type; size = decimal_value digits; code = tok; reference = [] }) ≡ b
+    → first_failed (var_checks ds (type ∷ digits ∷ []) tok) ≡ cond b None (Some 8)
 code_checked ds type digits tok b good e = rw (good, e) refl
 
 -- the bytes of a code are bytes

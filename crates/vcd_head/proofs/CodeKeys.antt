@@ -53,7 +53,8 @@ module _ (t : List ℕ) (a : AreBytes t) where
   test_same : (k : CodeKey) (c : IdCode) → AreBytes c.text → shape_of k ≡ shape_in c.text → is_key t k ≡ bytes_eq t c.text
   test_same k c own e = ap (bytes_eq (shape_in t)) e ∙ same_test t c.text a own
 
-  place_same : (keys : List CodeKey) (cs : List IdCode) → AllByRecursion (λ (c : IdCode). AreBytes c.text) cs → AreKeysOf keys cs → position_or_len (is_key t) keys ≡ position_or_len (has_text t) cs
+  place_same : (keys : List CodeKey) (cs : List IdCode) → AllByRecursion (λ (c : IdCode). AreBytes c.text) cs → AreKeysOf keys cs
+      → position_or_len (is_key t) keys ≡ position_or_len (has_text t) cs
   place_same [] [] h e = refl
   place_same [] (c ∷ cs) h e = absurd (omega (arith, ap length e))
   place_same (k ∷ keys) [] h e = absurd (omega (arith, ap length e))
@@ -73,7 +74,8 @@ module _ (t : List ℕ) (a : AreBytes t) where
   -- ---- a code more
 
   -- where its key is put after the others, they are those of one code more
-  pub keys_more : (keys new : List CodeKey) (key : CodeKey) (cs : List IdCode) (c : IdCode) → AreKeysOf keys cs → shape_of key ≡ shape_in t → c.text ≡ t → new ≡ keys ++ key ∷ [] → AreKeysOf new (cs ++ c ∷ [])
+  pub keys_more : (keys new : List CodeKey) (key : CodeKey) (cs : List IdCode) (c : IdCode) → AreKeysOf keys cs → shape_of key ≡ shape_in t
+      → c.text ≡ t → new ≡ keys ++ key ∷ [] → AreKeysOf new (cs ++ c ∷ [])
   keys_more keys new key cs c e own same behind =
       ap (map shape_of) behind ∙ map-append shape_of keys (key ∷ []) ∙ ap (λ l. l ++ shape_of key ∷ []) e
       ∙ ap (λ x. map (λ (c : IdCode). shape_in c.text) cs ++ x ∷ []) (own ∙ ap shape_in (sym same)) ∙ sym (map-append (λ (c : IdCode). shape_in c.text) cs (c ∷ []))
@@ -81,7 +83,8 @@ module _ (t : List ℕ) (a : AreBytes t) where
   -- ---- a key that is inserted
 
   -- where no key is the same, no code has these bytes
-  pub none_entered : (keys : List CodeKey) (cs : List IdCode) → AllByRecursion (λ (c : IdCode). AreBytes c.text) cs → AreKeysOf keys cs → list_any (is_key t) keys ≡ false → find (has_text t) cs ≡ None
+  pub none_entered : (keys : List CodeKey) (cs : List IdCode) → AllByRecursion (λ (c : IdCode). AreBytes c.text) cs → AreKeysOf keys cs
+      → list_any (is_key t) keys ≡ false → find (has_text t) cs ≡ None
   none_entered [] [] h e n = refl
   none_entered [] (c ∷ cs) h e n = absurd (omega (arith, ap length e))
   none_entered (k ∷ keys) [] h e n = absurd (omega (arith, ap length e))
@@ -94,7 +97,8 @@ module _ (t : List ℕ) (a : AreBytes t) where
   len_of keys cs e = sym (length-map keys shape_of) ∙ ap length e ∙ length-map cs (λ (c : IdCode). shape_in c.text)
 
   -- one that is there is at the index of the code with these bytes
-  pub finds_entered : (keys : List CodeKey) (cs : List IdCode) (position : ℕ) → AllByRecursion (λ (c : IdCode). AreBytes c.text) cs → AreKeysOf keys cs → position ≡ position_or_len (is_key t) keys → position < length keys → Finds cs t (Some position)
+  pub finds_entered : (keys : List CodeKey) (cs : List IdCode) (position : ℕ) → AllByRecursion (λ (c : IdCode). AreBytes c.text) cs
+      → AreKeysOf keys cs → position ≡ position_or_len (is_key t) keys → position < length keys → Finds cs t (Some position)
   finds_entered keys cs position h e is l =
       let n = position_or_len (is_key t) keys in
       let below : nat_lt n (length keys) ≡ true = lt-ltb n (length keys) (omega (arith, is, l)) in

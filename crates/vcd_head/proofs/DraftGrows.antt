@@ -54,7 +54,8 @@ are_rows_grow t more cs ks e [] (d ∷ ds) h = h
 are_rows_grow t more cs ks e (r ∷ rs) [] h = h
 are_rows_grow t more cs ks e (r ∷ rs) (d ∷ ds) h = (record { parent_is = h.0.parent_is; own = row_of_grow t more cs ks r d h.0.own }, are_rows_grow t more cs ks (e ++ d ∷ []) rs ds h.1)
 
-pub are_rows_push : (t : List ℕ) (cs : List IdCode) (e : List Declaration) (rs : List Row) (ds : List Declaration) (r : Row) (d : Declaration) → AreRows t cs e rs ds → IsRow t cs (e ++ ds) r d → AreRows t cs e (rs ++ r ∷ []) (ds ++ d ∷ [])
+pub are_rows_push : (t : List ℕ) (cs : List IdCode) (e : List Declaration) (rs : List Row) (ds : List Declaration) (r : Row) (d : Declaration)
+    → AreRows t cs e rs ds → IsRow t cs (e ++ ds) r d → AreRows t cs e (rs ++ r ∷ []) (ds ++ d ∷ [])
 are_rows_push t cs e [] [] r d h k = (subst (λ x. IsRow t cs x r d) (append-nil e) k, tt)
 are_rows_push t cs e [] (x ∷ ds) r d h k = absurd h
 are_rows_push t cs e (s ∷ rs) [] r d h k = absurd h
@@ -82,13 +83,16 @@ pub codes-alias : (ds : List Declaration) (v : Variable) → list_any (λ u. byt
 unfolding new_code_of
 codes-alias ds v h = codes_push ds v ∙ rw h (append-nil (codes_of ds))
 
-pub codes-new : (ds : List Declaration) (v : Variable) → list_any (λ u. bytes_eq u.code v.code) (variables_of ds) ≡ false → codes_of (ds ++ Declaration.Var v ∷ []) ≡ codes_of ds ++ code_of v ∷ []
+pub codes-new : (ds : List Declaration) (v : Variable) → list_any (λ u. bytes_eq u.code v.code) (variables_of ds) ≡ false
+    → codes_of (ds ++ Declaration.Var v ∷ []) ≡ codes_of ds ++ code_of v ∷ []
 unfolding new_code_of
 codes-new ds v h = codes_push ds v ∙ rw h refl
 
 pub codes-other : (ds : List Declaration) (d : Declaration) → variable_of d ≡ None → codes_of (ds ++ d ∷ []) ≡ codes_of ds
 unfolding codes_of
-codes-other ds d h = ap (λ vs. filter_map (λ o. o) (each_after (λ earlier v. cond (list_any (λ u. bytes_eq u.code v.code) earlier) None (Some (code_of v))) [] vs)) (variables_push ds d ∙ rw h (append-nil (variables_of ds)))
+codes-other ds d h = ap (λ vs. filter_map (λ o. o) (each_after
+    (λ earlier v. cond (list_any (λ u. bytes_eq u.code v.code) earlier) None (Some (code_of v))) [] vs)) (variables_push ds d
+    ∙ rw h (append-nil (variables_of ds)))
 
 -- ---- codes, one variable on
 

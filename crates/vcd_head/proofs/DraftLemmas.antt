@@ -28,13 +28,15 @@ pub some_token : (t : List ℕ) (ts : List (List ℕ)) → t ∷ ts ≢ []
 some_token t ts e = cc
 
 -- the texts of a row that were put to the text
-pub texts_there : (text type : List ℕ) (reference : List (List ℕ)) (more : List ℕ) (r : Row) → reference ≢ [] → r.start ≡ length text → r.word ≡ length type → r.all ≡ length (join_with_byte 32 reference) → r.name ≡ length (first_token reference)
+pub texts_there : (text type : List ℕ) (reference : List (List ℕ)) (more : List ℕ) (r : Row) → reference ≢ [] → r.start ≡ length text
+    → r.word ≡ length type → r.all ≡ length (join_with_byte 32 reference) → r.name ≡ length (first_token reference)
     → HasTexts (text ++ (type ++ (join_with_byte 32 reference ++ more))) r type reference
 texts_there text type reference more r t s w a n =
     let j = join_with_byte 32 reference in
     let f = first_joined reference in
     let split : text ++ (type ++ (j ++ more)) ≡ (text ++ type) ++ (j ++ more) = sym (append_assoc text type (j ++ more)) in
-    let names : text ++ (type ++ (j ++ more)) ≡ (text ++ type) ++ (first_token reference ++ (f.0 ++ more)) = split ∙ ap (λ l. (text ++ type) ++ l) (ap (λ l. l ++ more) f.1 ∙ append_assoc (first_token reference) f.0 more) in
+    let names : text ++ (type ++ (j ++ more)) ≡ (text ++ type) ++ (first_token reference ++ (f.0 ++ more)) = split
+    ∙ ap (λ l. (text ++ type) ++ l) (ap (λ l. l ++ more) f.1 ∙ append_assoc (first_token reference) f.0 more) in
     let len = length-append text type in
     let flen : length j ≡ length (first_token reference) + length f.0 = ap length f.1 ∙ length-append (first_token reference) f.0 in
     record {
@@ -42,10 +44,12 @@ texts_there text type reference more r t s w a n =
       word_len = w;
       word_is = range_at text type (j ++ more) r.start (r.start + r.word) s (omega arith);
       all_len = a;
-      all_is = ap (λ l. slice_range l (r.start + r.word) (r.start + r.word + r.all)) split ∙ range_at (text ++ type) j more (r.start + r.word) (r.start + r.word + r.all) (omega arith) (omega arith);
+      all_is = ap (λ l. slice_range l (r.start + r.word) (r.start + r.word + r.all)) split
+          ∙ range_at (text ++ type) j more (r.start + r.word) (r.start + r.word + r.all) (omega arith) (omega arith);
       some_token = t;
       name_within = omega arith;
-      name_is = ap (λ l. slice_range l (r.start + r.word) (r.start + r.word + r.name)) names ∙ range_at (text ++ type) (first_token reference) (f.0 ++ more) (r.start + r.word) (r.start + r.word + r.name) (omega arith) (omega arith);
+      name_is = ap (λ l. slice_range l (r.start + r.word) (r.start + r.word + r.name)) names
+          ∙ range_at (text ++ type) (first_token reference) (f.0 ++ more) (r.start + r.word) (r.start + r.word + r.name) (omega arith) (omega arith);
     }
 
 -- ---- codes, where no variable is declared
@@ -67,7 +71,8 @@ has_codes_other text es ds d n h =
       held = subst (AreHeld text es.list.items) c h.held;
       keys = subst (AreKeysOf (keys_of es)) c h.keys;
       rises = h.rises;
-      known = subst (λ ks. AllByRecursion (λ u. find (has_text u.code) ks ≡ Some (code_of u)) (variables_of (ds ++ d ∷ []))) c (subst (λ vs. AllByRecursion (λ u. find (has_text u.code) (codes_of ds) ≡ Some (code_of u)) vs) v h.known);
+      known = subst (λ ks. AllByRecursion (λ u. find (has_text u.code) ks ≡ Some (code_of u)) (variables_of (ds ++ d ∷ []))) c
+          (subst (λ vs. AllByRecursion (λ u. find (has_text u.code) (codes_of ds) ≡ Some (code_of u)) vs) v h.known);
       seen = λ t. ap (list_any (λ u. bytes_eq u.code t)) (sym v) ∙ h.seen t ∙ ap (λ ks. is_some (find (has_text t) ks)) c;
       sizes = subst (λ ks. AllByRecursion (λ (k : IdCode). IsSize k.size) ks) c h.sizes;
     }
@@ -106,7 +111,8 @@ closed_narrow most d ds others closed h e =
     subst (λ n. n < 2 ^ 32) is (scope_narrow most d ds h)
 
 -- and the index of a code
-pub code_narrow : (most : ℕ) (d : Draft) (ds : List Declaration) (v : Variable) (position : ℕ) → Declares most d ds → length ds < most → slice_get (codes_of (ds ++ Declaration.Var v ∷ [])) position ≡ Some (code_of v) → position < 2 ^ 32
+pub code_narrow : (most : ℕ) (d : Draft) (ds : List Declaration) (v : Variable) (position : ℕ) → Declares most d ds → length ds < most
+    → slice_get (codes_of (ds ++ Declaration.Var v ∷ [])) position ≡ Some (code_of v) → position < 2 ^ 32
 code_narrow most d ds v position h few at =
     let within = slice_get_within (codes_of (ds ++ Declaration.Var v ∷ [])) position (code_of v) at in
     omega (arith, within, codes_few (ds ++ Declaration.Var v ∷ []), length_push ds (Declaration.Var v), h.allowed)
@@ -121,7 +127,9 @@ module _ (most : ℕ) (d d' : Draft) (ds : List Declaration) (x : Declaration) (
   rows_kept is =
       rw (rows, codes-other ds x other)
       (are_rows_push d'.text.items (codes_of ds) [] d.rows.items ds r x
-      (subst (λ t. AreRows t (codes_of ds) [] d.rows.items ds) (sym text) (subst (λ ks. AreRows (d.text.items ++ more) ks [] d.rows.items ds) (append-nil (codes_of ds)) (are_rows_grow d.text.items more (codes_of ds) [] [] d.rows.items ds h.rows))) is)
+      (subst (λ t. AreRows t (codes_of ds) [] d.rows.items ds) (sym text)
+      (subst (λ ks. AreRows (d.text.items ++ more) ks [] d.rows.items ds) (append-nil (codes_of ds))
+      (are_rows_grow d.text.items more (codes_of ds) [] [] d.rows.items ds h.rows))) is)
 
   held_kept : length more ≤ kept_bytes x → length d'.text.items ≤ sum_by kept_bytes (ds ++ x ∷ [])
   held_kept le = let held = h.held in omega (arith, ap length text, length-append d.text.items more, sum_by_push kept_bytes ds x)
@@ -130,8 +138,18 @@ module _ (most : ℕ) (d d' : Draft) (ds : List Declaration) (x : Declaration) (
   few_kept = omega (arith, length_push ds x)
 
 pub scope_declared : (most : ℕ) (d d' : Draft) (ds : List Declaration) (type name : List ℕ) (r : Row) → Declares most d ds → length ds < most
-    → d'.text.items ≡ (d.text.items ++ type) ++ name → d'.rows.items ≡ d.rows.items ++ r ∷ [] → d'.codes ≡ d.codes → d'.scopes.items ≡ d.scopes.items ++ suc (length d.rows.items) ∷ []
-    → r ≡ record { kind = kind.Scope; parent = unwrap_or (slice_get d.scopes.items (length d.scopes.items - 1)) 0; start = length d.text.items; word = length type; name = length name; all = length name; code = 0 }
+    → d'.text.items ≡ (d.text.items ++ type) ++ name → d'.rows.items ≡ d.rows.items ++ r ∷ [] → d'.codes ≡ d.codes
+    → d'.scopes.items ≡ d.scopes.items ++ suc (length d.rows.items) ∷ []
+    → r ≡ record {
+      kind = kind.Scope;
+      parent = unwrap_or (slice_get d.scopes.items (length d.scopes.items - 1))
+          0;
+      start = length d.text.items;
+      word = length type;
+      name = length name;
+      all = length name;
+      code = 0;
+    }
     → Declares most d' (ds ++ Declaration.Scope type name ∷ [])
 scope_declared most d d' ds type name r h few text rows codes scopes is =
     let x = Declaration.Scope type name in
@@ -147,12 +165,15 @@ scope_declared most d d' ds type name r h few text rows codes scopes is =
         own = (
           ap (λ (q : Row). q.kind) is,
           subst (λ t. HasTexts t r type (name ∷ [])) (sym there)
-              (texts_there d.text.items type (name ∷ []) [] r (some_token name []) (ap (λ (q : Row). q.start) is) (ap (λ (q : Row). q.word) is) (ap (λ (q : Row). q.all) is) (ap (λ (q : Row). q.name) is)),
+              (texts_there d.text.items type (name ∷ []) [] r (some_token name []) (ap (λ (q : Row). q.start) is) (ap (λ (q : Row). q.word) is)
+              (ap (λ (q : Row). q.all) is) (ap (λ (q : Row). q.name) is)),
           ap (λ (q : Row). q.code) is,
         );
       });
-      nested = scopes ∙ ap (λ l. l ++ suc (length d.rows.items) ∷ []) h.nested ∙ ap (λ n. map suc (reverse (enclosing ds)) ++ suc n ∷ []) (rows_len d.text.items (codes_of ds) [] d.rows.items ds h.rows)
-          ∙ sym (map-append suc (reverse (enclosing ds)) (length ds ∷ [])) ∙ ap (map suc) (sym (reverse-append (length ds ∷ []) (enclosing ds))) ∙ ap (λ l. map suc (reverse l)) (sym (enclosing-scope ds type name));
+      nested = scopes ∙ ap (λ l. l ++ suc (length d.rows.items) ∷ []) h.nested
+          ∙ ap (λ n. map suc (reverse (enclosing ds)) ++ suc n ∷ []) (rows_len d.text.items (codes_of ds) [] d.rows.items ds h.rows)
+          ∙ sym (map-append suc (reverse (enclosing ds)) (length ds ∷ [])) ∙ ap (map suc) (sym (reverse-append (length ds ∷ []) (enclosing ds)))
+          ∙ ap (λ l. map suc (reverse l)) (sym (enclosing-scope ds type name));
       balance = rw (enclosing-scope ds type name) (omega arith);
       held = held_kept most d d' ds x (type ++ name) r h refl few grown rows codes (omega (arith, length-append type name));
       few = few_kept most d d' ds x (type ++ name) r h refl few grown rows codes;
@@ -179,7 +200,8 @@ up_declared most d d' ds closed r h few text rows codes scopes is = by_cases (en
     by_cases (p ∷ ps) e =
         let x = Declaration.Up in
         let grown : d'.text.items ≡ d.text.items ++ [] = text ∙ sym (append-nil d.text.items) in
-        let open_is : d.scopes.items ≡ map suc (reverse ps) ++ suc p ∷ [] = h.nested ∙ ap (λ l. map suc (reverse l)) e ∙ ap (map suc) (reverse-append (p ∷ []) ps) ∙ map-append suc (reverse ps) (p ∷ []) in
+        let open_is : d.scopes.items ≡ map suc (reverse ps) ++ suc p ∷ [] = h.nested ∙ ap (λ l. map suc (reverse l)) e
+        ∙ ap (map suc) (reverse-append (p ∷ []) ps) ∙ map-append suc (reverse ps) (p ∷ []) in
         let last = last_same d'.scopes.items (map suc (reverse ps)) closed (suc p) (sym scopes ∙ open_is) in
         let inner : enclosing (ds ++ x ∷ []) ≡ ps = enclosing-up ds ∙ ap (drop 1) e in
         let up = sum_by_push (λ y. cond (is_up y) 1 0) ds x in
@@ -208,13 +230,15 @@ open_is most d ds h = let balance = h.balance in omega (arith, ap length h.neste
 declared_more : (ps : List HeaderPhrase) (x : Declaration) → declarations_of (ps ++ HeaderPhrase.Declares x ∷ []) ≡ declarations_of ps ++ x ∷ []
 declared_more ps x = filter_map-append declaration_of ps (HeaderPhrase.Declares x ∷ [])
 
-pub holds_declared : (most : ℕ) (d d' : Draft) (ps : List HeaderPhrase) (x : Declaration) → IsDraftOf most d ps → Declares most d' (declarations_of ps ++ x ∷ []) → d'.date.items ≡ d.date.items → d'.version.items ≡ d.version.items → d'.scale ≡ d.scale
+pub holds_declared : (most : ℕ) (d d' : Draft) (ps : List HeaderPhrase) (x : Declaration) → IsDraftOf most d ps
+    → Declares most d' (declarations_of ps ++ x ∷ []) → d'.date.items ≡ d.date.items → d'.version.items ≡ d.version.items → d'.scale ≡ d.scale
     → IsDraftOf most d' (ps ++ HeaderPhrase.Declares x ∷ [])
 holds_declared most d d' ps x h k date version scale = record {
   declares = subst (Declares most d') (sym (declared_more ps x)) k;
   date = date ∙ h.date ∙ ap (λ l. unwrap_or (last_or None l) []) (sym (filter_map-append date_of ps (HeaderPhrase.Declares x ∷ []) ∙ append-nil (filter_map date_of ps)));
   version = version ∙ h.version ∙ ap (λ l. unwrap_or (last_or None l) []) (sym (filter_map-append version_of ps (HeaderPhrase.Declares x ∷ []) ∙ append-nil (filter_map version_of ps)));
-  scale = ap (option_map (λ (s : Scale). s.exponent)) scale ∙ h.scale ∙ ap (last_or None) (sym (filter_map-append timescale_of ps (HeaderPhrase.Declares x ∷ []) ∙ append-nil (filter_map timescale_of ps)));
+  scale = ap (option_map (λ (s : Scale). s.exponent)) scale ∙ h.scale
+      ∙ ap (last_or None) (sym (filter_map-append timescale_of ps (HeaderPhrase.Declares x ∷ []) ∙ append-nil (filter_map timescale_of ps)));
   scaled = subst (λ o. IfSome o (λ (s : Scale). IsExponent s.exponent)) (sym scale) h.scaled;
 }
 
@@ -223,7 +247,8 @@ pub not_said : {X : Type 0} (f : HeaderPhrase → Option X) (ps : List HeaderPhr
 not_said f ps p h = filter_map-append f ps (p ∷ []) ∙ rw h (append-nil (filter_map f ps))
 
 -- a phrase that declares nothing and says nothing
-pub holds_plain : (most : ℕ) (d : Draft) (ps : List HeaderPhrase) (p : HeaderPhrase) → declaration_of p ≡ None → date_of p ≡ None → version_of p ≡ None → timescale_of p ≡ None → IsDraftOf most d ps → IsDraftOf most d (ps ++ p ∷ [])
+pub holds_plain : (most : ℕ) (d : Draft) (ps : List HeaderPhrase) (p : HeaderPhrase) → declaration_of p ≡ None → date_of p ≡ None
+    → version_of p ≡ None → timescale_of p ≡ None → IsDraftOf most d ps → IsDraftOf most d (ps ++ p ∷ [])
 holds_plain most d ps p a b c e h = record {
   declares = subst (Declares most d) (sym (not_said declaration_of ps p a)) h.declares;
   date = h.date ∙ ap (λ l. unwrap_or (last_or None l) []) (sym (not_said date_of ps p b));
@@ -236,10 +261,12 @@ last_push : {X : Type 0} (o : Option X) (xs : List X) (x : X) → last_or o (xs 
 last_push o [] x = refl
 last_push o (y ∷ xs) x = last_push (Some y) xs x
 
-pub holds_date : (most : ℕ) (d : Draft) (ps : List HeaderPhrase) (inner : List (List ℕ)) (v : Vec ℕ) → IsDraftOf most d ps → v.items ≡ join_with_byte 32 inner → IsDraftOf most (record d { date = v }) (ps ++ HeaderPhrase.Date inner ∷ [])
+pub holds_date : (most : ℕ) (d : Draft) (ps : List HeaderPhrase) (inner : List (List ℕ)) (v : Vec ℕ) → IsDraftOf most d ps
+    → v.items ≡ join_with_byte 32 inner → IsDraftOf most (record d { date = v }) (ps ++ HeaderPhrase.Date inner ∷ [])
 holds_date most d ps inner v h e = record {
   declares = again (sym (filter_map-append declaration_of ps (HeaderPhrase.Date inner ∷ []) ∙ append-nil (declarations_of ps))) h.declares;
-  date = e ∙ ap (λ (o : Option (List ℕ)). unwrap_or o []) (sym (ap (last_or None) (filter_map-append date_of ps (HeaderPhrase.Date inner ∷ [])) ∙ last_push None (filter_map date_of ps) (join_with_byte 32 inner)));
+  date = e ∙ ap (λ (o : Option (List ℕ)). unwrap_or o []) (sym (ap (last_or None) (filter_map-append date_of ps (HeaderPhrase.Date inner ∷ []))
+      ∙ last_push None (filter_map date_of ps) (join_with_byte 32 inner)));
   version = h.version ∙ ap (λ l. unwrap_or (last_or None l) []) (sym (filter_map-append version_of ps (HeaderPhrase.Date inner ∷ []) ∙ append-nil (filter_map version_of ps)));
   scale = h.scale ∙ ap (last_or None) (sym (filter_map-append timescale_of ps (HeaderPhrase.Date inner ∷ []) ∙ append-nil (filter_map timescale_of ps)));
   scaled = h.scaled;
@@ -248,11 +275,14 @@ holds_date most d ps inner v h e = record {
     again : {ds es : List Declaration} → ds ≡ es → Declares most d ds → Declares most (record d { date = v }) es
     again q k = subst (Declares most (record d { date = v })) q (record { codes = k.codes; rows = k.rows; nested = k.nested; balance = k.balance; held = k.held; few = k.few; allowed = k.allowed })
 
-pub holds_version : (most : ℕ) (d : Draft) (ps : List HeaderPhrase) (inner : List (List ℕ)) (v : Vec ℕ) → IsDraftOf most d ps → v.items ≡ join_with_byte 32 inner → IsDraftOf most (record d { version = v }) (ps ++ HeaderPhrase.Version inner ∷ [])
+pub holds_version : (most : ℕ) (d : Draft) (ps : List HeaderPhrase) (inner : List (List ℕ)) (v : Vec ℕ) → IsDraftOf most d ps
+    → v.items ≡ join_with_byte 32 inner → IsDraftOf most (record d { version = v }) (ps ++ HeaderPhrase.Version inner ∷ [])
 holds_version most d ps inner v h e = record {
   declares = again (sym (filter_map-append declaration_of ps (HeaderPhrase.Version inner ∷ []) ∙ append-nil (declarations_of ps))) h.declares;
   date = h.date ∙ ap (λ l. unwrap_or (last_or None l) []) (sym (filter_map-append date_of ps (HeaderPhrase.Version inner ∷ []) ∙ append-nil (filter_map date_of ps)));
-  version = e ∙ ap (λ (o : Option (List ℕ)). unwrap_or o []) (sym (ap (last_or None) (filter_map-append version_of ps (HeaderPhrase.Version inner ∷ [])) ∙ last_push None (filter_map version_of ps) (join_with_byte 32 inner)));
+  version = e ∙ ap (λ (o : Option (List ℕ)). unwrap_or o []) (sym
+      (ap (last_or None) (filter_map-append version_of ps (HeaderPhrase.Version inner ∷ []))
+      ∙ last_push None (filter_map version_of ps) (join_with_byte 32 inner)));
   scale = h.scale ∙ ap (last_or None) (sym (filter_map-append timescale_of ps (HeaderPhrase.Version inner ∷ []) ∙ append-nil (filter_map timescale_of ps)));
   scaled = h.scaled;
 }
@@ -260,7 +290,8 @@ holds_version most d ps inner v h e = record {
     again : {ds es : List Declaration} → ds ≡ es → Declares most d ds → Declares most (record d { version = v }) es
     again q k = subst (Declares most (record d { version = v })) q (record { codes = k.codes; rows = k.rows; nested = k.nested; balance = k.balance; held = k.held; few = k.few; allowed = k.allowed })
 
-pub holds_scale : (most : ℕ) (d : Draft) (ps : List HeaderPhrase) (x : Scale) → IsDraftOf most d ps → IsExponent x.exponent → IsDraftOf most (record d { scale = Some x }) (ps ++ HeaderPhrase.Timescale x.exponent ∷ [])
+pub holds_scale : (most : ℕ) (d : Draft) (ps : List HeaderPhrase) (x : Scale) → IsDraftOf most d ps → IsExponent x.exponent
+    → IsDraftOf most (record d { scale = Some x }) (ps ++ HeaderPhrase.Timescale x.exponent ∷ [])
 holds_scale most d ps x h in_range = record {
   declares = again (sym (filter_map-append declaration_of ps (HeaderPhrase.Timescale x.exponent ∷ []) ∙ append-nil (declarations_of ps))) h.declares;
   date = h.date ∙ ap (λ l. unwrap_or (last_or None l) []) (sym (filter_map-append date_of ps (HeaderPhrase.Timescale x.exponent ∷ []) ∙ append-nil (filter_map date_of ps)));
@@ -270,12 +301,16 @@ holds_scale most d ps x h in_range = record {
 }
   where
     again : {ds es : List Declaration} → ds ≡ es → Declares most d ds → Declares most (record d { scale = Some x }) es
-    again q k = subst (Declares most (record d { scale = Some x })) q (record { codes = k.codes; rows = k.rows; nested = k.nested; balance = k.balance; held = k.held; few = k.few; allowed = k.allowed })
+    again q k = subst (Declares most (record d { scale = Some x })) q
+        (record { codes = k.codes; rows = k.rows; nested = k.nested; balance = k.balance; held = k.held; few = k.few; allowed = k.allowed })
 
 -- a variable, the bytes of whose code come before its own or after them
 pub var_entered : (most : ℕ) (d d' : Draft) (ds : List Declaration) (v : Variable) (r : Row) (before more : List ℕ) → Declares most d ds → length ds < most → v.reference ≢ []
-    → d'.text.items ≡ d.text.items ++ (before ++ (v.type ++ (join_with_byte 32 v.reference ++ more))) → length before + length more ≤ length v.code → d'.rows.items ≡ d.rows.items ++ r ∷ [] → HasCodes d'.text.items d'.codes (ds ++ Declaration.Var v ∷ [])
-    → slice_get (codes_of (ds ++ Declaration.Var v ∷ [])) r.code ≡ Some (code_of v) → d'.scopes.items ≡ d.scopes.items → r.kind ≡ kind.Var → r.parent ≡ unwrap_or (slice_get d.scopes.items (length d.scopes.items - 1)) 0 → r.start ≡ length (d.text.items ++ before) → r.word ≡ length v.type
+    → d'.text.items ≡ d.text.items ++ (before ++ (v.type ++ (join_with_byte 32 v.reference ++ more))) → length before + length more ≤ length v.code
+    → d'.rows.items ≡ d.rows.items ++ r ∷ [] → HasCodes d'.text.items d'.codes (ds ++ Declaration.Var v ∷ [])
+    → slice_get (codes_of (ds ++ Declaration.Var v ∷ [])) r.code ≡ Some (code_of v) → d'.scopes.items ≡ d.scopes.items → r.kind ≡ kind.Var
+    → r.parent ≡ unwrap_or (slice_get d.scopes.items (length d.scopes.items - 1)) 0 → r.start ≡ length (d.text.items ++ before)
+    → r.word ≡ length v.type
     → r.all ≡ length (join_with_byte 32 v.reference) → r.name ≡ length (first_token v.reference) → Declares most d' (ds ++ Declaration.Var v ∷ [])
 var_entered most d d' ds v r before more h few named text short rows codes at scopes kind parent start word all name =
     let x = Declaration.Var v in
@@ -290,14 +325,24 @@ var_entered most d d' ds v r before more h few named text short rows codes at sc
     record {
       codes = codes;
       rows = rw rows (are_rows_push d'.text.items (codes_of (ds ++ x ∷ [])) [] d.rows.items ds r x
-          (subst (λ t. AreRows t (codes_of (ds ++ x ∷ [])) [] d.rows.items ds) (sym text) (subst (λ ks. AreRows (d.text.items ++ tail) ks [] d.rows.items ds) (sym grown.1) (are_rows_grow d.text.items tail (codes_of ds) grown.0 [] d.rows.items ds h.rows)))
+          (subst (λ t. AreRows t (codes_of (ds ++ x ∷ [])) [] d.rows.items ds) (sym text)
+          (subst (λ ks. AreRows (d.text.items ++ tail) ks [] d.rows.items ds) (sym grown.1)
+          (are_rows_grow d.text.items tail (codes_of ds) grown.0 [] d.rows.items ds h.rows)))
           (record {
             parent_is = parent ∙ parent_is ds d.scopes.items h.nested;
             own = (kind, subst (λ t. HasTexts t r v.type v.reference) (sym apart) (texts_there (d.text.items ++ before) v.type v.reference more r named start word all name), at);
           }));
       nested = scopes ∙ h.nested ∙ ap (λ l. map suc (reverse l)) (sym (enclosing-var ds v));
       balance = rw (enclosing-var ds v) (omega arith);
-      held = omega (arith, ap length text, length-append d.text.items tail, length-append before own, length-append v.type (join_with_byte 32 v.reference ++ more), length-append (join_with_byte 32 v.reference) more, sum_by_push kept_bytes ds x);
+      held = omega (
+        arith,
+        ap length text,
+        length-append d.text.items tail,
+        length-append before own,
+        length-append v.type (join_with_byte 32 v.reference ++ more),
+        length-append (join_with_byte 32 v.reference) more,
+        sum_by_push kept_bytes ds x,
+      );
       few = omega (arith, length_push ds x);
       allowed = h.allowed;
     }

@@ -3,7 +3,8 @@ use Rattle.vcd_head.proofs.Cited.{◌≡◌, ℕ, ◌<◌, ◌≤◌, Bool, true
 use Rattle.vcd_view.specs.declared.view.Kind.TheVariants as kind
 use Rattle.vcd_head.proofs.DraftLemmas.{open_is}
 
-pub carried : {X : Type 0} {g : Ghosts X} (most : ℕ) (i : Input) (d : Draft) (f : Feed X g) (placed : List (Placed HeaderPhrase)) (p : Placed HeaderPhrase) → Reads most i (placed ++ p ∷ []) [] f → IsDraftOf most d (phrases_of placed ++ p.phrase ∷ []) → DraftsUpTo most i d f
+pub carried : {X : Type 0} {g : Ghosts X} (most : ℕ) (i : Input) (d : Draft) (f : Feed X g) (placed : List (Placed HeaderPhrase))
+    (p : Placed HeaderPhrase) → Reads most i (placed ++ p ∷ []) [] f → IsDraftOf most d (phrases_of placed ++ p.phrase ∷ []) → DraftsUpTo most i d f
 carried most i d f placed p r h = record { placed = placed ++ p ∷ []; reads = r; holds = subst (IsDraftOf most d) (sym (map-append (λ (q : Placed HeaderPhrase). q.phrase) placed (p ∷ []))) h }
 
 -- ---- the checks of a keyword
@@ -11,7 +12,8 @@ carried most i d f placed p r h = record { placed = placed ++ p ∷ []; reads = 
 rows_are : (most : ℕ) (d : Draft) (ps : List HeaderPhrase) → IsDraftOf most d ps → length d.rows.items ≡ length (declarations_of ps)
 rows_are most d ps h = rows_len d.text.items _ [] d.rows.items (declarations_of ps) h.declares.rows
 
-pub too_many : (most : ℕ) (d : Draft) (ps : List HeaderPhrase) (k : Kind) → IsDraftOf most d ps → most ≤ length d.rows.items → first_failed (start_checks most (declarations_of ps) (keyword_for k)) ≡ Some 11
+pub too_many : (most : ℕ) (d : Draft) (ps : List HeaderPhrase) (k : Kind) → IsDraftOf most d ps → most ≤ length d.rows.items
+    → first_failed (start_checks most (declarations_of ps) (keyword_for k)) ≡ Some 11
 too_many most d ps kind.Scope h n = rw (sym (rows_are most d ps h), le-ltb (length d.rows.items) most n) refl
 too_many most d ps kind.Up h n = rw (sym (rows_are most d ps h), le-ltb (length d.rows.items) most n) refl
 too_many most d ps kind.Var h n = rw (sym (rows_are most d ps h), le-ltb (length d.rows.items) most n) refl

@@ -40,10 +40,12 @@ held_more positions rows n q e h = record {
       let len = length-append positions (q ∷ []) in
       elim (cases_eq k n) [
         | inl same ↦
-            rw (same ∙ e) (slice_get-seam positions q [] ∙ ap Some (sym (ap (λ j. get_or (set rows (n % 128) q) (j % 128) 0) (sym e) ∙ get_or-set_same rows (n % 128) q 0 (let r = h.room in omega arith))))
+            rw (same ∙ e) (slice_get-seam positions q [] ∙ ap Some (sym (ap (λ j. get_or (set rows (n % 128) q) (j % 128) 0) (sym e)
+            ∙ get_or-set_same rows (n % 128) q 0 (let r = h.room in omega arith))))
         | inr other ↦
             let below : k < length positions = omega arith in
-            slice_get-front positions (q ∷ []) k (get_or rows (k % 128) 0) (h.at k below (omega arith)) ∙ ap Some (sym (get_or-set_other rows (n % 128) (k % 128) q 0 (other_place k n (omega arith) (omega arith))))
+            slice_get-front positions (q ∷ []) k (get_or rows (k % 128) 0) (h.at k below (omega arith))
+            ∙ ap Some (sym (get_or-set_other rows (n % 128) (k % 128) q 0 (other_place k n (omega arith) (omega arith))))
       ];
 }
 
@@ -58,7 +60,8 @@ pub record HasWalked (h : Header) (row : ℕ) (rows : List ℕ) (passed scope : 
 pub walk_first : (h : Header) (row : ℕ) (rows : List ℕ) → row < length h.declarations → length rows ≡ 128 → HasWalked h row rows 0 row
 walk_first h row rows l r = record { inner = []; split = refl; count = refl; holds = held_none rows 128 r; within = l }
 
-pub walk_next : (h : Header) (row : ℕ) (rows : List ℕ) (passed scope outer : ℕ) → HasWalked h row rows passed scope → Some outer ≡ parent (take scope h.declarations) → HasWalked h row (set rows (passed % 128) outer) (passed + 1) outer
+pub walk_next : (h : Header) (row : ℕ) (rows : List ℕ) (passed scope outer : ℕ) → HasWalked h row rows passed scope
+    → Some outer ≡ parent (take scope h.declarations) → HasWalked h row (set rows (passed % 128) outer) (passed + 1) outer
 walk_next h row rows passed scope outer w e =
     let before = parent_before h.declarations scope outer (sym e) in
     record {
@@ -69,13 +72,17 @@ walk_next h row rows passed scope outer w e =
       within = omega (arith, w.within);
     }
 
-walked : (h : Header) (row most : ℕ) (rows : List ℕ) (passed scope : ℕ) (w : HasWalked h row rows passed scope) → passed ≡ min most (length (enclosing (take row h.declarations))) → Walks h row most rows passed
+walked : (h : Header) (row most : ℕ) (rows : List ℕ) (passed scope : ℕ) (w : HasWalked h row rows passed scope)
+    → passed ≡ min most (length (enclosing (take row h.declarations))) → Walks h row most rows passed
 walked h row most rows passed scope w e =
-    let cut : take passed (enclosing (take row h.declarations)) ≡ w.inner = ap (take passed) w.split ∙ ap (λ n. take n (w.inner ++ enclosing (take scope h.declarations))) w.count ∙ take-append_seam w.inner (enclosing (take scope h.declarations)) in
+    let cut : take passed (enclosing (take row h.declarations)) ≡ w.inner = ap (take passed) w.split
+    ∙ ap (λ n. take n (w.inner ++ enclosing (take scope h.declarations))) w.count
+    ∙ take-append_seam w.inner (enclosing (take scope h.declarations)) in
     record { count = e; holds = subst (λ l. IsHeld l rows 128) (sym cut) w.holds }
 
 -- no scope is around the last one
-pub walk_ends : (h : Header) (row most : ℕ) (rows : List ℕ) (passed scope : ℕ) → HasWalked h row rows passed scope → None ≡ parent (take scope h.declarations) → passed < most → Walks h row most rows passed
+pub walk_ends : (h : Header) (row most : ℕ) (rows : List ℕ) (passed scope : ℕ) → HasWalked h row rows passed scope
+    → None ≡ parent (take scope h.declarations) → passed < most → Walks h row most rows passed
 walk_ends h row most rows passed scope w e l =
     let all : enclosing (take row h.declarations) ≡ w.inner = w.split ∙ ap (λ l. w.inner ++ l) (around_none h.declarations scope (sym e)) ∙ append-nil w.inner in
     walked h row most rows passed scope w (let c = w.count in omega (arith, ap length all))
@@ -97,7 +104,8 @@ all_around h row =
     take-all (x ∷ xs) = ap (λ l. x ∷ l) (take-all xs)
 
 -- the innermost ones alone
-pub leaves_most : (h : Header) (row most : ℕ) (e : Enclosing) → row < length h.declarations → e.row ≡ row → e.left ≡ most → e.held ≡ 0 → length e.rows ≡ 128 → LeavesScopes h row (reverse (take most (enclosing (take row h.declarations)))) e
+pub leaves_most : (h : Header) (row most : ℕ) (e : Enclosing) → row < length h.declarations → e.row ≡ row → e.left ≡ most → e.held ≡ 0
+    → length e.rows ≡ 128 → LeavesScopes h row (reverse (take most (enclosing (take row h.declarations)))) e
 leaves_most h row most e l from left held room = record {
   from = from;
   within = l;
@@ -116,7 +124,8 @@ pub record IsReady (h : Header) (row : ℕ) (rest rows : List ℕ) (left held : 
   pub some : 0 < left → 0 < held
 
 -- after a walk
-pub ready_by_walk : (h : Header) (row : ℕ) (rest : List ℕ) (e : Enclosing) (rows : List ℕ) (left held : ℕ) → LeavesScopes h row rest e → Walks h e.row e.left rows left → held ≡ min left 128 → IsReady h row rest rows left held
+pub ready_by_walk : (h : Header) (row : ℕ) (rest : List ℕ) (e : Enclosing) (rows : List ℕ) (left held : ℕ) → LeavesScopes h row rest e
+    → Walks h e.row e.left rows left → held ≡ min left 128 → IsReady h row rest rows left held
 ready_by_walk h row rest e rows left held l walks m =
     let ps = enclosing (take row h.declarations) in
     let w = subst (λ r. Walks h r e.left rows left) l.from walks in
@@ -139,7 +148,8 @@ take-more [] n x at = cc
 take-more (y ∷ xs) zero x at = let same : y ≡ x = cc in ap (λ z. z ∷ []) same
 take-more (y ∷ xs) (suc n) x at = ap (λ l. y ∷ l) (take-more xs n x at)
 
-pub gives_some : (h : Header) (row : ℕ) (rest rows : List ℕ) (left held : ℕ) (e : Enclosing) → row < length h.declarations → IsReady h row rest rows left held → left ≡ suc e.left → e.held ≡ held - 1 → e.rows ≡ rows → e.row ≡ row
+pub gives_some : (h : Header) (row : ℕ) (rest rows : List ℕ) (left held : ℕ) (e : Enclosing) → row < length h.declarations
+    → IsReady h row rest rows left held → left ≡ suc e.left → e.held ≡ held - 1 → e.rows ≡ rows → e.row ≡ row
     → GivesNext h row rest e (Some (get_or rows (e.left % 128) 0))
 gives_some h row rest rows left held e l r n m same from =
     let ps = enclosing (take row h.declarations) in
@@ -161,7 +171,8 @@ gives_some h row rest rows left held e l r n m same from =
         holds = record {
           room = ap length same ∙ r.holds.room;
           at = λ k b c.
-              slice_get-take ps e.left k (omega arith) ∙ sym (slice_get-take ps left k (omega arith)) ∙ r.holds.at k (omega arith) (omega arith) ∙ ap (λ l. Some (get_or l (k % 128) 0)) (sym same);
+              slice_get-take ps e.left k (omega arith) ∙ sym (slice_get-take ps left k (omega arith)) ∙ r.holds.at k (omega arith) (omega arith)
+              ∙ ap (λ l. Some (get_or l (k % 128) 0)) (sym same);
         };
         known = λ s. omega arith;
         few = omega arith;

@@ -5,18 +5,22 @@ use Rattle.vcd_model.specs.HeaderChecks.{agrees as agrees_with}
 use Rattle.vcd_view.proofs.RowLemmas.{code_at}
 use Rattle.vcd_head.proofs.DraftCodes.{agrees_at, agrees_new, found_is, held_alias, held_new}
 
-module _ (text : List ℕ) (before after : Codes) (ds : List Declaration) (v : Variable) (bytes : List ℕ) (size : ℕ) (event : Bool) (position : ℕ) (h : HasCodes text before ds) (is : code_of v ≡ record { text = bytes; size = size; event = event })
+module _ (text : List ℕ) (before after : Codes) (ds : List Declaration) (v : Variable) (bytes : List ℕ) (size : ℕ) (event : Bool) (position : ℕ)
+    (h : HasCodes text before ds) (is : code_of v ≡ record { text = bytes; size = size; event = event })
     (are : AreBytes bytes) where
   -- a new one, whose bytes are put to the text
   pub entered_new : (new : List ℕ) → IsSize size → Rises after.rising.items → AddsKey bytes (keys_of before) (keys_of after) position
-      → new ≡ text ++ bytes → after.list.items ≡ before.list.items ++ (record { start = length text; len = length bytes; size = size; event = event }) ∷ [] → IsEntered text new after ds v (Some position)
+      → new ≡ text ++ bytes → after.list.items ≡ before.list.items ++
+      (record { start = length text; len = length bytes; size = size; event = event }) ∷ [] → IsEntered text new after ds v (Some position)
   entered_new new is_size rises adds grown listed =
       let cs = codes_of ds in
       let same : bytes ≡ v.code = ap (λ (k : IdCode). k.text) (sym is) in
       let none : find (has_text v.code) cs ≡ None = subst (λ t. find (has_text t) cs ≡ None) same (none_entered bytes are (keys_of before) cs h.held.texts h.keys adds.absent) in
       let code : Code = record { start = length text; len = length bytes; size = size; event = event } in (
         agrees_new text before ds v h none,
-        held_new text new before after ds v bytes adds.key code position h adds.own are none same (subst IsSize (ap (λ (k : IdCode). k.size) (sym is)) is_size) (λ j. record { start = length text; len = length bytes; size = (sym is j).size; event = (sym is j).event }) grown
+        held_new text new before after ds v bytes adds.key code position h adds.own are none same
+            (subst IsSize (ap (λ (k : IdCode). k.size) (sym is)) is_size)
+            (λ j. record { start = length text; len = length bytes; size = (sym is j).size; event = (sym is j).event }) grown
             (adds.last ∙ len_of bytes are (keys_of before) cs h.keys) listed adds.behind rises,
       )
 
@@ -32,7 +36,8 @@ module _ (text : List ℕ) (before after : Codes) (ds : List Declaration) (v : V
     }
 
     finds : Finds (codes_of ds) v.code (Some position)
-    finds = subst (λ t. Finds (codes_of ds) t (Some position)) (ap (λ (k : IdCode). k.text) (sym is)) (finds_entered bytes are (keys_of before) (codes_of ds) position h.held.texts h.keys has.at has.within)
+    finds = subst (λ t. Finds (codes_of ds) t (Some position)) (ap (λ (k : IdCode). k.text) (sym is))
+        (finds_entered bytes are (keys_of before) (codes_of ds) position h.held.texts h.keys has.at has.within)
 
     -- one that is there is listed
     there : (code : Code) × (slice_get before.list.items position ≡ Some code)

@@ -45,7 +45,8 @@ front_less (suc n) x y f g l =
     let b = byte_small y n g in
     by_rest (cases_lt (prefix_in n x) (prefix_in n y)) a b (front_less n x y f g)
   where
-    by_rest : (prefix_in n x < prefix_in n y) ⊎ (prefix_in n y ≤ prefix_in n x) → get_or x n 0 < 256 → get_or y n 0 < 256 → (prefix_in n x < prefix_in n y → slice_cmp nat_cmp x y ≡ Less) → slice_cmp nat_cmp x y ≡ Less
+    by_rest : (prefix_in n x < prefix_in n y) ⊎ (prefix_in n y ≤ prefix_in n x) → get_or x n 0 < 256 → get_or y n 0 < 256
+        → (prefix_in n x < prefix_in n y → slice_cmp nat_cmp x y ≡ Less) → slice_cmp nat_cmp x y ≡ Less
     by_rest (inl a) b c rest = rest a
     by_rest (inr a) b c _ =
         let same : prefix_in n x ≡ prefix_in n y = omega (arith, l) in
@@ -86,7 +87,9 @@ texts_are (c ∷ cs) zero h = h.0
 texts_are (c ∷ cs) (suc p) h = texts_are cs p h.1
 
 -- texts that rise at each pair of indexes are in order
-pub sorted_from : {X : Type 0} (f : X → List ℕ) (xs : List X) → ((i j : ℕ) (d : X) → i < j → j < length xs → slice_cmp nat_cmp (f (get_or xs i d)) (f (get_or xs j d)) ≡ Less) → IsStrictlySortedBy (slice_cmp nat_cmp) (map f xs)
+pub sorted_from : {X : Type 0} (f : X → List ℕ) (xs : List X)
+    → ((i j : ℕ) (d : X) → i < j → j < length xs → slice_cmp nat_cmp (f (get_or xs i d)) (f (get_or xs j d)) ≡ Less)
+    → IsStrictlySortedBy (slice_cmp nat_cmp) (map f xs)
 unfolding IsStrictlySortedBy
 sorted_from f [] h = tt
 sorted_from f (x ∷ xs) h = (above xs (λ j d l. h 0 (suc j) d (omega arith) (omega arith)), sorted_from f xs (λ i j d a b. h (suc i) (suc j) d (omega arith) (omega arith)))
@@ -99,7 +102,8 @@ pub map_map : {X Y Z : Type 0} (f : X → Y) (g : Y → Z) (xs : List X) → map
 map_map f g [] = refl
 map_map f g (x ∷ xs) = ap (λ l. g (f x) ∷ l) (map_map f g xs)
 
-pub index_made : (text : List ℕ) (list : List Code) (cs : List IdCode) (new : List ℕ) → AreHeld text list cs → IsPermutation (range_with_len 0 (length list)) new → IsSortedBy (before text list) new → IsIndex cs new
+pub index_made : (text : List ℕ) (list : List Code) (cs : List IdCode) (new : List ℕ) → AreHeld text list cs
+    → IsPermutation (range_with_len 0 (length list)) new → IsSortedBy (before text list) new → IsIndex cs new
 index_made text list cs new h moved sorted =
     let positions : IsPermutation (range_with_len 0 (length cs)) new = subst (λ n. IsPermutation (range_with_len 0 n) new) (codes_len text list cs h.stand) moved in
     let texts = map (λ (k : IdCode). k.text) cs in

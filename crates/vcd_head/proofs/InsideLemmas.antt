@@ -51,7 +51,8 @@ names_taken ds n (p ∷ ps) h =
 -- the scopes around a declaration, among all declarations
 scopes_are : (ds : List Declaration) (i : ℕ) → scopes_text (take i ds) ≡ names_text ds (reverse (enclosing (take i ds)))
 unfolding scopes_text
-scopes_are ds i = names_taken ds i (enclosing (take i ds)) (all_weaker (λ x. x < length (take i ds)) (λ x. x < i) (enclosing (take i ds)) (λ x l. omega (arith, length-take i ds)) (enclosing_below (take i ds)))
+scopes_are ds i = names_taken ds i (enclosing (take i ds)) (all_weaker (λ x. x < length (take i ds)) (λ x. x < i) (enclosing (take i ds))
+    (λ x l. omega (arith, length-take i ds)) (enclosing_below (take i ds)))
 
 -- they are what paths begin with in the scope around
 pub front_is : (ds : List Declaration) (i : ℕ) → scopes_text (take i ds) ≡ front ds (counted_from_one (parent (take i ds)))
@@ -81,10 +82,12 @@ some_variable text cs e r (Declaration.Scope type name) row k = let own = row.ow
 some_variable text cs e r Declaration.Up row k = let own = row.own.0 in cc
 some_variable text cs e r (Declaration.Var v) row k = refl
 
-pub declares_none : (s : HeadShown) (h : Header) (i : ℕ) (r : Row) (d : Declaration) → Views s h → slice_get s.rows i ≡ Some r → slice_get h.declarations i ≡ Some d → (r.kind ≡ kind.Var → ⊥) → is_variable d ≡ false
+pub declares_none : (s : HeadShown) (h : Header) (i : ℕ) (r : Row) (d : Declaration) → Views s h → slice_get s.rows i ≡ Some r
+    → slice_get h.declarations i ≡ Some d → (r.kind ≡ kind.Var → ⊥) → is_variable d ≡ false
 declares_none s h i r d v row at n = no_variable s.text h.codes (take i h.declarations) r d (row_of s h i r d v row at) n
 
-pub declares_one : (s : HeadShown) (h : Header) (i : ℕ) (r : Row) (d : Declaration) → Views s h → slice_get s.rows i ≡ Some r → slice_get h.declarations i ≡ Some d → r.kind ≡ kind.Var → is_variable d ≡ true
+pub declares_one : (s : HeadShown) (h : Header) (i : ℕ) (r : Row) (d : Declaration) → Views s h → slice_get s.rows i ≡ Some r
+    → slice_get h.declarations i ≡ Some d → r.kind ≡ kind.Var → is_variable d ≡ true
 declares_one s h i r d v row at k = some_variable s.text h.codes (take i h.declarations) r d (row_of s h i r d v row at) k
 
 pub declared_there : (s : HeadShown) (h : Header) (i : ℕ) (r : Row) → Views s h → slice_get s.rows i ≡ Some r → (d : Declaration) × (slice_get h.declarations i ≡ Some d)
@@ -105,7 +108,8 @@ is_empty-map f (x ∷ xs) = sym (ne_eqb (length (x ∷ xs)) 0 (λ e. omega (arit
 -- ---- flags that were set
 
 -- what is held stays right where flags are set and none is cleared
-pub follows_kept : (names : List (List ℕ)) (order : List ℕ) (old new : List Bool) (front : List ℕ) (r : NameRun) → ((p : ℕ) (name : List ℕ) → slice_get names p ≡ Some name → get_or old p false ≡ true → get_or new p false ≡ true) → AreSame names new
+pub follows_kept : (names : List (List ℕ)) (order : List ℕ) (old new : List Bool) (front : List ℕ) (r : NameRun)
+    → ((p : ℕ) (name : List ℕ) → slice_get names p ≡ Some name → get_or old p false ≡ true → get_or new p false ≡ true) → AreSame names new
     → Follows names order old front r → Follows names order new front r
 follows_kept names order old new front r grows same f = record {
   up = f.up;
@@ -122,25 +126,31 @@ follows_kept names order old new front r grows same f = record {
     decided i l (inl d) = inl (d.0, grows (get_or order i 0) (text_at names order i) (text_is names order f.order_is i l) d.1, d.2)
     decided i l (inr none) = inr none
 
-pub open_kept : (h : Header) (names : List (List ℕ)) (order : List ℕ) (old new : List Bool) (o : Open) → ((p : ℕ) (name : List ℕ) → slice_get names p ≡ Some name → get_or old p false ≡ true → get_or new p false ≡ true) → AreSame names new → AreOpen h names order old o
+pub open_kept : (h : Header) (names : List (List ℕ)) (order : List ℕ) (old new : List Bool) (o : Open)
+    → ((p : ℕ) (name : List ℕ) → slice_get names p ≡ Some name → get_or old p false ≡ true → get_or new p false ≡ true) → AreSame names new
+    → AreOpen h names order old o
     → AreOpen h names order new o
 open_kept h names order old new o grows same are = record { held = λ k s l at. follows_kept names order old new (front h.declarations s.scope) s.run grows same (are.held k s l at); same = same }
 
-pub notes_grow : (names : List (List ℕ)) (front : List ℕ) (old new : List Bool) → Notes names front old new → (p : ℕ) (name : List ℕ) → slice_get names p ≡ Some name → get_or old p false ≡ true → get_or new p false ≡ true
+pub notes_grow : (names : List (List ℕ)) (front : List ℕ) (old new : List Bool) → Notes names front old new → (p : ℕ) (name : List ℕ)
+    → slice_get names p ≡ Some name → get_or old p false ≡ true → get_or new p false ≡ true
 notes_grow names front old new n p name at e = elim (n p name at) [ inl same ↦ same ∙ e | inr more ↦ more.0 ]
 
-pub matched_grow : (test : List ℕ → Bool) (names : List (List ℕ)) (old new : List Bool) → Matched test names old new → (p : ℕ) (name : List ℕ) → slice_get names p ≡ Some name → get_or old p false ≡ true → get_or new p false ≡ true
+pub matched_grow : (test : List ℕ → Bool) (names : List (List ℕ)) (old new : List Bool) → Matched test names old new → (p : ℕ) (name : List ℕ)
+    → slice_get names p ≡ Some name → get_or old p false ≡ true → get_or new p false ≡ true
 matched_grow test names old new m p name at e = m p name at ∙ ap (λ b. b || test name) e
 
 pub matched_same : (test : List ℕ → Bool) (names : List (List ℕ)) (old new : List Bool) → Matched test names old new → AreSame names old → AreSame names new
 matched_same test names old new m same p q name a b = m p name a ∙ ap (λ k. k || test name) (same p q name a b) ∙ sym (m q name b)
 
-pub open_matched : (test : List ℕ → Bool) (h : Header) (names : List (List ℕ)) (order : List ℕ) (old new : List Bool) (o : Open) → Matched test names old new → AreOpen h names order old o → AreOpen h names order new o
+pub open_matched : (test : List ℕ → Bool) (h : Header) (names : List (List ℕ)) (order : List ℕ) (old new : List Bool) (o : Open)
+    → Matched test names old new → AreOpen h names order old o → AreOpen h names order new o
 open_matched test h names order old new o m are = open_kept h names order old new o (matched_grow test names old new m) (matched_same test names old new m are.same) are
 
 -- what is held of one scope more
 pub held_more : (h : Header) (names : List (List ℕ)) (order : List ℕ) (flags : List Bool) (inside : List Inside) (entered next : ℕ) (inner : Inside) → next ≡ entered + 1
-    → ((k : ℕ) (s : Inside) → k ≤ entered → slice_get inside k ≡ Some s → Follows names order flags (front h.declarations s.scope) s.run) → Follows names order flags (front h.declarations inner.scope) inner.run
+    → ((k : ℕ) (s : Inside) → k ≤ entered → slice_get inside k ≡ Some s → Follows names order flags (front h.declarations s.scope) s.run)
+    → Follows names order flags (front h.declarations inner.scope) inner.run
     → (k : ℕ) (s : Inside) → k ≤ next → slice_get (set inside next inner) k ≡ Some s → Follows names order flags (front h.declarations s.scope) s.run
 held_more h names order flags inside entered next inner e held new k s l at = elim (set_at inside next k inner s at) [
   | inl is ↦ subst (λ (x : Inside). Follows names order flags (front h.declarations x.scope) x.run) is.1 new
@@ -153,7 +163,8 @@ held_more h names order flags inside entered next inner e held new k s l at = el
 abbrev pub IsAround : List Declaration → ℕ → ℕ → Type 0
 IsAround ds row scope = (more : List ℕ) × (scopes_text (take row ds) ≡ front ds (suc scope) ++ more)
 
-around_step : (ds : List Declaration) (row : ℕ) → row ≤ length ds → ((p : ℕ) → p < row → AllByRecursion (IsAround ds p) (enclosing (take p ds))) → AllByRecursion (IsAround ds row) (enclosing (take row ds))
+around_step : (ds : List Declaration) (row : ℕ) → row ≤ length ds → ((p : ℕ) → p < row → AllByRecursion (IsAround ds p) (enclosing (take p ds)))
+    → AllByRecursion (IsAround ds row) (enclosing (take row ds))
 around_step ds row within outer = by_parent (parent (take row ds)) refl
   where
     by_parent : (o : Option ℕ) → parent (take row ds) ≡ o → AllByRecursion (IsAround ds row) (enclosing (take row ds))
@@ -165,7 +176,9 @@ around_step ds row within outer = by_parent (parent (take row ds)) refl
         let here : scopes_text (take row ds) ≡ front ds (suc p) = front_is ds row ∙ ap (λ o. front ds (counted_from_one o)) e in
         subst (AllByRecursion (IsAround ds row)) (sym (around_some ds row p e)) (
           ([], here ∙ sym (append-nil (front ds (suc p)))),
-          all_weaker (IsAround ds p) (IsAround ds row) (enclosing (take p ds)) (λ s m. (m.0 ++ name, here ∙ front_next ds p d.0 d.1 ∙ ap (λ l. l ++ name) m.1 ∙ append_assoc (front ds (suc s)) m.0 name)) (outer p before),
+          all_weaker (IsAround ds p) (IsAround ds row) (enclosing (take p ds))
+              (λ s m. (m.0 ++ name, here ∙ front_next ds p d.0 d.1 ∙ ap (λ l. l ++ name) m.1 ∙ append_assoc (front ds (suc s)) m.0 name))
+              (outer p before),
         )
 
 around_up_to : (ds : List Declaration) (n row : ℕ) → row ≤ n → row ≤ length ds → AllByRecursion (IsAround ds row) (enclosing (take row ds))
@@ -185,7 +198,9 @@ pub left_first : (h : Header) (row most : ℕ) (e : Enclosing) → LeavesScopes 
 left_first h row most e leaves = record {
   rest = reverse (take most (enclosing (take row h.declarations)));
   leaves = leaves;
-  each = all_reverse (IsAround h.declarations row) (take most (enclosing (take row h.declarations))) (all_take (IsAround h.declarations row) most (enclosing (take row h.declarations)) (around_all h.declarations row (omega (arith, leaves.within))));
+  each = all_reverse (IsAround h.declarations row) (take most (enclosing (take row h.declarations)))
+      (all_take (IsAround h.declarations row) most (enclosing (take row h.declarations))
+      (around_all h.declarations row (omega (arith, leaves.within))));
 }
 
 -- the next one of them
@@ -200,7 +215,8 @@ left_next h row e next scope l g =
     record { left = record { rest = g.0; leaves = g.3; each = both.1 }; within = omega (arith, g.2, l.leaves.within); more = both.0 }
 
 -- one scope more is entered
-pub entered_next : (h : Header) (names : List (List ℕ)) (order path : List ℕ) (old mid new : List Bool) (o p : Open) (scope : ℕ) (more : (rest : List ℕ) × (path ≡ front h.declarations (suc scope) ++ rest)) → HasEntered h names order path old mid o
+pub entered_next : (h : Header) (names : List (List ℕ)) (order path : List ℕ) (old mid new : List Bool) (o p : Open) (scope : ℕ)
+    (more : (rest : List ℕ) × (path ≡ front h.declarations (suc scope) ++ rest)) → HasEntered h names order path old mid o
     → HasEntered h names order (front h.declarations (suc scope)) mid new p → HasEntered h names order path old new p
 entered_next h names order path old mid new o p scope more a b = record {
   open_scopes = b.open_scopes;
@@ -208,13 +224,15 @@ entered_next h names order path old mid new o p scope more a b = record {
 }
 
 -- the flags that were set by the scopes around are of names that select what is in them
-pub notes_then_match : (names : List (List ℕ)) (front own path : List ℕ) (old mid new : List Bool) (some : Bool) → path ≡ front ++ own → Notes names front old mid → Matches (selects_path path) names mid new some → Matches (selects_path path) names old new some
+pub notes_then_match : (names : List (List ℕ)) (front own path : List ℕ) (old mid new : List Bool) (some : Bool) → path ≡ front ++ own
+    → Notes names front old mid → Matches (selects_path path) names mid new some → Matches (selects_path path) names old new some
 notes_then_match names front own path old mid new some e n m = record {
   flags = λ p name at. m.flags p name at ∙ by_note p name (n p name at);
   any = m.any;
 }
   where
-    by_note : (p : ℕ) (name : List ℕ) → (get_or mid p false ≡ get_or old p false) ⊎ ((get_or mid p false ≡ true) × SelectsAll front name) → (get_or mid p false || selects_path path name) ≡ (get_or old p false || selects_path path name)
+    by_note : (p : ℕ) (name : List ℕ) → (get_or mid p false ≡ get_or old p false) ⊎ ((get_or mid p false ≡ true) × SelectsAll front name)
+        → (get_or mid p false || selects_path path name) ≡ (get_or old p false || selects_path path name)
     by_note p name (inl same) = ap (λ b. b || selects_path path name) same
     by_note p name (inr more) = ap (λ b. b || selects_path path name) more.0 ∙ sym (or_true (get_or old p false) (selects_path path name) (ap (λ l. selects_path l name) e ∙ more.1 own))
 

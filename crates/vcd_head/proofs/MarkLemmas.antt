@@ -24,7 +24,8 @@ among-append (x ∷ xs) ys i = ap (λ b. (i == x) || b) (among-append xs ys i) �
 pub marked_both : (xs ys old mid new : List ℕ) → Marked xs old mid → Marked ys mid new → Marked (xs ++ ys) old new
 marked_both xs ys old mid new a b = record {
   kept = b.kept ∙ a.kept;
-  marks = λ i l. both_or (is_among xs i) (is_among ys i) (get_or old i 0) (get_or mid i 0) (get_or new i 0) (a.marks i l) (b.marks i (omega (arith, a.kept))) ∙ ap (λ b. cond b 1 (get_or old i 0)) (sym (among-append xs ys i));
+  marks = λ i l. both_or (is_among xs i) (is_among ys i) (get_or old i 0) (get_or mid i 0) (get_or new i 0) (a.marks i l)
+      (b.marks i (omega (arith, a.kept))) ∙ ap (λ b. cond b 1 (get_or old i 0)) (sym (among-append xs ys i));
 }
 
 -- one index
@@ -38,7 +39,8 @@ marked_one marks p l = record {
 }
 
 -- marks that were 0
-pub marked_all : (positions zeros marks : List ℕ) (n : ℕ) → length zeros ≡ n → ((i : ℕ) → i < n → get_or zeros i 0 ≡ 0) → Marked positions zeros marks → marks ≡ map (λ i. cond (is_among positions i) 1 0) (range_with_len 0 n)
+pub marked_all : (positions zeros marks : List ℕ) (n : ℕ) → length zeros ≡ n → ((i : ℕ) → i < n → get_or zeros i 0 ≡ 0)
+    → Marked positions zeros marks → marks ≡ map (λ i. cond (is_among positions i) 1 0) (range_with_len 0 n)
 marked_all positions zeros marks n e z m =
     fill_by_all (λ i. cond (is_among positions i) 1 0) marks n 0 (m.kept ∙ e) (λ i l. m.marks i (omega arith) ∙ ap (cond (is_among positions i) 1) (z i l))
 
@@ -50,8 +52,10 @@ counted_within None n h = omega arith
 counted_within (Some p) n h = h
 
 -- what is left to be marked, after one more index
-pub walk_on : (ds : List Declaration) (p : ℕ) (marks new : List ℕ) → p < length marks → Marked (with_scopes ds (parent (take p ds))) (set marks p 1) new → Marked (p ∷ enclosing (take p ds)) marks new
-walk_on ds p marks new l m = subst (λ ps. Marked (p ∷ ps) marks new) (sym (scopes_around ds p)) (marked_both (p ∷ []) (with_scopes ds (parent (take p ds))) marks (set marks p 1) new (marked_one marks p l) m)
+pub walk_on : (ds : List Declaration) (p : ℕ) (marks new : List ℕ) → p < length marks
+    → Marked (with_scopes ds (parent (take p ds))) (set marks p 1) new → Marked (p ∷ enclosing (take p ds)) marks new
+walk_on ds p marks new l m = subst (λ ps. Marked (p ∷ ps) marks new) (sym (scopes_around ds p))
+    (marked_both (p ∷ []) (with_scopes ds (parent (take p ds))) marks (set marks p 1) new (marked_one marks p l) m)
 
 -- ---- all rows
 
@@ -70,7 +74,8 @@ marked_again positions marks h = record { kept = refl; marks = λ i l. by_test (
     by_test x false f = refl
 
 -- a declaration that was marked before has nothing left to be marked
-pub marked_before : (ds : List Declaration) (p : ℕ) (old marks : List ℕ) → length marks ≡ length old → AreClosed ds old → get_or old p 0 ≡ 1 → ((i : ℕ) → get_or old i 0 ≡ 1 → get_or marks i 0 ≡ 1) → Marked (p ∷ enclosing (take p ds)) marks marks
+pub marked_before : (ds : List Declaration) (p : ℕ) (old marks : List ℕ) → length marks ≡ length old → AreClosed ds old → get_or old p 0 ≡ 1
+    → ((i : ℕ) → get_or old i 0 ≡ 1 → get_or marks i 0 ≡ 1) → Marked (p ∷ enclosing (take p ds)) marks marks
 marked_before ds p old marks len closed one grown = marked_again (p ∷ enclosing (take p ds)) marks (λ i l among. elim (cases_eq i p) [
   | inl e ↦ grown i (ap (λ k. get_or old k 0) e ∙ one)
   | inr n ↦ grown i (closed p one i (omega (arith, l, len)) (subst (λ b. (b || is_among (enclosing (take p ds)) i) ≡ true) (ne_eqb i p n) among))
@@ -84,7 +89,8 @@ or_right true b e = refl
 or_right false b e = e
 
 -- the scopes around a scope around a row are around the row
-step_outwards : (ds : List Declaration) (row i j : ℕ) (o : Option ℕ) → parent (take row ds) ≡ o → is_among (row ∷ enclosing (take row ds)) i ≡ true → is_among (enclosing (take i ds)) j ≡ true
+step_outwards : (ds : List Declaration) (row i j : ℕ) (o : Option ℕ) → parent (take row ds) ≡ o → is_among (row ∷ enclosing (take row ds)) i ≡ true
+    → is_among (enclosing (take i ds)) j ≡ true
     → ((p : ℕ) → p < row → is_among (p ∷ enclosing (take p ds)) i ≡ true → is_among (enclosing (take p ds)) j ≡ true) → is_among (enclosing (take row ds)) j ≡ true
 step_outwards ds row i j o e among inner outer = elim (cases_eq i row) [
   | inl same ↦ subst (λ k. is_among (enclosing (take k ds)) j ≡ true) same inner
@@ -98,13 +104,15 @@ step_outwards ds row i j o e among inner outer = elim (cases_eq i row) [
         subst (λ ps. is_among ps j ≡ true) (sym same)
         (or_right (j == p) (is_among (enclosing (take p ds)) j) (outer p (parent_before ds row p f) (subst (λ ps. is_among ps i ≡ true) same a)))
 
-around_within : (ds : List Declaration) (fuel row i j : ℕ) → row ≤ fuel → is_among (row ∷ enclosing (take row ds)) i ≡ true → is_among (enclosing (take i ds)) j ≡ true → is_among (enclosing (take row ds)) j ≡ true
+around_within : (ds : List Declaration) (fuel row i j : ℕ) → row ≤ fuel → is_among (row ∷ enclosing (take row ds)) i ≡ true
+    → is_among (enclosing (take i ds)) j ≡ true → is_among (enclosing (take row ds)) j ≡ true
 around_within ds zero row i j le among inner = step_outwards ds row i j (parent (take row ds)) refl among inner (λ p lt a. absurd (omega (arith, lt, le)))
 around_within ds (suc n) row i j le among inner = step_outwards ds row i j (parent (take row ds)) refl among inner (λ p lt a. around_within ds n p i j (omega (arith, lt, le)) a inner)
 
 -- after a row was marked, with the scopes around it
 pub closed_after : (ds : List Declaration) (row : ℕ) (old new : List ℕ) → AreClosed ds old → Marked (row ∷ enclosing (take row ds)) old new → AreClosed ds new
-closed_after ds row old new closed m i one j l inner = m.marks j (omega (arith, m.kept, l)) ∙ by_test (get_or old j 0) (is_among (row ∷ enclosing (take row ds)) j) (here (is_among (row ∷ enclosing (take row ds)) i) refl)
+closed_after ds row old new closed m i one j l inner = m.marks j (omega (arith, m.kept, l))
+    ∙ by_test (get_or old j 0) (is_among (row ∷ enclosing (take row ds)) j) (here (is_among (row ∷ enclosing (take row ds)) i) refl)
   where
     by_test : (x : ℕ) (b : Bool) → (b ≡ true) ⊎ (x ≡ 1) → cond b 1 x ≡ 1
     by_test x true h = refl
@@ -148,20 +156,24 @@ among_cond false ps i = refl
 selected_by : List (List ℕ) → List Declaration → Declaration → List ℕ
 selected_by names e d = cond (is_selected names e d) (length e ∷ enclosing e) []
 
-any_of_both : (test : List ℕ → Bool) (xs ys : List (List ℕ)) → is_empty xs ≡ false → is_empty ys ≡ false → (is_empty (xs ++ ys) || list_any test (xs ++ ys)) ≡ ((is_empty xs || list_any test xs) || (is_empty ys || list_any test ys))
+any_of_both : (test : List ℕ → Bool) (xs ys : List (List ℕ)) → is_empty xs ≡ false → is_empty ys ≡ false
+    → (is_empty (xs ++ ys) || list_any test (xs ++ ys)) ≡ ((is_empty xs || list_any test xs) || (is_empty ys || list_any test ys))
 any_of_both test [] ys a b = cc
 any_of_both test (x ∷ xs) [] a b = cc
 any_of_both test (x ∷ xs) (y ∷ ys) a b = list_any-append test (x ∷ xs) (y ∷ ys)
 
-selected_both : (xs ys : List (List ℕ)) (e : List Declaration) (d : Declaration) → is_empty xs ≡ false → is_empty ys ≡ false → is_selected (xs ++ ys) e d ≡ (is_selected xs e d || is_selected ys e d)
+selected_both : (xs ys : List (List ℕ)) (e : List Declaration) (d : Declaration) → is_empty xs ≡ false → is_empty ys ≡ false
+    → is_selected (xs ++ ys) e d ≡ (is_selected xs e d || is_selected ys e d)
 selected_both xs ys e d a b = by_kind (is_variable d)
   where
-    by_kind : (v : Bool) → (v && (is_empty (xs ++ ys) || list_any (selects_path (path_of e d)) (xs ++ ys))) ≡ ((v && (is_empty xs || list_any (selects_path (path_of e d)) xs)) || (v && (is_empty ys || list_any (selects_path (path_of e d)) ys)))
+    by_kind : (v : Bool) → (v && (is_empty (xs ++ ys) || list_any (selects_path (path_of e d)) (xs ++ ys))) ≡
+        ((v && (is_empty xs || list_any (selects_path (path_of e d)) xs)) || (v && (is_empty ys || list_any (selects_path (path_of e d)) ys)))
     by_kind true = any_of_both (selects_path (path_of e d)) xs ys a b
     by_kind false = refl
 
 among_after : (xs ys : List (List ℕ)) (e ds : List Declaration) (i : ℕ) → is_empty xs ≡ false → is_empty ys ≡ false
-    → is_among (flat_map (λ ps. ps) (each_after (selected_by (xs ++ ys)) e ds)) i ≡ (is_among (flat_map (λ ps. ps) (each_after (selected_by xs) e ds)) i || is_among (flat_map (λ ps. ps) (each_after (selected_by ys) e ds)) i)
+    → is_among (flat_map (λ ps. ps) (each_after (selected_by (xs ++ ys)) e ds)) i ≡
+    (is_among (flat_map (λ ps. ps) (each_after (selected_by xs) e ds)) i || is_among (flat_map (λ ps. ps) (each_after (selected_by ys) e ds)) i)
 unfolding selected_by
 among_after xs ys e [] i a b = refl
 among_after xs ys e (d ∷ ds) i a b =
@@ -171,7 +183,8 @@ among_after xs ys e (d ∷ ds) i a b =
     split (xs ++ ys) ∙ (λ j. cond (selected_both xs ys e d a b j) (is_among here i) false || among_after xs ys (e ++ d ∷ []) ds i a b j)
     ∙ either (is_selected xs e d) (is_selected ys e d) (is_among here i) (is_among (later xs) i) (is_among (later ys) i) ∙ sym (λ j. split xs j || split ys j)
 
-pub marked_group : (xs ys : List (List ℕ)) (ds : List Declaration) (old mid new : List ℕ) → is_empty xs ≡ false → is_empty ys ≡ false → Marked (marked_places xs ds) old mid → Marked (marked_places ys ds) mid new → Marked (marked_places (xs ++ ys) ds) old new
+pub marked_group : (xs ys : List (List ℕ)) (ds : List Declaration) (old mid new : List ℕ) → is_empty xs ≡ false → is_empty ys ≡ false
+    → Marked (marked_places xs ds) old mid → Marked (marked_places ys ds) mid new → Marked (marked_places (xs ++ ys) ds) old new
 unfolding marked_places selected_by
 marked_group xs ys ds old mid new a b m n =
     let both = marked_both (marked_places xs ds) (marked_places ys ds) old mid new m n in

@@ -13,7 +13,9 @@ all_weaker : (m n : ℕ) (xs : List ℕ) → m ≤ n → AllByRecursion (λ i. i
 all_weaker m n [] h k = tt
 all_weaker m n (x ∷ xs) h k = let first = k.0 in (omega arith, all_weaker m n xs h k.1)
 
-marked_below : (names : List (List ℕ)) (e ds : List Declaration) (n : ℕ) → length e + length ds ≤ n → AllByRecursion (λ i. i < n) (flat_map (λ ps. ps) (each_after (λ earlier d. cond (is_selected names earlier d) (length earlier ∷ enclosing earlier) []) e ds))
+marked_below : (names : List (List ℕ)) (e ds : List Declaration) (n : ℕ) → length e + length ds ≤ n
+    → AllByRecursion (λ i. i < n) (flat_map (λ ps. ps) (each_after
+    (λ earlier d. cond (is_selected names earlier d) (length earlier ∷ enclosing earlier) []) e ds))
 marked_below names e [] n h = tt
 marked_below names e (d ∷ ds) n h =
     all_append (λ i. i < n) _ _ (by_test (is_selected names e d)) (marked_below names (e ++ d ∷ []) ds n (omega (arith, length_push e d)))
@@ -67,9 +69,11 @@ head_is h names marks e = ap (head_text h) (ap is_marked e ∙ marks_are names h
 abbrev pub head_parts : List ℕ → List ℕ → List ℕ → List ℕ → List ℕ
 head_parts date version scale rows = (((three_lines_of Keyword.Date date ++ three_lines_of Keyword.Version version) ++ three_lines_of Keyword.Timescale scale) ++ rows) ++ end_line
 
-pub head_of_parts : (s : HeadShown) (h : Header) (m : ℕ → Bool) (scale : List ℕ) → Views s h → scale ≡ unwrap_or (option_map scale_text (option_map (λ (x : Scale). x.exponent) s.scale)) []
+pub head_of_parts : (s : HeadShown) (h : Header) (m : ℕ → Bool) (scale : List ℕ) → Views s h
+    → scale ≡ unwrap_or (option_map scale_text (option_map (λ (x : Scale). x.exponent) s.scale)) []
     → head_parts s.date s.version scale (rows_text (λ code. code) m h.declarations) ≡ head_text h m
 unfolding head_text
 head_of_parts s h m scale v e =
     let rows = rows_text (λ code. code) m h.declarations in
-    ap (λ d. head_parts d s.version scale rows) v.date ∙ ap (λ x. head_parts h.date x scale rows) v.version ∙ ap (λ x. head_parts h.date h.version x rows) (e ∙ ap (λ o. unwrap_or (option_map scale_text o) []) v.scale)
+    ap (λ d. head_parts d s.version scale rows) v.date ∙ ap (λ x. head_parts h.date x scale rows) v.version
+    ∙ ap (λ x. head_parts h.date h.version x rows) (e ∙ ap (λ o. unwrap_or (option_map scale_text o) []) v.scale)

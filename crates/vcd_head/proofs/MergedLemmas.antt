@@ -43,9 +43,11 @@ reduce_more [] x = refl
 reduce_more (y ∷ ys) x = ap Some (fold-append smaller y ys (x ∷ []) ∙ sym (smaller_is _ x))
 
 -- one head on
-pub least_more : (hs : List Header) (i : ℕ) (h : Header) → slice_get hs i ≡ Some h → reduce smaller (map exponent (take (i + 1) hs)) ≡ Some (with_one (reduce smaller (map exponent (take i hs))) (exponent h))
+pub least_more : (hs : List Header) (i : ℕ) (h : Header) → slice_get hs i ≡ Some h
+    → reduce smaller (map exponent (take (i + 1) hs)) ≡ Some (with_one (reduce smaller (map exponent (take i hs))) (exponent h))
 least_more hs i h at =
-    ap (λ n. reduce smaller (map exponent (take n hs))) (add-one i) ∙ ap (λ l. reduce smaller (map exponent l)) (take-next hs i h at) ∙ ap (reduce smaller) (map-append exponent (take i hs) (h ∷ [])) ∙ reduce_more (map exponent (take i hs)) (exponent h)
+    ap (λ n. reduce smaller (map exponent (take n hs))) (add-one i) ∙ ap (λ l. reduce smaller (map exponent l)) (take-next hs i h at)
+    ∙ ap (reduce smaller) (map-append exponent (take i hs) (h ∷ [])) ∙ reduce_more (map exponent (take i hs)) (exponent h)
 
 -- ---- how far exponents are apart
 
@@ -99,7 +101,8 @@ few_numbers (x ∷ heads) (h ∷ hs) (suc i) s =
     omega (arith, rest, codes, declarations, sum)
 
 -- those of at most 64 heads fit
-pub numbers_fit : (heads : List Head) (hs : List Header) (i : ℕ) (h : Header) (head : Head) → ShowHeaders heads hs → i < 64 → Views (shown head) h → first_number (take i hs) + length h.codes < 2 ^ 64
+pub numbers_fit : (heads : List Head) (hs : List Header) (i : ℕ) (h : Header) (head : Head) → ShowHeaders heads hs → i < 64 → Views (shown head) h
+    → first_number (take i hs) + length h.codes < 2 ^ 64
 numbers_fit heads hs i h head s l v = let few = few_numbers heads hs i s in let codes = v.few_codes in let declarations = v.few in omega (arith, few, codes, declarations)
 
 -- ---- an input's lines

@@ -70,7 +70,8 @@ other_front path name n = false_from_ne_true (selects_path path name) (λ h. let
 pub name_goes_on : (component name rest text : List ℕ) → name ≡ component ++ 46 ∷ rest → selects_path (component ++ 46 ∷ text) name ≡ selects_path text rest
 name_goes_on component name rest text e = rw e (selects-front component (46 ∷ text) (46 ∷ rest) ∙ selects-front (46 ∷ []) text rest)
 
-pub component_differs : (component name text : List ℕ) → selects_path component name ≡ false → ((rest : List ℕ) → name ≢ component ++ 46 ∷ rest) → selects_path (component ++ 46 ∷ text) name ≡ false
+pub component_differs : (component name text : List ℕ) → selects_path component name ≡ false → ((rest : List ℕ) → name ≢ component ++ 46 ∷ rest)
+    → selects_path (component ++ 46 ∷ text) name ≡ false
 component_differs component name text not n =
     false_from_ne_true (selects_path (component ++ 46 ∷ text) name) (λ h. elim (selects_split component name text h) [ inl is ↦ cc | inr more ↦ n more.0 more.1 ])
 
@@ -91,7 +92,8 @@ pub record HasMatched (h : Header) (row : ℕ) (d : Declaration) (e : Enclosing)
   pub leaves : LeavesScopes h row rest e
   pub decides : selects_path (path_of (take row h.declarations) d) name ≡ selects_path (names_text (take row h.declarations) rest ++ name_of d) left
 
-pub match_first : (h : Header) (row : ℕ) (d : Declaration) (e : Enclosing) (name left : List ℕ) → left ≡ name → LeavesScopes h row (reverse (enclosing (take row h.declarations))) e → HasMatched h row d e name left
+pub match_first : (h : Header) (row : ℕ) (d : Declaration) (e : Enclosing) (name left : List ℕ) → left ≡ name
+    → LeavesScopes h row (reverse (enclosing (take row h.declarations))) e → HasMatched h row d e name left
 unfolding scopes_text
 match_first h row d e name left same l = record {
   rest = reverse (enclosing (take row h.declarations));
@@ -106,7 +108,8 @@ pub record MatchNext (h : Header) (row scope : ℕ) (d : Declaration) (e : Enclo
   pub leaves : LeavesScopes h row others e
   pub decides : selects_path (path_of (take row h.declarations) d) name ≡ selects_path (name_of is.declared ++ 46 ∷ (names_text (take row h.declarations) others ++ name_of d)) left
 
-pub match_next : (h : Header) (row scope : ℕ) (d : Declaration) (e e2 : Enclosing) (name left : List ℕ) (m : HasMatched h row d e name left) → GivesNext h row m.rest e2 (Some scope) → MatchNext h row scope d e2 name left
+pub match_next : (h : Header) (row scope : ℕ) (d : Declaration) (e e2 : Enclosing) (name left : List ℕ) (m : HasMatched h row d e name left)
+    → GivesNext h row m.rest e2 (Some scope) → MatchNext h row scope d e2 name left
 match_next h row scope d e e2 name left m g =
     let is = scope_at h row scope g.2 m.leaves.within in
     let ds = take row h.declarations in
@@ -120,11 +123,14 @@ match_next h row scope d e e2 name left m g =
     }
 
 -- what its name says of the path
-pub match_component : (h : Header) (row scope : ℕ) (d : Declaration) (e : Enclosing) (name left bytes : List ℕ) (m : Match) (n : MatchNext h row scope d e name left) → bytes ≡ name_of n.is.declared
-    → ((text : List ℕ) → selects_after m text ≡ selects_path (bytes ++ 46 ∷ text) left) → selects_path (path_of (take row h.declarations) d) name ≡ selects_after m (names_text (take row h.declarations) n.others ++ name_of d)
+pub match_component : (h : Header) (row scope : ℕ) (d : Declaration) (e : Enclosing) (name left bytes : List ℕ) (m : Match)
+    (n : MatchNext h row scope d e name left) → bytes ≡ name_of n.is.declared
+    → ((text : List ℕ) → selects_after m text ≡ selects_path (bytes ++ 46 ∷ text) left)
+    → selects_path (path_of (take row h.declarations) d) name ≡ selects_after m (names_text (take row h.declarations) n.others ++ name_of d)
 match_component h row scope d e name left bytes m n same says =
     let after = names_text (take row h.declarations) n.others ++ name_of d in
     n.decides ∙ ap (λ l. selects_path (l ++ 46 ∷ after) left) (sym same) ∙ sym (says after)
 
-pub match_all : (h : Header) (row : ℕ) (d : Declaration) (e : Enclosing) (name left : List ℕ) (m : HasMatched h row d e name left) → m.rest ≡ [] → selects_path (path_of (take row h.declarations) d) name ≡ selects_path (name_of d) left
+pub match_all : (h : Header) (row : ℕ) (d : Declaration) (e : Enclosing) (name left : List ℕ) (m : HasMatched h row d e name left) → m.rest ≡ []
+    → selects_path (path_of (take row h.declarations) d) name ≡ selects_path (name_of d) left
 match_all h row d e name left m none = m.decides ∙ ap (λ l. selects_path (names_text (take row h.declarations) l ++ name_of d) left) none

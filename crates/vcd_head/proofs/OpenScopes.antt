@@ -35,7 +35,14 @@ pub last_row : (s : HeadShown) (h : Header) (position : ℕ) (r : Row) → Views
 last_row s h position r v l at =
     let m = row_at s h position r v at in
     let count = rows_len s.text h.codes [] s.rows h.declarations v.rows in
-    record { last = m.0; split = take-whole h.declarations position m.0 m.1 (omega (arith, count)); is_row = m.2; front = length-take-le position h.declarations (omega (arith, count)); within = omega (arith, count) }
+    record {
+      last = m.0;
+      split = take-whole h.declarations position m.0 m.1
+          (omega (arith, count));
+      is_row = m.2;
+      front = length-take-le position h.declarations (omega (arith, count));
+      within = omega (arith, count);
+    }
 
 pub open_after_scope : (s : HeadShown) (h : Header) (position : ℕ) (r : Row) → IsLast s h position r → r.kind ≡ kind.Scope → Some position ≡ parent h.declarations
 unfolding first
@@ -43,14 +50,16 @@ open_after_scope s h position r l k = by_kind l.last l.split l.is_row
   where
     by_kind : (d : Declaration) → h.declarations ≡ take position h.declarations ++ d ∷ [] → IsRow s.text h.codes (take position h.declarations) r d → Some position ≡ parent h.declarations
     by_kind (Declaration.Scope type name) e row =
-        sym (same_parent h.declarations (length (take position h.declarations) ∷ enclosing (take position h.declarations)) (ap enclosing e ∙ enclosing-scope (take position h.declarations) type name) ∙ ap Some l.front)
+        sym (same_parent h.declarations (length (take position h.declarations) ∷ enclosing (take position h.declarations)) (ap enclosing e
+        ∙ enclosing-scope (take position h.declarations) type name) ∙ ap Some l.front)
     by_kind Declaration.Up e row = let other = row.own.0 in cc
     by_kind (Declaration.Var v) e row = let other = row.own.0 in cc
 
 pub open_after_var : (s : HeadShown) (h : Header) (position : ℕ) (r : Row) → IsLast s h position r → r.kind ≡ kind.Var → parent (take position h.declarations) ≡ parent h.declarations
 open_after_var s h position r l k = by_kind l.last l.split l.is_row
   where
-    by_kind : (d : Declaration) → h.declarations ≡ take position h.declarations ++ d ∷ [] → IsRow s.text h.codes (take position h.declarations) r d → parent (take position h.declarations) ≡ parent h.declarations
+    by_kind : (d : Declaration) → h.declarations ≡ take position h.declarations ++ d ∷ [] → IsRow s.text h.codes (take position h.declarations) r d
+        → parent (take position h.declarations) ≡ parent h.declarations
     by_kind (Declaration.Scope type name) e row = let other = row.own.0 in cc
     by_kind Declaration.Up e row = let other = row.own.0 in cc
     by_kind (Declaration.Var v) e row = sym (parent_as h.declarations (take position h.declarations) (ap enclosing e ∙ enclosing-var (take position h.declarations) v))
@@ -59,15 +68,18 @@ open_after_var s h position r l k = by_kind l.last l.split l.is_row
 closed : (s : HeadShown) (h : Header) (position : ℕ) (r : Row) → IsLast s h position r → r.kind ≡ kind.Up → enclosing h.declarations ≡ drop 1 (enclosing (take position h.declarations))
 closed s h position r l k = by_kind l.last l.split l.is_row
   where
-    by_kind : (d : Declaration) → h.declarations ≡ take position h.declarations ++ d ∷ [] → IsRow s.text h.codes (take position h.declarations) r d → enclosing h.declarations ≡ drop 1 (enclosing (take position h.declarations))
+    by_kind : (d : Declaration) → h.declarations ≡ take position h.declarations ++ d ∷ [] → IsRow s.text h.codes (take position h.declarations) r d
+        → enclosing h.declarations ≡ drop 1 (enclosing (take position h.declarations))
     by_kind (Declaration.Scope type name) e row = let other = row.own.0 in cc
     by_kind Declaration.Up e row = ap enclosing e ∙ enclosing-up (take position h.declarations)
     by_kind (Declaration.Var v) e row = let other = row.own.0 in cc
 
-pub open_after_up : (s : HeadShown) (h : Header) (position p : ℕ) (r : Row) → IsLast s h position r → r.kind ≡ kind.Up → parent (take position h.declarations) ≡ Some p → parent (take p h.declarations) ≡ parent h.declarations
+pub open_after_up : (s : HeadShown) (h : Header) (position p : ℕ) (r : Row) → IsLast s h position r → r.kind ≡ kind.Up
+    → parent (take position h.declarations) ≡ Some p → parent (take p h.declarations) ≡ parent h.declarations
 open_after_up s h position p r l k e = sym (parent_as h.declarations (take p h.declarations) (closed s h position r l k ∙ ap (drop 1) (around_some h.declarations position p e)))
 
-pub open_after_last_up : (s : HeadShown) (h : Header) (position : ℕ) (r : Row) → IsLast s h position r → r.kind ≡ kind.Up → parent (take position h.declarations) ≡ None → None ≡ parent h.declarations
+pub open_after_last_up : (s : HeadShown) (h : Header) (position : ℕ) (r : Row) → IsLast s h position r → r.kind ≡ kind.Up
+    → parent (take position h.declarations) ≡ None → None ≡ parent h.declarations
 unfolding first
 open_after_last_up s h position r l k e = sym (same_parent h.declarations [] (closed s h position r l k ∙ ap (drop 1) (around_none h.declarations position e)))
 
@@ -103,12 +115,14 @@ closes_none m ds next old e =
     by_next None q = tt
     by_next (Some p) q = parent_before ds (length ds) p (sym q)
 
-pub closes_next : (m : ℕ → Bool) (ds : List Declaration) (scope : ℕ) (next : Option ℕ) (old mid new : Option (List ℕ)) → Closes m ds (Some scope) old mid → Appends mid new (up_lines_at m (scope ∷ [])) → next ≡ parent (take scope ds) → Closes m ds next old new
+pub closes_next : (m : ℕ → Bool) (ds : List Declaration) (scope : ℕ) (next : Option ℕ) (old mid new : Option (List ℕ))
+    → Closes m ds (Some scope) old mid → Appends mid new (up_lines_at m (scope ∷ [])) → next ≡ parent (take scope ds) → Closes m ds next old new
 closes_next m ds scope next old mid new c line e = record {
   inner = c.inner ++ scope ∷ [];
   split = c.split ∙ sym (append_assoc c.inner (scope ∷ []) (enclosing (take scope ds))) ∙ ap (λ l. (c.inner ++ scope ∷ []) ++ l) (scopes_around ds scope ∙ ap (with_scopes ds) (sym e));
   within = by_next next e;
-  written = subst (Appends old new) (sym (flat_map-append (λ i. cond (m i) up_line []) c.inner (scope ∷ []))) (appends-twice old mid new (up_lines_at m c.inner) (up_lines_at m (scope ∷ [])) c.written line);
+  written = subst (Appends old new) (sym (flat_map-append (λ i. cond (m i) up_line []) c.inner (scope ∷ [])))
+      (appends-twice old mid new (up_lines_at m c.inner) (up_lines_at m (scope ∷ [])) c.written line);
 }
   where
     by_next : (o : Option ℕ) → o ≡ parent (take scope ds) → IfSome o (λ p. p < length ds)
@@ -116,10 +130,12 @@ closes_next m ds scope next old mid new c line e = record {
     by_next (Some p) q = let before = parent_before ds scope p (sym q) in omega (arith, c.within)
 
 -- a line that was not wholly written
-pub closes_some : (m : ℕ → Bool) (ds : List Declaration) (scope : ℕ) (old mid new : Option (List ℕ)) → Closes m ds (Some scope) old mid → AppendsSome mid new (up_lines_at m (scope ∷ [])) → AppendsSome old new (up_lines_at m (enclosing ds))
+pub closes_some : (m : ℕ → Bool) (ds : List Declaration) (scope : ℕ) (old mid new : Option (List ℕ)) → Closes m ds (Some scope) old mid
+    → AppendsSome mid new (up_lines_at m (scope ∷ [])) → AppendsSome old new (up_lines_at m (enclosing ds))
 closes_some m ds scope old mid new c line =
     let f = λ (i : ℕ). cond (m i) up_line [] in
     let outer = enclosing (take scope ds) in
     let whole : up_lines_at m (enclosing ds) ≡ (up_lines_at m c.inner ++ up_lines_at m (scope ∷ [])) ++ up_lines_at m outer =
-    ap (up_lines_at m) (c.split ∙ sym (append_assoc c.inner (scope ∷ []) outer)) ∙ flat_map-append f (c.inner ++ scope ∷ []) outer ∙ ap (λ l. l ++ up_lines_at m outer) (flat_map-append f c.inner (scope ∷ [])) in
+    ap (up_lines_at m) (c.split ∙ sym (append_assoc c.inner (scope ∷ []) outer)) ∙ flat_map-append f (c.inner ++ scope ∷ []) outer
+    ∙ ap (λ l. l ++ up_lines_at m outer) (flat_map-append f c.inner (scope ∷ [])) in
     subst (AppendsSome old new) (sym whole) (appends-first old new _ (up_lines_at m outer) (appends-some old mid new (up_lines_at m c.inner) (up_lines_at m (scope ∷ [])) c.written line))

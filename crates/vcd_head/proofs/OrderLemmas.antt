@@ -18,7 +18,8 @@ read_same x (suc n) zero = refl
 read_same x (suc n) (suc k) = read_same x n k
 
 -- sorted indexes of all names are their order, with zeros after them
-pub order_made : (names : List (List ℕ)) (used rest : List ℕ) (n : ℕ) → n ≡ length names → length used ≡ n → n ≤ 16384 → ((p : ℕ) → p < n → Contains used p) → All (λ p. p < n) used → IsSortedBy (comes_before names) used
+pub order_made : (names : List (List ℕ)) (used rest : List ℕ) (n : ℕ) → n ≡ length names → length used ≡ n → n ≤ 16384
+    → ((p : ℕ) → p < n → Contains used p) → All (λ p. p < n) used → IsSortedBy (comes_before names) used
     → ((i : ℕ) → get_or rest i 0 ≡ 0) → IsOrder names (used ++ rest)
 order_made names used rest n count len few each within sorted zeros = record {
   each = λ p l.

@@ -28,7 +28,8 @@ declared_at [] i h = absurd (omega arith)
 declared_at (d ∷ ds) zero h = (d, refl)
 declared_at (d ∷ ds) (suc i) h = declared_at ds i (omega arith)
 
-names_next : (ds : List Declaration) (scope : ℕ) (d : Declaration) (others : List ℕ) → slice_get ds scope ≡ Some d → names_text ds (scope ∷ others) ≡ name_of d ++ 46 ∷ names_text ds others
+names_next : (ds : List Declaration) (scope : ℕ) (d : Declaration) (others : List ℕ) → slice_get ds scope ≡ Some d
+    → names_text ds (scope ∷ others) ≡ name_of d ++ 46 ∷ names_text ds others
 names_next ds scope d others at = rw at (append_assoc (name_of d) (46 ∷ []) (names_text ds others))
 
 pub scope_at : (h : Header) (row scope : ℕ) → scope < row → row < length h.declarations → IsScopeAt h row scope
@@ -57,7 +58,8 @@ pub record NameNext (h : Header) (row scope : ℕ) (e : Enclosing) (old new : Op
   pub puts : Appends old new written
   pub leaves : LeavesScopes h row others e
 
-pub name_next : (h : Header) (row scope : ℕ) (e e2 : Enclosing) (old new : Option (List ℕ)) (n : HasNames h row e old new) → GivesNext h row n.rest e2 (Some scope) → NameNext h row scope e2 old new
+pub name_next : (h : Header) (row scope : ℕ) (e e2 : Enclosing) (old new : Option (List ℕ)) (n : HasNames h row e old new)
+    → GivesNext h row n.rest e2 (Some scope) → NameNext h row scope e2 old new
 name_next h row scope e e2 old new n g =
     let is = scope_at h row scope g.2 n.leaves.within in
     let ds = take row h.declarations in
@@ -71,7 +73,8 @@ name_next h row scope e e2 old new n g =
     }
 
 -- its name and the point are written
-pub names_more : (h : Header) (row scope : ℕ) (e : Enclosing) (old new mid last : Option (List ℕ)) (n : NameNext h row scope e old new) → Appends new mid (name_of n.is.declared) → Appends mid last (46 ∷ []) → HasNames h row e old last
+pub names_more : (h : Header) (row scope : ℕ) (e : Enclosing) (old new mid last : Option (List ℕ)) (n : NameNext h row scope e old new)
+    → Appends new mid (name_of n.is.declared) → Appends mid last (46 ∷ []) → HasNames h row e old last
 names_more h row scope e old new mid last n name point = record {
   written = (n.written ++ name_of n.is.declared) ++ 46 ∷ [];
   rest = n.others;
@@ -81,12 +84,14 @@ names_more h row scope e old new mid last n name point = record {
 }
 
 -- some first bytes of its name
-pub names_some : (h : Header) (row scope : ℕ) (e : Enclosing) (old new last : Option (List ℕ)) (n : NameNext h row scope e old new) → AppendsSome new last (name_of n.is.declared) → AppendsSome old last (scopes_text (take row h.declarations))
+pub names_some : (h : Header) (row scope : ℕ) (e : Enclosing) (old new last : Option (List ℕ)) (n : NameNext h row scope e old new)
+    → AppendsSome new last (name_of n.is.declared) → AppendsSome old last (scopes_text (take row h.declarations))
 names_some h row scope e old new last n name =
     subst (AppendsSome old last) (sym n.split) (appends-first old last (n.written ++ name_of n.is.declared) _ (appends-some old new last n.written (name_of n.is.declared) n.puts name))
 
 -- and some of the point
-pub point_some : (h : Header) (row scope : ℕ) (e : Enclosing) (old new mid last : Option (List ℕ)) (n : NameNext h row scope e old new) → Appends new mid (name_of n.is.declared) → AppendsSome mid last (46 ∷ []) → AppendsSome old last (scopes_text (take row h.declarations))
+pub point_some : (h : Header) (row scope : ℕ) (e : Enclosing) (old new mid last : Option (List ℕ)) (n : NameNext h row scope e old new)
+    → Appends new mid (name_of n.is.declared) → AppendsSome mid last (46 ∷ []) → AppendsSome old last (scopes_text (take row h.declarations))
 point_some h row scope e old new mid last n name point =
     let front = n.written ++ name_of n.is.declared in
     let rest = names_text (take row h.declarations) n.others in

@@ -43,7 +43,8 @@ own_mark front back v =
     ∙ ap (λ b. is_among before n || (b || is_among rest n)) (eq-eqb n n refl) ∙ or-true (is_among before n)
 
 -- so are those of the scopes around it
-var_marks : (ds : List Declaration) (i : ℕ) (v : Variable) → slice_get ds i ≡ Some (Declaration.Var v) → AllByRecursion (λ p. is_among (marked_places [] ds) p ≡ true) (i ∷ enclosing (take i ds))
+var_marks : (ds : List Declaration) (i : ℕ) (v : Variable) → slice_get ds i ≡ Some (Declaration.Var v)
+    → AllByRecursion (λ p. is_among (marked_places [] ds) p ≡ true) (i ∷ enclosing (take i ds))
 var_marks ds i v at =
     let front = take i ds in
     let back = drop (i + 1) ds in
@@ -67,7 +68,8 @@ closed_after p e (Declaration.Var v ∷ xs) l h =
 -- a scope, or the end of one, marks nothing
 scope_marks : (ds : List Declaration) (i : ℕ) (type name : List ℕ) → slice_get ds i ≡ Some (Declaration.Scope type name) → marked_places [] (take (i + 1) ds) ≡ marked_places [] (take i ds)
 unfolding marked_places
-scope_marks ds i type name at = ap (places_after [] []) (one_on ds i (Declaration.Scope type name) at) ∙ places_split [] [] (take i ds) (Declaration.Scope type name ∷ []) ∙ append-nil (places_after [] [] (take i ds))
+scope_marks ds i type name at = ap (places_after [] []) (one_on ds i (Declaration.Scope type name) at)
+    ∙ places_split [] [] (take i ds) (Declaration.Scope type name ∷ []) ∙ append-nil (places_after [] [] (take i ds))
 
 up_marks : (ds : List Declaration) (i : ℕ) → slice_get ds i ≡ Some Declaration.Up → marked_places [] (take (i + 1) ds) ≡ marked_places [] (take i ds)
 unfolding marked_places
@@ -81,7 +83,8 @@ not_yet ds i =
     none_any (λ j. i == j) positions (below_other i positions (places_below [] i [] (take i ds) (omega (arith, length-take i ds))))
 
 -- a scope without a variable that is closed is not marked at all
-never : (ds : List Declaration) (i p : ℕ) (around : List ℕ) → slice_get ds i ≡ Some Declaration.Up → enclosing (take i ds) ≡ p ∷ around → is_among (marked_places [] (take i ds)) p ≡ false → is_among (marked_places [] ds) p ≡ false
+never : (ds : List Declaration) (i p : ℕ) (around : List ℕ) → slice_get ds i ≡ Some Declaration.Up → enclosing (take i ds) ≡ p ∷ around
+    → is_among (marked_places [] (take i ds)) p ≡ false → is_among (marked_places [] ds) p ≡ false
 unfolding marked_places
 never ds i p around at are_open none =
     let front = take i ds in
@@ -187,7 +190,9 @@ module _ (first : ℕ) (h : Header) (i pending written : ℕ) (text : List ℕ) 
       by_scopes (p ∷ around) s =
           let count = w.count in
           let are_open : enclosing front ≡ p ∷ around = w.are ∙ s in
-          let unmet : AllByRecursion (λ q. is_among (marked_places [] front) q ≡ false) (p ∷ take k around) = subst (λ (l : List ℕ). AllByRecursion (λ q. is_among (marked_places [] front) q ≡ false) l) (ap (λ n. take n w.scopes) e ∙ ap (take (suc k)) s) w.unmet in
+          let unmet : AllByRecursion (λ q. is_among (marked_places [] front) q ≡ false) (p ∷ take k around) = subst
+          (λ (l : List ℕ). AllByRecursion (λ q. is_among (marked_places [] front) q ≡ false) l) (ap (λ n. take n w.scopes) e
+          ∙ ap (take (suc k)) s) w.unmet in
           let gone : m p ≡ false = never D i p around at are_open unmet.0 in
           let rest = withheld m D (take k around) in
           record {
@@ -249,7 +254,8 @@ module _ (first : ℕ) (h : Header) (i pending written : ℕ) (text : List ℕ) 
           }
 
   -- a variable, after which none is pending
-  variable_next : (v : Variable) → slice_get h.declarations i ≡ Some (Declaration.Var v) → IsWritten first h (i + 1) 0 (written + pending) (text ++ due h first pending written front (Declaration.Var v))
+  variable_next : (v : Variable) → slice_get h.declarations i ≡ Some (Declaration.Var v)
+      → IsWritten first h (i + 1) 0 (written + pending) (text ++ due h first pending written front (Declaration.Var v))
   variable_next v at =
       let m = is_kept h in
       let D = h.declarations in
@@ -272,7 +278,9 @@ module _ (first : ℕ) (h : Header) (i pending written : ℕ) (text : List ℕ) 
       }
 
   -- one row on
-  pub row_next : (d : Declaration) → slice_get h.declarations i ≡ Some d → IsWritten first h (i + 1) (pending_behind d pending) (written_behind d pending written) (text ++ due h first pending written (take i h.declarations) d)
+  pub row_next : (d : Declaration) → slice_get h.declarations i ≡ Some d
+      → IsWritten first h (i + 1) (pending_behind d pending) (written_behind d pending written)
+      (text ++ due h first pending written (take i h.declarations) d)
   row_next (Declaration.Scope type name) at = scope_next type name at
   row_next Declaration.Up at = by_pending pending refl
     where
@@ -289,11 +297,13 @@ module _ (first : ℕ) (h : Header) (i pending written : ℕ) (text : List ℕ) 
       let held = withheld (is_kept h) D (take pending w.scopes) in
       let behind = concat (each_after (line_in first h) front (drop i D)) in
       let ups = up_lines_at (is_kept h) (enclosing D) in
-      let whole : concat (each (line_in first h) D) ≡ (text ++ held) ++ behind = ap (λ l. concat (each (line_in first h) l)) (sym (take-append-drop i D)) ∙ lines-append (line_in first h) front (drop i D) ∙ ap (λ l. l ++ behind) w.split in
+      let whole : concat (each (line_in first h) D) ≡ (text ++ held) ++ behind = ap (λ l. concat (each (line_in first h) l))
+      (sym (take-append-drop i D)) ∙ lines-append (line_in first h) front (drop i D) ∙ ap (λ l. l ++ behind) w.split in
       (held ++ (behind ++ ups), ap (λ l. l ++ ups) whole ∙ append_assoc (text ++ held) behind ups ∙ append_assoc text held (behind ++ ups))
 
   -- after the last row the scopes that are written are left to close
-  pub last_lines : i ≡ length h.declarations → (scopes : List ℕ) × (length scopes ≡ written) × (rows_text (numbered first h) (is_kept h) h.declarations ≡ text ++ flat_map (λ p. up_line) scopes)
+  pub last_lines : i ≡ length h.declarations → (scopes : List ℕ) × (length scopes ≡ written)
+      × (rows_text (numbered first h) (is_kept h) h.declarations ≡ text ++ flat_map (λ p. up_line) scopes)
   unfolding rows_text
   last_lines e =
       let m = is_kept h in
@@ -307,11 +317,13 @@ module _ (first : ℕ) (h : Header) (i pending written : ℕ) (text : List ℕ) 
       let ups : up_lines_at m (enclosing D) ≡ flat_map (λ p. up_line) outer =
       ap (λ l. up_lines_at m (enclosing l)) (sym all) ∙ ap (up_lines_at m) (w.are ∙ sym parts) ∙ flat_map-append (λ p. cond (m p) up_line []) inner outer
       ∙ ap (λ l. l ++ up_lines_at m outer) (none_closed m inner none) ∙ all_closed m outer w.met in
-      let lines : concat (each (line_in first h) D) ≡ text = ap (λ l. concat (each (line_in first h) l)) (sym all) ∙ w.split ∙ ap (λ l. text ++ l) (none_withheld m D inner none) ∙ append-nil text in
+      let lines : concat (each (line_in first h) D) ≡ text = ap (λ l. concat (each (line_in first h) l)) (sym all) ∙ w.split
+      ∙ ap (λ l. text ++ l) (none_withheld m D inner none) ∙ append-nil text in
       (outer, length-drop pending w.scopes ∙ omega arith, ap (λ l. l ++ up_lines_at m (enclosing D)) lines ∙ ap (λ l. text ++ l) ups)
 
 -- a row whose text was not wholly written
-pub row_some : (first : ℕ) (h : Header) (i pending written : ℕ) (text : List ℕ) (old mid new : Option (List ℕ)) (d : Declaration) → IsWritten first h i pending written text → slice_get h.declarations i ≡ Some d → Appends old mid text
+pub row_some : (first : ℕ) (h : Header) (i pending written : ℕ) (text : List ℕ) (old mid new : Option (List ℕ)) (d : Declaration)
+    → IsWritten first h i pending written text → slice_get h.declarations i ≡ Some d → Appends old mid text
     → AppendsSome mid new (due h first pending written (take i h.declarations) d) → AppendsSome old new (rows_text (numbered first h) (is_kept h) h.declarations)
 row_some first h i pending written text old mid new d w at puts some =
     let more = text ++ due h first pending written (take i h.declarations) d in
@@ -320,7 +332,8 @@ row_some first h i pending written text old mid new d w at puts some =
 
 -- ---- what a row declares, by its kind
 
-pub scope_row_is : (s : HeadShown) (h : Header) (i : ℕ) (r : Row) (d : Declaration) → Views s h → slice_get s.rows i ≡ Some r → slice_get h.declarations i ≡ Some d → r.kind ≡ kind.Scope → (type : List ℕ) × (name : List ℕ) × (d ≡ Declaration.Scope type name)
+pub scope_row_is : (s : HeadShown) (h : Header) (i : ℕ) (r : Row) (d : Declaration) → Views s h → slice_get s.rows i ≡ Some r
+    → slice_get h.declarations i ≡ Some d → r.kind ≡ kind.Scope → (type : List ℕ) × (name : List ℕ) × (d ≡ Declaration.Scope type name)
 scope_row_is s h i r d v at is k = by_kind d refl (row_of s h i r d v at is)
   where
     by_kind : (x : Declaration) → d ≡ x → IsRow s.text h.codes (take i h.declarations) r x → (type : List ℕ) × (name : List ℕ) × (d ≡ Declaration.Scope type name)
@@ -328,7 +341,8 @@ scope_row_is s h i r d v at is k = by_kind d refl (row_of s h i r d v at is)
     by_kind Declaration.Up e row = let other = row.own.0 in cc
     by_kind (Declaration.Var u) e row = let other = row.own.0 in cc
 
-pub up_row_is : (s : HeadShown) (h : Header) (i : ℕ) (r : Row) (d : Declaration) → Views s h → slice_get s.rows i ≡ Some r → slice_get h.declarations i ≡ Some d → r.kind ≡ kind.Up → d ≡ Declaration.Up
+pub up_row_is : (s : HeadShown) (h : Header) (i : ℕ) (r : Row) (d : Declaration) → Views s h → slice_get s.rows i ≡ Some r
+    → slice_get h.declarations i ≡ Some d → r.kind ≡ kind.Up → d ≡ Declaration.Up
 up_row_is s h i r d v at is k = by_kind d refl (row_of s h i r d v at is)
   where
     by_kind : (x : Declaration) → d ≡ x → IsRow s.text h.codes (take i h.declarations) r x → d ≡ Declaration.Up
@@ -336,7 +350,8 @@ up_row_is s h i r d v at is k = by_kind d refl (row_of s h i r d v at is)
     by_kind Declaration.Up e row = e
     by_kind (Declaration.Var u) e row = let other = row.own.0 in cc
 
-pub var_row_is : (s : HeadShown) (h : Header) (i : ℕ) (r : Row) (d : Declaration) → Views s h → slice_get s.rows i ≡ Some r → slice_get h.declarations i ≡ Some d → r.kind ≡ kind.Var → (u : Variable) × (d ≡ Declaration.Var u)
+pub var_row_is : (s : HeadShown) (h : Header) (i : ℕ) (r : Row) (d : Declaration) → Views s h → slice_get s.rows i ≡ Some r
+    → slice_get h.declarations i ≡ Some d → r.kind ≡ kind.Var → (u : Variable) × (d ≡ Declaration.Var u)
 var_row_is s h i r d v at is k = by_kind d refl (row_of s h i r d v at is)
   where
     by_kind : (x : Declaration) → d ≡ x → IsRow s.text h.codes (take i h.declarations) r x → (u : Variable) × (d ≡ Declaration.Var u)
@@ -358,7 +373,8 @@ kind_is s h i r d v at is = by_kind d (row_of s h i r d v at is)
     by_kind Declaration.Up row = row.own.0
     by_kind (Declaration.Var u) row = row.own.0
 
-pub behind_is : (d : Declaration) (pending written pending' written' : ℕ) → written + pending + 1 < 2 ^ 64 → IsBehind (kind_of d) pending written pending' written' → (pending_behind d pending ≡ pending') × (written_behind d pending written ≡ written')
+pub behind_is : (d : Declaration) (pending written pending' written' : ℕ) → written + pending + 1 < 2 ^ 64
+    → IsBehind (kind_of d) pending written pending' written' → (pending_behind d pending ≡ pending') × (written_behind d pending written ≡ written')
 behind_is (Declaration.Scope type name) pending written pending' written' few b = let s = b.scope refl (omega arith) in (omega (arith, s.0), sym s.1)
 behind_is Declaration.Up zero written pending' written' few b = let s = b.written_up refl refl in (sym s.0, sym s.1)
 behind_is Declaration.Up (suc pending) written pending' written' few b = let s = b.pending_up refl (omega arith) in (omega (arith, s.0), sym s.1)
@@ -387,7 +403,8 @@ pub record Opens (h : Header) (row count : ℕ) (e : Enclosing) (old new : Optio
   pub puts : Appends old new (flat_map (opening h.declarations) done)
   pub leaves : LeavesScopes h row rest e
 
-pub opens_first : (h : Header) (row count : ℕ) (e : Enclosing) (old : Option (List ℕ)) → LeavesScopes h row (reverse (take count (enclosing (take row h.declarations)))) e → Opens h row count e old old
+pub opens_first : (h : Header) (row count : ℕ) (e : Enclosing) (old : Option (List ℕ))
+    → LeavesScopes h row (reverse (take count (enclosing (take row h.declarations)))) e → Opens h row count e old old
 opens_first h row count e old l = record { done = []; rest = reverse (take count (enclosing (take row h.declarations))); split = refl; puts = appends-none old; leaves = l }
 
 -- the declaration of the next one
@@ -402,7 +419,8 @@ pub opens_next : (h : Header) (row scope : ℕ) (rest : List ℕ) (e : Enclosing
 opens_next h row scope rest e l g = let is = scope_at h row scope g.2 l in record { declared = is.declared; at = is.at; others = g.0; parts = g.1; leaves = g.3 }
 
 -- its line is written
-pub opens_more : (h : Header) (row count scope : ℕ) (e e2 : Enclosing) (old mid new : Option (List ℕ)) (o : Opens h row count e old mid) (n : OpensNext h row scope o.rest e2) → Appends mid new (opening_of (Some n.declared)) → Opens h row count e2 old new
+pub opens_more : (h : Header) (row count scope : ℕ) (e e2 : Enclosing) (old mid new : Option (List ℕ)) (o : Opens h row count e old mid)
+    (n : OpensNext h row scope o.rest e2) → Appends mid new (opening_of (Some n.declared)) → Opens h row count e2 old new
 opens_more h row count scope e e2 old mid new o n line =
     let f = opening h.declarations in
     let own : f scope ≡ opening_of (Some n.declared) = ap opening_of n.at in
@@ -416,7 +434,9 @@ opens_more h row count scope e e2 old mid new o n line =
     }
 
 -- it was not wholly written
-pub opens_some : (h : Header) (row count scope : ℕ) (e e2 : Enclosing) (old mid new : Option (List ℕ)) (o : Opens h row count e old mid) (n : OpensNext h row scope o.rest e2) → AppendsSome mid new (opening_of (Some n.declared)) → AppendsSome old new (openings h.declarations (take count (enclosing (take row h.declarations))))
+pub opens_some : (h : Header) (row count scope : ℕ) (e e2 : Enclosing) (old mid new : Option (List ℕ)) (o : Opens h row count e old mid)
+    (n : OpensNext h row scope o.rest e2) → AppendsSome mid new (opening_of (Some n.declared))
+    → AppendsSome old new (openings h.declarations (take count (enclosing (take row h.declarations))))
 opens_some h row count scope e e2 old mid new o n line =
     let f = opening h.declarations in
     let own : f scope ≡ opening_of (Some n.declared) = ap opening_of n.at in

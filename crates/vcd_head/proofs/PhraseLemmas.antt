@@ -9,7 +9,8 @@ pub start_fault : (most : ℕ) (ps : List HeaderPhrase) (k : Keyword) → header
 unfolding header_fault
 start_fault most ps k = ap (λ o. first_failed (start_of most (declarations_of ps) (keyword_text k) o)) (keyword_of-text k)
 
-pub inner_fault : (most : ℕ) (ps : List HeaderPhrase) (k : Keyword) (before : List (List ℕ)) (t : List ℕ) → header_fault most ps (keyword_text k ∷ before) t ≡ first_failed (inner_checks (declarations_of ps) k before t)
+pub inner_fault : (most : ℕ) (ps : List HeaderPhrase) (k : Keyword) (before : List (List ℕ)) (t : List ℕ)
+    → header_fault most ps (keyword_text k ∷ before) t ≡ first_failed (inner_checks (declarations_of ps) k before t)
 unfolding header_fault
 inner_fault most ps k before t = ap (λ o. first_failed (inner_of (declarations_of ps) o before t)) (keyword_of-text k)
 
@@ -19,37 +20,48 @@ phrase_is k ts = ap (phrase_behind (keyword_text k) ts) (keyword_of-text k)
 
 module _ {X : Type 0} {g : Ghosts X} (most : ℕ) (i : Input) (placed : List (Placed HeaderPhrase)) (k : Keyword) (f : Feed X g) where
   -- the keyword passes its checks
-  pub begun : (token_of f).bytes ≡ keyword_text k → first_failed (start_checks most (declarations_of (phrases_of placed)) k) ≡ None → phrase_with k [] ≡ None → ReadsToken most i placed [] f → Reads most i placed (keyword_text k ∷ []) f
+  pub begun : (token_of f).bytes ≡ keyword_text k → first_failed (start_checks most (declarations_of (phrases_of placed)) k) ≡ None
+      → phrase_with k [] ≡ None → ReadsToken most i placed [] f → Reads most i placed (keyword_text k ∷ []) f
   begun e c q l =
       subst (λ (t : List ℕ). Reads most i placed (t ∷ []) f) e
-      (taken most i placed [] f (ap (header_fault most (phrases_of placed) []) e ∙ start_fault most (phrases_of placed) k ∙ c) (ap (λ (t : List ℕ). header_phrase (t ∷ [])) e ∙ phrase_is k [] ∙ q) l)
+      (taken most i placed [] f (ap (header_fault most (phrases_of placed) []) e ∙ start_fault most (phrases_of placed) k ∙ c)
+      (ap (λ (t : List ℕ). header_phrase (t ∷ [])) e ∙ phrase_is k [] ∙ q) l)
 
   -- it does not
-  pub not_begun : (n : ℕ) → (token_of f).bytes ≡ keyword_text k → first_failed (start_checks most (declarations_of (phrases_of placed)) k) ≡ Some n → ReadsToken most i placed [] f → FailsAtToken most i n f
+  pub not_begun : (n : ℕ) → (token_of f).bytes ≡ keyword_text k → first_failed (start_checks most (declarations_of (phrases_of placed)) k) ≡ Some n
+      → ReadsToken most i placed [] f → FailsAtToken most i n f
   not_begun n e c l = refused most i placed [] f n (ap (header_fault most (phrases_of placed) []) e ∙ start_fault most (phrases_of placed) k ∙ c) l
 
   module _ (before : List (List ℕ)) where
     -- a later token passes its checks, and the phrase is not whole with it
-    pub inside : first_failed (inner_checks (declarations_of (phrases_of placed)) k before (token_of f).bytes) ≡ None → phrase_with k (before ++ (token_of f).bytes ∷ []) ≡ None → ReadsToken most i placed (keyword_text k ∷ before) f
+    pub inside : first_failed (inner_checks (declarations_of (phrases_of placed)) k before (token_of f).bytes) ≡ None
+        → phrase_with k (before ++ (token_of f).bytes ∷ []) ≡ None → ReadsToken most i placed (keyword_text k ∷ before) f
         → Reads most i placed (keyword_text k ∷ (before ++ (token_of f).bytes ∷ [])) f
-    inside c q l = taken most i placed (keyword_text k ∷ before) f (inner_fault most (phrases_of placed) k before (token_of f).bytes ∙ c) (phrase_is k (before ++ (token_of f).bytes ∷ []) ∙ q) l
+    inside c q l = taken most i placed (keyword_text k ∷ before) f (inner_fault most (phrases_of placed) k before (token_of f).bytes ∙ c)
+        (phrase_is k (before ++ (token_of f).bytes ∷ []) ∙ q) l
 
     -- a later token passes its checks, and a phrase is whole with it
-    pub ended : (p : HeaderPhrase) → first_failed (inner_checks (declarations_of (phrases_of placed)) k before (token_of f).bytes) ≡ None → phrase_with k (before ++ (token_of f).bytes ∷ []) ≡ Some p → is_last p ≡ false → ReadsToken most i placed (keyword_text k ∷ before) f
+    pub ended : (p : HeaderPhrase) → first_failed (inner_checks (declarations_of (phrases_of placed)) k before (token_of f).bytes) ≡ None
+        → phrase_with k (before ++ (token_of f).bytes ∷ []) ≡ Some p → is_last p ≡ false → ReadsToken most i placed (keyword_text k ∷ before) f
         → Reads most i (placed ++ record { phrase = p; line = (token_of f).line } ∷ []) [] f
-    ended p c q last l = taken_phrase most i placed (keyword_text k ∷ before) f p (inner_fault most (phrases_of placed) k before (token_of f).bytes ∙ c) (phrase_is k (before ++ (token_of f).bytes ∷ []) ∙ q) last l
+    ended p c q last l = taken_phrase most i placed (keyword_text k ∷ before) f p (inner_fault most (phrases_of placed) k before (token_of f).bytes
+        ∙ c) (phrase_is k (before ++ (token_of f).bytes ∷ []) ∙ q) last l
 
     -- a later token passes its checks, and the last phrase is whole with it
-    pub ended_all : (p : HeaderPhrase) → first_failed (inner_checks (declarations_of (phrases_of placed)) k before (token_of f).bytes) ≡ None → phrase_with k (before ++ (token_of f).bytes ∷ []) ≡ Some p → is_last p ≡ true → ReadsToken most i placed (keyword_text k ∷ before) f
+    pub ended_all : (p : HeaderPhrase) → first_failed (inner_checks (declarations_of (phrases_of placed)) k before (token_of f).bytes) ≡ None
+        → phrase_with k (before ++ (token_of f).bytes ∷ []) ≡ Some p → is_last p ≡ true → ReadsToken most i placed (keyword_text k ∷ before) f
         → ReadsWhole most i (placed ++ record { phrase = p; line = (token_of f).line } ∷ []) f
-    ended_all p c q last l = taken_last most i placed (keyword_text k ∷ before) f p (inner_fault most (phrases_of placed) k before (token_of f).bytes ∙ c) (phrase_is k (before ++ (token_of f).bytes ∷ []) ∙ q) last l
+    ended_all p c q last l = taken_last most i placed (keyword_text k ∷ before) f p (inner_fault most (phrases_of placed) k before (token_of f).bytes
+        ∙ c) (phrase_is k (before ++ (token_of f).bytes ∷ []) ∙ q) last l
 
     -- a check of a later token fails
-    pub refused_inside : (n : ℕ) → first_failed (inner_checks (declarations_of (phrases_of placed)) k before (token_of f).bytes) ≡ Some n → ReadsToken most i placed (keyword_text k ∷ before) f → FailsAtToken most i n f
+    pub refused_inside : (n : ℕ) → first_failed (inner_checks (declarations_of (phrases_of placed)) k before (token_of f).bytes) ≡ Some n
+        → ReadsToken most i placed (keyword_text k ∷ before) f → FailsAtToken most i n f
     refused_inside n c l = refused most i placed (keyword_text k ∷ before) f n (inner_fault most (phrases_of placed) k before (token_of f).bytes ∙ c) l
 
 -- a phrase without checks that is whole at the first `$end`
-pub runs_freely : (most : ℕ) (placed : List (Placed HeaderPhrase)) (k : Keyword) (before : List (List ℕ)) → ((inner : List (List ℕ)) (t : List ℕ) → inner_checks (declarations_of (phrases_of placed)) k (before ++ inner) t ≡ [])
+pub runs_freely : (most : ℕ) (placed : List (Placed HeaderPhrase)) (k : Keyword) (before : List (List ℕ))
+    → ((inner : List (List ℕ)) (t : List ℕ) → inner_checks (declarations_of (phrases_of placed)) k (before ++ inner) t ≡ [])
     → ((inner : List (List ℕ)) (t : List ℕ) → NoEnds inner → is_end t ≡ false → phrase_with k (before ++ inner ++ t ∷ []) ≡ None) → RunsOn most placed (keyword_text k ∷ before)
 runs_freely most placed k before free whole inner t none =
     (inner_fault most (phrases_of placed) k (before ++ inner) t ∙ ap first_failed (free inner t), λ e. phrase_is k (before ++ inner ++ t ∷ []) ∙ whole inner t none e)
@@ -87,38 +99,61 @@ upscope_asks_end most placed t e = inner_fault most (phrases_of placed) Keyword.
 pub header_asks_end : (most : ℕ) (placed : List (Placed HeaderPhrase)) → AsksEnd most placed (keyword_text Keyword.EndDefinitions ∷ []) 4
 header_asks_end most placed t e = inner_fault most (phrases_of placed) Keyword.EndDefinitions [] t ∙ rw e refl
 
-pub scale_asks_end : (most : ℕ) (placed : List (Placed HeaderPhrase)) (inner : List (List ℕ)) → ((t : List ℕ) → timescale_checks inner t ≡ (is_end t or_fault 5) ∷ []) → AsksEnd most placed (keyword_text Keyword.Timescale ∷ inner) 5
+pub scale_asks_end : (most : ℕ) (placed : List (Placed HeaderPhrase)) (inner : List (List ℕ))
+    → ((t : List ℕ) → timescale_checks inner t ≡ (is_end t or_fault 5) ∷ []) → AsksEnd most placed (keyword_text Keyword.Timescale ∷ inner) 5
 scale_asks_end most placed inner then t e = inner_fault most (phrases_of placed) Keyword.Timescale inner t ∙ ap first_failed (then t) ∙ rw e refl
 
 pub scope_welcomes_type : (most : ℕ) (placed : List (Placed HeaderPhrase)) → Welcomes most placed (keyword_text Keyword.Scope ∷ []) 6
-scope_welcomes_type most placed = (λ t e. (inner_fault most (phrases_of placed) Keyword.Scope [] t ∙ rw e refl, phrase_is Keyword.Scope (t ∷ [])), λ t e. inner_fault most (phrases_of placed) Keyword.Scope [] t ∙ rw e refl)
+scope_welcomes_type most placed = (
+  λ t e. (inner_fault most (phrases_of placed) Keyword.Scope [] t ∙ rw e refl, phrase_is Keyword.Scope (t ∷ [])),
+  λ t e. inner_fault most (phrases_of placed) Keyword.Scope [] t ∙ rw e refl,
+)
 
 pub scope_welcomes_name : (most : ℕ) (placed : List (Placed HeaderPhrase)) (type : List ℕ) → Welcomes most placed (keyword_text Keyword.Scope ∷ type ∷ []) 6
-scope_welcomes_name most placed type = (λ t e. (inner_fault most (phrases_of placed) Keyword.Scope (type ∷ []) t ∙ rw e refl, phrase_is Keyword.Scope (type ∷ t ∷ [])), λ t e. inner_fault most (phrases_of placed) Keyword.Scope (type ∷ []) t ∙ rw e refl)
+scope_welcomes_name most placed type = (
+  λ t e. (
+    inner_fault most (phrases_of placed) Keyword.Scope (type ∷ []) t
+        ∙ rw e refl,
+    phrase_is Keyword.Scope (type ∷ t ∷ []),
+  ),
+  λ t e. inner_fault most (phrases_of placed) Keyword.Scope (type ∷ []) t ∙ rw e refl,
+)
 
 pub var_welcomes_type : (most : ℕ) (placed : List (Placed HeaderPhrase)) → Welcomes most placed (keyword_text Keyword.Var ∷ []) 7
-var_welcomes_type most placed = (λ t e. (inner_fault most (phrases_of placed) Keyword.Var [] t ∙ rw e refl, phrase_is Keyword.Var (t ∷ [])), λ t e. inner_fault most (phrases_of placed) Keyword.Var [] t ∙ rw e refl)
+var_welcomes_type most placed = (
+  λ t e. (inner_fault most (phrases_of placed) Keyword.Var [] t ∙ rw e refl, phrase_is Keyword.Var (t ∷ [])),
+  λ t e. inner_fault most (phrases_of placed) Keyword.Var [] t ∙ rw e refl,
+)
 
 pub var_welcomes_reference : (most : ℕ) (placed : List (Placed HeaderPhrase)) (type size code : List ℕ) → Welcomes most placed (keyword_text Keyword.Var ∷ type ∷ size ∷ code ∷ []) 7
 var_welcomes_reference most placed type size code = (
-  λ t e. (inner_fault most (phrases_of placed) Keyword.Var (type ∷ size ∷ code ∷ []) t ∙ rw e refl, phrase_is Keyword.Var (type ∷ size ∷ code ∷ t ∷ []) ∙ ap (λ o. option_map HeaderPhrase.Declares (option_and_then (variable_with type size code) o)) (not_until [] t tt e)),
+  λ t e. (
+    inner_fault most (phrases_of placed) Keyword.Var (type ∷ size ∷ code ∷ []) t
+        ∙ rw e refl,
+    phrase_is Keyword.Var (type ∷ size ∷ code ∷ t ∷ [])
+        ∙ ap (λ o. option_map HeaderPhrase.Declares (option_and_then (variable_with type size code) o)) (not_until [] t tt e),
+  ),
   λ t e. inner_fault most (phrases_of placed) Keyword.Var (type ∷ size ∷ code ∷ []) t ∙ rw e refl,
 )
 
-pub var_runs : (most : ℕ) (placed : List (Placed HeaderPhrase)) (type size code first : List ℕ) → is_end first ≡ false → RunsOn most placed (keyword_text Keyword.Var ∷ type ∷ size ∷ code ∷ first ∷ [])
+pub var_runs : (most : ℕ) (placed : List (Placed HeaderPhrase)) (type size code first : List ℕ) → is_end first ≡ false
+    → RunsOn most placed (keyword_text Keyword.Var ∷ type ∷ size ∷ code ∷ first ∷ [])
 var_runs most placed type size code first n =
     runs_freely most placed Keyword.Var (type ∷ size ∷ code ∷ first ∷ []) (λ inner t. refl)
     (λ inner t none e. ap (λ o. option_map HeaderPhrase.Declares (option_and_then (variable_with type size code) o)) (not_until (first ∷ inner) t (n, none) e))
 
 -- a variable is whole
 pub var_whole : (type digits code first : List ℕ) (inner : List (List ℕ)) (t : List ℕ) → is_end first ≡ false → NoEnds inner → is_end t ≡ true → is_decimal digits ≡ true
-    → phrase_with Keyword.Var (type ∷ digits ∷ code ∷ first ∷ (inner ++ t ∷ [])) ≡ Some (HeaderPhrase.Declares (Declaration.Var (record { type = type; size = decimal_value digits; code = code; reference = first ∷ inner })))
+    → phrase_with Keyword.Var (type ∷ digits ∷ code ∷ first ∷ (inner ++ t ∷ [])) ≡ Some
+    (HeaderPhrase.Declares (Declaration.Var (record { type = type; size = decimal_value digits; code = code; reference = first ∷ inner })))
 var_whole type digits code first inner t n none e d =
     ap (λ o. option_map HeaderPhrase.Declares (option_and_then (variable_with type digits code) o)) (until (first ∷ inner) t (n, none) e)
     ∙ ap (λ b. option_map HeaderPhrase.Declares (cond b (Some (Declaration.Var (record { type = type; size = decimal_value digits; code = code; reference = first ∷ inner }))) None)) d
 
 -- a declaration that is not allowed here
-pub barred : {X : Type 0} {g : Ghosts X} (most : ℕ) (i : Input) (placed : List (Placed HeaderPhrase)) (k : Kind) (f : Feed X g) (fault : HeadFault) → (token_of f).bytes ≡ keyword_text (keyword_for k) → IsBarred most (phrases_of placed) k fault → ReadsToken most i placed [] f → Fails most i fault f
+pub barred : {X : Type 0} {g : Ghosts X} (most : ℕ) (i : Input) (placed : List (Placed HeaderPhrase)) (k : Kind) (f : Feed X g) (fault : HeadFault)
+    → (token_of f).bytes ≡ keyword_text (keyword_for k) → IsBarred most (phrases_of placed) k fault → ReadsToken most i placed [] f
+    → Fails most i fault f
 barred most i placed k f TooMany e b l = not_begun most i placed (keyword_for k) f 11 e b l
 barred most i placed k f TooDeep e b l = not_begun most i placed (keyword_for k) f 10 e b l
 barred most i placed k f NoScope e b l = not_begun most i placed (keyword_for k) f 9 e b l

@@ -19,68 +19,94 @@ not_whole_comment : (inner : List (List ℕ)) (t : List ℕ) → NoEnds inner �
 not_whole_comment inner t none e = ap (option_map HeaderPhrase.Comment) (not_until inner t none e)
 
 module _ {X : Type 0} {g : Ghosts X} (most : ℕ) (i : Input) where
-  pub text_begun : (k : Keyword) (d : Draft) (f : Feed X g) (b : AtKeyword most i k d f) → first_failed (start_checks most (declarations_of (phrases_of b.placed)) k) ≡ None → phrase_with k [] ≡ None
-      → ((inner : List (List ℕ)) (t : List ℕ) → inner_checks (declarations_of (phrases_of b.placed)) k inner t ≡ []) → ((inner : List (List ℕ)) (t : List ℕ) → NoEnds inner → is_end t ≡ false → phrase_with k (inner ++ t ∷ []) ≡ None)
+  pub text_begun : (k : Keyword) (d : Draft) (f : Feed X g) (b : AtKeyword most i k d f)
+      → first_failed (start_checks most (declarations_of (phrases_of b.placed)) k) ≡ None → phrase_with k [] ≡ None
+      → ((inner : List (List ℕ)) (t : List ℕ) → inner_checks (declarations_of (phrases_of b.placed)) k inner t ≡ [])
+      → ((inner : List (List ℕ)) (t : List ℕ) → NoEnds inner → is_end t ≡ false → phrase_with k (inner ++ t ∷ []) ≡ None)
       → Reads most i b.placed (keyword_text k ∷ []) f × RunsOn most b.placed (keyword_text k ∷ [])
   text_begun k d f b c q free whole = (begun most i b.placed k f b.keyword c q b.token_read, runs_freely most b.placed k [] free whole)
 
-  pub date_read : (d : Draft) (f f' : Feed X g) (v : Vec ℕ) (b : AtKeyword most i Keyword.Date d f) → EndsThere most i b.placed (keyword_text Keyword.Date ∷ []) f' (λ inner. v.items ≡ join_with_byte 32 inner) → DraftsUpTo most i (record d { date = v }) f'
+  pub date_read : (d : Draft) (f f' : Feed X g) (v : Vec ℕ) (b : AtKeyword most i Keyword.Date d f)
+      → EndsThere most i b.placed (keyword_text Keyword.Date ∷ []) f' (λ inner. v.items ≡ join_with_byte 32 inner)
+      → DraftsUpTo most i (record d { date = v }) f'
   date_read d f f' v b e =
       carried most i (record d { date = v }) f' b.placed (record { phrase = HeaderPhrase.Date e.inner; line = (token_of f').line })
       (ended most i b.placed Keyword.Date f' e.inner (HeaderPhrase.Date e.inner) refl (ap (option_map HeaderPhrase.Date) (until e.inner (token_of f').bytes e.none e.ends)) refl e.token_read)
       (holds_date most d (phrases_of b.placed) e.inner v b.holds e.grows)
 
-  pub version_read : (d : Draft) (f f' : Feed X g) (v : Vec ℕ) (b : AtKeyword most i Keyword.Version d f) → EndsThere most i b.placed (keyword_text Keyword.Version ∷ []) f' (λ inner. v.items ≡ join_with_byte 32 inner) → DraftsUpTo most i (record d { version = v }) f'
+  pub version_read : (d : Draft) (f f' : Feed X g) (v : Vec ℕ) (b : AtKeyword most i Keyword.Version d f)
+      → EndsThere most i b.placed (keyword_text Keyword.Version ∷ []) f' (λ inner. v.items ≡ join_with_byte 32 inner)
+      → DraftsUpTo most i (record d { version = v }) f'
   version_read d f f' v b e =
       carried most i (record d { version = v }) f' b.placed (record { phrase = HeaderPhrase.Version e.inner; line = (token_of f').line })
       (ended most i b.placed Keyword.Version f' e.inner (HeaderPhrase.Version e.inner) refl (ap (option_map HeaderPhrase.Version) (until e.inner (token_of f').bytes e.none e.ends)) refl e.token_read)
       (holds_version most d (phrases_of b.placed) e.inner v b.holds e.grows)
 
   pub comment_read : (d : Draft) (f f' : Feed X g) (r : Result (Unit {0}) HeadFault) (b : AtKeyword most i Keyword.Comment d f)
-      → (RunsOn most b.placed (keyword_text Keyword.Comment ∷ []) → Reads most i b.placed (keyword_text Keyword.Comment ∷ []) f → MatchResult r (λ u. EndsThere most i b.placed (keyword_text Keyword.Comment ∷ []) f' (λ inner. Unit {0})) (λ fault. Fails most i fault f'))
+      → (RunsOn most b.placed (keyword_text Keyword.Comment ∷ []) → Reads most i b.placed (keyword_text Keyword.Comment ∷ []) f
+      → MatchResult r (λ u. EndsThere most i b.placed (keyword_text Keyword.Comment ∷ []) f' (λ inner. Unit {0})) (λ fault. Fails most i fault f'))
       → MatchResult r (λ u. DraftsUpTo most i d f') (λ fault. Fails most i fault f')
   comment_read d f f' r b h = let s = text_begun Keyword.Comment d f b refl refl (λ inner t. refl) not_whole_comment in by_result r (h s.1 s.0)
     where
-      by_result : (x : Result (Unit {0}) HeadFault) → MatchResult x (λ u. EndsThere most i b.placed (keyword_text Keyword.Comment ∷ []) f' (λ inner. Unit {0})) (λ fault. Fails most i fault f') → MatchResult x (λ u. DraftsUpTo most i d f') (λ fault. Fails most i fault f')
+      by_result : (x : Result (Unit {0}) HeadFault) → MatchResult x
+          (λ u. EndsThere most i b.placed (keyword_text Keyword.Comment ∷ []) f' (λ inner. Unit {0})) (λ fault. Fails most i fault f')
+          → MatchResult x (λ u. DraftsUpTo most i d f') (λ fault. Fails most i fault f')
       by_result (Err fault) e = e
       by_result (Ok u) e =
           carried most i d f' b.placed (record { phrase = HeaderPhrase.Comment e.inner; line = (token_of f').line })
-          (ended most i b.placed Keyword.Comment f' e.inner (HeaderPhrase.Comment e.inner) refl (ap (option_map HeaderPhrase.Comment) (until e.inner (token_of f').bytes e.none e.ends)) refl e.token_read)
+          (ended most i b.placed Keyword.Comment f' e.inner (HeaderPhrase.Comment e.inner) refl
+          (ap (option_map HeaderPhrase.Comment) (until e.inner (token_of f').bytes e.none e.ends)) refl e.token_read)
           (holds_plain most d (phrases_of b.placed) (HeaderPhrase.Comment e.inner) refl refl refl refl b.holds)
 
-  pub unknown_begun : (d : Draft) (f : Feed X g) (b : AtOther most i d f) → begins_change (token_of f).bytes ≡ false → is_command (token_of f).bytes ≡ true → Reads most i b.placed ((token_of f).bytes ∷ []) f × RunsOn most b.placed ((token_of f).bytes ∷ [])
+  pub unknown_begun : (d : Draft) (f : Feed X g) (b : AtOther most i d f) → begins_change (token_of f).bytes ≡ false
+      → is_command (token_of f).bytes ≡ true → Reads most i b.placed ((token_of f).bytes ∷ []) f × RunsOn most b.placed ((token_of f).bytes ∷ [])
   unknown_begun d f b o c =
-      let u = unknown_command (token_of f).bytes b.other c in
-      (taken most i b.placed [] f (fault_of_command most (phrases_of b.placed) (token_of f).bytes b.other o c) (unknown_is (token_of f).bytes [] u) b.token_read, unknown_runs most b.placed (token_of f).bytes u)
+      let u = unknown_command (token_of f).bytes b.other c in (
+        taken most i b.placed [] f (fault_of_command most (phrases_of b.placed) (token_of f).bytes b.other o c)
+            (unknown_is (token_of f).bytes [] u) b.token_read,
+        unknown_runs most b.placed (token_of f).bytes u,
+      )
 
-  unknown_whole : (d : Draft) (f f' : Feed X g) (b : AtOther most i d f) → is_unknown_command (token_of f).bytes ≡ true → EndsThere most i b.placed ((token_of f).bytes ∷ []) f' (λ inner. Unit {0}) → DraftsUpTo most i d f'
+  unknown_whole : (d : Draft) (f f' : Feed X g) (b : AtOther most i d f) → is_unknown_command (token_of f).bytes ≡ true
+      → EndsThere most i b.placed ((token_of f).bytes ∷ []) f' (λ inner. Unit {0}) → DraftsUpTo most i d f'
   unknown_whole d f f' b u e =
       let t = (token_of f).bytes in
       let p = HeaderPhrase.Unknown t e.inner in
       carried most i d f' b.placed (record { phrase = p; line = (token_of f').line })
-      (taken_phrase most i b.placed (t ∷ e.inner) f' p (unknown_free most (phrases_of b.placed) t e.inner (token_of f').bytes u) (unknown_is t (e.inner ++ (token_of f').bytes ∷ []) u ∙ ap (option_map (HeaderPhrase.Unknown t)) (until e.inner (token_of f').bytes e.none e.ends)) refl e.token_read)
+      (taken_phrase most i b.placed (t ∷ e.inner) f' p (unknown_free most (phrases_of b.placed) t e.inner (token_of f').bytes u)
+      (unknown_is t (e.inner ++ (token_of f').bytes ∷ []) u ∙ ap (option_map (HeaderPhrase.Unknown t))
+      (until e.inner (token_of f').bytes e.none e.ends)) refl e.token_read)
       (holds_plain most d (phrases_of b.placed) p refl refl refl refl b.holds)
 
   pub unknown_read : (d : Draft) (f f' : Feed X g) (r : Result (Unit {0}) HeadFault) (b : AtOther most i d f) → begins_change (token_of f).bytes ≡ false → is_command (token_of f).bytes ≡ true
-      → MatchResult r (λ u. EndsThere most i b.placed ((token_of f).bytes ∷ []) f' (λ inner. Unit {0})) (λ fault. Fails most i fault f') → MatchResult r (λ u. DraftsUpTo most i d f') (λ fault. Fails most i fault f')
+      → MatchResult r (λ u. EndsThere most i b.placed ((token_of f).bytes ∷ []) f' (λ inner. Unit {0})) (λ fault. Fails most i fault f')
+      → MatchResult r (λ u. DraftsUpTo most i d f') (λ fault. Fails most i fault f')
   unknown_read d f f' (Err fault) b o c e = e
   unknown_read d f f' (Ok w) b o c e = unknown_whole d f f' b (unknown_command (token_of f).bytes b.other c) e
 
   end_begun : (d : Draft) (f : Feed X g) (b : AtKeyword most i Keyword.EndDefinitions d f) → Reads most i b.placed (keyword_text Keyword.EndDefinitions ∷ []) f
   end_begun d f b = begun most i b.placed Keyword.EndDefinitions f b.keyword refl refl b.token_read
 
-  end_read : (d : Draft) (f f' : Feed X g) (b : AtKeyword most i Keyword.EndDefinitions d f) → ReadsToken most i b.placed (keyword_text Keyword.EndDefinitions ∷ []) f' → is_end (token_of f').bytes ≡ true → DraftsAll most i d f'
+  end_read : (d : Draft) (f f' : Feed X g) (b : AtKeyword most i Keyword.EndDefinitions d f)
+      → ReadsToken most i b.placed (keyword_text Keyword.EndDefinitions ∷ []) f' → is_end (token_of f').bytes ≡ true → DraftsAll most i d f'
   end_read d f f' b l e = record {
     placed = b.placed ++ record { phrase = HeaderPhrase.EndDefinitions; line = (token_of f').line } ∷ [];
-    reads = ended_all most i b.placed Keyword.EndDefinitions f' [] HeaderPhrase.EndDefinitions (passed_test (is_end (token_of f').bytes) 4 e) (whole_test (is_end (token_of f').bytes) HeaderPhrase.EndDefinitions e) refl l;
-    holds = subst (IsDraftOf most d) (sym (map-append (λ (q : Placed HeaderPhrase). q.phrase) b.placed (record { phrase = HeaderPhrase.EndDefinitions; line = (token_of f').line } ∷ []))) (holds_plain most d (phrases_of b.placed) HeaderPhrase.EndDefinitions refl refl refl refl b.holds);
+    reads = ended_all most i b.placed Keyword.EndDefinitions f' [] HeaderPhrase.EndDefinitions (passed_test (is_end (token_of f').bytes) 4 e)
+        (whole_test (is_end (token_of f').bytes) HeaderPhrase.EndDefinitions e) refl l;
+    holds = subst (IsDraftOf most d) (sym (map-append (λ (q : Placed HeaderPhrase). q.phrase) b.placed
+        (record { phrase = HeaderPhrase.EndDefinitions; line = (token_of f').line } ∷ [])))
+        (holds_plain most d (phrases_of b.placed) HeaderPhrase.EndDefinitions refl refl refl refl b.holds);
   }
 
-  pub end_taken : (d : Draft) (f f' : Feed X g) (r : Result (Unit {0}) HeadFault) (b : AtKeyword most i Keyword.EndDefinitions d f) → ReadsEnd OutOfPlace f f' r → MatchResult r (λ u. DraftsAll most i d f') (λ fault. Fails most i fault f')
-  end_taken d f f' r b h = then_ok r _ (λ u. DraftsAll most i d f') _ (λ u e. end_read d f f' b e.0 e.1) (h most i b.placed (keyword_text Keyword.EndDefinitions ∷ []) (header_asks_end most b.placed) (λ x. x) (end_begun d f b))
+  pub end_taken : (d : Draft) (f f' : Feed X g) (r : Result (Unit {0}) HeadFault) (b : AtKeyword most i Keyword.EndDefinitions d f)
+      → ReadsEnd OutOfPlace f f' r → MatchResult r (λ u. DraftsAll most i d f') (λ fault. Fails most i fault f')
+  end_taken d f f' r b h = then_ok r _ (λ u. DraftsAll most i d f') _ (λ u e. end_read d f f' b e.0 e.1)
+      (h most i b.placed (keyword_text Keyword.EndDefinitions ∷ []) (header_asks_end most b.placed) (λ x. x) (end_begun d f b))
 
 -- the first token of a phrase was looked at
-pub begun_by : {X : Type 0} {g : Ghosts X} (most : ℕ) (i : Input) (d : Draft) (f : Feed X g) (placed : List (Placed HeaderPhrase)) (k : Option WordOf) → option_map model_keyword k ≡ keyword_of (token_of f).bytes → ReadsToken most i placed [] f → IsDraftOf most d (phrases_of placed) → AtFirstToken most i k d f
+pub begun_by : {X : Type 0} {g : Ghosts X} (most : ℕ) (i : Input) (d : Draft) (f : Feed X g) (placed : List (Placed HeaderPhrase))
+    (k : Option WordOf) → option_map model_keyword k ≡ keyword_of (token_of f).bytes → ReadsToken most i placed [] f
+    → IsDraftOf most d (phrases_of placed) → AtFirstToken most i k d f
 begun_by most i d f placed None e l h = record { placed = placed; token_read = l; other = sym e; holds = h }
 begun_by most i d f placed (Some k) e l h = record { placed = placed; token_read = l; keyword = keyword_is (token_of f).bytes (model_keyword k) (sym e); holds = h }
 
@@ -115,9 +141,33 @@ holds_nothing most d m n = record {
 }
 
 pub carries_nothing : {X : Type 0} {g : Ghosts X} (most : ℕ) (i : Input) (d : Draft) (f : Feed X g) → most ≤ 16777216 → IsNew d → HasGiven i [] f → DraftsUpTo most i d f
-carries_nothing most i d f m n s = record { placed = []; reads = record { given = []; stands = s; so_far = so_far-nothing (header_grammar most); last = λ some. absurd (some refl) }; holds = holds_nothing most d m n }
+carries_nothing most i d f m n s = record {
+  placed = [];
+  reads = record {
+    given = [];
+    stands = s;
+    so_far = so_far-nothing
+        (header_grammar most);
+    last = λ some. absurd (some refl);
+  };
+  holds = holds_nothing most d m n;
+}
 
 pub finished : {X : Type 0} {g : Ghosts X} (most : ℕ) (i : Input) (d : Draft) (f : Feed X g) (r : Result Head HeadFault) → DraftsAll most i d f
-    → ((m : ℕ) (ps : List HeaderPhrase) → IsDraftOf m d ps → IfOk r (λ head. Views (shown head) (header_of ps))) → IfErr r (λ fault. fault ≡ OutOfMemory) → MatchResult r (λ head. GivesHead most i f (shown head)) (λ fault. Fails most i fault f)
-finished most i d f (Ok head) a v e = record { given = a.reads.given ++ token_of f ∷ []; placed = a.placed; stands = a.reads.stands; whole = a.reads.whole; near = read_to_shown i a.reads.given f a.reads.stands; front = a.reads.given; last = token_of f; is = refl; going = a.reads.going; views = v most (phrases_of a.placed) a.holds }
+    → ((m : ℕ) (ps : List HeaderPhrase) → IsDraftOf m d ps → IfOk r (λ head. Views (shown head) (header_of ps)))
+    → IfErr r (λ fault. fault ≡ OutOfMemory) → MatchResult r (λ head. GivesHead most i f (shown head)) (λ fault. Fails most i fault f)
+finished most i d f (Ok head)
+    a v e = record {
+      given = a.reads.given ++ token_of f ∷ [];
+      placed = a.placed;
+      stands = a.reads.stands;
+      whole = a.reads.whole;
+      near = read_to_shown i a.reads.given f a.reads.stands;
+      front = a.reads.given;
+      last = token_of f;
+      is = refl;
+      going = a.reads.going;
+      views = v most
+          (phrases_of a.placed) a.holds;
+    }
 finished most i d f (Err fault) a v e = subst (λ x. Fails most i x f) (sym e) (faultless_whole most i a.placed f a.reads)

@@ -83,7 +83,8 @@ place_first p xs i first l = ap (λ n. cond (nat_lt n (length xs)) (Some n) None
 
 place_found : (m : ℕ) (xs : List ℕ) (i : ℕ) → Rises xs → i < length xs → get_or xs i 0 ≡ m → position (nat_eq m) xs ≡ Some i
 place_found m xs i h l at =
-    let first : position_or_len (nat_eq m) xs ≡ i = position_or_len_is (nat_eq m) xs i 0 (omega (arith, l)) (λ k b. let less = rises_at 0 xs k i h b l in ne_eqb m (get_or xs k 0) (λ e. omega (arith, e, at, less))) (λ _. eq-eqb m (get_or xs i 0) (sym at)) in
+    let first : position_or_len (nat_eq m) xs ≡ i = position_or_len_is (nat_eq m) xs i 0 (omega (arith, l)) (λ k b.
+    let less = rises_at 0 xs k i h b l in ne_eqb m (get_or xs k 0) (λ e. omega (arith, e, at, less))) (λ _. eq-eqb m (get_or xs i 0) (sym at)) in
     place_first (nat_eq m) xs i first l
 
 pub none_at : {X : Type 0} (p : X → Bool) (d : X) (xs : List X) → ((k : ℕ) → k < length xs → p (get_or xs k d) ≡ false) → list_any p xs ≡ false
@@ -95,10 +96,12 @@ pub place_above : (m : ℕ) (xs : List ℕ) → Rises xs → last_in 0 xs < m �
 place_above m xs h l = place_none (nat_eq m) xs (none_above 0 m xs h l)
 
 -- a binary search finds it
-pub place_searched : (m : ℕ) (xs : List ℕ) (r : Result ℕ ℕ) → Rises xs → IsBinarySearchResult (λ y. nat_cmp y m) xs r → MatchResult r (λ i. position (nat_eq m) xs ≡ Some i) (λ _. position (nat_eq m) xs ≡ None)
+pub place_searched : (m : ℕ) (xs : List ℕ) (r : Result ℕ ℕ) → Rises xs → IsBinarySearchResult (λ y. nat_cmp y m) xs r
+    → MatchResult r (λ i. position (nat_eq m) xs ≡ Some i) (λ _. position (nat_eq m) xs ≡ None)
 place_searched m xs r h found = told r (searched xs m r found (λ i j b l. never_falls xs i j h b l))
   where
-    told : (r : Result ℕ ℕ) → MatchResult r (λ i. (i < length xs) × (get_or xs i 0 ≡ m)) (λ i. (i ≤ length xs) × ((k : ℕ) → k < i → get_or xs k 0 < m) × ((k : ℕ) → i ≤ k → k < length xs → m < get_or xs k 0))
+    told : (r : Result ℕ ℕ) → MatchResult r (λ i. (i < length xs) × (get_or xs i 0 ≡ m)) (λ i. (i ≤ length xs)
+        × ((k : ℕ) → k < i → get_or xs k 0 < m) × ((k : ℕ) → i ≤ k → k < length xs → m < get_or xs k 0))
         → MatchResult r (λ i. position (nat_eq m) xs ≡ Some i) (λ _. position (nat_eq m) xs ≡ None)
     told (Ok i) f = place_found m xs i h f.0 f.1
     told (Err i) f = place_none (nat_eq m) xs (none_at (nat_eq m) 0 xs (λ k l. by_side k l (nat_lt k i) refl))
@@ -168,14 +171,18 @@ module _ (t : List ℕ) where
   pub none_keyed : (xs : List ℕ) (keys : List CodeKey) → list_any (nat_eq (key_in t)) xs ≡ false → list_any (is_key t) (keys_behind xs keys) ≡ list_any (is_key t) keys
   none_keyed xs keys n = list_any-append (is_key t) (map (λ n. key.Short n) xs) keys ∙ ap (λ b. b || list_any (is_key t) keys) (none_rising xs n)
 
-  behind_rising : (xs : List ℕ) (keys : List CodeKey) → list_any (nat_eq (key_in t)) xs ≡ false → position_or_len (is_key t) (keys_behind xs keys) ≡ length xs + position_or_len (is_key t) keys
+  behind_rising : (xs : List ℕ) (keys : List CodeKey) → list_any (nat_eq (key_in t)) xs ≡ false
+      → position_or_len (is_key t) (keys_behind xs keys) ≡ length xs + position_or_len (is_key t) keys
   behind_rising xs keys n = behind (is_key t) (map (λ n. key.Short n) xs) keys (none_rising xs n) ∙ ap (λ l. l + position_or_len (is_key t) keys) (length-map xs (λ n. key.Short n))
 
-  same_place : (xs : List ℕ) (keys : List CodeKey) → (key_in t == 0) ≡ false → position_or_len (nat_eq (key_in t)) xs < length xs → position_or_len (is_key t) (keys_behind xs keys) ≡ position_or_len (nat_eq (key_in t)) xs
+  same_place : (xs : List ℕ) (keys : List CodeKey) → (key_in t == 0) ≡ false → position_or_len (nat_eq (key_in t)) xs < length xs
+      → position_or_len (is_key t) (keys_behind xs keys) ≡ position_or_len (nat_eq (key_in t)) xs
   same_place [] keys q l = absurd (omega (arith, l))
   same_place (x ∷ xs) keys q l = ap (λ b. cond (not b) (1 + position_or_len (is_key t) (keys_behind xs keys)) 0) (key_number x q) ∙ by_test (nat_eq (key_in t) x) l (same_place xs keys q)
     where
-      by_test : (b : Bool) → cond (not b) (1 + position_or_len (nat_eq (key_in t)) xs) 0 < length (x ∷ xs) → (position_or_len (nat_eq (key_in t)) xs < length xs → position_or_len (is_key t) (keys_behind xs keys) ≡ position_or_len (nat_eq (key_in t)) xs)
+      by_test : (b : Bool) → cond (not b) (1 + position_or_len (nat_eq (key_in t)) xs) 0 < length (x ∷ xs)
+          → (position_or_len (nat_eq (key_in t)) xs < length xs → position_or_len (is_key t) (keys_behind xs keys) ≡ position_or_len
+          (nat_eq (key_in t)) xs)
           → cond (not b) (1 + position_or_len (is_key t) (keys_behind xs keys)) 0 ≡ cond (not b) (1 + position_or_len (nat_eq (key_in t)) xs) 0
       by_test true l more = refl
       by_test false l more = ap (λ n. 1 + n) (more (omega (arith, l)))
@@ -185,7 +192,8 @@ module _ (t : List ℕ) where
 
   -- ---- a key that is looked for
 
-  place_key : (xs : List ℕ) (keys : List CodeKey) (i : ℕ) → Rises xs → position (nat_eq (key_in t)) xs ≡ Some i → (position_or_len (is_key t) (keys_behind xs keys) ≡ i) × (i < length (keys_behind xs keys))
+  place_key : (xs : List ℕ) (keys : List CodeKey) (i : ℕ) → Rises xs → position (nat_eq (key_in t)) xs ≡ Some i
+      → (position_or_len (is_key t) (keys_behind xs keys) ≡ i) × (i < length (keys_behind xs keys))
   place_key xs keys i h e =
       let at = place_within (nat_eq (key_in t)) xs i e in
       let q = not_zero (key_in t) (number_positive (key_in t) xs i h e) in
@@ -195,7 +203,9 @@ module _ (t : List ℕ) where
 
   module _ (before after : Codes) (list : after.list.items ≡ before.list.items) (h : Rises before.rising.items) where
     -- the next number
-    pub enters_number : (m place : ℕ) → m ≡ key_in t → before.keys.keys ≡ [] → after.keys.keys ≡ [] → after.rising.items ≡ before.rising.items ++ m ∷ [] → last_in 0 before.rising.items < m → place ≡ length before.rising.items → EntersKey t before after place true
+    pub enters_number : (m place : ℕ) → m ≡ key_in t → before.keys.keys ≡ [] → after.keys.keys ≡ []
+        → after.rising.items ≡ before.rising.items ++ m ∷ [] → last_in 0 before.rising.items < m → place ≡ length before.rising.items
+        → EntersKey t before after place true
     enters_number m place is none_before none_after more l at =
         let xs = before.rising.items in
         let absent = none_above 0 (key_in t) xs h (omega (arith, is, l)) in
@@ -207,14 +217,16 @@ module _ (t : List ℕ) where
             absent = none_keyed xs before.keys.keys absent ∙ ap (list_any (is_key t)) none_before;
             key = key.Short m;
             own = ap (λ n. n ∷ []) is ∙ sym (ap (λ b. cond b (0 ∷ 0 ∷ t) (key_in t ∷ [])) q);
-            behind = ap (λ ks. keys_behind after.rising.items ks) none_after ∙ append-nil (map (λ n. key.Short n) after.rising.items) ∙ ap (map (λ n. key.Short n)) more ∙ map-append (λ n. key.Short n) xs (m ∷ [])
+            behind = ap (λ ks. keys_behind after.rising.items ks) none_after ∙ append-nil (map (λ n. key.Short n) after.rising.items)
+                ∙ ap (map (λ n. key.Short n)) more ∙ map-append (λ n. key.Short n) xs (m ∷ [])
                 ∙ ap (λ l. l ++ key.Short m ∷ []) (sym (append-nil (map (λ n. key.Short n) xs)) ∙ ap (λ ks. keys_behind xs ks) (sym none_before));
             last = let len = length_keys xs before.keys.keys in let none = ap length none_before in omega (arith, at, len, none);
           };
         }
 
     -- a number that is there
-    pub enters_known : (place : ℕ) → after.keys.keys ≡ before.keys.keys → after.rising.items ≡ before.rising.items → position (nat_eq (key_in t)) before.rising.items ≡ Some place → EntersKey t before after place false
+    pub enters_known : (place : ℕ) → after.keys.keys ≡ before.keys.keys → after.rising.items ≡ before.rising.items
+        → position (nat_eq (key_in t)) before.rising.items ≡ Some place → EntersKey t before after place false
     enters_known place keys rising e =
         let at = place_key before.rising.items before.keys.keys place h e in
         record {
@@ -224,7 +236,9 @@ module _ (t : List ℕ) where
         }
 
     -- a key that the set has
-    pub enters_found : (i place : ℕ) → after.keys.keys ≡ before.keys.keys → after.rising.items ≡ before.rising.items → list_any (nat_eq (key_in t)) before.rising.items ≡ false → position (is_key t) before.keys.keys ≡ Some i → place ≡ length before.rising.items + i → EntersKey t before after place false
+    pub enters_found : (i place : ℕ) → after.keys.keys ≡ before.keys.keys → after.rising.items ≡ before.rising.items
+        → list_any (nat_eq (key_in t)) before.rising.items ≡ false → position (is_key t) before.keys.keys ≡ Some i
+        → place ≡ length before.rising.items + i → EntersKey t before after place false
     enters_found i place keys rising none e is =
         let at = place_within (is_key t) before.keys.keys i e in
         record {
@@ -238,17 +252,24 @@ module _ (t : List ℕ) where
         }
 
     -- any other key, as the set takes it
-    pub enters_set : (k : CodeKey) (i place : ℕ) (is_new : Bool) → after.rising.items ≡ before.rising.items → list_any (nat_eq (key_in t)) before.rising.items ≡ false → shape_of k ≡ shape_in t → is_new ≡ not (list_any (same_shape k) before.keys.keys)
-        → after.keys.keys ≡ insert_key same_shape before.keys.keys k → i ≡ position_or_len (same_shape k) before.keys.keys → i < length after.keys.keys → place ≡ length before.rising.items + i → EntersKey t before after place is_new
+    pub enters_set : (k : CodeKey) (i place : ℕ) (is_new : Bool) → after.rising.items ≡ before.rising.items
+        → list_any (nat_eq (key_in t)) before.rising.items ≡ false → shape_of k ≡ shape_in t → is_new ≡ not (list_any (same_shape k) before.keys.keys)
+        → after.keys.keys ≡ insert_key same_shape before.keys.keys k → i ≡ position_or_len (same_shape k) before.keys.keys
+        → i < length after.keys.keys → place ≡ length before.rising.items + i → EntersKey t before after place is_new
     enters_set k i place is_new rising none own added made at within is =
         let test : same_shape k ≡ is_key t = ap (λ (s : List ℕ). λ (x : CodeKey). bytes_eq s (shape_of x)) own in
-        by_any (list_any (is_key t) before.keys.keys) refl (added ∙ ap (λ p. not (list_any p before.keys.keys)) test) (made ∙ ap (λ p. cond (list_any p before.keys.keys) before.keys.keys (before.keys.keys ++ k ∷ [])) test) (at ∙ ap (λ p. position_or_len p before.keys.keys) test)
+        by_any (list_any (is_key t) before.keys.keys) refl (added ∙ ap (λ p. not (list_any p before.keys.keys)) test) (made
+        ∙ ap (λ p. cond (list_any p before.keys.keys) before.keys.keys (before.keys.keys ++ k ∷ [])) test) (at
+        ∙ ap (λ p. position_or_len p before.keys.keys) test)
       where
-        by_any : (b : Bool) → list_any (is_key t) before.keys.keys ≡ b → is_new ≡ not (list_any (is_key t) before.keys.keys) → after.keys.keys ≡ cond (list_any (is_key t) before.keys.keys) before.keys.keys (before.keys.keys ++ k ∷ []) → i ≡ position_or_len (is_key t) before.keys.keys → EntersKey t before after place is_new
+        by_any : (b : Bool) → list_any (is_key t) before.keys.keys ≡ b → is_new ≡ not (list_any (is_key t) before.keys.keys)
+            → after.keys.keys ≡ cond (list_any (is_key t) before.keys.keys) before.keys.keys (before.keys.keys ++ k ∷ [])
+            → i ≡ position_or_len (is_key t) before.keys.keys → EntersKey t before after place is_new
         by_any true q added made at =
             let keys : after.keys.keys ≡ before.keys.keys = made ∙ ap (λ b. cond b before.keys.keys (before.keys.keys ++ k ∷ [])) q in
             let known : false ≡ is_new = sym (added ∙ ap not q) in
-            subst (EntersKey t before after place) known (enters_found i place keys rising none (place_first (is_key t) before.keys.keys i (sym at) (let same = ap length keys in omega (arith, within, same))) is)
+            subst (EntersKey t before after place) known (enters_found i place keys rising none
+            (place_first (is_key t) before.keys.keys i (sym at) (let same = ap length keys in omega (arith, within, same))) is)
         by_any false q added made at =
             let keys : after.keys.keys ≡ before.keys.keys ++ k ∷ [] = made ∙ ap (λ b. cond b before.keys.keys (before.keys.keys ++ k ∷ [])) q in
             let new : true ≡ is_new = sym (added ∙ ap not q) in
@@ -261,7 +282,8 @@ module _ (t : List ℕ) where
                 absent = none_keyed before.rising.items before.keys.keys none ∙ q;
                 key = k;
                 own = own;
-                behind = ap (λ ys. keys_behind ys after.keys.keys) rising ∙ ap (keys_behind before.rising.items) keys ∙ sym (append_assoc (map (λ n. key.Short n) before.rising.items) before.keys.keys (k ∷ []));
+                behind = ap (λ ys. keys_behind ys after.keys.keys) rising ∙ ap (keys_behind before.rising.items) keys
+                    ∙ sym (append_assoc (map (λ n. key.Short n) before.rising.items) before.keys.keys (k ∷ []));
                 last = let len = length_keys before.rising.items before.keys.keys in omega (arith, is, at, last, len);
               };
             })

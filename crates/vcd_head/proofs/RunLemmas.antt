@@ -86,7 +86,8 @@ pub text_is : (names : List (List ℕ)) (order : List ℕ) → IsOrder names ord
 text_is names order o i l = slice_get-get_or names (get_or order i 0) [] (o.positions i l)
 
 -- the index of a name in the order
-pub found_at : (names : List (List ℕ)) (order : List ℕ) → IsOrder names order → (p : ℕ) (name : List ℕ) → slice_get names p ≡ Some name → (i : ℕ) × (i < length names) × (get_or order i 0 ≡ p) × (text_at names order i ≡ name)
+pub found_at : (names : List (List ℕ)) (order : List ℕ) → IsOrder names order → (p : ℕ) (name : List ℕ) → slice_get names p ≡ Some name → (i : ℕ)
+    × (i < length names) × (get_or order i 0 ≡ p) × (text_at names order i ≡ name)
 found_at names order o p name at =
     let i = o.each p (slice_get_within names p name at) in
     (i.0, i.1, i.2, ap (λ q. get_or names q []) i.2 ∙ get_or_from_slice_get names p name [] at)
@@ -99,7 +100,9 @@ pub who_passes : (test : List ℕ → Bool) (names : List (List ℕ)) → list_a
 who_passes test [] e = cc
 who_passes test (x ∷ names) e = by_test (test x) refl (who_passes test names) e
   where
-    by_test : (b : Bool) → test x ≡ b → (list_any test names ≡ true → (p : ℕ) × (name : List ℕ) × (slice_get names p ≡ Some name) × (test name ≡ true)) → (b || list_any test names) ≡ true → (p : ℕ) × (name : List ℕ) × (slice_get (x ∷ names) p ≡ Some name) × (test name ≡ true)
+    by_test : (b : Bool) → test x ≡ b → (list_any test names ≡ true → (p : ℕ) × (name : List ℕ) × (slice_get names p ≡ Some name)
+        × (test name ≡ true)) → (b || list_any test names) ≡ true → (p : ℕ) × (name : List ℕ) × (slice_get (x ∷ names) p ≡ Some name)
+        × (test name ≡ true)
     by_test true w others q = (0, x, refl, w)
     by_test false w others q = let other = others q in (suc other.0, other.1, other.2, other.3)
 
@@ -155,7 +158,8 @@ pub record Noting (names : List (List ℕ)) (order : List ℕ) (front : List ℕ
   pub others : (p : ℕ) (name : List ℕ) → slice_get names p ≡ Some name → bytes_eq name front ≡ false → get_or new p false ≡ get_or old p false
 
 module _ (names : List (List ℕ)) (order : List ℕ) (old : List Bool) (front : List ℕ) (r : NameRun) (f : Follows names order old front r) where
-  pub noting_next : (new : List Bool) (at : ℕ) → r.first ≤ at → at < r.end → next_in names order r.front_len at ≡ 0 → get_or order at 0 < length new → Noting names order front old new r.first at → Noting names order front old (set new (get_or order at 0) true) r.first (at + 1)
+  pub noting_next : (new : List Bool) (at : ℕ) → r.first ≤ at → at < r.end → next_in names order r.front_len at ≡ 0 → get_or order at 0 < length new
+      → Noting names order front old new r.first at → Noting names order front old (set new (get_or order at 0) true) r.first (at + 1)
   noting_next new at l m ends room n = record {
     set_before = λ i a b. elim (cases_eq (get_or order i 0) (get_or order at 0)) [
       | inl e ↦ ap (λ k. get_or (set new (get_or order at 0) true) k false) e ∙ get_or-set_same new (get_or order at 0) true false room
@@ -166,7 +170,9 @@ module _ (names : List (List ℕ)) (order : List ℕ) (old : List Bool) (front :
     others = λ p name is e.
         let text = text_is names order f.order_is at (omega (arith, m, f.within)) in
         let front_at = ends_front names order old front r f at l m ends in
-        get_or-set_other new (get_or order at 0) p true false (λ same. let named : name ≡ front = sym (get_or_from_slice_get names p name [] is) ∙ ap (λ k. get_or names k []) same ∙ front_at in let yes = equal_bytes name front named in cc) ∙ n.others p name is e;
+        get_or-set_other new (get_or order at 0) p true false (λ same.
+        let named : name ≡ front = sym (get_or_from_slice_get names p name [] is) ∙ ap (λ k. get_or names k []) same ∙ front_at in
+        let yes = equal_bytes name front named in cc) ∙ n.others p name is e;
   }
     where
       earlier : (i n : ℕ) → i < n + 1 → i ≢ n → i < n
@@ -190,7 +196,8 @@ module _ (names : List (List ℕ)) (order : List ℕ) (old : List Bool) (front :
     first_is = ends_front names order old front r f r.first (omega arith) some ends
 
     any_is : list_any (λ name. bytes_eq name front) names ≡ true
-    any_is = some_passes (λ name. bytes_eq name front) names (get_or order r.first 0) (text_at names order r.first) (text_is names order f.order_is r.first (omega (arith, some, f.within))) (equal_bytes (text_at names order r.first) front first_is)
+    any_is = some_passes (λ name. bytes_eq name front) names (get_or order r.first 0) (text_at names order r.first)
+        (text_is names order f.order_is r.first (omega (arith, some, f.within))) (equal_bytes (text_at names order r.first) front first_is)
 
     -- where the first is flagged, each name that is the front is
     pub noted_before : get_or old (get_or order r.first 0) false ≡ true → Matches (λ name. bytes_eq name front) names old old true
@@ -207,7 +214,8 @@ module _ (names : List (List ℕ)) (order : List ℕ) (old : List Bool) (front :
             set_here ∙ sym (or_true (get_or old p false) true refl)
 
     -- where all of the run that end there were flagged
-    pub noted_all : (new : List Bool) (at : ℕ) → (r.end ≤ at) ⊎ ((at < r.end) × (next_in names order r.front_len at ≢ 0)) → r.first ≤ at → Noting names order front old new r.first at → Matches (λ name. bytes_eq name front) names old new true
+    pub noted_all : (new : List Bool) (at : ℕ) → (r.end ≤ at) ⊎ ((at < r.end) × (next_in names order r.front_len at ≢ 0)) → r.first ≤ at
+        → Noting names order front old new r.first at → Matches (λ name. bytes_eq name front) names old new true
     noted_all new at stop up n = record {
       flags = λ p name is. by_test p name is (bytes_eq name front) refl;
       any = sym any_is;

@@ -47,7 +47,8 @@ module _ (names : List (List ℕ)) (order : List ℕ) (old new : List Bool) (fro
                   m.flags (get_or order i 0) (text_at names order i) text ∙ or_true (get_or old (get_or order i 0) false) _ here,
                   selects_behind byte (text_at names order i) front (point, is_front),
                 )
-            | inr no_point ↦ inr (λ t. ap (λ l. selects_path l (text_at names order i)) (append_assoc front (byte ∷ []) t) ∙ ap (selects_path (front ++ byte ∷ t)) is_front ∙ ends_elsewhere front byte t no_point)
+            | inr no_point ↦ inr (λ t. ap (λ l. selects_path l (text_at names order i)) (append_assoc front (byte ∷ []) t)
+                ∙ ap (selects_path (front ++ byte ∷ t)) is_front ∙ ends_elsewhere front byte t no_point)
           ]
       by_rest (b ∷ rest) e = inr (λ t.
           ap (λ l. selects_path l (text_at names order i)) (append_assoc front (byte ∷ []) t) ∙ ap (selects_path (front ++ byte ∷ t)) e
@@ -100,7 +101,8 @@ same_taken (suc n) [] b l s = absurd (omega (arith, s.0))
 same_taken (suc n) (x ∷ a) [] l s = absurd (omega (arith, l))
 same_taken (suc n) (x ∷ a) (y ∷ b) l s = λ j. s.1 0 (omega arith) j ∷ same_taken n a b (omega (arith, l)) (omega (arith, s.0), λ i h. s.1 (suc i) (omega (arith, h))) j
 
-module _ (names : List (List ℕ)) (order : List ℕ) (flags : List Bool) (front bytes : List ℕ) (n : ℕ) (r s : NameRun) (f : Follows names order flags front r) (some : r.first < r.end) (within : n ≤ length bytes)
+module _ (names : List (List ℕ)) (order : List ℕ) (flags : List Bool) (front bytes : List ℕ) (n : ℕ) (r s : NameRun)
+    (f : Follows names order flags front r) (some : r.first < r.end) (within : n ≤ length bytes)
     (low : AreShared (next_bytes names order r.front_len r.first) bytes n) (high : AreShared (next_bytes names order r.front_len (r.end - 1)) bytes n)
     (first : s.first ≡ r.first) (end : s.end ≡ r.end) (front_len : s.front_len ≡ r.front_len + n) (whole : s.whole ≡ r.whole) where
   begins : (i : ℕ) (l : r.first ≤ i) (m : i < r.end) → AreShared (next_bytes names order r.front_len i) bytes n → (f.inside i l m).0 ≡ take n bytes ++ drop n (f.inside i l m).0
@@ -121,8 +123,12 @@ module _ (names : List (List ℕ)) (order : List ℕ) (flags : List Bool) (front
       let b = begins (r.end - 1) ll last high in
       let under = f.order_is.rising r.first i l (omega (arith, m, f.within)) in
       let over = f.order_is.rising i (r.end - 1) (omega (arith, m)) (omega (arith, last, f.within)) in
-      let below : is_lt (slice_cmp nat_cmp y.0 (take n bytes ++ drop n x.0)) ≡ false = ap is_lt (sym (cancel front y.0 (take n bytes ++ drop n x.0))) ∙ (λ j. is_lt (slice_cmp nat_cmp (sym y.1 j) (front ++ sym a j))) ∙ ap (λ t. is_lt (slice_cmp nat_cmp (text_at names order i) t)) (sym x.1) ∙ under in
-      let above : is_lt (slice_cmp nat_cmp (take n bytes ++ drop n z.0) y.0) ≡ false = ap is_lt (sym (cancel front (take n bytes ++ drop n z.0) y.0)) ∙ (λ j. is_lt (slice_cmp nat_cmp (front ++ sym b j) (sym y.1 j))) ∙ ap (λ t. is_lt (slice_cmp nat_cmp t (text_at names order i))) (sym z.1) ∙ over in
+      let below : is_lt (slice_cmp nat_cmp y.0 (take n bytes ++ drop n x.0)) ≡ false = ap is_lt (sym (cancel front y.0 (take n bytes ++ drop n x.0)))
+      ∙ (λ j. is_lt (slice_cmp nat_cmp (sym y.1 j) (front ++ sym a j))) ∙ ap (λ t. is_lt (slice_cmp nat_cmp (text_at names order i) t)) (sym x.1)
+      ∙ under in
+      let above : is_lt (slice_cmp nat_cmp (take n bytes ++ drop n z.0) y.0) ≡ false = ap is_lt (sym (cancel front (take n bytes ++ drop n z.0) y.0))
+      ∙ (λ j. is_lt (slice_cmp nat_cmp (front ++ sym b j) (sym y.1 j))) ∙ ap (λ t. is_lt (slice_cmp nat_cmp t (text_at names order i))) (sym z.1)
+      ∙ over in
       let rest = between (take n bytes) (drop n x.0) y.0 (drop n z.0) below above in
       (rest.0, y.1 ∙ ap (λ t. front ++ t) rest.1 ∙ sym (append_assoc front (take n bytes) rest.0))
 
@@ -163,14 +169,16 @@ notes_both names p old mid new a b i name at = elim (b i name at) [
 pub goes_nowhere : (names : List (List ℕ)) (order : List ℕ) (flags : List Bool) (front : List ℕ) (r : NameRun) → Follows names order flags front r → GoesOn names order flags flags front r
 goes_nowhere names order flags front r f = record { follows = f; notes = λ p name at. inl refl }
 
-pub goes_both : (names : List (List ℕ)) (order : List ℕ) (old mid new : List Bool) (front more : List ℕ) (r s : NameRun) → GoesOn names order old mid front r → GoesOn names order mid new (front ++ more) s → GoesOn names order old new (front ++ more) s
+pub goes_both : (names : List (List ℕ)) (order : List ℕ) (old mid new : List Bool) (front more : List ℕ) (r s : NameRun)
+    → GoesOn names order old mid front r → GoesOn names order mid new (front ++ more) s → GoesOn names order old new (front ++ more) s
 goes_both names order old mid new front more r s a b = record {
   follows = b.follows;
   notes = notes_both names (front ++ more) old mid new (notes_behind names front more old mid a.notes) b.notes;
 }
 
 -- where no name is in the run, none is in it after any bytes
-pub goes_empty : (names : List (List ℕ)) (order : List ℕ) (old new : List Bool) (front more : List ℕ) (r : NameRun) → r.end ≤ r.first → GoesOn names order old new front r → GoesOn names order old new (front ++ more) r
+pub goes_empty : (names : List (List ℕ)) (order : List ℕ) (old new : List Bool) (front more : List ℕ) (r : NameRun) → r.end ≤ r.first
+    → GoesOn names order old new front r → GoesOn names order old new (front ++ more) r
 goes_empty names order old new front more r none g =
     let f = g.follows in
     record {
@@ -193,12 +201,14 @@ goes_empty names order old new front more r none g =
 
 -- ---- a whole path
 
-module _ (names : List (List ℕ)) (order : List ℕ) (old mid new : List Bool) (path : List ℕ) (r : NameRun) (ends : Bool) (g : GoesOn names order old mid path r) (m : Matches (λ name. bytes_eq name path) names mid new ends) where
+module _ (names : List (List ℕ)) (order : List ℕ) (old mid new : List Bool) (path : List ℕ) (r : NameRun) (ends : Bool)
+    (g : GoesOn names order old mid path r) (m : Matches (λ name. bytes_eq name path) names mid new ends) where
   f : Follows names order mid path r
   f = g.follows
 
   -- a name selects the path where it is the path, or selects all after it
-  selects_or_not : (i : ℕ) → i < length names → ((r.whole ≡ true) × (get_or mid (get_or order i 0) false ≡ true) × SelectsAll path (text_at names order i)) ⊎ ((selects_path path (text_at names order i) ≡ bytes_eq (text_at names order i) path))
+  selects_or_not : (i : ℕ) → i < length names → ((r.whole ≡ true) × (get_or mid (get_or order i 0) false ≡ true)
+      × SelectsAll path (text_at names order i)) ⊎ ((selects_path path (text_at names order i) ≡ bytes_eq (text_at names order i) path))
   selects_or_not i l = elim (cases_lt i r.first) [
     | inl b ↦ out (f.outside i l (inl b))
     | inr b ↦ elim (cases_lt i r.end) [ inl a ↦ inr (by_rest (f.inside i b a).0 (f.inside i b a).1) | inr a ↦ out (f.outside i l (inr a)) ]
@@ -214,7 +224,8 @@ module _ (names : List (List ℕ)) (order : List ℕ) (old mid new : List Bool) 
       by_rest [] e = let same : text ≡ path = e ∙ append-nil path in ap (selects_path path) same ∙ is_itself path ∙ sym (equal_bytes text path same)
       by_rest (b ∷ rest) e = other (ap (selects_path path) e ∙ not_shorter path b rest)
 
-      out : IsDecided names order mid path r.whole i → ((r.whole ≡ true) × (get_or mid (get_or order i 0) false ≡ true) × SelectsAll path text) ⊎ (selects_path path text ≡ bytes_eq text path)
+      out : IsDecided names order mid path r.whole i → ((r.whole ≡ true) × (get_or mid (get_or order i 0) false ≡ true) × SelectsAll path text)
+          ⊎ (selects_path path text ≡ bytes_eq text path)
       out (inl d) = inl d
       out (inr none) = inr (other (ap (λ l. selects_path l text) (sym (append-nil path)) ∙ none []))
 
@@ -232,13 +243,15 @@ module _ (names : List (List ℕ)) (order : List ℕ) (old mid new : List Bool) 
         | inr d ↦ by_test (selects_path path name) refl (subst (λ n. selects_path path n ≡ bytes_eq n path) i.3 d)
       ]
     where
-      by_note : (get_or mid p false ≡ get_or old p false) ⊎ ((get_or mid p false ≡ true) × SelectsAll path name) → selects_path path name ≡ false → get_or mid p false ≡ get_or old p false
+      by_note : (get_or mid p false ≡ get_or old p false) ⊎ ((get_or mid p false ≡ true) × SelectsAll path name) → selects_path path name ≡ false
+          → get_or mid p false ≡ get_or old p false
       by_note (inl e) none = e
       by_note (inr x) none = let yes = all_selects name x.1 in cc
 
       by_test : (b : Bool) → selects_path path name ≡ b → selects_path path name ≡ bytes_eq name path → get_or new p false ≡ (get_or old p false || selects_path path name)
       by_test true e d = m.flags p name at ∙ or_true (get_or mid p false) (bytes_eq name path) (sym d ∙ e) ∙ sym (or_true (get_or old p false) (selects_path path name) e)
-      by_test false e d = m.flags p name at ∙ or_false (get_or mid p false) (bytes_eq name path) (sym d ∙ e) ∙ by_note (g.notes p name at) e ∙ sym (or_false (get_or old p false) (selects_path path name) e)
+      by_test false e d = m.flags p name at ∙ or_false (get_or mid p false) (bytes_eq name path) (sym d ∙ e) ∙ by_note (g.notes p name at) e
+          ∙ sym (or_false (get_or old p false) (selects_path path name) e)
 
   some_is : (r.whole || ends) ≡ list_any (selects_path path) names
   some_is = by_parts r.whole ends refl refl
@@ -254,7 +267,9 @@ module _ (names : List (List ℕ)) (order : List ℕ) (old mid new : List Bool) 
           let i = found_at names order f.order_is p name at in
           elim (selects_or_not i.0 i.1) [
             | inl d ↦ let yes = d.0 in cc
-            | inr d ↦ subst (λ n. selects_path path n ≡ bytes_eq n path) i.3 d ∙ false_from_ne_true (bytes_eq name path) (λ e. let yes = some_passes (λ n. bytes_eq n path) names p name at e in let any = m.any in cc)
+            | inr d ↦ subst (λ n. selects_path path n ≡ bytes_eq n path) i.3 d
+                ∙ false_from_ne_true (bytes_eq name path) (λ e. let yes = some_passes (λ n. bytes_eq n path) names p name at e in let any = m.any in
+                cc)
           ]))
 
   pub path_selected : Matches (selects_path path) names old new (r.whole || ends)

@@ -16,19 +16,50 @@ no_scale e h = ap (λ o. unwrap_or (option_map (λ (s : List ℕ × ℤ). s.0) o
 
 -- ---- the exponents that are read
 
-found_among : (p : List ℕ × ℤ → Bool) (xs : List (List ℕ × ℤ)) (e : ℤ) → AllByRecursion (λ (s : List ℕ × ℤ). IsExponent s.1) xs → option_map (λ (s : List ℕ × ℤ). s.1) (find p xs) ≡ Some e → IsExponent e
+found_among : (p : List ℕ × ℤ → Bool) (xs : List (List ℕ × ℤ)) (e : ℤ) → AllByRecursion (λ (s : List ℕ × ℤ). IsExponent s.1) xs
+    → option_map (λ (s : List ℕ × ℤ). s.1) (find p xs) ≡ Some e → IsExponent e
 found_among p [] e all h = cc
 found_among p (x ∷ xs) e all h = by_test (p x) (found_among p xs e all.1) h
   where
-    by_test : (b : Bool) → (option_map (λ (s : List ℕ × ℤ). s.1) (find p xs) ≡ Some e → IsExponent e) → option_map (λ (s : List ℕ × ℤ). s.1) (cond b (Some x) (find p xs)) ≡ Some e → IsExponent e
+    by_test : (b : Bool) → (option_map (λ (s : List ℕ × ℤ). s.1) (find p xs) ≡ Some e → IsExponent e)
+        → option_map (λ (s : List ℕ × ℤ). s.1) (cond b (Some x) (find p xs)) ≡ Some e → IsExponent e
     by_test true later q = let same : x.1 ≡ e = cc in subst IsExponent same all.0
     by_test false later q = later q
 
 text_in_range : (text : List ℕ) (e : ℤ) → exponent_of text ≡ Some e → IsExponent e
 unfolding exponent_of
 text_in_range text e h =
-    found_among (λ (s : List ℕ × ℤ). bytes_eq s.0 text) scales e
-    (omega arith, (omega arith, (omega arith, (omega arith, (omega arith, (omega arith, (omega arith, (omega arith, (omega arith, (omega arith, (omega arith, (omega arith, (omega arith, (omega arith, (omega arith, (omega arith, (omega arith, (omega arith, tt)))))))))))))))))) h
+    found_among (λ (s : List ℕ × ℤ). bytes_eq s.0 text) scales e (
+      omega arith,
+      (
+        omega arith,
+        (
+          omega arith,
+          (
+            omega arith,
+            (
+              omega arith,
+              (
+                omega arith,
+                (
+                  omega arith,
+                  (
+                    omega arith,
+                    (
+                      omega arith,
+                      (
+                        omega arith,
+                        (omega arith, (omega arith, (omega arith, (omega arith, (omega arith, (omega arith, (omega arith, (omega arith, tt)))))))),
+                      ),
+                    ),
+                  ),
+                ),
+              ),
+            ),
+          ),
+        ),
+      ),
+    ) h
 
 pub scale_in_range : (ts : List (List ℕ)) (e : ℤ) → scale_of ts ≡ Some e → IsExponent e
 scale_in_range [] e h = cc

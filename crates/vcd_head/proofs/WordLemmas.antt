@@ -18,11 +18,13 @@ pub fault_of_change : (most : ℕ) (ps : List HeaderPhrase) (token : List ℕ) �
 unfolding header_fault
 fault_of_change most ps token none h = rw (none, h) refl
 
-pub fault_of_other : (most : ℕ) (ps : List HeaderPhrase) (token : List ℕ) → keyword_of token ≡ None → begins_change token ≡ false → is_command token ≡ false → header_fault most ps [] token ≡ Some 3
+pub fault_of_other : (most : ℕ) (ps : List HeaderPhrase) (token : List ℕ) → keyword_of token ≡ None → begins_change token ≡ false
+    → is_command token ≡ false → header_fault most ps [] token ≡ Some 3
 unfolding header_fault
 fault_of_other most ps token none h k = rw (none, h, unknown_is token none, k) refl
 
-pub fault_of_command : (most : ℕ) (ps : List HeaderPhrase) (token : List ℕ) → keyword_of token ≡ None → begins_change token ≡ false → is_command token ≡ true → header_fault most ps [] token ≡ None
+pub fault_of_command : (most : ℕ) (ps : List HeaderPhrase) (token : List ℕ) → keyword_of token ≡ None → begins_change token ≡ false
+    → is_command token ≡ true → header_fault most ps [] token ≡ None
 unfolding header_fault
 fault_of_command most ps token none h k = rw (none, h, unknown_is token none, k) refl
 

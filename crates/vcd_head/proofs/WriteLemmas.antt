@@ -27,12 +27,14 @@ variable_front kind size = (codes "$var " ++ (kind ++ 32 ∷ [])) ++ decimal siz
 abbrev pub variable_rest : List ℕ → List ℕ → List ℕ
 variable_rest code reference = 32 ∷ (code ++ (32 ∷ (reference ++ codes " $end\n")))
 
-pub variable_text : (v : Variable) (kind : List ℕ) (size : ℕ) (code reference : List ℕ) → kind ≡ v.type → size ≡ v.size → v.reference ≢ [] → reference ≡ join_with_byte 32 v.reference → variable_front kind size ++ variable_rest code reference ≡ var_line v code
+pub variable_text : (v : Variable) (kind : List ℕ) (size : ℕ) (code reference : List ℕ) → kind ≡ v.type → size ≡ v.size → v.reference ≢ []
+    → reference ≡ join_with_byte 32 v.reference → variable_front kind size ++ variable_rest code reference ≡ var_line v code
 variable_text v kind size code reference t n some e =
     let front = λ (l : List ℕ). codes "$var " ++ (v.type ++ 32 ∷ (decimal v.size ++ 32 ∷ l)) in
     let flat : variable_front v.type v.size ++ variable_rest code reference ≡ front (code ++ 32 ∷ (reference ++ codes " $end")) ++ 10 ∷ [] = simp append_assoc in
     ap (λ k. variable_front k size ++ variable_rest code reference) t ∙ ap (λ k. variable_front v.type k ++ variable_rest code reference) n ∙ flat
-    ∙ ap (λ l. front l ++ 10 ∷ []) (ap (λ l. code ++ 32 ∷ (l ++ codes " $end")) e ∙ sym (join-first code v.reference (codes "$end") ∙ ap (λ l. code ++ 32 ∷ l) (join-last v.reference (codes "$end") some)))
+    ∙ ap (λ l. front l ++ 10 ∷ []) (ap (λ l. code ++ 32 ∷ (l ++ codes " $end")) e
+    ∙ sym (join-first code v.reference (codes "$end") ∙ ap (λ l. code ++ 32 ∷ l) (join-last v.reference (codes "$end") some)))
 
 -- a variable has a reference
 pub some_reference : (s : HeadShown) (h : Header) (i : ℕ) (v : Variable) → Views s h → slice_get h.declarations i ≡ Some (Declaration.Var v) → v.reference ≢ []
@@ -43,7 +45,8 @@ some_reference s h i v views is =
 -- ---- a code
 
 -- its size, by the code of its row
-pub code_size : (s : HeadShown) (h : Header) (i : ℕ) (r : Row) (v : Variable) (c : Code) → Views s h → slice_get s.rows i ≡ Some r → slice_get h.declarations i ≡ Some (Declaration.Var v) → slice_get s.codes r.code ≡ Some c → v.size ≡ c.size
+pub code_size : (s : HeadShown) (h : Header) (i : ℕ) (r : Row) (v : Variable) (c : Code) → Views s h → slice_get s.rows i ≡ Some r
+    → slice_get h.declarations i ≡ Some (Declaration.Var v) → slice_get s.codes r.code ≡ Some c → v.size ≡ c.size
 code_size s h i r v c views at is code =
     let own = row_of_variable s h i r v views at is in
     let there = own.code_there in
@@ -51,11 +54,13 @@ code_size s h i r v c views at is code =
     let c_is = subst (λ (y : Code). IsCode s.text y (code_of v)) same own.code_is in
     sym c_is.size_is
 
-pub code_there : (s : HeadShown) (h : Header) (i : ℕ) (r : Row) (v : Variable) → Views s h → slice_get s.rows i ≡ Some r → slice_get h.declarations i ≡ Some (Declaration.Var v) → slice_get s.codes r.code ≢ None
+pub code_there : (s : HeadShown) (h : Header) (i : ℕ) (r : Row) (v : Variable) → Views s h → slice_get s.rows i ≡ Some r
+    → slice_get h.declarations i ≡ Some (Declaration.Var v) → slice_get s.codes r.code ≢ None
 code_there s h i r v views at is none = let there = (row_of_variable s h i r v views at is).code_there in cc
 
 -- the bytes of its code
-pub own_text : (s : HeadShown) (h : Header) (i : ℕ) (r : Row) (v : Variable) → Views s h → slice_get s.rows i ≡ Some r → slice_get h.declarations i ≡ Some (Declaration.Var v) → code_text h.codes r.code ≡ v.code
+pub own_text : (s : HeadShown) (h : Header) (i : ℕ) (r : Row) (v : Variable) → Views s h → slice_get s.rows i ≡ Some r
+    → slice_get h.declarations i ≡ Some (Declaration.Var v) → code_text h.codes r.code ≡ v.code
 own_text s h i r v views at is = ap (λ o. unwrap_or (option_map (λ (k : IdCode). k.text) o) []) (row_of s h i r (Declaration.Var v) views at is).own.2
 
 -- ---- the line of a row
@@ -64,7 +69,8 @@ pub front-length : (ds : List Declaration) (i : ℕ) (d : Declaration) → slice
 front-length ds i d at = let within = slice_get_within ds i d at in length-take-le i ds (omega arith)
 
 -- the line of an `$upscope`, which closes the scope that encloses it
-pub up_some : (rename : List ℕ → List ℕ) (m : ℕ → Bool) (s : HeadShown) (h : Header) (i p : ℕ) (r : Row) (d : Declaration) → Views s h → slice_get s.rows i ≡ Some r → slice_get h.declarations i ≡ Some d → r.kind ≡ kind.Up → Some p ≡ parent (take i h.declarations)
+pub up_some : (rename : List ℕ → List ℕ) (m : ℕ → Bool) (s : HeadShown) (h : Header) (i p : ℕ) (r : Row) (d : Declaration) → Views s h
+    → slice_get s.rows i ≡ Some r → slice_get h.declarations i ≡ Some d → r.kind ≡ kind.Up → Some p ≡ parent (take i h.declarations)
     → up_lines_at m (p ∷ []) ≡ row_line rename m (take i h.declarations) d
 up_some rename m s h i p r d v at is k e = by_kind d (row_of s h i r d v at is)
   where
@@ -73,7 +79,8 @@ up_some rename m s h i p r d v at is k e = by_kind d (row_of s h i r d v at is)
     by_kind Declaration.Up row = ap (up_lines_at m) (sym (ap first_place (around_some h.declarations i p (sym e))))
     by_kind (Declaration.Var u) row = let other = row.own.0 in cc
 
-pub up_none : (rename : List ℕ → List ℕ) (m : ℕ → Bool) (s : HeadShown) (h : Header) (i : ℕ) (r : Row) (d : Declaration) → Views s h → slice_get s.rows i ≡ Some r → slice_get h.declarations i ≡ Some d → r.kind ≡ kind.Up → None ≡ parent (take i h.declarations)
+pub up_none : (rename : List ℕ → List ℕ) (m : ℕ → Bool) (s : HeadShown) (h : Header) (i : ℕ) (r : Row) (d : Declaration) → Views s h
+    → slice_get s.rows i ≡ Some r → slice_get h.declarations i ≡ Some d → r.kind ≡ kind.Up → None ≡ parent (take i h.declarations)
     → [] ≡ row_line rename m (take i h.declarations) d
 up_none rename m s h i r d v at is k e = by_kind d (row_of s h i r d v at is)
   where
@@ -83,7 +90,8 @@ up_none rename m s h i r d v at is k e = by_kind d (row_of s h i r d v at is)
     by_kind (Declaration.Var u) row = let other = row.own.0 in cc
 
 -- the row of a scope that is marked: what holds of its line
-pub scope_row : (P : List ℕ → Type 0) (rename : List ℕ → List ℕ) (m : ℕ → Bool) (s : HeadShown) (h : Header) (i : ℕ) (r : Row) (d : Declaration) → Views s h → slice_get s.rows i ≡ Some r → slice_get h.declarations i ≡ Some d → r.kind ≡ kind.Scope → m i ≡ true
+pub scope_row : (P : List ℕ → Type 0) (rename : List ℕ → List ℕ) (m : ℕ → Bool) (s : HeadShown) (h : Header) (i : ℕ) (r : Row) (d : Declaration)
+    → Views s h → slice_get s.rows i ≡ Some r → slice_get h.declarations i ≡ Some d → r.kind ≡ kind.Scope → m i ≡ true
     → ((type name : List ℕ) → slice_get h.declarations i ≡ Some (Declaration.Scope type name) → P (scope_line type name)) → P (row_line rename m (take i h.declarations) d)
 scope_row P rename m s h i r d v at is k marked says = by_kind d is (row_of s h i r d v at is)
   where
@@ -93,7 +101,8 @@ scope_row P rename m s h i r d v at is k marked says = by_kind d is (row_of s h 
     by_kind (Declaration.Var u) q row = let other = row.own.0 in cc
 
 -- the row of a variable that is marked
-pub variable_row : (P : List ℕ → Type 0) (rename : List ℕ → List ℕ) (m : ℕ → Bool) (s : HeadShown) (h : Header) (i : ℕ) (r : Row) (d : Declaration) → Views s h → slice_get s.rows i ≡ Some r → slice_get h.declarations i ≡ Some d → r.kind ≡ kind.Var → m i ≡ true
+pub variable_row : (P : List ℕ → Type 0) (rename : List ℕ → List ℕ) (m : ℕ → Bool) (s : HeadShown) (h : Header) (i : ℕ) (r : Row) (d : Declaration)
+    → Views s h → slice_get s.rows i ≡ Some r → slice_get h.declarations i ≡ Some d → r.kind ≡ kind.Var → m i ≡ true
     → ((u : Variable) → slice_get h.declarations i ≡ Some (Declaration.Var u) → P (var_line u (rename u.code))) → P (row_line rename m (take i h.declarations) d)
 variable_row P rename m s h i r d v at is k marked says = by_kind d is (row_of s h i r d v at is)
   where
@@ -103,7 +112,8 @@ variable_row P rename m s h i r d v at is k marked says = by_kind d is (row_of s
     by_kind (Declaration.Var u) q row = rw (front-length h.declarations i (Declaration.Var u) q, marked) (says u q)
 
 -- a row that is not marked, of a scope or of a variable
-pub unmarked_row : (rename : List ℕ → List ℕ) (m : ℕ → Bool) (s : HeadShown) (h : Header) (i : ℕ) (r : Row) (d : Declaration) → Views s h → slice_get s.rows i ≡ Some r → slice_get h.declarations i ≡ Some d → r.kind ≢ kind.Up → m i ≡ false
+pub unmarked_row : (rename : List ℕ → List ℕ) (m : ℕ → Bool) (s : HeadShown) (h : Header) (i : ℕ) (r : Row) (d : Declaration) → Views s h
+    → slice_get s.rows i ≡ Some r → slice_get h.declarations i ≡ Some d → r.kind ≢ kind.Up → m i ≡ false
     → [] ≡ row_line rename m (take i h.declarations) d
 unmarked_row rename m s h i r d v at is k marked = by_kind d is (row_of s h i r d v at is)
   where
@@ -130,12 +140,15 @@ pub lines-append : {X : Type 0} (f : List X → X → List ℕ) (xs ys : List X)
 lines-append f xs ys = ap concat (each_after-append f [] xs ys) ∙ concat-append (each f xs) (each_after f xs ys)
 
 -- one on
-pub lines-next : {X : Type 0} (f : List X → X → List ℕ) (ds : List X) (i : ℕ) (d : X) → slice_get ds i ≡ Some d → concat (each f (take (i + 1) ds)) ≡ concat (each f (take i ds)) ++ f (take i ds) d
+pub lines-next : {X : Type 0} (f : List X → X → List ℕ) (ds : List X) (i : ℕ) (d : X) → slice_get ds i ≡ Some d
+    → concat (each f (take (i + 1) ds)) ≡ concat (each f (take i ds)) ++ f (take i ds) d
 lines-next f ds i d at =
-    ap (λ l. concat (each f l)) (ap (λ n. take n ds) (add-one i) ∙ take-next ds i d at) ∙ lines-append f (take i ds) (d ∷ []) ∙ ap (λ l. concat (each f (take i ds)) ++ l) (append-nil (f (take i ds) d))
+    ap (λ l. concat (each f l)) (ap (λ n. take n ds) (add-one i) ∙ take-next ds i d at) ∙ lines-append f (take i ds) (d ∷ [])
+    ∙ ap (λ l. concat (each f (take i ds)) ++ l) (append-nil (f (take i ds) d))
 
 -- a line that was not wholly written, after those before it
-pub lines-some : {X : Type 0} (f : List X → X → List ℕ) (old mid new : Option (List ℕ)) (ds : List X) (i : ℕ) (d : X) → slice_get ds i ≡ Some d → Appends old mid (concat (each f (take i ds))) → AppendsSome mid new (f (take i ds) d)
+pub lines-some : {X : Type 0} (f : List X → X → List ℕ) (old mid new : Option (List ℕ)) (ds : List X) (i : ℕ) (d : X) → slice_get ds i ≡ Some d
+    → Appends old mid (concat (each f (take i ds))) → AppendsSome mid new (f (take i ds) d)
     → AppendsSome old new (concat (each f ds))
 lines-some f old mid new ds i d at front line =
     let rest = concat (each_after f (take (i + 1) ds) (drop (i + 1) ds)) in
@@ -145,14 +158,17 @@ lines-some f old mid new ds i d at front line =
     subst (AppendsSome old new) (sym whole) (appends-first old new (lines ++ f (take i ds) d) rest (appends-some old mid new lines (f (take i ds) d) front line))
 
 -- all rows were passed
-pub lines-all : (f : List Declaration → Declaration → List ℕ) (s : HeadShown) (h : Header) (i : ℕ) → Views s h → i ≡ length s.rows → concat (each f (take i h.declarations)) ≡ concat (each f h.declarations)
+pub lines-all : (f : List Declaration → Declaration → List ℕ) (s : HeadShown) (h : Header) (i : ℕ) → Views s h → i ≡ length s.rows
+    → concat (each f (take i h.declarations)) ≡ concat (each f h.declarations)
 lines-all f s h i v e = ap (λ n. concat (each f (take n h.declarations))) (e ∙ rows_len s.text h.codes [] s.rows h.declarations v.rows) ∙ ap (λ l. concat (each f l)) (take-length h.declarations)
 
 -- the texts before one of them, and a front of it
-pub texts-some : {Z : Type 0} (old mid new : Option (List ℕ)) (f : Z → List ℕ) (xs : List Z) (k : ℕ) (d : Z) → k < length xs → Appends old mid (flat_map f (take k xs)) → AppendsSome mid new (f (get_or xs k d)) → AppendsSome old new (flat_map f xs)
+pub texts-some : {Z : Type 0} (old mid new : Option (List ℕ)) (f : Z → List ℕ) (xs : List Z) (k : ℕ) (d : Z) → k < length xs
+    → Appends old mid (flat_map f (take k xs)) → AppendsSome mid new (f (get_or xs k d)) → AppendsSome old new (flat_map f xs)
 texts-some old mid new f xs k d h p q =
     let rest = flat_map f (drop (k + 1) xs) in
     let whole : flat_map f xs ≡ (flat_map f (take k xs) ++ f (get_or xs k d)) ++ rest =
     ap (flat_map f) (sym (take-append-drop (k + 1) xs)) ∙ flat_map-append f (take (k + 1) xs) (drop (k + 1) xs)
-    ∙ ap (λ l. l ++ rest) (ap (flat_map f) (take_more xs k d h) ∙ flat_map-append f (take k xs) (get_or xs k d ∷ []) ∙ ap (λ l. flat_map f (take k xs) ++ l) (append-nil (f (get_or xs k d)))) in
+    ∙ ap (λ l. l ++ rest) (ap (flat_map f) (take_more xs k d h) ∙ flat_map-append f (take k xs) (get_or xs k d ∷ [])
+    ∙ ap (λ l. flat_map f (take k xs) ++ l) (append-nil (f (get_or xs k d)))) in
     subst (AppendsSome old new) (sym whole) (appends-first old new (flat_map f (take k xs) ++ f (get_or xs k d)) rest (appends-some old mid new (flat_map f (take k xs)) (f (get_or xs k d)) p q))

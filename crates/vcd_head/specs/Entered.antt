@@ -17,7 +17,8 @@ IsCoded v bytes size event = code_of v ≡ record { text = bytes; size = size; e
 
 -- the code of such a variable is entered
 abbrev pub Enters : (old new : List ℕ) → (known known_after : Codes) → List ℕ → ℕ → Bool → Result (Option ℕ) HeadFault → Type 0
-Enters old new known known_after bytes size event r = (ds : List Declaration) (v : Variable) → HasCodes old known ds → IsCoded v bytes size event → IsSize size → IfOk r (IsEntered old new known_after ds v)
+Enters old new known known_after bytes size event r = (ds : List Declaration) (v : Variable) → HasCodes old known ds → IsCoded v bytes size event
+    → IsSize size → IfOk r (IsEntered old new known_after ds v)
 
 -- no code has these bytes, of this many as a number of 64 bits can count
 abbrev pub IsNewCode : Codes → List ℕ → Type 0

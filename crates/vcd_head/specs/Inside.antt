@@ -63,16 +63,20 @@ FlagsSelected g earlier d old_flags new_flags = Matched (λ name. is_selected (n
 
 -- if a variable is declared at a row, the names that select it were flagged
 abbrev pub SelectsAt : HeadView → ℕ → Group → (old_flags new_flags : List Bool) → (old new : Open) → Bool → Type 0
-SelectsAt view row g old_flags new_flags old new some = AnyDeclared view row (λ h d. is_variable d ≡ true → IsOpen h g old_flags old → HasSelected h g (path_of (take row h.declarations) d) old_flags new_flags new some)
+SelectsAt view row g old_flags new_flags old new some = AnyDeclared view row (λ h d. is_variable d ≡ true → IsOpen h g old_flags old
+    → HasSelected h g (path_of (take row h.declarations) d) old_flags new_flags new some)
 
 -- the names that select the variable were flagged, and nothing else that is held has changed
 abbrev pub ComparesAt : HeadView → ℕ → Group → (old_flags new_flags : List Bool) → Open → Bool → Type 0
-ComparesAt view row g old_flags new_flags o some = AnyDeclared view row (λ h d. is_variable d ≡ true → IsOpen h g old_flags o → Matches (selects_path (path_of (take row h.declarations) d)) (names_of g) old_flags new_flags some)
+ComparesAt view row g old_flags new_flags o some = AnyDeclared view row (λ h d. is_variable d ≡ true → IsOpen h g old_flags o
+    → Matches (selects_path (path_of (take row h.declarations) d)) (names_of g) old_flags new_flags some)
 
 -- if what is inside one more scope is right, what is held is
 abbrev pub StaysOpen : Inside → (old new : Open) → Type 0
-StaysOpen inner old new = (h : Header) (names : List (List ℕ)) (order : List ℕ) (flags : List Bool) → AreOpen h names order flags old → Follows names order flags (front h.declarations inner.scope) inner.run → AreOpen h names order flags new
+StaysOpen inner old new = (h : Header) (names : List (List ℕ)) (order : List ℕ) (flags : List Bool) → AreOpen h names order flags old
+    → Follows names order flags (front h.declarations inner.scope) inner.run → AreOpen h names order flags new
 
 -- what is given continues inside the scopes around a row
 abbrev pub GivesAround : HeadView → ℕ → Open → Option Inside → Type 0
-GivesAround view row o r = (h : Header) (names : List (List ℕ)) (order : List ℕ) (flags : List Bool) → IsViewOf view h → AreOpen h names order flags o → IfSome r (λ s. Follows names order flags (scopes_text (take row h.declarations)) s.run)
+GivesAround view row o r = (h : Header) (names : List (List ℕ)) (order : List ℕ) (flags : List Bool) → IsViewOf view h
+    → AreOpen h names order flags o → IfSome r (λ s. Follows names order flags (scopes_text (take row h.declarations)) s.run)

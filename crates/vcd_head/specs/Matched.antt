@@ -20,4 +20,5 @@ HaveMatched names ds flags = (i : ℕ) (name : List ℕ) → slice_get names i �
 
 -- the index of the first flag that is not set, of this many
 abbrev pub IsFirstFalse : List Bool → ℕ → Option ℕ → Type 0
-IsFirstFalse flags count o = MatchOption o ((i : ℕ) → i < count → get_or flags i false ≡ true) (λ p. (p < count) × (get_or flags p false ≡ false) × ((i : ℕ) → i < p → get_or flags i false ≡ true))
+IsFirstFalse flags count o = MatchOption o ((i : ℕ) → i < count → get_or flags i false ≡ true) (λ p. (p < count) × (get_or flags p false ≡ false)
+    × ((i : ℕ) → i < p → get_or flags i false ≡ true))

@@ -7,7 +7,8 @@ use Rattle.vcd_head.specs.declared.names.NameRun.{NameRun}
 -- the name at an index of the order is flagged and selects all that continues after the front, as
 -- is known, or it selects nothing of that
 abbrev pub IsDecided : List (List ℕ) → (order : List ℕ) → List Bool → (front : List ℕ) → Bool → ℕ → Type 0
-IsDecided names order flags front whole i = ((whole ≡ true) × (get_or flags (get_or order i 0) false ≡ true) × SelectsAll front (text_at names order i)) ⊎ ((text : List ℕ) → selects_path (front ++ text) (text_at names order i) ≡ false)
+IsDecided names order flags front whole i = ((whole ≡ true) × (get_or flags (get_or order i 0) false ≡ true)
+    × SelectsAll front (text_at names order i)) ⊎ ((text : List ℕ) → selects_path (front ++ text) (text_at names order i) ≡ false)
 
 -- the names of the run begin with the front, and the others are decided
 pub record Follows (names : List (List ℕ)) (order : List ℕ) (flags : List Bool) (front : List ℕ) (r : NameRun) : Type 0 where

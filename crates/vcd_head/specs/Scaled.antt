@@ -26,4 +26,5 @@ pub record ScaleRead {X : Type 0} {g : Ghosts X} (most : ℕ) (i : Input) (place
 
 -- after the keyword number and unit were read
 abbrev pub ReadsScale : {X : Type 0} {g : Ghosts X} → (old new : Feed X g) → Result ℤ HeadFault → Type 0
-ReadsScale old new r = (most : ℕ) (i : Input) (placed : List (Placed HeaderPhrase)) → Reads most i placed (keyword_text Keyword.Timescale ∷ []) old → OrFails most i new (ScaleRead most i placed new) r
+ReadsScale old new r = (most : ℕ) (i : Input) (placed : List (Placed HeaderPhrase)) → Reads most i placed (keyword_text Keyword.Timescale ∷ []) old
+    → OrFails most i new (ScaleRead most i placed new) r

@@ -21,14 +21,16 @@ abbrev pub spaced : List (List ℕ) → List ℕ
 spaced ts = flat_map (λ t. 32 ∷ t) ts
 
 -- these tokens were read after the first ones, and a text has grown by them
-pub record ReadsOn {X : Type 0} {g : Ghosts X} (most : ℕ) (i : Input) (placed : List (Placed HeaderPhrase)) (before : List (List ℕ)) (f : Feed X g) (Grows : List (List ℕ) → Type 0) : Type 0 where
+pub record ReadsOn {X : Type 0} {g : Ghosts X} (most : ℕ) (i : Input) (placed : List (Placed HeaderPhrase)) (before : List (List ℕ)) (f : Feed X g)
+    (Grows : List (List ℕ) → Type 0) : Type 0 where
   pub inner : List (List ℕ)
   pub none : NoEnds inner
   pub reads : Reads most i placed (before ++ inner) f
   pub grows : Grows inner
 
 -- after these tokens the last one is `$end`
-pub record EndsThere {X : Type 0} {g : Ghosts X} (most : ℕ) (i : Input) (placed : List (Placed HeaderPhrase)) (before : List (List ℕ)) (f : Feed X g) (Grows : List (List ℕ) → Type 0) : Type 0 where
+pub record EndsThere {X : Type 0} {g : Ghosts X} (most : ℕ) (i : Input) (placed : List (Placed HeaderPhrase)) (before : List (List ℕ)) (f : Feed X g)
+    (Grows : List (List ℕ) → Type 0) : Type 0 where
   pub inner : List (List ℕ)
   pub none : NoEnds inner
   pub token_read : ReadsToken most i placed (before ++ inner) f

@@ -25,7 +25,8 @@ pub record SizeRead {X : Type 0} {g : Ghosts X} (most : ℕ) (i : Input) (placed
 
 -- after keyword and type the size was read
 abbrev pub ReadsSize : {X : Type 0} {g : Ghosts X} → (old new : Feed X g) → Result ℕ HeadFault → Type 0
-ReadsSize old new r = (most : ℕ) (i : Input) (placed : List (Placed HeaderPhrase)) (type : List ℕ) → Reads most i placed (keyword_text Keyword.Var ∷ type ∷ []) old → OrFails most i new (SizeRead most i placed type new) r
+ReadsSize old new r = (most : ℕ) (i : Input) (placed : List (Placed HeaderPhrase)) (type : List ℕ)
+    → Reads most i placed (keyword_text Keyword.Var ∷ type ∷ []) old → OrFails most i new (SizeRead most i placed type new) r
 
 -- the variable that has this type, these digits and this code
 abbrev pub variable : (type digits code : List ℕ) → List (List ℕ) → Variable
@@ -41,7 +42,8 @@ pub record CodeRead {X : Type 0} {g : Ghosts X} (most : ℕ) (i : Input) (placed
 
 -- after the keyword, type, size and code were read, and the code was entered beside the known ones
 abbrev pub ReadsCode : {X : Type 0} {g : Ghosts X} → List ℕ → Codes → Feed X g → List ℕ → Codes → Feed X g → Result ℕ HeadFault → Type 0
-ReadsCode old known before new codes after r = (most : ℕ) (i : Input) (placed : List (Placed HeaderPhrase)) → HasCodes old known (declarations_of (phrases_of placed)) → length (declarations_of (phrases_of placed)) < 2 ^ 64
+ReadsCode old known before new codes after r = (most : ℕ) (i : Input) (placed : List (Placed HeaderPhrase))
+    → HasCodes old known (declarations_of (phrases_of placed)) → length (declarations_of (phrases_of placed)) < 2 ^ 64
     → Reads most i placed (keyword_text Keyword.Var ∷ []) before → OrFails most i after (CodeRead most i placed old new codes after) r
 
 -- the reference is read, up to the first `$end`; its first token has this length, and the text has
@@ -54,5 +56,6 @@ pub record ReferenceRead {X : Type 0} {g : Ghosts X} (most : ℕ) (i : Input) (p
 
 -- after keyword, type, size and code the reference was read
 abbrev pub ReadsReference : {X : Type 0} {g : Ghosts X} → List ℕ → Feed X g → List ℕ → Feed X g → Result ℕ HeadFault → Type 0
-ReadsReference old before new after r = (most : ℕ) (i : Input) (placed : List (Placed HeaderPhrase)) (type digits code : List ℕ) → Reads most i placed (keyword_text Keyword.Var ∷ type ∷ digits ∷ code ∷ []) before
+ReadsReference old before new after r = (most : ℕ) (i : Input) (placed : List (Placed HeaderPhrase)) (type digits code : List ℕ)
+    → Reads most i placed (keyword_text Keyword.Var ∷ type ∷ digits ∷ code ∷ []) before
     → OrFails most i after (ReferenceRead most i placed type digits code old new after) r

@@ -26,7 +26,8 @@ job-parts w want limit e = by_words (has_words w.command) refl e
     by_parts (Ok n) (Err f) h = cc
     by_parts (Err f) k h = cc
 
-    by_words : (b : Bool) → has_words w.command ≡ b → cond b (job_with (limit_of w.limit) (want_of w.command)) (Err UseFault.BadWords) ≡ Ok (record { want = want; limit = limit }) → (has_words w.command ≡ true) × (want_of w.command ≡ Ok want)
+    by_words : (b : Bool) → has_words w.command ≡ b → cond b (job_with (limit_of w.limit) (want_of w.command)) (Err UseFault.BadWords) ≡ Ok
+        (record { want = want; limit = limit }) → (has_words w.command ≡ true) × (want_of w.command ≡ Ok want)
     by_words true is h = (is, by_parts (limit_of w.limit) (want_of w.command) h)
     by_words false is h = cc
 
@@ -70,7 +71,8 @@ merges-is (Command.Merge files) want e = by_test (nat_lt 64 (length files)) (nat
 few-files : (files : List (List ℕ)) (want : Want) → want_of (Command.Merge files) ≡ Ok want → length files ≤ 64
 few-files files want e = by_test (nat_lt 64 (length files)) refl e
   where
-    by_test : (many : Bool) → nat_lt 64 (length files) ≡ many → cond many (Err UseFault.TooManyFiles) (cond (nat_lt 1 (count_by is_standard_input files)) (Err UseFault.InputTwice) (Ok Want.Merge)) ≡ Ok want → length files ≤ 64
+    by_test : (many : Bool) → nat_lt 64 (length files) ≡ many → cond many (Err UseFault.TooManyFiles)
+        (cond (nat_lt 1 (count_by is_standard_input files)) (Err UseFault.InputTwice) (Ok Want.Merge)) ≡ Ok want → length files ≤ 64
     by_test true is h = cc
     by_test false is h = ltb-false 64 (length files) is
 
@@ -105,7 +107,8 @@ counted (Command.Merge files) want file h e =
 
 -- ---- the files of a merge are those that the matches name
 
-past : (t : Bool) (other rest : Option Command) (files : List Text) → (other ≡ Some (Command.Merge files) → ⊥) → cond t other rest ≡ Some (Command.Merge files) → rest ≡ Some (Command.Merge files)
+past : (t : Bool) (other rest : Option Command) (files : List Text) → (other ≡ Some (Command.Merge files) → ⊥)
+    → cond t other rest ≡ Some (Command.Merge files) → rest ≡ Some (Command.Merge files)
 past true other rest files apart e = absurd (apart e)
 past false other rest files apart e = e
 
@@ -123,8 +126,10 @@ files-named name m files e =
     let e1 = past (bytes_eq name (codes "check")) (Some Command.Check) _ files (λ h. cc) e in
     let e2 = past (bytes_eq name (codes "list")) (Some Command.Listing) _ files (λ h. cc) e1 in
     let e3 = past (bytes_eq name (codes "pick")) (Some (Command.Pick (values_after m (codes "names")))) _ files (λ h. cc) e2 in
-    let e4 = past (bytes_eq name (codes "cut")) (cut_between (word_after m (codes "from")) (word_after m (codes "to"))) _ files (no-cut (word_after m (codes "from")) (word_after m (codes "to")) files) e3 in
-    let e5 = past (bytes_eq name (codes "sample")) (option_map (λ at. Command.Sample at (values_after m (codes "names"))) (word_after m (codes "at"))) _ files (no-sample (word_after m (codes "at")) (values_after m (codes "names")) files) e4 in
+    let e4 = past (bytes_eq name (codes "cut")) (cut_between (word_after m (codes "from")) (word_after m (codes "to"))) _ files
+    (no-cut (word_after m (codes "from")) (word_after m (codes "to")) files) e3 in
+    let e5 = past (bytes_eq name (codes "sample")) (option_map (λ at. Command.Sample at (values_after m (codes "names")))
+    (word_after m (codes "at"))) _ files (no-sample (word_after m (codes "at")) (values_after m (codes "names")) files) e4 in
     let e6 = past (bytes_eq name (codes "edges")) (Some (Command.Edges (values_after m (codes "names")))) _ files (λ h. cc) e5 in
     by_test (bytes_eq name (codes "merge")) e6
   where
@@ -157,10 +162,13 @@ abbrev inputs-among : Option Text → Option Command → List (Option Text)
 inputs-among file used = unwrap_or (option_map (λ command. inputs_of command file) used) []
 
 -- which inputs the matches of a job ask for, and how many
-pub asked-is : (m : ArgMatches) (want : Want) (limit : ℕ) → job_asked m ≡ Ok (record { want = want; limit = limit }) → (inputs_for (wants_merge want) m ≡ inputs_asked m) × Counted want (inputs_asked m)
+pub asked-is : (m : ArgMatches) (want : Want) (limit : ℕ) → job_asked m ≡ Ok (record { want = want; limit = limit })
+    → (inputs_for (wants_merge want) m ≡ inputs_asked m) × Counted want (inputs_asked m)
 asked-is m want limit e = by_command (command_used m) refl e
   where
-    by_command : (o : Option Command) → command_used m ≡ o → job_of (option_map (λ command. record { command = command; limit = word_after m (codes "token-limit") }) o) ≡ Ok (record { want = want; limit = limit })
+    by_command : (o : Option Command) → command_used m ≡ o → job_of
+        (option_map (λ command. record { command = command; limit = word_after m (codes "token-limit") }) o) ≡ Ok
+        (record { want = want; limit = limit })
         → (inputs_for (wants_merge want) m ≡ inputs-among (input_asked m) o) × Counted want (inputs-among (input_asked m) o)
     by_command None is h = absurd (no-job want limit h)
     by_command (Some c) is h =
@@ -173,7 +181,9 @@ each-named : (files : List (Bor Text)) → map (λ (file : Bor Text). input_name
 each-named [] = refl
 each-named (f ∷ files) = ap (λ l. input_named f.now ∷ l) (each-named files)
 
-pub given-files : (files : List (Bor Text)) (xs : List Text) (names : List (Option Text)) (n : ℕ) → Some (map (λ (file : Bor Text). file.now) files) ≡ some_of xs → length files ≤ n → names ≡ map (λ (file : Bor Text). input_named file.now) (take n files)
+pub given-files : (files : List (Bor Text)) (xs : List Text) (names : List (Option Text)) (n : ℕ)
+    → Some (map (λ (file : Bor Text). file.now) files) ≡ some_of xs → length files ≤ n
+    → names ≡ map (λ (file : Bor Text). input_named file.now) (take n files)
     → names ≡ map input_named xs
 given-files files xs names n found all copied =
     copied ∙ ap (map (λ (file : Bor Text). input_named file.now)) (take_all n files all) ∙ each-named files ∙ ap (map input_named) (by_list xs found)

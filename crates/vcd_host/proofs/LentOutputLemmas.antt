@@ -14,6 +14,8 @@ front-copied xs new add used k n within few is =
     sym (take-take (used + n) (used + k) new (omega (arith, few))) ∙ ap (take (used + n)) is ∙ ap (λ u. take (u + n) (take used xs ++ add)) (sym long) ∙ take-append-add (take used xs) add n
 
 -- what was written, and more that found room
-pub gained : (name : ℕ) (xs new gone add : List ℕ) (used k : ℕ) → gone ≡ [] → take (used + k) new ≡ take used xs ++ add → name ∷ (take (used + k) new ++ gone) ≡ (name ∷ (take used xs ++ gone)) ++ add
+pub gained : (name : ℕ) (xs new gone add : List ℕ) (used k : ℕ) → gone ≡ [] → take (used + k) new ≡ take used xs ++ add
+    → name ∷ (take (used + k) new ++ gone) ≡ (name ∷ (take used xs ++ gone)) ++ add
 gained name xs new gone add used k none is =
-    ap (λ l. name ∷ l) (ap (λ g. take (used + k) new ++ g) none ∙ append-nil (take (used + k) new) ∙ is ∙ ap (λ l. l ++ add) (sym (append-nil (take used xs)) ∙ ap (λ g. take used xs ++ g) (sym none)))
+    ap (λ l. name ∷ l) (ap (λ g. take (used + k) new ++ g) none ∙ append-nil (take (used + k) new) ∙ is
+    ∙ ap (λ l. l ++ add) (sym (append-nil (take used xs)) ∙ ap (λ g. take used xs ++ g) (sym none)))

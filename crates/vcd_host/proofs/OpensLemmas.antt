@@ -4,7 +4,8 @@ use Rattle.vcd_host.specs.declared.host.OpenFault.TheVariants as fault
 use Rattle.vcd_host.specs.declared.opened.OpenStop.TheVariants as stop
 
 -- one input more
-pub opens-push : {H I : Type 0} (opens : H → Option Text → Result I OpenFault → H → Type 0) (host : H) (names : List (Option Text)) (inputs : List I) (next : H) (name : Option Text) (input : I) (after : H)
+pub opens-push : {H I : Type 0} (opens : H → Option Text → Result I OpenFault → H → Type 0) (host : H) (names : List (Option Text)) (inputs : List I)
+    (next : H) (name : Option Text) (input : I) (after : H)
     → Opens opens host names inputs next → opens next name (Ok input) after → Opens opens host (names ++ name ∷ []) (inputs ++ input ∷ []) after
 opens-push opens host [] [] next name input after o p = (after, subst (λ h. opens h name (Ok input) after) o p, refl)
 opens-push opens host [] (i ∷ inputs) next name input after o p = absurd o
@@ -12,7 +13,8 @@ opens-push opens host (n ∷ names) [] next name input after o p = absurd o
 opens-push opens host (n ∷ names) (i ∷ inputs) next name input after o p = (o.0, o.1, opens-push opens o.0 names inputs next name input after (o.2) p)
 
 -- as many as there are names
-pub opens-many : {H I : Type 0} (opens : H → Option Text → Result I OpenFault → H → Type 0) (host : H) (names : List (Option Text)) (inputs : List I) (after : H) → Opens opens host names inputs after → length inputs ≡ length names
+pub opens-many : {H I : Type 0} (opens : H → Option Text → Result I OpenFault → H → Type 0) (host : H) (names : List (Option Text)) (inputs : List I)
+    (after : H) → Opens opens host names inputs after → length inputs ≡ length names
 opens-many opens host [] [] after o = refl
 opens-many opens host [] (i ∷ inputs) after o = absurd o
 opens-many opens host (n ∷ names) [] after o = absurd o
@@ -24,7 +26,8 @@ opens-many opens host (n ∷ names) (i ∷ inputs) after o = ap suc (opens-many 
 pub mapped-more : {A B : Type 0} (f : A → B) (xs : List A) (i : ℕ) (d : A) → i < length xs → map f (take (i + 1) xs) ≡ map f (take i xs) ++ f (get_or xs i d) ∷ []
 mapped-more f xs i d lt = ap (map f) (take_more xs i d lt) ∙ map-append f (take i xs) (get_or xs i d ∷ [])
 
-pub opened-more : {H I : Type 0} (opens : H → Option Text → Result I OpenFault → H → Type 0) (failures : I → ℕ) (host : H) (asked : List (Option (Bor Text))) (i : ℕ) (d : Option (Bor Text)) (inputs inputs' : List I) (next after : H)
+pub opened-more : {H I : Type 0} (opens : H → Option Text → Result I OpenFault → H → Type 0) (failures : I → ℕ) (host : H)
+    (asked : List (Option (Bor Text))) (i : ℕ) (d : Option (Bor Text)) (inputs inputs' : List I) (next after : H)
     → i < length asked → Opens opens host (map text_of (take i asked)) inputs next → OpensOne opens failures (text_of (get_or asked i d)) next after inputs inputs'
     → Opens opens host (map text_of (take (i + 1) asked)) inputs' after
 opened-more opens failures host asked i d inputs inputs' next after lt o one =
@@ -32,10 +35,12 @@ opened-more opens failures host asked i d inputs inputs' next after lt o one =
     let named = subst (λ names. Opens opens host names (inputs ++ one.0 ∷ []) after) (sym (mapped-more text_of asked i d lt)) both in
     subst (λ all. Opens opens host (map text_of (take (i + 1) asked)) all after) (sym one.3) named
 
-pub names-more : (asked : List (Option (Bor Text))) (i : ℕ) (d : Option (Bor Text)) (old new : List Text) → i < length asked → old ≡ map called (map text_of (take i asked)) → new ≡ old ++ called (text_of (get_or asked i d)) ∷ []
+pub names-more : (asked : List (Option (Bor Text))) (i : ℕ) (d : Option (Bor Text)) (old new : List Text) → i < length asked
+    → old ≡ map called (map text_of (take i asked)) → new ≡ old ++ called (text_of (get_or asked i d)) ∷ []
     → new ≡ map called (map text_of (take (i + 1) asked))
 names-more asked i d old new lt before one =
-    one ∙ ap (λ l. l ++ called (text_of (get_or asked i d)) ∷ []) before ∙ sym (ap (map called) (mapped-more text_of asked i d lt) ∙ map-append called (map text_of (take i asked)) (text_of (get_or asked i d) ∷ []))
+    one ∙ ap (λ l. l ++ called (text_of (get_or asked i d)) ∷ []) before
+    ∙ sym (ap (map called) (mapped-more text_of asked i d lt) ∙ map-append called (map text_of (take i asked)) (text_of (get_or asked i d) ∷ []))
 
 pub fresh-more : {H I : Type 0} (opens : H → Option Text → Result I OpenFault → H → Type 0) (failures : I → ℕ) (name : Option Text) (next after : H) (inputs inputs' : List I)
     → All (λ r. failures r ≡ 0) inputs → OpensOne opens failures name next after inputs inputs' → All (λ r. failures r ≡ 0) inputs'
@@ -48,11 +53,21 @@ split-at f xs i d lt =
     ap (map f) (sym (take-append-drop i xs) ∙ ap (λ l. take i xs ++ l) (drop_more xs i d lt)) ∙ map-append f (take i xs) (get_or xs i d ∷ drop (i + 1) xs)
 
 -- why the loop stops
-pub stops-among : {H I : Type 0} (opens : H → Option Text → Result I OpenFault → H → Type 0) (host : H) (asked : List (Option (Bor Text))) (i : ℕ) (d : Option (Bor Text)) (inputs : List I) (next after : H) (why : OpenStop)
-    → i < length asked → Opens opens host (map text_of (take i asked)) inputs next → StopsAt opens (text_of (get_or asked i d)) next after why → StopsAmong opens (map text_of asked) host after why
+pub stops-among : {H I : Type 0} (opens : H → Option Text → Result I OpenFault → H → Type 0) (host : H) (asked : List (Option (Bor Text))) (i : ℕ)
+    (d : Option (Bor Text)) (inputs : List I) (next after : H) (why : OpenStop)
+    → i < length asked → Opens opens host (map text_of (take i asked)) inputs next → StopsAt opens (text_of (get_or asked i d)) next after why
+    → StopsAmong opens (map text_of asked) host after why
 stops-among opens host asked i d inputs next after (stop.Unopened said) lt o at =
-    let names = split-at text_of asked i d lt in
-    (map text_of (take i asked), map text_of (drop (i + 1) asked), names ∙ ap (λ name. map text_of (take i asked) ++ name ∷ map text_of (drop (i + 1) asked)) (sym at.0), inputs, next, o, subst (λ name. opens next name (Err fault.Unopened) after) (sym at.0) at.1)
+    let names = split-at text_of asked i d lt in (
+      map text_of (take i asked),
+      map text_of (drop (i + 1) asked),
+      names
+          ∙ ap (λ name. map text_of (take i asked) ++ name ∷ map text_of (drop (i + 1) asked)) (sym at.0),
+      inputs,
+      next,
+      o,
+      subst (λ name. opens next name (Err fault.Unopened) after) (sym at.0) at.1,
+    )
 stops-among opens host asked i d inputs next after stop.OutOfMemory lt o (inl one) =
     let names = split-at text_of asked i d lt in
     let before = map text_of (take i asked) in
@@ -65,5 +80,12 @@ stops-among opens host asked i d inputs next after stop.OutOfMemory lt o (inl on
       opens-push opens host before inputs next name one.0 after o one.1,
       inl refl,
     )
-stops-among opens host asked i d inputs next after stop.OutOfMemory lt o (inr failed) =
-    (map text_of (take i asked), text_of (get_or asked i d) ∷ map text_of (drop (i + 1) asked), split-at text_of asked i d lt, inputs, next, o, inr (text_of (get_or asked i d), map text_of (drop (i + 1) asked), refl, failed))
+stops-among opens host asked i d inputs next after stop.OutOfMemory lt o (inr failed) = (
+  map text_of (take i asked),
+  text_of (get_or asked i d) ∷ map text_of (drop (i + 1) asked),
+  split-at text_of asked i d lt,
+  inputs,
+  next,
+  o,
+  inr (text_of (get_or asked i d), map text_of (drop (i + 1) asked), refl, failed),
+)

@@ -28,7 +28,8 @@ module _ (count : ℕ) (into bytes : List ℕ) (within : count ≤ length into) 
       ∙ ap (take (count + n)) (take-put_mid count (length into - count) into bytes (count + length bytes) refl within)
       ∙ ap (λ m. take (m + n) (take count into ++ bytes)) (sym first) ∙ take-append-add (take count into) bytes n
 
-  pub front-more : (n size : ℕ) (a b c : Option (List ℕ)) → n ≤ length bytes → length into ≡ size → Consumes a b (take count into) → Consumes b c (take n bytes) → (count + n ≤ length now) × (length now ≡ size) × Consumes a c (take (count + n) now)
+  pub front-more : (n size : ℕ) (a b c : Option (List ℕ)) → n ≤ length bytes → length into ≡ size → Consumes a b (take count into)
+      → Consumes b c (take n bytes) → (count + n ≤ length now) × (length now ≡ size) × Consumes a c (take (count + n) now)
   front-more n size a b c few is first then = (
     omega (arith, put-length, few, all, within),
     put-length ∙ is,
@@ -42,5 +43,7 @@ prepend-none None = refl
 prepend-none (Some xs) = refl
 
 -- after the last of the bytes that come first, the others are read
-pub reads-on : {E : Type 0} (seen : Seen) (old new : Option (List ℕ)) (result : Result ℕ E) (into bytes : List ℕ) → seen ≡ Unknown → bytes ≡ [] → ReadConsumes old new result into → ReadConsumes (prepend_known bytes (left_after seen old)) (prepend_known bytes (left_after seen new)) result into
+pub reads-on : {E : Type 0} (seen : Seen) (old new : Option (List ℕ)) (result : Result ℕ E) (into bytes : List ℕ) → seen ≡ Unknown → bytes ≡ []
+    → ReadConsumes old new result into → ReadConsumes (prepend_known bytes (left_after seen old))
+    (prepend_known bytes (left_after seen new)) result into
 reads-on seen old new result into bytes is none reads = rw (is, none, prepend-none old, prepend-none new) reads

@@ -65,7 +65,8 @@ nothing_known : AreRegsAfter [] (record { time = 0; marked = false; section = No
 nothing_known = record { time_is = refl; marked_is = refl; section_is = refl; ended = refl }
 
 module _ {X : Type 0} {x : Ghosts X} (most limit chunk : ℕ) (i : Input) (before : Supply) (feed : Feed X x) (l : limit_of feed ≡ limit) (size : chunk_len_of feed ≡ chunk) where
-  pub begun : (s : HeadShown) → (supply_of feed).failures ≡ before.failures → (g : GivesHead most i feed s) → IsBegun most limit chunk i (record { header = header_of (phrases_of g.placed); input = i; front = g.given }) before (supply_of feed)
+  pub begun : (s : HeadShown) → (supply_of feed).failures ≡ before.failures → (g : GivesHead most i feed s)
+      → IsBegun most limit chunk i (record { header = header_of (phrases_of g.placed); input = i; front = g.given }) before (supply_of feed)
   begun s same g = record {
     input_is = refl;
     placed = g.placed;
@@ -81,7 +82,8 @@ module _ {X : Type 0} {x : Ghosts X} (most limit chunk : ℕ) (i : Input) (befor
   }
 
   -- its head shows it, and its feed is parked in a seat
-  pub begins : (head : Head) (seat : Seat) → (supply_of feed).failures ≡ before.failures → (g : GivesHead most i feed (shown head)) → seat.parked ≡ parked_of feed → seat.regs ≡ record { time = 0; marked = false; section = None }
+  pub begins : (head : Head) (seat : Seat) → (supply_of feed).failures ≡ before.failures → (g : GivesHead most i feed (shown head))
+      → seat.parked ≡ parked_of feed → seat.regs ≡ record { time = 0; marked = false; section = None }
       → Begins most limit chunk i head seat feed.chunk.now feed.token.now before (supply_of feed)
   begins head seat same g is new = record {
     lane = record { header = header_of (phrases_of g.placed); input = i; front = g.given };
@@ -99,7 +101,8 @@ module _ {X : Type 0} {x : Ghosts X} (most limit chunk : ℕ) (i : Input) (befor
   }
 
   -- whatever the input is, the seat is a new one, and its feed fits its windows
-  pub seated : (seat : Seat) (p : Parked) → Fits p (chunk_len_of feed) (limit_of feed) → p ≡ parked_of feed → HasNotFailed feed → seat.parked ≡ p → seat.regs ≡ record { time = 0; marked = false; section = None } → seat.finished ≡ false
+  pub seated : (seat : Seat) (p : Parked) → Fits p (chunk_len_of feed) (limit_of feed) → p ≡ parked_of feed → HasNotFailed feed → seat.parked ≡ p
+      → seat.regs ≡ record { time = 0; marked = false; section = None } → seat.finished ≡ false
       → IsSeated chunk limit seat × IsNew seat
   seated seat p fits is on same new unfinished = (
     record {
@@ -118,7 +121,8 @@ module _ {X : Type 0} {x : Ghosts X} (most limit chunk : ℕ) (i : Input) (befor
       (subst (λ n. Near n (supply_of feed).rest (end_of_tokens i.bytes (length (given ++ token_of feed ∷ []))) i) size h.1)
 
   -- or to where no token is left
-  read_to_end : (left : Input) (given : List Token) → HasGiven left given feed → (stream_of (limit_of feed) left).tokens ≡ given → IsGoing most given → ReadsAsNeeded limit chunk before (supply_of feed) left [] (is_header_over most)
+  read_to_end : (left : Input) (given : List Token) → HasGiven left given feed → (stream_of (limit_of feed) left).tokens ≡ given → IsGoing most given
+      → ReadsAsNeeded limit chunk before (supply_of feed) left [] (is_header_over most)
   read_to_end left given h all e =
       ToEnd given (ap (λ n. (stream_of n left).tokens) (sym l) ∙ all) (going_header most given e)
       (subst (λ n. IfSome (halt_place limit left) (λ place. Near n (supply_of feed).rest place left)) size
@@ -149,7 +153,8 @@ module _ {X : Type 0} {x : Ghosts X} (most limit chunk : ℕ) (i : Input) (befor
       is_why = (refl, d, placed n i f.0);
     }
 
-    ended : (fault : HeadFault) → CountsRead place before.failures (supply_of feed).failures (Some (head_failure fault place line)) → Fails most i fault feed → EndsWith (head_failure fault place line)
+    ended : (fault : HeadFault) → CountsRead place before.failures (supply_of feed).failures (Some (head_failure fault place line))
+        → Fails most i fault feed → EndsWith (head_failure fault place line)
     ended ReadFailed counted f =
         let left = failed_after (seen feed) i in
         record {
@@ -198,7 +203,8 @@ module _ (most limit chunk : ℕ) (i : Input) (l : Lane) (before mid : Supply) (
   pub header_only : (after : Supply) → after.rest ≡ mid.rest → ReadsAsNeeded limit chunk before after i [] (is_header_over most)
   header_only after same =
       ToToken b.before b.last (subst (λ ts. IsPrefixOf ts (stream_of limit i).tokens) b.is b.given_first) (going_header most b.before b.going)
-      (subst (λ rest. Near chunk rest (end_of_tokens i.bytes (length (b.before ++ b.last ∷ []))) i) (sym same) (subst (λ ts. Near chunk mid.rest (end_of_tokens i.bytes (length ts)) i) b.is b.near))
+      (subst (λ rest. Near chunk rest (end_of_tokens i.bytes (length (b.before ++ b.last ∷ []))) i) (sym same)
+      (subst (λ ts. Near chunk mid.rest (end_of_tokens i.bytes (length ts)) i) b.is b.near))
 
   -- and then memory ran out
   pub begun_only : (place : ℕ) → HasFailed most limit chunk place i before mid failure.OutOfMemory
@@ -215,7 +221,8 @@ module _ (most limit chunk : ℕ) (i : Input) (l : Lane) (before mid : Supply) (
   left_since after left (inr is) = inr (is.0 ∙ ap (λ n. n + 1) b.failures, is.1, is.2, is.3)
 
   -- what was read, for work that the tokens after the header settle
-  module _ (settled behind : List Token → Bool) (on : (ts : List Token) → is_header_over most ts ≡ false → settled ts ≡ false) (since : (ts : List Token) → behind ts ≡ false → settled (l.front ++ ts) ≡ false) where
+  module _ (settled behind : List Token → Bool) (on : (ts : List Token) → is_header_over most ts ≡ false → settled ts ≡ false)
+      (since : (ts : List Token) → behind ts ≡ false → settled (l.front ++ ts) ≡ false) where
     pub all_read : (after : Supply) (left : Input) → IsLeft i mid after left → ReadsAsNeeded limit chunk mid after left l.front behind → ReadsAsNeeded limit chunk before after left [] settled
     all_read after left (inl is) (Nothing same) =
         subst (λ j. ReadsAsNeeded limit chunk before after j [] settled) (sym is.1)
@@ -226,7 +233,8 @@ module _ (most limit chunk : ℕ) (i : Input) (l : Lane) (before mid : Supply) (
 
   -- ---- its reading
 
-  reading_is : (left : Input) (rest : List Token) → (stream_of limit left).tokens ≡ l.front ++ rest → read_header most (stream_of limit left) ≡ record { placed = b.placed; before = []; ending = AtLast; rest = rest }
+  reading_is : (left : Input) (rest : List Token) → (stream_of limit left).tokens ≡ l.front ++ rest
+      → read_header most (stream_of limit left) ≡ record { placed = b.placed; before = []; ending = AtLast; rest = rest }
   unfolding read_header
   reading_is left rest e = ap (reading_of (header_grammar most)) e ∙ whole-more (header_grammar most) l.front b.placed rest b.whole
 

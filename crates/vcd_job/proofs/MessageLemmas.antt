@@ -12,7 +12,8 @@ some-line program [] text byte = refl
 some-line program (first ∷ name) text byte = refl
 
 -- the message of a fault is a line
-pub fault-line : (program name digits text : List ℕ) → shown_message program (name ++ codes ":" ++ digits ++ codes ": " ++ text) ≡ program_line program (name ++ codes ":" ++ digits ++ codes ": " ++ text)
+pub fault-line : (program name digits text : List ℕ) → shown_message program (name ++ codes ":" ++ digits ++ codes ": " ++ text)
+    ≡ program_line program (name ++ codes ":" ++ digits ++ codes ": " ++ text)
 fault-line program [] digits text = refl
 fault-line program (first ∷ name) digits text = refl
 

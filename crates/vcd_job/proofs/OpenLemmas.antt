@@ -5,8 +5,10 @@ use Rattle.vcd_job.proofs.HeaderLemmas.{begun_only, none_read}
 -- ---- one input more
 
 -- the header of one more input was read
-pub begun_more : (limit chunk : ℕ) (earlier : List Header) (texts : List (List ℕ)) (old new : List Supply) (lanes : List Lane) (text : List ℕ) (s t : Supply) (l : Lane) → AreBegun limit chunk earlier texts old new lanes
-    → IsBegun (allowed_after (earlier ++ headers_in lanes)) limit chunk (whole text) l s t → AreBegun limit chunk earlier (texts ++ text ∷ []) (old ++ s ∷ []) (new ++ t ∷ []) (lanes ++ l ∷ [])
+pub begun_more : (limit chunk : ℕ) (earlier : List Header) (texts : List (List ℕ)) (old new : List Supply) (lanes : List Lane) (text : List ℕ)
+    (s t : Supply) (l : Lane) → AreBegun limit chunk earlier texts old new lanes
+    → IsBegun (allowed_after (earlier ++ headers_in lanes)) limit chunk (whole text) l s t
+    → AreBegun limit chunk earlier (texts ++ text ∷ []) (old ++ s ∷ []) (new ++ t ∷ []) (lanes ++ l ∷ [])
 begun_more limit chunk earlier [] [] [] [] text s t l b one = (subst (λ hs. IsBegun (allowed_after hs) limit chunk (whole text) l s t) (append-nil earlier) one, tt)
 begun_more limit chunk earlier (u ∷ texts) (a ∷ old) (c ∷ new) (m ∷ lanes) text s t l b one = (
   b.0,
@@ -16,12 +18,18 @@ begun_more limit chunk earlier (u ∷ texts) (a ∷ old) (c ∷ new) (m ∷ lane
 begun_more limit chunk earlier texts old new lanes text s t l b one = absurd b
 
 -- or it ended the run, before any after it was read
-pub stops_at : (limit chunk place : ℕ) (earlier : List Header) (texts more : List (List ℕ)) (old new behind : List Supply) (lanes : List Lane) (text : List ℕ) (s t : Supply) (at : ℕ) (why : Failure) → AreBegun limit chunk earlier texts old new lanes
+pub stops_at : (limit chunk place : ℕ) (earlier : List Header) (texts more : List (List ℕ)) (old new behind : List Supply) (lanes : List Lane)
+    (text : List ℕ) (s t : Supply) (at : ℕ) (why : Failure) → AreBegun limit chunk earlier texts old new lanes
     → at ≡ place + length texts → length behind ≡ length more → HasFailed (allowed_after (earlier ++ headers_in lanes)) limit chunk at (whole text) s t why
     → Stops limit chunk place earlier (texts ++ text ∷ more) (old ++ s ∷ behind) (new ++ t ∷ behind) why
 stops_at limit chunk place earlier [] more [] [] behind [] text s t at why b here long one =
     let e : at ≡ place = omega arith in
-    inl (subst (λ n. HasFailed (allowed_after earlier) limit chunk n (whole text) s t why) e (subst (λ hs. HasFailed (allowed_after hs) limit chunk at (whole text) s t why) (append-nil earlier) one), refl, long)
+    inl (
+      subst (λ n. HasFailed (allowed_after earlier) limit chunk n (whole text) s t why) e
+          (subst (λ hs. HasFailed (allowed_after hs) limit chunk at (whole text) s t why) (append-nil earlier) one),
+      refl,
+      long,
+    )
 stops_at limit chunk place earlier (u ∷ texts) more (a ∷ old) (c ∷ new) behind (m ∷ lanes) text s t at why b here long one =
     let e : at ≡ suc place + length texts = omega arith in
     inr (
@@ -43,7 +51,8 @@ pub get_last : {X : Type 0} (xs : List X) (y : X) → slice_get (xs ++ y ∷ [])
 get_last [] y = refl
 get_last (x ∷ xs) y = get_last xs y
 
-pub get_place : {X : Type 0} (xs : List X) (y : X) (j : ℕ) (x : X) → slice_get (xs ++ y ∷ []) j ≡ Some x → ((j < length xs) × (slice_get xs j ≡ Some x)) ⊎ ((j ≡ length xs) × (y ≡ x))
+pub get_place : {X : Type 0} (xs : List X) (y : X) (j : ℕ) (x : X) → slice_get (xs ++ y ∷ []) j ≡ Some x
+    → ((j < length xs) × (slice_get xs j ≡ Some x)) ⊎ ((j ≡ length xs) × (y ≡ x))
 get_place [] y zero x e = inr (refl, cc)
 get_place [] y (suc j) x e = cc
 get_place (z ∷ xs) y zero x e = inl (omega arith, e)
@@ -70,7 +79,8 @@ read_at f (z ∷ xs) zero x at = let same : z ≡ x = cc in ap f same
 read_at f (z ∷ xs) (suc k) x at = read_at f xs k x at
 
 -- a read of the reader at an index failed, and of no other
-pub counts_at : {X : Type 0} (f : X → ℕ) (old xs : List X) (k : ℕ) (x y : X) (why : Option Failure) → map f xs ≡ map f old → slice_get xs k ≡ Some x → CountsRead k (f x) (f y) why → CountsReads (map f old) (map f (slice_set xs k y)) why
+pub counts_at : {X : Type 0} (f : X → ℕ) (old xs : List X) (k : ℕ) (x y : X) (why : Option Failure) → map f xs ≡ map f old → slice_get xs k ≡ Some x
+    → CountsRead k (f x) (f y) why → CountsReads (map f old) (map f (slice_set xs k y)) why
 counts_at f old xs k x y (Some (Stopped (Read input))) same at c =
     let within = slice_get_within xs k x at in
     let long : length (map f old) ≡ length xs = ap length (sym same) ∙ length-map xs f in
@@ -175,7 +185,8 @@ module _ {X : Type 0} (limit chunk n : ℕ) (rest : X → Option (List ℕ)) (fa
           let new_is : map f (slice_set now k after) ≡ map f b.done ++ f after ∷ map f t.behind = ap (map f) (set_at after) ∙ map-append f b.done (after ∷ t.behind) in
           let texts_is : texts ≡ b.read ++ t.text ∷ t.unread = b.texts_are ∙ ap (λ l. b.read ++ l) t.unread_is in
           let long : length (map f t.behind) ≡ length t.unread = length-map t.behind f ∙ sym (length-map t.behind rest) ∙ ap length t.rests ∙ length-map t.unread (λ text. Some text) in
-          let stops = stops_at limit chunk 0 [] b.read t.unread (map f b.before) (map f b.done) (map f t.behind) b.lanes t.text (f t.reader) (f after) k why b.begun (let e = b.many_read in omega arith) long
+          let stops = stops_at limit chunk 0 [] b.read t.unread (map f b.before) (map f b.done) (map f t.behind) b.lanes t.text (f t.reader)
+          (f after) k why b.begun (let e = b.many_read in omega arith) long
           (subst (λ (m : ℕ). HasFailed m limit chunk k (whole t.text) (f t.reader) (f after) why) b.left_is h) in
           subst (λ (l : List (List ℕ)). Stops limit chunk 0 [] l (map f old) (map f (slice_set now k after)) why) (sym texts_is)
           (subst (λ (l : List Supply). Stops limit chunk 0 [] (b.read ++ t.text ∷ t.unread) l (map f (slice_set now k after)) why) (sym old_is)
@@ -193,8 +204,10 @@ module _ {X : Type 0} (limit chunk n : ℕ) (rest : X → Option (List ℕ)) (fa
             subst (λ (hs : List Header). AllZip (λ (h : Head) (x : Header). Views (shown h) x) (heads ++ head ∷ []) hs) (sym (map-append (λ (l : Lane). l.header) b.lanes (g.lane ∷ [])))
             (all_zip_push (λ (h : Head) (x : Header). Views (shown h) x) heads (headers_in b.lanes) head g.lane.header b.views g.views)
 
-        module _ (within : k < length now) (cl : length chunks' ≡ length chunks) (tl : length tokens' ≡ length tokens) (chunk_is : part_len n chunks ≡ chunk) (limit_is : part_len n tokens ≡ limit)
-            (others : (j : ℕ) → j ≢ k → (part (part_len n chunks) j chunks' ≡ part (part_len n chunks) j chunks) × (part (part_len n tokens) j tokens' ≡ part (part_len n tokens) j tokens)) where
+        module _ (within : k < length now) (cl : length chunks' ≡ length chunks) (tl : length tokens' ≡ length tokens)
+            (chunk_is : part_len n chunks ≡ chunk) (limit_is : part_len n tokens ≡ limit)
+            (others : (j : ℕ) → j ≢ k → (part (part_len n chunks) j chunks' ≡ part (part_len n chunks) j chunks)
+            × (part (part_len n tokens) j tokens' ≡ part (part_len n tokens) j tokens)) where
           chunk_same : part_len n chunks' ≡ part_len n chunks
           chunk_same = ap (λ m. m / n) cl
 
@@ -212,7 +225,8 @@ module _ {X : Type 0} (limit chunk n : ℕ) (rest : X → Option (List ℕ)) (fa
               let q = o.1 in
               rw (chunk_same, limit_same, a, r, p, q) refl
 
-          place_here : place_of n rest (seats ++ seat ∷ []) (slice_set now k after) chunks' tokens' k ≡ Some (record { seat = seat; rest = rest after; chunk = part chunk k chunks'; token = part limit k tokens' })
+          place_here : place_of n rest (seats ++ seat ∷ []) (slice_set now k after) chunks' tokens' k ≡ Some
+              (record { seat = seat; rest = rest after; chunk = part chunk k chunks'; token = part limit k tokens' })
           place_here =
               let a : slice_get (seats ++ seat ∷ []) k ≡ Some seat = ap (slice_get (seats ++ seat ∷ [])) (sym seats_many) ∙ get_last seats seat in
               let r = get_set now k after within in
@@ -221,14 +235,17 @@ module _ {X : Type 0} (limit chunk n : ℕ) (rest : X → Option (List ℕ)) (fa
           parked_more : AreParked n rest (b.lanes ++ g.lane ∷ []) (seats ++ seat ∷ []) (slice_set now k after) chunks' tokens'
           parked_more j l s a c = by_place (get_place b.lanes g.lane j l a)
             where
-              by_place : ((j < length b.lanes) × (slice_get b.lanes j ≡ Some l)) ⊎ ((j ≡ length b.lanes) × (g.lane ≡ l)) → GaveParked l.header.codes l.input l.front [] s.rest s.chunk s.token s.seat.parked s.seat.regs
+              by_place : ((j < length b.lanes) × (slice_get b.lanes j ≡ Some l)) ⊎ ((j ≡ length b.lanes) × (g.lane ≡ l))
+                  → GaveParked l.header.codes l.input l.front [] s.rest s.chunk s.token s.seat.parked s.seat.regs
               by_place (inl p) = let e = b.many_lanes in let h = p.0 in b.parked j l s p.1 (sym (place_before j (omega arith)) ∙ c)
               by_place (inr p) =
                   let here : j ≡ k = p.0 ∙ b.many_lanes in
                   let spot : Spot = record { seat = seat; rest = rest after; chunk = part chunk k chunks'; token = part limit k tokens' } in
                   let found : Some spot ≡ Some s = sym place_here ∙ ap (place_of n rest (seats ++ seat ∷ []) (slice_set now k after) chunks' tokens') (sym here) ∙ c in
                   let same : spot ≡ s = cc in
-                  subst (λ (p : Spot). GaveParked l.header.codes l.input l.front [] p.rest p.chunk p.token p.seat.parked p.seat.regs) same (subst (λ (x : Lane). GaveParked x.header.codes x.input x.front [] (rest after) (part chunk k chunks') (part limit k tokens') seat.parked seat.regs) p.1 g.gave)
+                  subst (λ (p : Spot). GaveParked l.header.codes l.input l.front [] p.rest p.chunk p.token p.seat.parked p.seat.regs) same
+                  (subst (λ (x : Lane). GaveParked x.header.codes x.input x.front [] (rest after) (part chunk k chunks')
+                  (part limit k tokens') seat.parked seat.regs) p.1 g.gave)
 
           -- so far, with one input more
           pub one_more : (left' : ℕ) → left' ≡ left - length (shown head).rows → BegunSoFar (slice_set now k after) (k + 1) left' (heads ++ head ∷ []) (seats ++ seat ∷ []) chunks' tokens'
@@ -253,8 +270,10 @@ module _ {X : Type 0} (limit chunk n : ℕ) (rest : X → Option (List ℕ)) (fa
                 many = length-append b.done (after ∷ []) ∙ ap (λ m. m + 1) b.many;
                 many_read = length-append b.read (t.text ∷ []) ∙ ap (λ m. m + 1) b.many_read;
                 many_lanes = length-append b.lanes (g.lane ∷ []) ∙ ap (λ m. m + 1) b.many_lanes;
-                begun = subst (λ (l : List Supply). AreBegun limit chunk [] (b.read ++ t.text ∷ []) l (map f (b.done ++ after ∷ [])) (b.lanes ++ g.lane ∷ [])) (sym (map-append f b.before (t.reader ∷ [])))
-                    (subst (λ (l : List Supply). AreBegun limit chunk [] (b.read ++ t.text ∷ []) (map f b.before ++ f t.reader ∷ []) l (b.lanes ++ g.lane ∷ [])) (sym (map-append f b.done (after ∷ [])))
+                begun = subst (λ (l : List Supply). AreBegun limit chunk [] (b.read ++ t.text ∷ []) l (map f (b.done ++ after ∷ []))
+                    (b.lanes ++ g.lane ∷ [])) (sym (map-append f b.before (t.reader ∷ [])))
+                    (subst (λ (l : List Supply). AreBegun limit chunk [] (b.read ++ t.text ∷ []) (map f b.before ++ f t.reader ∷ []) l
+                    (b.lanes ++ g.lane ∷ [])) (sym (map-append f b.done (after ∷ [])))
                     (begun_more limit chunk [] b.read (map f b.before) (map f b.done) b.lanes t.text (f t.reader) (f after) g.lane b.begun
                     (subst (λ (m : ℕ). IsBegun m limit chunk (whole t.text) g.lane (f t.reader) (f after)) e g.begun)));
                 left_is = fewer ∙ omega (arith, e, rows, sums) ∙ ap allowed_after (sym (map-append (λ (l : Lane). l.header) b.lanes (g.lane ∷ [])));
@@ -263,7 +282,8 @@ module _ {X : Type 0} (limit chunk n : ℕ) (rest : X → Option (List ℕ)) (fa
               }
 
   -- all of them
-  pub all_begun : (now : List X) (left : ℕ) (heads : List Head) (seats : List Seat) (chunks tokens : List ℕ) → BegunSoFar now (length now) left heads seats chunks tokens → HaveBegun limit chunk n rest failures texts old now heads seats chunks tokens
+  pub all_begun : (now : List X) (left : ℕ) (heads : List Head) (seats : List Seat) (chunks tokens : List ℕ)
+      → BegunSoFar now (length now) left heads seats chunks tokens → HaveBegun limit chunk n rest failures texts old now heads seats chunks tokens
   all_begun now left heads seats chunks tokens b =
       let f = supply rest failures in
       let none : b.more ≡ [] = empty b.more (omega (arith, ap length b.now_are, length-append b.done b.more, b.many)) in
@@ -288,7 +308,8 @@ module _ {X : Type 0} (limit chunk n : ℕ) (rest : X → Option (List ℕ)) (fa
 
 -- after k readers: no read failed, and over readers with these texts the headers are those of the
 -- definitions
-pub record Opening {X : Type 0} (rest : X → Option (List ℕ)) (failures : X → ℕ) (old now : List X) (windows windows' : Windows) (k left : ℕ) (heads : List Head) (seats : List Seat) : Type 0 where
+pub record Opening {X : Type 0} (rest : X → Option (List ℕ)) (failures : X → ℕ) (old now : List X) (windows windows' : Windows) (k left : ℕ)
+    (heads : List Head) (seats : List Seat) : Type 0 where
   pub many : length now ≡ length old
   pub few : left ≤ 16777216
   pub heads_many : length heads ≡ k
@@ -297,11 +318,14 @@ pub record Opening {X : Type 0} (rest : X → Option (List ℕ)) (failures : X �
   pub lengths : SameLengths windows windows'
   pub seated : All (λ (seat : Seat). IsSeated (part_len (length old) windows.chunks.now) (part_len (length old) windows.tokens.now) seat × IsNew seat) seats
   pub told : (texts : List (List ℕ)) → map rest old ≡ map (λ text. Some text) texts
-      → BegunSoFar (part_len (length old) windows.tokens.now) (part_len (length old) windows.chunks.now) (length old) rest failures texts old now k left heads seats windows'.chunks.now windows'.tokens.now
+      → BegunSoFar (part_len (length old) windows.tokens.now) (part_len (length old) windows.chunks.now)
+      (length old) rest failures texts old now k left heads seats windows'.chunks.now windows'.tokens.now
 
 -- one reader more
-module _ {X : Type 0} (rest : X → Option (List ℕ)) (failures : X → ℕ) (old now now' : List X) (w w1 w2 : Windows) (k left : ℕ) (heads : List Head) (seats : List Seat) (result : Result BegunInput Failure)
-    (o : Opening rest failures old now w w1 k left heads seats) (within : k < length now) (begins : (r : X) → slice_get now k ≡ Some r → BeginsAt (length now) k left rest failures r now now' w1 w2 result) where
+module _ {X : Type 0} (rest : X → Option (List ℕ)) (failures : X → ℕ) (old now now' : List X) (w w1 w2 : Windows) (k left : ℕ) (heads : List Head)
+    (seats : List Seat) (result : Result BegunInput Failure)
+    (o : Opening rest failures old now w w1 k left heads seats) (within : k < length now) (begins : (r : X) → slice_get now k ≡ Some r
+    → BeginsAt (length now) k left rest failures r now now' w1 w2 result) where
   limit_is : part_len (length now) w1.tokens.now ≡ part_len (length old) w.tokens.now
   limit_is = ap₂ (λ a b. a / b) o.lengths.tokens o.many
 
@@ -354,7 +378,9 @@ module _ {X : Type 0} (rest : X → Option (List ℕ)) (failures : X → ℕ) (o
         let at = reader_at limit chunk (length old) rest failures texts old now k left heads seats w1.chunks.now w1.tokens.now b t in
         let one = begins t.reader at in
         subst (λ (l : List X). Stops limit chunk 0 [] texts (map (supply rest failures) old) (map (supply rest failures) l) OutOfMemory) (sym one.readers)
-        (stops_behind limit chunk (length old) rest failures texts old now k left heads seats w1.chunks.now w1.tokens.now b t one.after begun.head begun.seat w2.chunks.now w2.tokens.now o.heads_many o.seats_many (rw ok at (tells t.reader at t.text t.rest_is)))
+        (stops_behind limit chunk
+        (length old) rest failures texts old now k left heads seats w1.chunks.now w1.tokens.now b t one.after begun.head begun.seat w2.chunks.now w2.tokens.now o.heads_many o.seats_many
+        (rw ok at (tells t.reader at t.text t.rest_is)))
 
     pub goes_on : (left' : ℕ) → left' ≡ left - length (shown begun.head).rows → SameLengths w1 w2 → ((j : ℕ) → j ≢ k → SameParts (length now) j w1 w2)
         → IsSeated (part_len (length now) w1.chunks.now) (part_len (length now) w1.tokens.now) begun.seat × IsNew begun.seat
@@ -380,17 +406,25 @@ module _ {X : Type 0} (rest : X → Option (List ℕ)) (failures : X → ℕ) (o
               let one = begins t.reader here in
               let e : part_len (length old) w1.chunks.now ≡ chunk = ap (λ m. m / length old) o.lengths.chunks in
               let e' : part_len (length old) w1.tokens.now ≡ limit = ap (λ m. m / length old) o.lengths.tokens in
-              subst (λ (l : List X). BegunSoFar limit chunk (length old) rest failures texts old l (k + 1) left' (heads ++ begun.head ∷ []) (seats ++ begun.seat ∷ []) w2.chunks.now w2.tokens.now) (sym one.readers)
-              (one_more limit chunk (length old) rest failures texts old now k left heads seats w1.chunks.now w1.tokens.now b t one.after begun.head begun.seat w2.chunks.now w2.tokens.now o.heads_many o.seats_many
+              subst (λ (l : List X). BegunSoFar limit chunk (length old) rest failures texts old l (k + 1) left' (heads ++ begun.head ∷ [])
+              (seats ++ begun.seat ∷ []) w2.chunks.now w2.tokens.now) (sym one.readers)
+              (one_more limit chunk
+              (length old) rest failures texts old now k left heads seats w1.chunks.now w1.tokens.now b t one.after begun.head begun.seat w2.chunks.now w2.tokens.now o.heads_many o.seats_many
               (rw ok at (tells t.reader here t.text t.rest_is)) within same.chunks same.tokens e e'
               (λ j apart. let p = others j apart in (rw (ap (λ m. length w1.chunks.now / m) o.many) at p.chunks, rw (ap (λ m. length w1.tokens.now / m) o.many) at p.tokens)) left' fewer);
         }
 
 -- memory ran out before anything was read of readers, of which there is one at least
-pub nothing_stops : {X : Type 0} (limit chunk : ℕ) (rest : X → Option (List ℕ)) (failures : X → ℕ) (old : List X) (texts : List (List ℕ)) → 0 < length old → map rest old ≡ map (λ text. Some text) texts
+pub nothing_stops : {X : Type 0} (limit chunk : ℕ) (rest : X → Option (List ℕ)) (failures : X → ℕ) (old : List X) (texts : List (List ℕ))
+    → 0 < length old → map rest old ≡ map (λ text. Some text) texts
     → Stops limit chunk 0 [] texts (map (supply rest failures) old) (map (supply rest failures) old) OutOfMemory
 nothing_stops limit chunk rest failures [] texts some h = absurd (omega arith)
 nothing_stops limit chunk rest failures (r ∷ old) [] some h = cc
 nothing_stops limit chunk rest failures (r ∷ old) (text ∷ texts) some h =
     let behind : map rest old ≡ map (λ text. Some text) texts = cc in
-    inl (none_read (allowed_after []) limit chunk 0 (whole text) (supply rest failures r), refl, length-map old (supply rest failures) ∙ sym (length-map old rest) ∙ ap length behind ∙ length-map texts (λ text. Some text))
+    inl (
+      none_read (allowed_after []) limit chunk 0 (whole text) (supply rest failures r),
+      refl,
+      length-map old (supply rest failures)
+          ∙ sym (length-map old rest) ∙ ap length behind ∙ length-map texts (λ text. Some text),
+    )

@@ -26,12 +26,14 @@ unfolding outcome_of
 opened_outcome w limit name i e = rw (opened_is limit i e, outcome_of) refl
 
 -- a header with a fault
-pub at_header : (w : Work) (limit : ℕ) (name : List ℕ) (i : Input) (f : Fault) → header_fault_of (stream_of limit i) (head_of limit i) ≡ Some f → outcome_of w limit name i ≡ fault_as w.faulty [] name f
+pub at_header : (w : Work) (limit : ℕ) (name : List ℕ) (i : Input) (f : Fault) → header_fault_of (stream_of limit i) (head_of limit i) ≡ Some f
+    → outcome_of w limit name i ≡ fault_as w.faulty [] name f
 unfolding outcome_of
 at_header w limit name i f e = rw (not_opened limit i f e, outcome_of) refl
 
 -- tokens of a whole header, and these after it
-pub after_header : (w : Work) (limit : ℕ) (name : List ℕ) (i : Input) (given rest : List Token) (placed : List (Placed HeaderPhrase)) → IsWhole (header_grammar declarations_allowed) given placed → (stream_of limit i).tokens ≡ given ++ rest
+pub after_header : (w : Work) (limit : ℕ) (name : List ℕ) (i : Input) (given rest : List Token) (placed : List (Placed HeaderPhrase))
+    → IsWhole (header_grammar declarations_allowed) given placed → (stream_of limit i).tokens ≡ given ++ rest
     → outcome_of w limit name i ≡ over_header (w.course name (header_of (phrases_of placed))) (record { header = header_of (phrases_of placed); stream = stream_of limit i; rest = rest })
 unfolding read_header
 after_header w limit name i given rest placed is e =

@@ -31,7 +31,8 @@ shown_once old new line (inl all) = let same = all.1 in omega (arith, same)
 shown_once old new line (inr some) = most_one 1 old new (omega arith) some.1
 
 -- of several readers the one at an index was read
-pub one_last : {X : Type 0} (f : X → Bool) (xs : List X) (k before after : ℕ) (x : X) (why : Option Failure) → k < length xs → CountsRead k before after why → EndsAtRead (f x) why → EndsAtReadOf (map f (slice_set xs k x)) why
+pub one_last : {X : Type 0} (f : X → Bool) (xs : List X) (k before after : ℕ) (x : X) (why : Option Failure) → k < length xs
+    → CountsRead k before after why → EndsAtRead (f x) why → EndsAtReadOf (map f (slice_set xs k x)) why
 one_last f xs k before after x why within counts e = λ input is.
     let named : input ≡ k = (subst (CountsRead k before after) is counts).0 in
     rw named (set_last f xs k x within (e input is))
@@ -65,7 +66,8 @@ module _ {R : Type 0} (w : Work) (s : Speech R) (same : s.faulty ≡ w.faulty) (
   }
 
   -- a header that ends a run leaves no output
-  dump_leaves : (input n line : ℕ) (out : Device) → input ≡ 0 → (n == 31) ≡ false → Leaves s (fault_as w.faulty [] name (record { number = n; line = line })) name out out (Err (Stopped (Dump input line n)))
+  dump_leaves : (input n line : ℕ) (out : Device) → input ≡ 0 → (n == 31) ≡ false
+      → Leaves s (fault_as w.faulty [] name (record { number = n; line = line })) name out out (Err (Stopped (Dump input line n)))
   dump_leaves input n line out first k =
       let f : Fault = record { number = n; line = line } in
       let output : (fault_outcome [] name f).output ≡ [] = rw (k, fault_outcome) refl in
@@ -77,11 +79,18 @@ module _ {R : Type 0} (w : Work) (s : Speech R) (same : s.faulty ≡ w.faulty) (
   read_leaves input line out first = (first, rw first refl, refl, writes-none out)
 
   -- with which nothing is due
-  header_keeps_up : (left : Input) (before after : Supply) (out : Device) → ReadsAsNeeded limit chunk before after left [] (is_header_over declarations_allowed) → KeepsUp (due_of w name declarations_allowed) limit chunk left [] before after out out
-  header_keeps_up left before after out read =
-      ([], appends-none out.held, reads_for limit chunk before after left [] (is_header_over declarations_allowed) (is_more_due (due_of w name declarations_allowed) 0) (undue_header w name declarations_allowed 0) read)
+  header_keeps_up : (left : Input) (before after : Supply) (out : Device)
+      → ReadsAsNeeded limit chunk before after left [] (is_header_over declarations_allowed)
+      → KeepsUp (due_of w name declarations_allowed) limit chunk left [] before after out out
+  header_keeps_up left before after out read = (
+    [],
+    appends-none out.held,
+    reads_for limit chunk before after left [] (is_header_over declarations_allowed)
+        (is_more_due (due_of w name declarations_allowed) 0) (undue_header w name declarations_allowed 0) read,
+  )
 
-  faulted : (before after : Supply) (out : Device) (stop : Stop) (h : HasFailed declarations_allowed limit chunk 0 i before after (Stopped stop)) (f : Fault) → HasFault declarations_allowed limit h.left f.number f.line
+  faulted : (before after : Supply) (out : Device) (stop : Stop) (h : HasFailed declarations_allowed limit chunk 0 i before after (Stopped stop))
+      (f : Fault) → HasFault declarations_allowed limit h.left f.number f.line
       → Leaves s (fault_as w.faulty [] name f) name out out (Err (Stopped stop)) → InputEnds before after out out (Err (Stopped stop))
   faulted before after out stop h f fault leaves = record {
     left = h.left;
@@ -94,7 +103,8 @@ module _ {R : Type 0} (w : Work) (s : Speech R) (same : s.faulty ≡ w.faulty) (
   }
 
   pub refused : (before after : Supply) (out : Device) (why : Failure) → HasFailed declarations_allowed limit chunk 0 i before after why → InputEnds before after out out (Err why)
-  refused before after out (Stopped (Dump input line n)) h = faulted before after out (Dump input line n) h (record { number = n; line = line }) h.is_why.2 (dump_leaves input n line out h.is_why.0 h.is_why.1)
+  refused before after out (Stopped (Dump input line n)) h = faulted before after out (Dump input line n) h
+      (record { number = n; line = line }) h.is_why.2 (dump_leaves input n line out h.is_why.0 h.is_why.1)
   refused before after out (Stopped (Read input)) h = faulted before after out (Read input) h (record { number = 31; line = h.is_why.1 }) h.is_why.2 (read_leaves input h.is_why.1 out h.is_why.0)
   refused before after out (Stopped stop) h = absurd h.is_why
   refused before after out OutOfMemory h = record {
@@ -119,7 +129,8 @@ module _ {R : Type 0} (w : Work) (s : Speech R) (same : s.faulty ≡ w.faulty) (
   behind r h = settled_for r (settled_by (w.course name h) h) (λ _. true)
 
   -- it settles the run
-  settled_both : (r : Result (Answer R) Failure) (given ts : List Token) (placed : List (Placed HeaderPhrase)) → IsWhole (header_grammar declarations_allowed) given placed → settles r (given ++ ts) ≡ behind r (header_of (phrases_of placed)) ts
+  settled_both : (r : Result (Answer R) Failure) (given ts : List Token) (placed : List (Placed HeaderPhrase))
+      → IsWhole (header_grammar declarations_allowed) given placed → settles r (given ++ ts) ≡ behind r (header_of (phrases_of placed)) ts
   settled_both (Err OutOfMemory) given ts placed is = settled_header declarations_allowed given ts placed is
   settled_both r given ts placed is = settled_run w name declarations_allowed given ts placed is
 
@@ -128,7 +139,8 @@ module _ {R : Type 0} (w : Work) (s : Speech R) (same : s.faulty ≡ w.faulty) (
   EndsAfter limit' chunk' front h old new out out' r = Ends s (IsAfter w limit' front h name) limit' chunk' i name front (behind r h) (due_by (w.course name h) h) old new out out' r
 
   -- how a run ends whose header was read
-  pub read_on : (limit' chunk' : ℕ) (l : Lane) (before mid after : Supply) (out out' : Device) (end : Result (Answer R) Failure) → limit' ≡ limit → chunk' ≡ chunk → IsBegun declarations_allowed limit chunk i l before mid
+  pub read_on : (limit' chunk' : ℕ) (l : Lane) (before mid after : Supply) (out out' : Device) (end : Result (Answer R) Failure) → limit' ≡ limit
+      → chunk' ≡ chunk → IsBegun declarations_allowed limit chunk i l before mid
       → EndsAfter limit' chunk' l.front l.header mid after out out' end → InputEnds before after out out' end
   read_on limit' chunk' l before mid after out out' end l' size' b f =
       let e : EndsAfter limit chunk l.front l.header mid after out out' end =
@@ -144,8 +156,10 @@ module _ {R : Type 0} (w : Work) (s : Speech R) (same : s.faulty ≡ w.faulty) (
         keeps_up = (
           written,
           e.keeps_up.1,
-          all_read declarations_allowed limit chunk i l before mid b (is_more_due (due_of w name declarations_allowed) n) (is_more_due (due_by (w.course name l.header) l.header) n) (undue_header w name declarations_allowed n)
-              (λ ts u. ap (λ text. nat_lt n (length text)) (due_run w name declarations_allowed l.front ts b.placed b.whole ∙ ap (λ (h : Header). due_by (w.course name h) h ts) (sym b.header_is)) ∙ u) after e.left e.is_left e.keeps_up.2,
+          all_read declarations_allowed limit chunk i l before mid b (is_more_due (due_of w name declarations_allowed) n)
+              (is_more_due (due_by (w.course name l.header) l.header) n) (undue_header w name declarations_allowed n)
+              (λ ts u. ap (λ text. nat_lt n (length text)) (due_run w name declarations_allowed l.front ts b.placed b.whole
+              ∙ ap (λ (h : Header). due_by (w.course name h) h ts) (sym b.header_is)) ∙ u) after e.left e.is_left e.keeps_up.2,
         );
         due = e.due;
         is_due = e.is_due.2
@@ -157,7 +171,8 @@ module _ {R : Type 0} (w : Work) (s : Speech R) (same : s.faulty ≡ w.faulty) (
 -- ---- what is said
 
 -- a run that ends so, and whose line and status these are, leaves the outcome of its input
-module _ {R : Type 0} (program : List ℕ) (w : Work) (s : Speech R) (limit chunk : ℕ) (names : List (List ℕ)) (text : List ℕ) (old new : Supply) (out out' err err' : Device) (status : ℕ) where
+module _ {R : Type 0} (program : List ℕ) (w : Work) (s : Speech R) (limit chunk : ℕ) (names : List (List ℕ)) (text : List ℕ) (old new : Supply)
+    (out out' err err' : Device) (status : ℕ) where
   abbrev name : List ℕ
   name = name_at names 0
 
@@ -168,7 +183,9 @@ module _ {R : Type 0} (program : List ℕ) (w : Work) (s : Speech R) (limit chun
   Runs = HasRun program w limit chunk name text old new out out' err err' status
 
   abbrev EndsWith : Result (Answer R) Failure → Type 0
-  EndsWith end = Ends s (IsOfWork w limit name) limit chunk (whole text) name [] (settled_for end (settled_of w name declarations_allowed) (is_header_over declarations_allowed)) (due_of w name declarations_allowed) old new out out' end
+  EndsWith end = Ends s (IsOfWork w limit name) limit chunk (whole text) name []
+      (settled_for end (settled_of w name declarations_allowed) (is_header_over declarations_allowed))
+      (due_of w name declarations_allowed) old new out out' end
 
   -- all of an outcome with this message and this status
   all_of : (left : Input) (o : Outcome) (message : List ℕ) → o ≡ outcome_of w limit name left → o.message ≡ message → o.status ≡ status → Writes out out' o.output
@@ -184,7 +201,8 @@ module _ {R : Type 0} (program : List ℕ) (w : Work) (s : Speech R) (limit chun
   has_run (Err (Stopped (Dump input line n))) e k are says =
       let (first, message, is, written) = e.leaves in
       let same : name_at (name ∷ []) input ++ codes ":" ++ decimal line ++ codes ": " ++ fault_text n ≡ name_at names input ++ codes ":" ++ decimal line ++ codes ": " ++ fault_text n =
-      ap (λ m. name_at (name ∷ []) m ++ codes ":" ++ decimal line ++ codes ": " ++ fault_text n) first ∙ ap (λ m. name_at names m ++ codes ":" ++ decimal line ++ codes ": " ++ fault_text n) (sym first) in
+      ap (λ m. name_at (name ∷ []) m ++ codes ":" ++ decimal line ++ codes ": " ++ fault_text n) first
+      ∙ ap (λ m. name_at names m ++ codes ":" ++ decimal line ++ codes ": " ++ fault_text n) (sym first) in
       WithOutcome e.left e.is_left e.read e.keeps_up (all_of e.left e.due _ e.is_due (message ∙ same) (is ∙ sym are) written says)
   has_run (Err (Stopped (Read input))) e k are says =
       let (first, message, is, written) = e.leaves in

@@ -23,7 +23,8 @@ BodyEnds w work s view old new out out' result = (h : Header) (i : Input) (front
 abbrev pub InputEnds : {X W R : Type 0} → Ghosts X → Sinks W → Work → Speech R → (limit chunk : ℕ) → (old new : X) → (out out' : W) → Result (Answer R) Failure → Type 0
 InputEnds g w work s limit chunk old new out out' result = (text name : List ℕ) → g.rest old ≡ Some text
     → Ends s (IsOfWork work limit name) limit chunk (whole text) name []
-    (settled_for result (settled_of work name declarations_allowed) (is_header_over declarations_allowed)) (due_of work name declarations_allowed) (supply g.rest g.failures old) (supply g.rest g.failures new) (w.device out) (w.device out') result
+    (settled_for result (settled_of work name declarations_allowed) (is_header_over declarations_allowed)) (due_of work name declarations_allowed)
+    (supply g.rest g.failures old) (supply g.rest g.failures new) (w.device out) (w.device out') result
 
 -- a status is one of those that a run may have that does not fail, and at most 3
 abbrev pub Answers : {R : Type 0} → (ℕ → Type 0) → Result (Answer R) Failure → Type 0

@@ -36,7 +36,8 @@ end_status s names (Err failure) = failure_status s.faulty failure
 abbrev pub Leaves : {R : Type 0} → Speech R → Outcome → List ℕ → Device → Device → Result (Answer R) Failure → Type 0
 Leaves s o name out out' (Err (Stopped Write)) = WritesSome out out' o.output
 Leaves s o name out out' (Err OutOfMemory) = Writes out out' []
-Leaves s o name out out' (Err (Stopped (Dump input line fault))) = (input ≡ 0) × (o.message ≡ end_message s (name ∷ []) (Err (Stopped (Dump input line fault)))) × (o.status ≡ s.faulty) × Writes out out' o.output
+Leaves s o name out out' (Err (Stopped (Dump input line fault))) = (input ≡ 0)
+    × (o.message ≡ end_message s (name ∷ []) (Err (Stopped (Dump input line fault)))) × (o.status ≡ s.faulty) × Writes out out' o.output
 Leaves s o name out out' (Err (Stopped (Read input))) = (input ≡ 0) × (o.message ≡ end_message s (name ∷ []) (Err (Stopped (Read input)))) × (o.status ≡ 3) × Writes out out' o.output
 Leaves s o name out out' (Err (Stopped (Unmatched place))) = (o.message ≡ end_message s (name ∷ []) (Err (Stopped (Unmatched place)))) × (o.status ≡ s.faulty) × Writes out out' o.output
 Leaves s o name out out' (Ok answer) = (o.message ≡ end_message s (name ∷ []) (Ok answer)) × (o.status ≡ end_status s (name ∷ []) (Ok answer)) × Writes out out' o.output
@@ -50,7 +51,9 @@ settled_for (Err OutOfMemory) run header = header
 -- How a run ends over an input with this name, of which these tokens were given: with an outcome
 -- that is due for what is left of the input. No more was read than what settles it, and the output
 -- keeps up with the text that is due with the tokens after those.
-pub record Ends {R : Type 0} (s : Speech R) (IsDue : Input → Outcome → Type 0) (limit chunk : ℕ) (i : Input) (name : List ℕ) (front : List Token) (settled : List Token → Bool) (text_due : List Token → List ℕ) (old new : Supply) (out out' : Device) (result : Result (Answer R) Failure) : Type 0 where
+pub record Ends {R : Type 0} (s : Speech R) (IsDue : Input → Outcome → Type 0) (limit chunk : ℕ) (i : Input) (name : List ℕ) (front : List Token)
+    (settled : List Token → Bool) (text_due : List Token → List ℕ) (old new : Supply) (out out' : Device)
+    (result : Result (Answer R) Failure) : Type 0 where
   pub left : Input
   pub is_left : IsLeft i old new left
   pub read : ReadsAsNeeded limit chunk old new left front settled

@@ -112,7 +112,8 @@ AreParked n rest lanes seats sources chunks tokens =
     → GaveParked l.header.codes l.input l.front [] s.rest s.chunk s.token s.seat.parked s.seat.regs
 
 -- all headers of readers with these texts were read
-pub record HaveBegun {X : Type 0} (limit chunk n : ℕ) (rest : X → Option (List ℕ)) (failures : X → ℕ) (texts : List (List ℕ)) (old new : List X) (heads : List Head) (seats : List Seat) (chunks tokens : List ℕ) : Type 0 where
+pub record HaveBegun {X : Type 0} (limit chunk n : ℕ) (rest : X → Option (List ℕ)) (failures : X → ℕ) (texts : List (List ℕ)) (old new : List X)
+    (heads : List Head) (seats : List Seat) (chunks tokens : List ℕ) : Type 0 where
   pub lanes : List Lane
   pub begun : AreBegun limit chunk [] texts (map (supply rest failures) old) (map (supply rest failures) new) lanes
   pub views : AreShown heads lanes
@@ -127,7 +128,8 @@ pub record SameParts (n place : ℕ) (old new : Windows) : Type 0 where
 
 -- The reading of the header of the input at an index among n, over this reader and its parts of the
 -- windows. No other reader is used, and a failed read is one of this reader.
-pub record BeginsAt {X : Type 0} (n place most : ℕ) (rest : X → Option (List ℕ)) (failures : X → ℕ) (reader : X) (old new : List X) (windows windows' : Windows) (result : Result BegunInput Failure) : Type 0 where
+pub record BeginsAt {X : Type 0} (n place most : ℕ) (rest : X → Option (List ℕ)) (failures : X → ℕ) (reader : X) (old new : List X)
+    (windows windows' : Windows) (result : Result BegunInput Failure) : Type 0 where
   pub after : X
   pub readers : new ≡ slice_set old place after
   pub counts : CountsRead place (failures reader) (failures after) (failure_of result)
@@ -146,7 +148,8 @@ BeginsAmong {X} g most place old new windows windows' result = (r : X) → slice
 -- has a fault
 abbrev pub OpensAll : {X : Type 0} → Ghosts X → (old new : List X) → (windows windows' : Windows) → Result Inputs Failure → Type 0
 OpensAll g old new windows windows' result = (texts : List (List ℕ)) → map g.rest old ≡ map (λ text. Some text) texts → MatchResult result
-    (λ inputs. HaveBegun (part_len (length old) windows.tokens.now) (part_len (length old) windows.chunks.now) (length old) g.rest g.failures texts old new inputs.heads.items inputs.seats.items windows'.chunks.now windows'.tokens.now)
+    (λ inputs. HaveBegun (part_len (length old) windows.tokens.now) (part_len (length old) windows.chunks.now)
+    (length old) g.rest g.failures texts old new inputs.heads.items inputs.seats.items windows'.chunks.now windows'.tokens.now)
     (Stops (part_len (length old) windows.tokens.now) (part_len (length old) windows.chunks.now) 0 [] texts (map (supply g.rest g.failures) old) (map (supply g.rest g.failures) new))
 
 -- an input that was begun was added to these

@@ -11,4 +11,5 @@ IsLentWithin feed view room =
 -- For a merge, windows for this many inputs, under whatever token limit, and what these headers
 -- keep count at most the bound of the headers.
 abbrev pub AreLentWithin : (inputs : ℕ) → Windows → List Head → Type 0
-AreLentWithin inputs w heads = (limit : ℕ) → AreAllWindows limit inputs (windows_size w) → (hs : List Header) → ShowHeaders heads hs → FitsBound limit hs (windows_size w) (kept_in heads) no_room
+AreLentWithin inputs w heads = (limit : ℕ) → AreAllWindows limit inputs (windows_size w) → (hs : List Header) → ShowHeaders heads hs
+    → FitsBound limit hs (windows_size w) (kept_in heads) no_room

@@ -20,7 +20,8 @@ FailOnce w e out out' err err' = ((w.device out').failures ≤ (w.device out).fa
 
 -- a job over an input, the first of these names, succeeded or failed, and its status and its line
 -- say which; a failed read was the last one of its reader
-abbrev pub EndsSo : {J Job R X W E : Type 0} → Ones J Job R → Ghosts X → Sinks W → Sinks E → Job → List (List ℕ) → (old new : X) → (out out' : W) → (err err' : E) → ℕ → Type 0
+abbrev pub EndsSo : {J Job R X W E : Type 0} → Ones J Job R → Ghosts X → Sinks W → Sinks E → Job → List (List ℕ) → (old new : X) → (out out' : W)
+    → (err err' : E) → ℕ → Type 0
 EndsSo {R = R} one g w e job names old new out out' err err' status = (end : Result (Answer R) Failure) × Answers one.answers end
     × CountsAt g.failures 0 old new end × CountsWrites w.device out out' (writes_failed (failure_of end))
     × (status ≡ end_status (speech_of one job) names end) × Tells one.program (e.device err) (e.device err') (end_message (speech_of one job) names end)
@@ -31,6 +32,8 @@ abbrev pub PassesOn : {X W : Type 0} → (failures : X → ℕ) → (kept_back :
 PassesOn failures kept_back old new out out' = failures new ≢ failures old → kept_back out ≡ 0 → kept_back out' ≡ 0
 
 -- if the bytes of the reader are known, it ended as its work says
-abbrev pub RunsWork : {J Job R X W E : Type 0} → Ones J Job R → Ghosts X → Sinks W → Sinks E → Job → List (List ℕ) → (old new : X) → (out out' : W) → (err err' : E) → ℕ → Type 0
+abbrev pub RunsWork : {J Job R X W E : Type 0} → Ones J Job R → Ghosts X → Sinks W → Sinks E → Job → List (List ℕ) → (old new : X) → (out out' : W)
+    → (err err' : E) → ℕ → Type 0
 RunsWork one g w e job names old new out out' err err' status = (text : List ℕ) → g.rest old ≡ Some text
-    → HasRun one.program (one.work job) (one.limit job) (one.chunk job) (name_at names 0) text (supply g.rest g.failures old) (supply g.rest g.failures new) (w.device out) (w.device out') (e.device err) (e.device err') status
+    → HasRun one.program (one.work job) (one.limit job) (one.chunk job) (name_at names 0) text (supply g.rest g.failures old)
+    (supply g.rest g.failures new) (w.device out) (w.device out') (e.device err) (e.device err') status

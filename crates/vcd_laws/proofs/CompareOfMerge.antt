@@ -307,7 +307,8 @@ module _ (q : Asked) (limit : ℕ) (names : List (List ℕ)) (inputs : List Inpu
       = append-nil (alone_lines (codes "B") (alone_in asked k (input_scope 2, input_scope 1)))
       ∙ ap (alone_lines (codes "B")) paired.second
       ∙ flat_map-map (λ v. words (codes "alone" ∷ codes "B" ∷ full_name v ∷ [])) (named_in (o.header ∷ []) p.header) (alone q p.header o.header)
-      ∙ flat_map_same (λ v. words (codes "alone" ∷ codes "B" ∷ full_name (named_in (o.header ∷ []) p.header v) ∷ [])) (λ v. words (codes "alone" ∷ codes "B" ∷ under_input 2 (full_name v) ∷ []))
+      ∙ flat_map_same (λ v. words (codes "alone" ∷ codes "B" ∷ full_name (named_in (o.header ∷ []) p.header v) ∷ []))
+      (λ v. words (codes "alone" ∷ codes "B" ∷ under_input 2 (full_name v) ∷ []))
       (alone q p.header o.header) (λ v. ap (λ l. words (codes "alone" ∷ codes "B" ∷ l ∷ [])) (full_under 2 v)) in
       let third : unlike_lines (unlike_in asked k both_inputs) ≡ unlike_in_style merged_style (unlike q o.header p.header)
       = ap unlike_lines paired.different

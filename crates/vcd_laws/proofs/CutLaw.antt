@@ -24,7 +24,9 @@ not_started a q h =
     above_zero (suc a) e = omega arith
 
 text_case : (hd section text mark above : List ℕ) (ends started : Bool) → (ends ≡ true → started ≡ true) → (started ≡ false → text ≡ [])
-    → cond ends (hd ++ cond started section [] ++ text ++ cond ends mark []) (hd ++ cond started section [] ++ text ++ cond ends mark [] ++ (cond started [] section ++ above)) ≡ hd ++ (section ++ (text ++ cond ends mark above))
+    → cond ends (hd ++ cond started section [] ++ text ++ cond ends mark [])
+    (hd ++ cond started section [] ++ text ++ cond ends mark [] ++ (cond started [] section ++ above)) ≡ hd ++
+    (section ++ (text ++ cond ends mark above))
 text_case hd section text mark above true true f g = regroup hd section text mark
 text_case hd section text mark above true false f g = let e = f refl in cc
 text_case hd section text mark above false true f g = ap (λ l. l ++ above) (append-nil (hd ++ section ++ text)) ∙ regroup hd section text above
@@ -45,7 +47,8 @@ within_again b [] = (refl, refl)
 within_again b (x ∷ xs) = by_mark (is_mark_above b x) refl (within_again b xs)
   where
     by_mark : (m : Bool) → is_mark_above b x ≡ m → (within b (within b xs) ≡ within b xs) × (ends_cut b (within b xs) ≡ ends_cut b xs)
-        → ((x ∷ cond (is_mark_above b x) [] (within b (cond m [] (within b xs)))) ≡ x ∷ cond m [] (within b xs)) × ((is_mark_above b x || ends_cut b (cond m [] (within b xs))) ≡ (m || ends_cut b xs))
+        → ((x ∷ cond (is_mark_above b x) [] (within b (cond m [] (within b xs)))) ≡ x ∷ cond m [] (within b xs))
+        × ((is_mark_above b x || ends_cut b (cond m [] (within b xs))) ≡ (m || ends_cut b xs))
     by_mark true e more = (rw e refl, rw e refl)
     by_mark false e more = (rw e (ap (λ l. x ∷ l) more.0), rw e more.1)
 
@@ -53,14 +56,16 @@ open_within : (h : Header) (a b : ℕ) (items : List BodyItem) → cut_open h a 
 unfolding cut_open
 open_within h a b items = let w = within_again b items in rw (w.0, w.1) refl
 
-cut_text_is : (h : Header) (a b : ℕ) (items : List BodyItem) → (ends_cut b items ≡ true → is_started a (within b items) ≡ true) → cut_text h a b items ≡ head_for h [] ++ cut_body h a b items
+cut_text_is : (h : Header) (a b : ℕ) (items : List BodyItem) → (ends_cut b items ≡ true → is_started a (within b items) ≡ true)
+    → cut_text h a b items ≡ head_for h [] ++ cut_body h a b items
 unfolding cut_open cut_close
 cut_text_is h a b items f =
     let ks = cut_kept a b items in
     let q = within b items in
     as_cond (ends_cut b items) (cut_open h a b (within b items)) (cut_open h a b items ++ cut_close h a b items)
     ∙ ap (λ l. cond (ends_cut b items) l (cut_open h a b items ++ cut_close h a b items)) (open_within h a b items)
-    ∙ text_case (head_for h []) (start_section h a q) (text_after (a ∷ []) ks) (time_unless (a ∷ times_of ks) b) (closing_above a (times_of ks) (last_mark q)) (ends_cut b items) (is_started a q) f
+    ∙ text_case (head_for h []) (start_section h a q) (text_after (a ∷ []) ks) (time_unless (a ∷ times_of ks) b)
+    (closing_above a (times_of ks) (last_mark q)) (ends_cut b items) (is_started a q) f
     (λ s. ap (text_after (a ∷ [])) (none_kept a q s))
     ∙ ap (λ l. head_for h [] ++ (start_section h a q ++ (text_after (a ∷ []) ks ++ l))) (mark_case a b (times_of ks) (ends_cut b items) (last_mark q))
 
@@ -72,7 +77,8 @@ time_is codes q fit = (stands_behind codes [] 0 false q at_start fit).time
 pub within_fit : (codes : List IdCode) (b : ℕ) (items : List BodyItem) → AreFit codes 0 false items → AreFit codes 0 false (within b items)
 within_fit codes b items fit = let w = within_is b items in fit_front codes 0 false (within b items) w.rest (subst (AreFit codes 0 false) w.whole fit)
 
-pub within_shut : (codes : List IdCode) (b : ℕ) (items : List BodyItem) → AreFit codes 0 false items → (ends_cut b items ≡ true) ⊎ (open_behind false items ≡ false) → open_behind false (within b items) ≡ false
+pub within_shut : (codes : List IdCode) (b : ℕ) (items : List BodyItem) → AreFit codes 0 false items → (ends_cut b items ≡ true)
+    ⊎ (open_behind false items ≡ false) → open_behind false (within b items) ≡ false
 within_shut codes b items fit h = by_end (ends_cut b items) refl h
   where
     by_end : (e : Bool) → ends_cut b items ≡ e → (ends_cut b items ≡ true) ⊎ (open_behind false items ≡ false) → open_behind false (within b items) ≡ false
@@ -80,13 +86,15 @@ within_shut codes b items fit h = by_end (ends_cut b items) refl h
     by_end false e (inl g) = cc
     by_end false e (inr g) = ap (open_behind false) (all_within b items e) ∙ g
 
-mark_last : (codes : List IdCode) (a b : ℕ) (items : List BodyItem) (ends : Bool) (e : ℕ) → a ≤ b → AreCodes codes → AreFit codes 0 false items → open_behind false (within b items) ≡ false → ends_cut b items ≡ ends
+mark_last : (codes : List IdCode) (a b : ℕ) (items : List BodyItem) (ends : Bool) (e : ℕ) → a ≤ b → AreCodes codes → AreFit codes 0 false items
+    → open_behind false (within b items) ≡ false → ends_cut b items ≡ ends
     → cut_mark a b ends (last_mark (within b items)) ≡ Some e → (last_time a (filter (cuts a) (entries_from 0 false (within b items))) ≤ e) × (e < 2 ^ 64)
 mark_last codes a b items true e l are fit shut h m =
     let same : b ≡ e = cc in
     let late = (ended codes b 0 false items fit h).0 in
     let small = time_behind_small codes 0 false (within b items) (omega arith) (within_fit codes b items fit) in
-    let last = last_below b a (filter (cuts a) (entries_from 0 false (within b items))) l (filter_words (λ x. x.time ≤ b) (cuts a) (entries_from 0 false (within b items)) (times_within b 0 false items (omega arith))) in
+    let last = last_below b a (filter (cuts a) (entries_from 0 false (within b items))) l
+    (filter_words (λ x. x.time ≤ b) (cuts a) (entries_from 0 false (within b items)) (times_within b 0 false items (omega arith))) in
     (omega arith, omega arith)
 mark_last codes a b items false e l are fit shut h m =
     let g = above_is a (last_mark (within b items)) e m in
@@ -97,7 +105,8 @@ mark_last codes a b items false e l are fit shut h m =
     let last = facts.last (omega arith) in
     (omega arith, omega arith)
 
-cut_keeps_items : (h : Header) (a b : ℕ) (items : List BodyItem) (text : List ℕ) → a < 2 ^ 64 → a ≤ b → AreCodes h.codes → AreFit h.codes 0 false items → open_behind false (within b items) ≡ false → text ≡ cut_body h a b items
+cut_keeps_items : (h : Header) (a b : ℕ) (items : List BodyItem) (text : List ℕ) → a < 2 ^ 64 → a ≤ b → AreCodes h.codes
+    → AreFit h.codes 0 false items → open_behind false (within b items) ≡ false → text ≡ cut_body h a b items
     → KeepsValues h.codes text (λ t. (a ≤ t) × (t ≤ b)) items
 cut_keeps_items h a b items text small l are fit shut e =
     let q = within b items in
@@ -123,11 +132,13 @@ cut_keeps_items h a b items text small l are fit shut e =
 
 -- ---- what is written after the head
 
-pub ends_or_shut : (o : Opened) (b : ℕ) → IsGoodInput o → IsTrue (ends_cut b (items_in o)) ⊎ (fault_in o ≡ None) → (ends_cut b (items_in o) ≡ true) ⊎ (open_behind false (items_in o) ≡ false)
+pub ends_or_shut : (o : Opened) (b : ℕ) → IsGoodInput o → IsTrue (ends_cut b (items_in o)) ⊎ (fault_in o ≡ None) → (ends_cut b (items_in o) ≡ true)
+    ⊎ (open_behind false (items_in o) ≡ false)
 ends_or_shut o b good (inl h) = inl h
 ends_or_shut o b good (inr none) = inr (opened_shut o good none)
 
-started : (codes : List IdCode) (a b : ℕ) (items : List BodyItem) → a ≤ b → (s : Bool) → is_started a (within b items) ≡ s → ends_cut b items ≡ true → AreFit codes 0 false items → is_started a (within b items) ≡ true
+started : (codes : List IdCode) (a b : ℕ) (items : List BodyItem) → a ≤ b → (s : Bool) → is_started a (within b items) ≡ s → ends_cut b items ≡ true
+    → AreFit codes 0 false items → is_started a (within b items) ≡ true
 started codes a b items l true s h fit = s
 started codes a b items l false s h fit =
     let low = not_started a (within b items) s in

@@ -70,7 +70,8 @@ unfolding model due
 list_due = refl
 
 -- nothing if a name selects nothing, and nothing if the header has a fault
-nothing_due : dues (Want.Pick (codes "a" ∷ codes "b" ∷ [])) dump (8 ∷ 13 ∷ []) ++ dues (Want.Pick (codes "a" ∷ [])) "$upscope $end $enddefinitions $end" (1 ∷ 4 ∷ []) ≡ [] ∷ [] ∷ [] ∷ [] ∷ []
+nothing_due : dues (Want.Pick (codes "a" ∷ codes "b" ∷ [])) dump (8 ∷ 13 ∷ []) ++ dues
+    (Want.Pick (codes "a" ∷ [])) "$upscope $end $enddefinitions $end" (1 ∷ 4 ∷ []) ≡ [] ∷ [] ∷ [] ∷ [] ∷ []
 unfolding model due
 nothing_due = refl
 
@@ -108,7 +109,8 @@ unfolding model due_of_merge
 later_due = refl
 
 -- of which all is known holds nothing up
-ended_due : due_of_merge (Seen.First (take 11 (tokens_of (written one))) ∷ Seen.All (stream_of limit (clean "$var wire 1 ! b $end $enddefinitions $end #6 0!")) ∷ []) ≡ head ++ written "#5;1!;#6;0\";"
+ended_due : due_of_merge (Seen.First (take 11 (tokens_of (written one))) ∷ Seen.All
+    (stream_of limit (clean "$var wire 1 ! b $end $enddefinitions $end #6 0!")) ∷ []) ≡ head ++ written "#5;1!;#6;0\";"
 unfolding model due_of_merge
 ended_due = refl
 

@@ -250,8 +250,10 @@ run_written want limit name input one = by_ending (reading_of (header_grammar de
 
     by_ending : (ending : Ending)
         → (reading_of (header_grammar declarations_allowed) (stream_of limit input).tokens).ending ≡ ending
-        → Written (stream_of limit input) (is_settled_at want (reading_of (header_grammar declarations_allowed) (stream_of limit input).tokens) (reading_of (header_grammar declarations_allowed) (stream_of limit input).tokens).ending)
-        (due_at want (reading_of (header_grammar declarations_allowed) (stream_of limit input).tokens) (reading_of (header_grammar declarations_allowed) (stream_of limit input).tokens).ending) (run_of want limit name input).output
+        → Written (stream_of limit input) (is_settled_at want (reading_of (header_grammar declarations_allowed) (stream_of limit input).tokens)
+        (reading_of (header_grammar declarations_allowed) (stream_of limit input).tokens).ending)
+        (due_at want (reading_of (header_grammar declarations_allowed) (stream_of limit input).tokens)
+        (reading_of (header_grammar declarations_allowed) (stream_of limit input).tokens).ending) (run_of want limit name input).output
     by_ending (AtFault f) e =
         let s = stream_of limit input in
         let r = reading_of (header_grammar declarations_allowed) s.tokens in

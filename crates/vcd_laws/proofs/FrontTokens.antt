@@ -142,7 +142,9 @@ module _ (limit : ℕ) (front more : List ℕ) (mark : Mark) where
         place : HaltPlace
         place = record { fault = 21; place = 2 ^ 63 - 1; line = line_at (front ++ more) (2 ^ 63 - 1) }
 
-        by_length : (a b : Bool) → nat_le (2 ^ 63) (length front) ≡ b → AllByRecursion (λ (x : HaltPlace). h.place ≤ x.place) (cond a (record { fault = 21; place = 2 ^ 63 - 1; line = line_at (front ++ more) (2 ^ 63 - 1) } ∷ []) [])
+        by_length : (a b : Bool) → nat_le (2 ^ 63) (length front) ≡ b
+            → AllByRecursion (λ (x : HaltPlace). h.place ≤ x.place) (cond a
+            (record { fault = 21; place = 2 ^ 63 - 1; line = line_at (front ++ more) (2 ^ 63 - 1) } ∷ []) [])
         by_length false b e = tt
         by_length true false e =
             let s : length front < 2 ^ 63 = leb-false (2 ^ 63) (length front) e in
@@ -180,21 +182,30 @@ module _ (limit : ℕ) (front more : List ℕ) (mark : Mark) where
                 long_before i below (sym (begins_front front more i below) ∙ e) (run_long (drop i front) more limit (omega arith) (omega arith))
 
         by_long : (b : Bool) → nat_lt limit (length (run_at (front ++ more) i)) ≡ b → begins_token (front ++ more) i ≡ true
-            → AllByRecursion (λ (x : HaltPlace). h.place ≤ x.place) (map halt_at (filter (λ j. nat_lt limit (length (run_at (front ++ more) j))) (filter (begins_token (front ++ more)) (range_with_len (i + 1) k))))
-            → AllByRecursion (λ (x : HaltPlace). h.place ≤ x.place) (map halt_at (cond b (i ∷ filter (λ j. nat_lt limit (length (run_at (front ++ more) j))) (filter (begins_token (front ++ more)) (range_with_len (i + 1) k))) (filter (λ j. nat_lt limit (length (run_at (front ++ more) j))) (filter (begins_token (front ++ more)) (range_with_len (i + 1) k)))))
+            → AllByRecursion (λ (x : HaltPlace). h.place ≤ x.place) (map halt_at
+            (filter (λ j. nat_lt limit (length (run_at (front ++ more) j))) (filter (begins_token (front ++ more)) (range_with_len (i + 1) k))))
+            → AllByRecursion (λ (x : HaltPlace). h.place ≤ x.place) (map halt_at
+            (cond b (i ∷ filter (λ j. nat_lt limit (length (run_at (front ++ more) j)))
+            (filter (begins_token (front ++ more)) (range_with_len (i + 1) k)))
+            (filter (λ j. nat_lt limit (length (run_at (front ++ more) j))) (filter (begins_token (front ++ more)) (range_with_len (i + 1) k)))))
         by_long true f e all = (late e (ltb-true limit (length (run_at (front ++ more) i)) f), all)
         by_long false f e all = all
 
         by_begins : (b : Bool) → begins_token (front ++ more) i ≡ b
-            → AllByRecursion (λ (x : HaltPlace). h.place ≤ x.place) (map halt_at (filter (λ j. nat_lt limit (length (run_at (front ++ more) j))) (filter (begins_token (front ++ more)) (range_with_len (i + 1) k))))
-            → AllByRecursion (λ (x : HaltPlace). h.place ≤ x.place) (map halt_at (filter (λ j. nat_lt limit (length (run_at (front ++ more) j))) (cond b (i ∷ filter (begins_token (front ++ more)) (range_with_len (i + 1) k)) (filter (begins_token (front ++ more)) (range_with_len (i + 1) k)))))
+            → AllByRecursion (λ (x : HaltPlace). h.place ≤ x.place) (map halt_at
+            (filter (λ j. nat_lt limit (length (run_at (front ++ more) j))) (filter (begins_token (front ++ more)) (range_with_len (i + 1) k))))
+            → AllByRecursion (λ (x : HaltPlace). h.place ≤ x.place) (map halt_at
+            (filter (λ j. nat_lt limit (length (run_at (front ++ more) j)))
+            (cond b (i ∷ filter (begins_token (front ++ more)) (range_with_len (i + 1) k))
+            (filter (begins_token (front ++ more)) (range_with_len (i + 1) k)))))
         by_begins true e all = by_long (nat_lt limit (length (run_at (front ++ more) i))) refl e all
         by_begins false e all = all
 
     read_late : AllByRecursion (λ (x : HaltPlace). h.place ≤ x.place) (failed_read whole)
     read_late = by_mark (is_failed mark)
       where
-        by_mark : (b : Bool) → AllByRecursion (λ (x : HaltPlace). h.place ≤ x.place) (cond b (record { fault = 31; place = length (front ++ more); line = line_at (front ++ more) (length (front ++ more)) } ∷ []) [])
+        by_mark : (b : Bool) → AllByRecursion (λ (x : HaltPlace). h.place ≤ x.place)
+            (cond b (record { fault = 31; place = length (front ++ more); line = line_at (front ++ more) (length (front ++ more)) } ∷ []) [])
         by_mark true = let s = inside in let n = length-append front more in (omega arith, tt)
         by_mark false = tt
 
@@ -224,7 +235,8 @@ module _ (limit : ℕ) (front more : List ℕ) (mark : Mark) where
         suc_is n = omega arith
 
         by_begins : (b : Bool) → filter (λ j. comes_before (end_at front j) (Some h)) (filter (begins_token front) (range_with_len (i + 1) k)) ≡ []
-            → filter (λ j. comes_before (end_at front j) (Some h)) (cond b (i ∷ filter (begins_token front) (range_with_len (i + 1) k)) (filter (begins_token front) (range_with_len (i + 1) k))) ≡ []
+            → filter (λ j. comes_before (end_at front j) (Some h)) (cond b (i ∷ filter (begins_token front) (range_with_len (i + 1) k))
+            (filter (begins_token front) (range_with_len (i + 1) k))) ≡ []
         by_begins true more = rw (le-ltb (end_at front i) h.place l) more
         by_begins false more = more
 
@@ -286,8 +298,12 @@ module _ (limit : ℕ) (front more : List ℕ) (mark : Mark) where
         by_begins : (b : Bool) → begins_token front i ≡ b
             → IsPrefixOf (map (token_at front) (filter (λ j. comes_before (end_at front j) (Some h)) (filter (begins_token front) (range_with_len (i + 1) k))))
             (map (token_at (front ++ more)) (filter (λ j. comes_before (end_at (front ++ more) j) o) (filter (begins_token (front ++ more)) (range_with_len (i + 1) n))))
-            → IsPrefixOf (map (token_at front) (filter (λ j. comes_before (end_at front j) (Some h)) (cond (begins_token front i) (i ∷ filter (begins_token front) (range_with_len (i + 1) k)) (filter (begins_token front) (range_with_len (i + 1) k)))))
-            (map (token_at (front ++ more)) (filter (λ j. comes_before (end_at (front ++ more) j) o) (cond (begins_token (front ++ more) i) (i ∷ filter (begins_token (front ++ more)) (range_with_len (i + 1) n)) (filter (begins_token (front ++ more)) (range_with_len (i + 1) n)))))
+            → IsPrefixOf (map (token_at front) (filter (λ j. comes_before (end_at front j) (Some h))
+            (cond (begins_token front i) (i ∷ filter (begins_token front) (range_with_len (i + 1) k))
+            (filter (begins_token front) (range_with_len (i + 1) k)))))
+            (map (token_at (front ++ more)) (filter (λ j. comes_before (end_at (front ++ more) j) o)
+            (cond (begins_token (front ++ more) i) (i ∷ filter (begins_token (front ++ more)) (range_with_len (i + 1) n))
+            (filter (begins_token (front ++ more)) (range_with_len (i + 1) n)))))
         by_begins true f more_of =
             let there : begins_token (front ++ more) i ≡ true = begins_front front more i below ∙ f in
             rw (f, there) (by_end (cases_lt (end_at front i) h.place) more_of)

@@ -140,7 +140,8 @@ both_before b c (k ∷ ks) h = by_key_of (key_lt k.key b) refl (key_lt k.key c) 
   where
     by_key_of : (x : Bool) → key_lt k.key b ≡ x → (y : Bool) → key_lt k.key c ≡ y
         → filter (λ y. key_lt y.key b) (filter (λ y. key_lt y.key c) ks) ≡ filter (λ y. key_lt y.key b) ks
-        → filter (λ y. key_lt y.key b) (cond y (k ∷ filter (λ y. key_lt y.key c) ks) (filter (λ y. key_lt y.key c) ks)) ≡ cond x (k ∷ filter (λ y. key_lt y.key b) ks) (filter (λ y. key_lt y.key b) ks)
+        → filter (λ y. key_lt y.key b) (cond y (k ∷ filter (λ y. key_lt y.key c) ks) (filter (λ y. key_lt y.key c) ks)) ≡ cond x
+        (k ∷ filter (λ y. key_lt y.key b) ks) (filter (λ y. key_lt y.key b) ks)
     by_key_of true e true f more = rw e (ap (λ l. k ∷ l) more)
     by_key_of true e false f more = let g = key_trans k.key b c e h in cc
     by_key_of false e true f more = rw e more

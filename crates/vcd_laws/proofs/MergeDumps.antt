@@ -8,15 +8,20 @@ small_placed : (scale : ℕ) (ps : List (Placed BodyPhrase)) → AllByRecursion 
 small_placed scale [] = tt
 small_placed scale (p ∷ ps) = by_test (placed_is_too_large scale p) refl (small_placed scale ps)
   where
-    by_test : (b : Bool) → placed_is_too_large scale p ≡ b → AllByRecursion (λ q. placed_is_too_large scale q ≡ false) (before_first (placed_is_too_large scale) ps) → AllByRecursion (λ q. placed_is_too_large scale q ≡ false) (before_first (placed_is_too_large scale) (p ∷ ps))
+    by_test : (b : Bool) → placed_is_too_large scale p ≡ b → AllByRecursion (λ q. placed_is_too_large scale q ≡ false)
+        (before_first (placed_is_too_large scale) ps) → AllByRecursion (λ q. placed_is_too_large scale q ≡ false)
+        (before_first (placed_is_too_large scale) (p ∷ ps))
     by_test true e more = rw e tt
     by_test false e more = rw (e, one-add) (e, more)
 
-small_items : (scale : ℕ) (ps : List (Placed BodyPhrase)) → AllByRecursion (λ p. placed_is_too_large scale p ≡ false) ps → AllByRecursion (λ item. is_too_large scale item ≡ false) (items_of (phrases_of ps))
+small_items : (scale : ℕ) (ps : List (Placed BodyPhrase)) → AllByRecursion (λ p. placed_is_too_large scale p ≡ false) ps
+    → AllByRecursion (λ item. is_too_large scale item ≡ false) (items_of (phrases_of ps))
 small_items scale [] h = tt
 small_items scale (p ∷ ps) h = by_phrase p.phrase p.line h.0 (small_items scale ps h.1)
   where
-    by_phrase : (q : BodyPhrase) (line : ℕ) → placed_is_too_large scale (record { phrase = q; line = line }) ≡ false → AllByRecursion (λ item. is_too_large scale item ≡ false) (items_of (phrases_of ps)) → AllByRecursion (λ item. is_too_large scale item ≡ false) (items_of (q ∷ phrases_of ps))
+    by_phrase : (q : BodyPhrase) (line : ℕ) → placed_is_too_large scale (record { phrase = q; line = line }) ≡ false
+        → AllByRecursion (λ item. is_too_large scale item ≡ false) (items_of (phrases_of ps))
+        → AllByRecursion (λ item. is_too_large scale item ≡ false) (items_of (q ∷ phrases_of ps))
     by_phrase (Comment inner) line e more = more
     by_phrase (Gives x) line e more = (e, more)
 
@@ -24,7 +29,9 @@ prefix_fit : (codes : List IdCode) (n : ℕ) (ps : List (Placed BodyPhrase)) →
 prefix_fit codes n ps fit =
     fit_front codes 0 false (items_of (phrases_of (take n ps))) (items_of (phrases_of (drop n ps)))
     (subst (AreFit codes 0 false)
-    (ap (λ (l : List (Placed BodyPhrase)). items_of (phrases_of l)) (sym (take-append-drop n ps)) ∙ ap items_of (map-append (λ (p : Placed BodyPhrase). p.phrase) (take n ps) (drop n ps)) ∙ filter_map-append item_of (phrases_of (take n ps)) (phrases_of (drop n ps)))
+    (ap (λ (l : List (Placed BodyPhrase)). items_of (phrases_of l)) (sym (take-append-drop n ps))
+    ∙ ap items_of (map-append (λ (p : Placed BodyPhrase). p.phrase) (take n ps) (drop n ps))
+    ∙ filter_map-append item_of (phrases_of (take n ps)) (phrases_of (drop n ps)))
     fit)
 
 dump_good : (hs : List Header) (o : Opened) → IsGoodInput o → IsGoodDump hs (dump_of (factor hs o.header) o.header (fault_in o) (body_of o))
@@ -35,7 +42,8 @@ dump_good hs o good = record {
   small = small_items (factor hs o.header) (before_first (placed_is_too_large (factor hs o.header)) (body_of o).placed) (small_placed (factor hs o.header) (body_of o).placed);
 }
 
-dumps_good_under : (hs : List Header) (os : List Opened) → AllByRecursion IsGoodInput os → AllByRecursion (IsGoodDump hs) (map (λ o. dump_of (factor hs o.header) o.header (fault_in o) (body_of o)) os)
+dumps_good_under : (hs : List Header) (os : List Opened) → AllByRecursion IsGoodInput os
+    → AllByRecursion (IsGoodDump hs) (map (λ o. dump_of (factor hs o.header) o.header (fault_in o) (body_of o)) os)
 dumps_good_under hs [] h = tt
 dumps_good_under hs (o ∷ os) h = (dump_good hs o h.0, dumps_good_under hs os h.1)
 
@@ -60,14 +68,16 @@ merged_is ds = refl
 
 -- ---- the laws
 
-pub declared_of : (hs : List Header) (earlier later ds : List Dump) (d : Dump) (c : IdCode) → AllByRecursion (IsGoodDump hs) ds → ds ≡ earlier ++ d ∷ later → Contains d.header.codes c → declared_code d.header.codes c.text ≡ Some c
+pub declared_of : (hs : List Header) (earlier later ds : List Dump) (d : Dump) (c : IdCode) → AllByRecursion (IsGoodDump hs) ds
+    → ds ≡ earlier ++ d ∷ later → Contains d.header.codes c → declared_code d.header.codes c.text ≡ Some c
 declared_of hs earlier later ds d c good e in_list =
     let g = (all_back (IsGoodDump hs) earlier (d ∷ later) (subst (AllByRecursion (IsGoodDump hs)) e good)).0 in
     let are = g.codes in
     at_contained (λ (x : IdCode). declared_code d.header.codes x.text ≡ Some x) d.header.codes c are.found in_list
 
 pub kept_all : (ds earlier later : List Dump) (d : Dump) (c : IdCode) → AllByRecursion (IsGoodDump (headers_of ds)) ds → ds ≡ earlier ++ d ∷ later → Contains d.header.codes c
-    → filter (λ e. gives_to (renamed_code (headers_of earlier) d.header c) e.item) (merge_kept (merged_items ds)) ≡ map (merged_entry (factor (headers_of ds) d.header) (renamed (headers_of earlier) d.header)) (changes_kept c (entries d.items))
+    → filter (λ e. gives_to (renamed_code (headers_of earlier) d.header c) e.item) (merge_kept (merged_items ds)) ≡ map
+    (merged_entry (factor (headers_of ds) d.header) (renamed (headers_of earlier) d.header)) (changes_kept c (entries d.items))
 kept_all ds earlier later d c good e in_list =
     ap (λ l. filter (λ x. gives_to (renamed_code (headers_of earlier) d.header c) x.item) (merge_kept l)) (merged_is ds ∙ ap (λ (l : List Dump). by_key (all_keyed (headers_of ds) l)) e)
     ∙ changes_all (headers_of ds) earlier later d c (subst (AllByRecursion (IsGoodDump (headers_of ds))) e good) (declared_of (headers_of ds) earlier later ds d c good e in_list)
@@ -79,5 +89,6 @@ pub merge_keeps_changes_before : MergeKeepsChangesBefore
 merge_keeps_changes_before limit inputs os opens f earlier later d e c in_list =
     let good = dumps_good os (inputs_good limit [] inputs os opens) in
     let hs = headers_of (dumps_of os) in
-    ap (λ l. filter (λ x. gives_to (renamed_code (headers_of earlier) d.header c) x.item) (merge_kept (items_before f l))) (merged_is (dumps_of os) ∙ ap (λ (l : List Dump). by_key (all_keyed hs l)) e)
+    ap (λ l. filter (λ x. gives_to (renamed_code (headers_of earlier) d.header c) x.item) (merge_kept (items_before f l))) (merged_is (dumps_of os)
+    ∙ ap (λ (l : List Dump). by_key (all_keyed hs l)) e)
     ∙ changes_where hs earlier later d c (λ k. key_lt k f.key) (subst (AllByRecursion (IsGoodDump hs)) e good) (declared_of hs earlier later (dumps_of os) d c good e in_list)

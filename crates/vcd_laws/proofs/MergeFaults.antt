@@ -179,7 +179,8 @@ merge_names_the_fault limit name names inputs few = by_headers (opens_or_fault l
     by_fault all f is done output e (inl h) =
         let m = map_split (own limit) inputs is.earlier is.later is.input is.inputs in
         let i = m.input in
-        let none : header_fault limit i ≡ None = (all_back (λ i. header_fault limit i ≡ None) m.front (i ∷ m.later) (subst (AllByRecursion (λ i. header_fault limit i ≡ None)) m.parts all.1)).0 in
+        let none : header_fault limit i ≡ None = (all_back (λ i. header_fault limit i ≡ None) m.front (i ∷ m.later)
+        (subst (AllByRecursion (λ i. header_fault limit i ≡ None)) m.parts all.1)).0 in
         let fault : fault_in (own limit i) ≡ Some f.fault = ap fault_in (sym m.same) ∙ sym h ∙ is.fault in
         let place : f.key.input ≡ length m.front = is.place ∙ sym m.place in
         inr (inl (record {

@@ -39,14 +39,16 @@ same_text_good Vector text new a g = g
 same_text_good RealText text new a g = g
 
 -- a renamed change is good under the codes of the merge
-renamed_good : (earlier later : List Header) (h : Header) (c : Change) → AllByRecursion (λ x. AreCodes x.codes) earlier → AreCodes h.codes → IsGoodChange h.codes c → IsGoodChange (merged_codes (earlier ++ h ∷ later)) (record c { code = renamed_code earlier h c.code })
+renamed_good : (earlier later : List Header) (h : Header) (c : Change) → AllByRecursion (λ x. AreCodes x.codes) earlier → AreCodes h.codes
+    → IsGoodChange h.codes c → IsGoodChange (merged_codes (earlier ++ h ∷ later)) (record c { code = renamed_code earlier h c.code })
 renamed_good earlier later h c before are g = record {
   declared = declared_in_merge earlier later h c.code before are g.declared;
   word = new_code_word (first_number earlier + code_place h c.code.text);
   text = same_text_good c.form c.text (renamed earlier h c.code.text) c.code g.text;
 }
 
-one_merged : (codes codes' : List IdCode) (top scale input : ℕ) (rename : List ℕ → List ℕ) (before : List BodyItem) (t : ℕ) (o : Bool) (items : List BodyItem) → AreCodes codes → AreFit codes t o items → StandsAt before t o → scale * t ≤ top
+one_merged : (codes codes' : List IdCode) (top scale input : ℕ) (rename : List ℕ → List ℕ) (before : List BodyItem) (t : ℕ) (o : Bool)
+    (items : List BodyItem) → AreCodes codes → AreFit codes t o items → StandsAt before t o → scale * t ≤ top
     → ((c : Change) → IsGoodChange codes c → IsGoodChange codes' (record c { code = record { text = rename c.code.text; size = c.code.size; event = c.code.event } }))
     → AllByRecursion (λ k. IsUpTo top k.entry.item) (each_after (keyed_after scale input rename) before items)
     → AllByRecursion (IsMerged codes' top) (each_after (keyed_after scale input rename) before items)
@@ -86,7 +88,8 @@ all_merged hs top front (d ∷ ds) before good below =
     let g = good.0 in
     let own = keyed_items hs front d in
     let rest = flat_map (λ ks. ks) (each_after (keyed_items hs) (front ++ d ∷ []) ds) in
-    let here = one_merged d.header.codes (merged_codes (headers_of front ++ d.header ∷ headers_of ds)) top (factor hs d.header) (length front) (renamed (headers_of front) d.header) [] 0 false d.items g.codes g.fit at_start (rw mul-zero (omega arith))
+    let here = one_merged d.header.codes (merged_codes (headers_of front ++ d.header ∷ headers_of ds)) top (factor hs d.header) (length front)
+    (renamed (headers_of front) d.header) [] 0 false d.items g.codes g.fit at_start (rw mul-zero (omega arith))
     (λ c k. renamed_good (headers_of front) (headers_of ds) d.header c (dump_codes hs front before) g.codes k) (all_front (λ k. IsUpTo top k.entry.item) own rest below) in
     let more = all_merged hs top (front ++ d ∷ []) ds (all_push front d before g) good.1 (all_back (λ k. IsUpTo top k.entry.item) own rest below) in
     all_both_append (IsMerged (merged_codes (headers_of (front ++ d ∷ ds))) top) own rest
@@ -103,7 +106,9 @@ marks_up_to : (a top : ℕ) (ks : List Keyed) → fold max a (marks (map (λ k. 
 marks_up_to a top [] l = tt
 marks_up_to a top (k ∷ ks) l = by_item k.entry.item l (λ b. marks_up_to b top ks)
   where
-    by_item : (x : BodyItem) → fold max a (marks (x ∷ map (λ y. y.entry.item) ks)) ≤ top → ((b : ℕ) → fold max b (marks (map (λ y. y.entry.item) ks)) ≤ top → AllByRecursion (λ y. IsUpTo top y.entry.item) ks) → IsUpTo top x × AllByRecursion (λ y. IsUpTo top y.entry.item) ks
+    by_item : (x : BodyItem) → fold max a (marks (x ∷ map (λ y. y.entry.item) ks)) ≤ top
+        → ((b : ℕ) → fold max b (marks (map (λ y. y.entry.item) ks)) ≤ top → AllByRecursion (λ y. IsUpTo top y.entry.item) ks) → IsUpTo top x
+        × AllByRecursion (λ y. IsUpTo top y.entry.item) ks
     by_item (BodyItem.Time t) m more = let g = greatest_from (max a t) (marks (map (λ y. y.entry.item) ks)) in (omega arith, more (max a t) m)
     by_item (BodyItem.Begin s) m more = (tt, more a m)
     by_item BodyItem.End m more = (tt, more a m)
@@ -113,7 +118,8 @@ fold_up_to : (a top : ℕ) (ks : List Keyed) → a ≤ top → AllByRecursion (�
 fold_up_to a top [] l h = l
 fold_up_to a top (k ∷ ks) l h = by_item k.entry.item h.0 (λ b m. fold_up_to b top ks m h.1)
   where
-    by_item : (x : BodyItem) → IsUpTo top x → ((b : ℕ) → b ≤ top → fold max b (marks (map (λ y. y.entry.item) ks)) ≤ top) → fold max a (marks (x ∷ map (λ y. y.entry.item) ks)) ≤ top
+    by_item : (x : BodyItem) → IsUpTo top x → ((b : ℕ) → b ≤ top → fold max b (marks (map (λ y. y.entry.item) ks)) ≤ top)
+        → fold max a (marks (x ∷ map (λ y. y.entry.item) ks)) ≤ top
     by_item (BodyItem.Time t) m more = more (max a t) (omega arith)
     by_item (BodyItem.Begin s) m more = more a l
     by_item BodyItem.End m more = more a l
@@ -128,7 +134,8 @@ all_from_insert : (P : Keyed → Type 0) (x : Keyed) (ys : List Keyed) → AllBy
 all_from_insert P x [] h = (h.0, tt)
 all_from_insert P x (y ∷ ys) h = by_test (key_lt x.key y.key) h (all_from_insert P x ys)
   where
-    by_test : (b : Bool) → AllByRecursion P (cond b (x ∷ y ∷ ys) (y ∷ insert_by_key x ys)) → (AllByRecursion P (insert_by_key x ys) → P x × AllByRecursion P ys) → P x × AllByRecursion P (y ∷ ys)
+    by_test : (b : Bool) → AllByRecursion P (cond b (x ∷ y ∷ ys) (y ∷ insert_by_key x ys))
+        → (AllByRecursion P (insert_by_key x ys) → P x × AllByRecursion P ys) → P x × AllByRecursion P (y ∷ ys)
     by_test true g more = (g.0, g.1)
     by_test false g more = let m = more g.1 in (m.0, (g.0, m.1))
 
@@ -137,7 +144,9 @@ all_from_by_key P [] h = tt
 all_from_by_key P (x ∷ xs) h = let a = all_from_insert P x (by_key xs) h in (a.0, all_from_by_key P xs a.1)
 
 -- each timestamp leaves the range of times nowhere
-small_marks : (scale input : ℕ) (rename : List ℕ → List ℕ) (before items : List BodyItem) → AllByRecursion (λ item. is_too_large scale item ≡ false) items → AllByRecursion (λ k. IsUpTo (2 ^ 64 - 1) k.entry.item) (each_after (keyed_after scale input rename) before items)
+small_marks : (scale input : ℕ) (rename : List ℕ → List ℕ) (before items : List BodyItem)
+    → AllByRecursion (λ item. is_too_large scale item ≡ false) items
+    → AllByRecursion (λ k. IsUpTo (2 ^ 64 - 1) k.entry.item) (each_after (keyed_after scale input rename) before items)
 small_marks scale input rename before [] h = tt
 small_marks scale input rename before (x ∷ items) h = (by_item x h.0, small_marks scale input rename (before ++ x ∷ []) items h.1)
   where
@@ -147,7 +156,8 @@ small_marks scale input rename before (x ∷ items) h = (by_item x h.0, small_ma
     by_item BodyItem.End e = tt
     by_item (BodyItem.Changes c) e = tt
 
-all_small : (hs : List Header) (front ds : List Dump) → AllByRecursion (IsGoodDump hs) ds → AllByRecursion (λ k. IsUpTo (2 ^ 64 - 1) k.entry.item) (flat_map (λ ks. ks) (each_after (keyed_items hs) front ds))
+all_small : (hs : List Header) (front ds : List Dump) → AllByRecursion (IsGoodDump hs) ds
+    → AllByRecursion (λ k. IsUpTo (2 ^ 64 - 1) k.entry.item) (flat_map (λ ks. ks) (each_after (keyed_items hs) front ds))
 all_small hs front [] good = tt
 all_small hs front (d ∷ ds) good =
     let g = good.0 in
@@ -159,17 +169,20 @@ all_small hs front (d ∷ ds) good =
 abbrev pub merges : Entry → Bool
 merges e = is_change e.item && may_keep e.item e.inside
 
-merge_writable : (codes : List IdCode) (top t : ℕ) (ks : List Keyed) → top < 2 ^ 64 → AllByRecursion (λ k. t ≤ k.key.time) ks → IsSorted ks → AllByRecursion (IsMerged codes top) ks → AreWritable codes t false (merge_kept ks)
+merge_writable : (codes : List IdCode) (top t : ℕ) (ks : List Keyed) → top < 2 ^ 64 → AllByRecursion (λ k. t ≤ k.key.time) ks → IsSorted ks
+    → AllByRecursion (IsMerged codes top) ks → AreWritable codes t false (merge_kept ks)
 merge_writable codes top t [] l h s m = tt
 merge_writable codes top t (k ∷ ks) l h s m =
     by_item k.entry.time k.entry.inside k.entry.item one.time one.good
-    (λ e. merge_writable codes top k.entry.time ks l (all_more (λ y. key_lt y.key k.key ≡ false) (λ y. k.entry.time ≤ y.key.time) ks (λ y n. let b = (not_behind y.key k.key n).time in omega arith) s.0) s.1 m.1)
+    (λ e. merge_writable codes top k.entry.time ks l (all_more (λ y. key_lt y.key k.key ≡ false) (λ y. k.entry.time ≤ y.key.time) ks (λ y n.
+    let b = (not_behind y.key k.key n).time in omega arith) s.0) s.1 m.1)
     (merge_writable codes top t ks l h.1 s.1 m.1)
   where
     one : IsMerged codes top k
     one = m.0
 
-    by_item : (time : ℕ) (inside : Bool) (x : BodyItem) → time ≡ k.key.time → IsGoodItem codes x → (time ≡ k.key.time → AreWritable codes time false (merge_kept ks)) → AreWritable codes t false (merge_kept ks)
+    by_item : (time : ℕ) (inside : Bool) (x : BodyItem) → time ≡ k.key.time → IsGoodItem codes x
+        → (time ≡ k.key.time → AreWritable codes time false (merge_kept ks)) → AreWritable codes t false (merge_kept ks)
         → AreWritable codes t false (filter merges (record { time = time; inside = inside; item = x } ∷ map (λ y. y.entry) ks))
     by_item time inside (BodyItem.Time u) e g with_it without = without
     by_item time inside (BodyItem.Begin u) e g with_it without = without
@@ -184,7 +197,8 @@ merge_closed : (ks : List Keyed) → last_open false (merge_kept ks) ≡ false
 merge_closed [] = refl
 merge_closed (k ∷ ks) = by_item k.entry.time k.entry.inside k.entry.item (merge_closed ks)
   where
-    by_item : (time : ℕ) (inside : Bool) (x : BodyItem) → last_open false (merge_kept ks) ≡ false → last_open false (filter merges (record { time = time; inside = inside; item = x } ∷ map (λ y. y.entry) ks)) ≡ false
+    by_item : (time : ℕ) (inside : Bool) (x : BodyItem) → last_open false (merge_kept ks) ≡ false
+        → last_open false (filter merges (record { time = time; inside = inside; item = x } ∷ map (λ y. y.entry) ks)) ≡ false
     by_item time inside (BodyItem.Time u) more = more
     by_item time inside (BodyItem.Begin u) more = more
     by_item time inside BodyItem.End more = more
@@ -210,7 +224,8 @@ merge_parts ds good =
     let all = all_keyed hs ds in
     let ks = by_key all in
     let codes = merged_codes hs in
-    let merged = all_by_key (IsMerged codes (top_of ks)) all (all_merged hs (top_of ks) [] ds tt good (all_from_by_key (λ k. IsUpTo (top_of ks) k.entry.item) all (marks_up_to 0 (top_of ks) ks (omega arith)))) in
+    let merged = all_by_key (IsMerged codes (top_of ks)) all (all_merged hs (top_of ks) [] ds tt good
+    (all_from_by_key (λ k. IsUpTo (top_of ks) k.entry.item) all (marks_up_to 0 (top_of ks) ks (omega arith)))) in
     let small : top_of ks ≤ 2 ^ 64 - 1 = fold_up_to 0 (2 ^ 64 - 1) ks (omega arith) (all_by_key (λ k. IsUpTo (2 ^ 64 - 1) k.entry.item) all (all_small hs [] ds good)) in
     record {
       fit = tt;
@@ -226,7 +241,8 @@ merge_parts ds good =
 
 -- ---- values
 
-latest-map : (M : Entry → Entry) (test test' : Entry → Bool) (es : List Entry) → AllByRecursion (λ e. (test (M e) ≡ test' e) × (test' e ≡ true → value_in (M e) ≡ value_in e)) es → latest test (map M es) ≡ latest test' es
+latest-map : (M : Entry → Entry) (test test' : Entry → Bool) (es : List Entry)
+    → AllByRecursion (λ e. (test (M e) ≡ test' e) × (test' e ≡ true → value_in (M e) ≡ value_in e)) es → latest test (map M es) ≡ latest test' es
 latest-map M test test' [] h = refl
 latest-map M test test' (e ∷ es) h =
     let a = h.0 in
@@ -266,12 +282,15 @@ all_pass P (x ∷ xs) f = (f x, all_pass P xs f)
 kept_values : (codes : List IdCode) (c : IdCode) (at : ℕ → Bool) (items : List BodyItem) → declared_code codes c.text ≡ Some c → c.event ≡ false → AreFit codes 0 false items
     → latest (gives_at c at) (changes_kept c (entries_from 0 false items)) ≡ latest (gives_at c at) (entries_from 0 false items)
 kept_values codes c at items d quiet fit =
-    latest-filter (gives_at c at) (λ e. gives_to c e.item) (filter merges (entries_from 0 false items)) (all_pass _ (filter merges (entries_from 0 false items)) (λ e h. (and_parts (gives_to c e.item) (at e.time) h).0))
+    latest-filter (gives_at c at) (λ e. gives_to c e.item) (filter merges (entries_from 0 false items))
+    (all_pass _ (filter merges (entries_from 0 false items)) (λ e h. (and_parts (gives_to c e.item) (at e.time) h).0))
     ∙ latest-filter (gives_at c at) merges (entries_from 0 false items) (gives_kept codes c at merges 0 0 false items d (λ u p x l same h. rw (same, quiet) refl) (omega arith) fit)
 
 -- the values of a new code are those that its old code has at the floor of each time by the factor
-pub merge_values_at : (ds earlier later : List Dump) (d : Dump) (c : IdCode) (t : ℕ) → AllByRecursion (IsGoodDump (headers_of ds)) ds → ds ≡ earlier ++ d ∷ later → Contains d.header.codes c → c.event ≡ false
-    → value_at (parts_items [] [] (merge_kept (merged_items ds)) (greatest_mark (merged_items ds))) (renamed_code (headers_of earlier) d.header c) t ≡ value_at d.items c (t / factor (headers_of ds) d.header)
+pub merge_values_at : (ds earlier later : List Dump) (d : Dump) (c : IdCode) (t : ℕ) → AllByRecursion (IsGoodDump (headers_of ds)) ds
+    → ds ≡ earlier ++ d ∷ later → Contains d.header.codes c → c.event ≡ false
+    → value_at (parts_items [] [] (merge_kept (merged_items ds)) (greatest_mark (merged_items ds))) (renamed_code (headers_of earlier) d.header c) t
+    ≡ value_at d.items c (t / factor (headers_of ds) d.header)
 merge_values_at ds earlier later d c t good e in_list quiet =
     let hs = headers_of ds in
     let f = factor hs d.header in
@@ -281,8 +300,11 @@ merge_values_at ds earlier later d c t good e in_list quiet =
     let g = back.0 in
     let declared = declared_of hs earlier later ds d c good e in_list in
     let before = dump_codes hs earlier (all_front (IsGoodDump hs) earlier (d ∷ later) (subst (AllByRecursion (IsGoodDump hs)) e good)) in
-    let in_merge : declared_code (merged_codes hs) new.text ≡ Some new = subst (λ (l : List Header). declared_code (merged_codes l) new.text ≡ Some new) (sym (ap headers_of e ∙ headers-append earlier (d ∷ later))) (declared_in_merge (headers_of earlier) (headers_of later) d.header c before g.codes declared) in
-    let parts : Parts (merged_codes hs) [] [] (merge_kept ks) (greatest_mark ks) = subst (λ (l : List Keyed). Parts (merged_codes hs) [] [] (merge_kept l) (greatest_mark l)) (sym (merged_is ds)) (merge_parts ds good) in
+    let in_merge : declared_code (merged_codes hs) new.text ≡ Some new = subst
+    (λ (l : List Header). declared_code (merged_codes l) new.text ≡ Some new) (sym (ap headers_of e ∙ headers-append earlier (d ∷ later)))
+    (declared_in_merge (headers_of earlier) (headers_of later) d.header c before g.codes declared) in
+    let parts : Parts (merged_codes hs) [] [] (merge_kept ks) (greatest_mark ks) = subst
+    (λ (l : List Keyed). Parts (merged_codes hs) [] [] (merge_kept l) (greatest_mark l)) (sym (merged_is ds)) (merge_parts ds good) in
     let at : ℕ → Bool = λ u. nat_le u t in
     let es = entries_are d.header.codes [] 0 false d.items at_start g.fit in
     last_value_is new at (parts_items [] [] (merge_kept ks) (greatest_mark ks))
@@ -291,13 +313,17 @@ merge_values_at ds earlier later d c t good e in_list quiet =
     ∙ sym (latest-filter (gives_at new at) (λ x. gives_to new x.item) (merge_kept ks) (all_pass _ (merge_kept ks) (λ x h. (and_parts (gives_to new x.item) (at x.time) h).0)))
     ∙ ap (latest (gives_at new at)) (kept_all ds earlier later d c good e in_list ∙ ap (λ l. map (merged_entry f (renamed (headers_of earlier) d.header)) (changes_kept c l)) es)
     ∙ latest-map (merged_entry f (renamed (headers_of earlier) d.header)) (gives_at new at) (gives_at c (λ u. nat_le u (t / f))) (changes_kept c (entries_from 0 false d.items))
-    (filter_words _ (λ x. gives_to c x.item) (filter merges (entries_from 0 false d.items)) (filter_words _ merges (entries_from 0 false d.items) (same_values (headers_of earlier) d.header c f t 0 false d.items declared (factor_positive hs d.header) g.fit)))
+    (filter_words _ (λ x. gives_to c x.item) (filter merges (entries_from 0 false d.items))
+    (filter_words _ merges (entries_from 0 false d.items) (same_values (headers_of earlier) d.header c f t 0 false d.items declared
+    (factor_positive hs d.header) g.fit)))
     ∙ kept_values d.header.codes c (λ u. nat_le u (t / f)) d.items declared quiet g.fit
     ∙ ap (latest (gives_at c (λ u. nat_le u (t / f)))) (sym es)
     ∙ sym (last_value_is c (λ u. nat_le u (t / f)) d.items)
 
-merge_values : (ds earlier later : List Dump) (d : Dump) (c : IdCode) (t : ℕ) → AllByRecursion (IsGoodDump (headers_of ds)) ds → ds ≡ earlier ++ d ∷ later → Contains d.header.codes c → c.event ≡ false
-    → value_at (parts_items [] [] (merge_kept (merged_items ds)) (greatest_mark (merged_items ds))) (renamed_code (headers_of earlier) d.header c) (factor (headers_of ds) d.header * t) ≡ value_at d.items c t
+merge_values : (ds earlier later : List Dump) (d : Dump) (c : IdCode) (t : ℕ) → AllByRecursion (IsGoodDump (headers_of ds)) ds
+    → ds ≡ earlier ++ d ∷ later → Contains d.header.codes c → c.event ≡ false
+    → value_at (parts_items [] [] (merge_kept (merged_items ds)) (greatest_mark (merged_items ds))) (renamed_code (headers_of earlier) d.header c)
+    (factor (headers_of ds) d.header * t) ≡ value_at d.items c t
 merge_values ds earlier later d c t good e in_list quiet =
     let f = factor (headers_of ds) d.header in
     merge_values_at ds earlier later d c (f * t) good e in_list quiet
@@ -313,13 +339,15 @@ merge_text_is ds =
     let kept = merge_kept (merged_items ds) in
     append_assoc (merged_head (headers_of ds)) (text_after [] kept) (closing (map (λ x. x.time) kept) (greatest_mark (merged_items ds)))
 
-pub merge_read : (ds : List Dump) → AllByRecursion (IsGoodDump (headers_of ds)) ds → IsRead (merged_codes (headers_of ds)) (merge_text ds) (parts_items [] [] (merge_kept (merged_items ds)) (greatest_mark (merged_items ds)))
+pub merge_read : (ds : List Dump) → AllByRecursion (IsGoodDump (headers_of ds)) ds
+    → IsRead (merged_codes (headers_of ds)) (merge_text ds) (parts_items [] [] (merge_kept (merged_items ds)) (greatest_mark (merged_items ds)))
 unfolding merge_text
 merge_read ds good =
     let hs = headers_of ds in
     let ks = merged_items ds in
     let kept = merge_kept ks in
-    let parts : Parts (merged_codes hs) [] [] kept (greatest_mark ks) = subst (λ (l : List Keyed). Parts (merged_codes hs) [] [] (merge_kept l) (greatest_mark l)) (sym (merged_is ds)) (merge_parts ds good) in
+    let parts : Parts (merged_codes hs) [] [] kept (greatest_mark ks) = subst
+    (λ (l : List Keyed). Parts (merged_codes hs) [] [] (merge_kept l) (greatest_mark l)) (sym (merged_is ds)) (merge_parts ds good) in
     parts_read (merged_codes hs) [] [] kept (greatest_mark ks) (merge_text ds) parts refl
 
 pub merge_keeps_text : (ds : List Dump) → AllByRecursion (IsGoodDump (headers_of ds)) ds → MergeKeepsValues ds (merge_text ds)

@@ -32,11 +32,13 @@ unfolding model
 too_many_digits = refl
 
 -- an event takes any digits, and every other code a real text
-too_many_digits_of_event : on Want.Check "$var wire 1 ! a $end;$var real 1 \" r $end;$var event 1 # e $end;$var wire 2 % u $end;$enddefinitions $end;b10 #;r1 !;" ≡ gives "scopes 0;variables 4;codes 4;times 0;sections 0;changes 2;last -;" "" 0
+too_many_digits_of_event : on Want.Check "$var wire 1 ! a $end;$var real 1 \" r $end;$var event 1 # e $end;$var wire 2 % u $end;$enddefinitions $end;b10 #;r1 !;"
+    ≡ gives "scopes 0;variables 4;codes 4;times 0;sections 0;changes 2;last -;" "" 0
 unfolding model
 too_many_digits_of_event = refl
 
-long_real_of_unknown_code : on Want.Check "$var wire 1 ! a $end;$enddefinitions $end;r11111111111111111111111111111111111111111111111111111111111111111 ?;" ≡ gives "" "(stdin):3: real text too long" 1
+long_real_of_unknown_code : on Want.Check "$var wire 1 ! a $end;$enddefinitions $end;r11111111111111111111111111111111111111111111111111111111111111111 ?;"
+    ≡ gives "" "(stdin):3: real text too long" 1
 unfolding model
 long_real_of_unknown_code = refl
 
@@ -188,7 +190,10 @@ digits_and_reals : on (Want.Edges []) "$var wire 1 ! a $end;$enddefinitions $end
 unfolding model
 digits_and_reals = refl
 
-reals_by_their_bytes : on (Want.Edges (codes "r" ∷ [])) "$var wire 1 ! a $end;$var real 1 \" r $end;$var event 1 # e $end;$var wire 2 % u $end;$enddefinitions $end;rNaN \";rnan \";rnan \";" ≡ gives "r 1 0 0;" "" 0
+reals_by_their_bytes : on
+    (Want.Edges (codes "r" ∷ []))
+    "$var wire 1 ! a $end;$var real 1 \" r $end;$var event 1 # e $end;$var wire 2 % u $end;$enddefinitions $end;rNaN \";rnan \";rnan \";"
+    ≡ gives "r 1 0 0;" "" 0
 unfolding model
 reals_by_their_bytes = refl
 
@@ -196,7 +201,10 @@ edges_of_extended_digits : on (Want.Edges []) "$var wire 4 ! a $end;$enddefiniti
 unfolding model
 edges_of_extended_digits = refl
 
-event_before_any_mark : on (Want.Edges (codes "e" ∷ [])) "$var wire 1 ! a $end;$var real 1 \" r $end;$var event 1 # e $end;$var wire 2 % u $end;$enddefinitions $end;1#;#0;1#;#2;x#;" ≡ gives "e 3 0 0;" "" 0
+event_before_any_mark : on
+    (Want.Edges (codes "e" ∷ []))
+    "$var wire 1 ! a $end;$var real 1 \" r $end;$var event 1 # e $end;$var wire 2 % u $end;$enddefinitions $end;1#;#0;1#;#2;x#;"
+    ≡ gives "e 3 0 0;" "" 0
 unfolding model
 event_before_any_mark = refl
 
@@ -209,11 +217,15 @@ event_alone : on (sample (1 ∷ 2 ∷ []) (codes "e" ∷ [])) "$var wire 1 ! a $
 unfolding model
 event_alone = refl
 
-second_time_at_end : on (sample (1 ∷ 5 ∷ []) (codes "a" ∷ [])) "$var wire 1 ! a $end;$var real 1 \" r $end;$var event 1 # e $end;$var wire 2 % u $end;$enddefinitions $end;#1;0!;#4;1!;#5;" ≡ gives "1 a 0;5 a 1;" "" 0
+second_time_at_end : on (sample (1 ∷ 5 ∷ []) (codes "a" ∷ []))
+    "$var wire 1 ! a $end;$var real 1 \" r $end;$var event 1 # e $end;$var wire 2 % u $end;$enddefinitions $end;#1;0!;#4;1!;#5;"
+    ≡ gives "1 a 0;5 a 1;" "" 0
 unfolding model
 second_time_at_end = refl
 
-times_before_variables : on (sample (7 ∷ 8 ∷ []) []) "$var wire 1 ! a $end;$var real 1 \" r $end;$var event 1 # e $end;$var wire 2 % u $end;$enddefinitions $end;#3;0!;bx %;" ≡ gives "7 a 0;7 r -;7 u xx;8 a 0;8 r -;8 u xx;" "" 0
+times_before_variables : on
+    (sample (7 ∷ 8 ∷ []) []) "$var wire 1 ! a $end;$var real 1 \" r $end;$var event 1 # e $end;$var wire 2 % u $end;$enddefinitions $end;#3;0!;bx %;"
+    ≡ gives "7 a 0;7 r -;7 u xx;8 a 0;8 r -;8 u xx;" "" 0
 unfolding model
 times_before_variables = refl
 
@@ -222,7 +234,9 @@ unfolding model
 values_of_sections = refl
 
 -- a scope that was left open is closed
-names_that_overlap : on (Want.Pick (codes "t.u" ∷ codes "t" ∷ [])) "$scope m t $end;$scope m u $end;$var wire 1 ! a $end;$upscope $end;$enddefinitions $end;" ≡ gives "$scope m t $end;$scope m u $end;$var wire 1 ! a $end;$upscope $end;$upscope $end;$enddefinitions $end;" "" 0
+names_that_overlap : on (Want.Pick (codes "t.u" ∷ codes "t" ∷ []))
+    "$scope m t $end;$scope m u $end;$var wire 1 ! a $end;$upscope $end;$enddefinitions $end;"
+    ≡ gives "$scope m t $end;$scope m u $end;$var wire 1 ! a $end;$upscope $end;$upscope $end;$enddefinitions $end;" "" 0
 unfolding model
 names_that_overlap = refl
 
@@ -235,7 +249,9 @@ marks_without_changes : on (Want.Pick (codes "a" ∷ [])) "$var wire 1 ! a $end;
 unfolding model
 marks_without_changes = refl
 
-sections_as_they_were : on (Want.Pick (codes "a" ∷ [])) "$var wire 1 ! a $end;$enddefinitions $end;#1;$dumpvars;0!;$end;$dumpoff;x!;$end;$dumpon;1!;$end;$dumpall;$end;" ≡ gives "$var wire 1 ! a $end;$enddefinitions $end;#1;$dumpvars;0!;$end;$dumpoff;x!;$end;$dumpon;1!;$end;$dumpall;$end;" "" 0
+sections_as_they_were : on
+    (Want.Pick (codes "a" ∷ [])) "$var wire 1 ! a $end;$enddefinitions $end;#1;$dumpvars;0!;$end;$dumpoff;x!;$end;$dumpon;1!;$end;$dumpall;$end;"
+    ≡ gives "$var wire 1 ! a $end;$enddefinitions $end;#1;$dumpvars;0!;$end;$dumpoff;x!;$end;$dumpon;1!;$end;$dumpall;$end;" "" 0
 unfolding model
 sections_as_they_were = refl
 
@@ -250,32 +266,48 @@ cut_of_early_items = refl
 -- ---- several inputs
 
 -- headers are read first: a fault in a later one counts before a fault in an earlier body
-later_header : outcome Want.Merge limit (codes "a.vcd" ∷ codes "b.vcd" ∷ []) (clean "$var wire 1 ! a $end;$enddefinitions $end;?;" ∷ clean "$upscope $end;" ∷ []) ≡ gives "" "b.vcd:1: upscope without scope" 1
+later_header : outcome Want.Merge limit (codes "a.vcd" ∷ codes "b.vcd" ∷ [])
+    (clean "$var wire 1 ! a $end;$enddefinitions $end;?;" ∷ clean "$upscope $end;" ∷ []) ≡ gives "" "b.vcd:1: upscope without scope" 1
 unfolding model
 later_header = refl
 
 -- the greatest timestamp closes, also if it is of an input without changes
-greatest_mark_closes : outcome Want.Merge limit (codes "a.vcd" ∷ codes "b.vcd" ∷ []) (clean "$timescale 1us $end;$var wire 1 ! a $end;$enddefinitions $end;#1;1!;" ∷ clean "$timescale 10ns $end;$var wire 1 ! a $end;$enddefinitions $end;#3;#250;" ∷ []) ≡ gives "$timescale;^10ns;$end;$scope module in1 $end;$var wire 1 ! a $end;$upscope $end;$scope module in2 $end;$var wire 1 \" a $end;$upscope $end;$enddefinitions $end;#100;1!;#250;" "" 0
+greatest_mark_closes : outcome Want.Merge limit (codes "a.vcd" ∷ codes "b.vcd" ∷ [])
+    (clean "$timescale 1us $end;$var wire 1 ! a $end;$enddefinitions $end;#1;1!;" ∷ clean "$timescale 10ns $end;$var wire 1 ! a $end;$enddefinitions $end;#3;#250;" ∷ [])
+    ≡ gives "$timescale;^10ns;$end;$scope module in1 $end;$var wire 1 ! a $end;$upscope $end;$scope module in2 $end;$var wire 1 \" a $end;$upscope $end;$enddefinitions $end;#100;1!;#250;" "" 0
 unfolding model
 greatest_mark_closes = refl
 
 -- a time that is too large ends an input that is alone
-too_large_alone : outcome Want.Merge limit (codes "a.vcd" ∷ codes "b.vcd" ∷ []) (clean "$timescale 100s $end;$var wire 1 ! a $end;$enddefinitions $end;1!;#184467440737095516;0!;#184467440737095517;" ∷ clean "$var wire 1 ! a $end;$enddefinitions $end;#18446744073709551615;1!;" ∷ []) ≡ gives "$timescale;^1s;$end;$scope module in1 $end;$var wire 1 ! a $end;$upscope $end;$scope module in2 $end;$var wire 1 \" a $end;$upscope $end;$enddefinitions $end;#0;1!;#18446744073709551600;0!;" "a.vcd:7: time too large" 1
+too_large_alone : outcome Want.Merge limit (codes "a.vcd" ∷ codes "b.vcd" ∷ [])
+    (clean "$timescale 100s $end;$var wire 1 ! a $end;$enddefinitions $end;1!;#184467440737095516;0!;#184467440737095517;" ∷ clean "$var wire 1 ! a $end;$enddefinitions $end;#18446744073709551615;1!;" ∷ [])
+    ≡ gives "$timescale;^1s;$end;$scope module in1 $end;$var wire 1 ! a $end;$upscope $end;$scope module in2 $end;$var wire 1 \" a $end;$upscope $end;$enddefinitions $end;#0;1!;#18446744073709551600;0!;" "a.vcd:7: time too large" 1
 unfolding model
 too_large_alone = refl
 
 -- a fault ends a merge at its position; items of a later input at the same time come after it
-failed_read_waits_in_a_merge : outcome Want.Merge limit (codes "a.vcd" ∷ codes "b.vcd" ∷ []) (clean "$var wire 1 ! a $end;$enddefinitions $end;#1;1!;#3;0!;#9;1!;" ∷ record { bytes = written "$var wire 1 ! a $end;$enddefinitions $end;#2;0!;#5;"; mark = Mark.Failed } ∷ []) ≡ gives "$timescale;^1s;$end;$scope module in1 $end;$var wire 1 ! a $end;$upscope $end;$scope module in2 $end;$var wire 1 \" a $end;$upscope $end;$enddefinitions $end;#1;1!;#2;0\";#3;0!;" "b.vcd: read failed" 3
+failed_read_waits_in_a_merge : outcome Want.Merge limit (codes "a.vcd" ∷ codes "b.vcd" ∷ [])
+    (clean "$var wire 1 ! a $end;$enddefinitions $end;#1;1!;#3;0!;#9;1!;" ∷ record { bytes = written "$var wire 1 ! a $end;$enddefinitions $end;#2;0!;#5;"; mark = Mark.Failed } ∷ [])
+    ≡ gives "$timescale;^1s;$end;$scope module in1 $end;$var wire 1 ! a $end;$upscope $end;$scope module in2 $end;$var wire 1 \" a $end;$upscope $end;$enddefinitions $end;#1;1!;#2;0\";#3;0!;" "b.vcd: read failed" 3
 unfolding model
 failed_read_waits_in_a_merge = refl
 
-fault_before_a_later_input : outcome Want.Merge limit (codes "a.vcd" ∷ codes "b.vcd" ∷ []) (clean "$var wire 1 ! a $end;$enddefinitions $end;#5;?;" ∷ clean "$var wire 1 ! a $end;$enddefinitions $end;#4;0!;#5;1!;" ∷ []) ≡ gives "$timescale;^1s;$end;$scope module in1 $end;$var wire 1 ! a $end;$upscope $end;$scope module in2 $end;$var wire 1 \" a $end;$upscope $end;$enddefinitions $end;#4;0\";" "a.vcd:4: unknown command" 1
+fault_before_a_later_input : outcome Want.Merge limit (codes "a.vcd" ∷ codes "b.vcd" ∷ [])
+    (clean "$var wire 1 ! a $end;$enddefinitions $end;#5;?;" ∷ clean "$var wire 1 ! a $end;$enddefinitions $end;#4;0!;#5;1!;" ∷ [])
+    ≡ gives "$timescale;^1s;$end;$scope module in1 $end;$var wire 1 ! a $end;$upscope $end;$scope module in2 $end;$var wire 1 \" a $end;$upscope $end;$enddefinitions $end;#4;0\";" "a.vcd:4: unknown command" 1
 unfolding model
 fault_before_a_later_input = refl
 
 -- a header with four declarations
 abbrev four : Header
-four = record { declarations = Declaration.Scope (codes "m") (codes "s") ∷ Declaration.Up ∷ Declaration.Scope (codes "m") (codes "s") ∷ Declaration.Up ∷ []; codes = []; date = []; version = []; scale = None }
+four = record {
+  declarations = Declaration.Scope (codes "m") (codes "s") ∷ Declaration.Up ∷ Declaration.Scope (codes "m")
+      (codes "s") ∷ Declaration.Up ∷ [];
+  codes = [];
+  date = [];
+  version = [];
+  scale = None;
+}
 
 -- the declarations of earlier inputs count, a file that is named twice twice
 declarations_left : map allowed_after ([] ∷ (four ∷ []) ∷ (four ∷ four ∷ []) ∷ []) ≡ 16777216 ∷ 16777212 ∷ 16777208 ∷ []
@@ -283,6 +315,8 @@ unfolding model
 declarations_left = refl
 
 -- what earlier inputs leave limits the next one
-next_header : (limit : ℕ) (earlier : List Header) (i : Input) (f : Fault) → header_fault_of (stream_of limit i) (read_header (allowed_after earlier) (stream_of limit i)) ≡ Some f → open_from limit earlier (i ∷ []) ≡ Err (length earlier, f)
+next_header : (limit : ℕ) (earlier : List Header) (i : Input) (f : Fault)
+    → header_fault_of (stream_of limit i) (read_header (allowed_after earlier) (stream_of limit i)) ≡ Some f
+    → open_from limit earlier (i ∷ []) ≡ Err (length earlier, f)
 unfolding open_from
 next_header limit earlier i f e = rw (open_from, e) refl

@@ -26,7 +26,8 @@ opened_one limit input os e =
     let reading = read_header (allowed_after []) stream in
     by_fault (record { header = header_of (phrases_of reading.placed); stream = stream; rest = reading.rest }) (header_fault_of stream reading) e
   where
-    by_fault : (o : Opened) (f : Option Fault) → ◌≡◌ {A = Result (List Opened) (ℕ × Fault)} (elim f [ Some g ↦ Err (0, g) | None ↦ Ok (o ∷ []) ]) (Ok os) → (o : Opened) × (os ≡ o ∷ [])
+    by_fault : (o : Opened) (f : Option Fault) → ◌≡◌ {A = Result (List Opened) (ℕ × Fault)} (elim f [ Some g ↦ Err (0, g) | None ↦ Ok (o ∷ []) ])
+        (Ok os) → (o : Opened) × (os ≡ o ∷ [])
     by_fault o (Some g) e = cc
     by_fault o None e = let same : o ∷ [] ≡ os = cc in (o, sym same)
 
@@ -34,7 +35,8 @@ opened_one limit input os e =
 behind_headers : Want → List (List ℕ) → Result (List Opened) (ℕ × Fault) → Outcome
 behind_headers want names r = elim r [ Err e ↦ fault_outcome [] (name_at names e.0) e.1 | Ok os ↦ over_opened want names os ]
 
-headers_good : (want : Want) (names : List (List ℕ)) (r : Result (List Opened) (ℕ × Fault)) → (behind_headers want names r).status ≡ 0 → (os : List Opened) × (r ≡ Ok os) × (behind_headers want names r ≡ over_opened want names os)
+headers_good : (want : Want) (names : List (List ℕ)) (r : Result (List Opened) (ℕ × Fault)) → (behind_headers want names r).status ≡ 0
+    → (os : List Opened) × (r ≡ Ok os) × (behind_headers want names r ≡ over_opened want names os)
 unfolding behind_headers
 headers_good want names (Err e) h = absurd (fault_status [] (name_at names e.0) e.1 h)
 headers_good want names (Ok os) h = (os, refl, refl)
@@ -61,7 +63,8 @@ merge_clean names ds (Some f) h = absurd (fault_status (merge_open (headers_of d
 merge_clean names ds None h = (refl, refl)
 
 pub merge_case : (names : List (List ℕ)) (os : List Opened) → (over_opened Want.Merge names os).status ≡ 0
-    → (first_fault (dumps_of os) ≡ None) × ((over_opened Want.Merge names os).output ≡ merge_open (headers_of (dumps_of os)) (merged_items (dumps_of os)) ++ merge_close (merged_items (dumps_of os)))
+    → (first_fault (dumps_of os) ≡ None) × ((over_opened Want.Merge names os).output ≡ merge_open (headers_of (dumps_of os))
+    (merged_items (dumps_of os)) ++ merge_close (merged_items (dumps_of os)))
 unfolding request_of merge_outcome merge_of
 merge_case names os h = merge_clean names (dumps_of os) (first_fault (dumps_of os)) h
 
@@ -114,7 +117,8 @@ no_end names (BodyItem.End ∷ items) = no_end names items
 no_end names (BodyItem.Changes c ∷ items) = no_end names items
 
 -- no timestamp ends a run of `pick`
-pub pick_body : (names : List (List ℕ)) (h : Header) (items : List BodyItem) (name : List ℕ) (fault : Option Fault) → over_body (Request.Pick names) h items name fault ≡ at_end (Request.Pick names) h items name fault
+pub pick_body : (names : List (List ℕ)) (h : Header) (items : List BodyItem) (name : List ℕ) (fault : Option Fault)
+    → over_body (Request.Pick names) h items name fault ≡ at_end (Request.Pick names) h items name fault
 unfolding over_body
 pick_body names h items name fault = rw (no_end names items, over_body) refl
 
@@ -129,7 +133,8 @@ one_run want limit name input h =
     (one.0, pair.0, pair.1)
 
 pub pick_case : (names : List (List ℕ)) (name : List ℕ) (o : Opened) → (over_opened (Want.Pick names) (name ∷ []) (o ∷ [])).status ≡ 0
-    → (fault_in o ≡ None) × ((over_opened (Want.Pick names) (name ∷ []) (o ∷ [])).output ≡ open_text (Request.Pick names) o.header (items_in o) ++ close_text (Request.Pick names) o.header (items_in o))
+    → (fault_in o ≡ None) × ((over_opened (Want.Pick names) (name ∷ []) (o ∷ [])).output ≡ open_text (Request.Pick names) o.header
+    (items_in o) ++ close_text (Request.Pick names) o.header (items_in o))
 unfolding request_of over_dump named
 pick_case names name o h =
     let task = Request.Pick names in
@@ -141,7 +146,8 @@ pick_case names name o h =
     (clean.0, ap (λ (d : Outcome). d.output) same ∙ clean.1)
 
 -- each name of a pick with status 0 selects something
-pub pick_matched : (names : List (List ℕ)) (name : List ℕ) (o : Opened) → (over_opened (Want.Pick names) (name ∷ []) (o ∷ [])).status ≡ 0 → first_unmatched names o.header.declarations ≡ None
+pub pick_matched : (names : List (List ℕ)) (name : List ℕ) (o : Opened) → (over_opened (Want.Pick names) (name ∷ []) (o ∷ [])).status ≡ 0
+    → first_unmatched names o.header.declarations ≡ None
 unfolding request_of over_dump named
 pick_matched names name o h =
     by_place (first_unmatched names o.header.declarations) (over_body (Request.Pick names) o.header (items_in o) (name_at (name ∷ []) 0) (fault_in o)) h
@@ -206,7 +212,8 @@ unfolding asked
 cut_ticks units (Ok from) (Ok to) names o h = decided (units && nat_lt to from) h
   where
     decided : (c : Bool) → (asked names o (cond c (Err Refusal.FromAboveTo) (Ok (Request.Cut from to)))).status ≡ 0
-        → (f : ℕ) × (t : ℕ) × (◌≡◌ {A = Result ℕ ℕ} (Ok from) (Ok f)) × (◌≡◌ {A = Result ℕ ℕ} (Ok to) (Ok t)) × (cond c (Err Refusal.FromAboveTo) (Ok (Request.Cut from to)) ≡ Ok (Request.Cut f t))
+        → (f : ℕ) × (t : ℕ) × (◌≡◌ {A = Result ℕ ℕ} (Ok from) (Ok f)) × (◌≡◌ {A = Result ℕ ℕ} (Ok to) (Ok t))
+        × (cond c (Err Refusal.FromAboveTo) (Ok (Request.Cut from to)) ≡ Ok (Request.Cut f t))
     decided true h = cc
     decided false h = (from, to, refl, refl, refl)
 cut_ticks units (Ok from) (Err n) names o h = absurd (refused (name_at names 0) (first_refusal (Ok from ∷ Err n ∷ [])) h)
@@ -214,7 +221,8 @@ cut_ticks units (Err n) (Ok to) names o h = absurd (refused (name_at names 0) (f
 cut_ticks units (Err n) (Err m) names o h = absurd (refused (name_at names 0) (first_refusal (Err n ∷ Err m ∷ [])) h)
 
 -- the body of a cut
-cut_end : (a b : ℕ) (h : Header) (items : List BodyItem) (name : List ℕ) (fault : Option Fault) (ends : Bool) → ends_cut b items ≡ ends → (over_body (Request.Cut a b) h items name fault).status ≡ 0
+cut_end : (a b : ℕ) (h : Header) (items : List BodyItem) (name : List ℕ) (fault : Option Fault) (ends : Bool) → ends_cut b items ≡ ends
+    → (over_body (Request.Cut a b) h items name fault).status ≡ 0
     → (IsTrue (ends_cut b items) ⊎ (fault ≡ None)) × ((over_body (Request.Cut a b) h items name fault).output ≡ cut_text h a b items)
 unfolding over_body
 cut_end a b h items name fault true e s = (inl e, rw (e, over_body, cut_text) refl)
@@ -241,7 +249,8 @@ pub record IsCutRun (limit : ℕ) (name : List ℕ) (from to : Moment) (input : 
   pub ends : IsTrue (ends_cut b (items_in o)) ⊎ (fault_in o ≡ None)
   pub output : (outcome (Want.Cut from to) limit (name ∷ []) (input ∷ [])).output ≡ cut_text o.header a b (items_in o)
 
-pub cut_run : (limit : ℕ) (name : List ℕ) (from to : Moment) (input : Input) (o : Opened) → IsJob (Want.Cut from to) → outcome (Want.Cut from to) limit (name ∷ []) (input ∷ []) ≡ over_opened (Want.Cut from to) (name ∷ []) (o ∷ [])
+pub cut_run : (limit : ℕ) (name : List ℕ) (from to : Moment) (input : Input) (o : Opened) → IsJob (Want.Cut from to)
+    → outcome (Want.Cut from to) limit (name ∷ []) (input ∷ []) ≡ over_opened (Want.Cut from to) (name ∷ []) (o ∷ [])
     → (outcome (Want.Cut from to) limit (name ∷ []) (input ∷ [])).status ≡ 0 → IsCutRun limit name from to input o
 unfolding request_of asked
 cut_run limit name from to input o job run h =
@@ -277,7 +286,8 @@ cut_run_keeps limit name from to input job h =
 
 -- ---- runs over an opened input
 
-pub opened_run : (want : Want) (limit : ℕ) (name : List ℕ) (input : Input) (o : Opened) → Opens limit input o → outcome want limit (name ∷ []) (input ∷ []) ≡ over_opened want (name ∷ []) (o ∷ [])
+pub opened_run : (want : Want) (limit : ℕ) (name : List ℕ) (input : Input) (o : Opened) → Opens limit input o
+    → outcome want limit (name ∷ []) (input ∷ []) ≡ over_opened want (name ∷ []) (o ∷ [])
 unfolding outcome
 opened_run want limit name input o opens = rw (opens, outcome) refl
 

@@ -123,7 +123,9 @@ each_is_of hs done (o ∷ os) n e =
   where
     by_fault : (x : Option Fault) → (dump_in hs o).fault ≡ x
         → AllByRecursion (IsOf hs (done ++ o ∷ os)) (faults_rest hs (n + 1) (map (dump_in hs) os))
-        → AllByRecursion (IsOf hs (done ++ o ∷ os)) (cons_option (option_map (λ f. record { key = key_after (factor hs (dump_in hs o).header) n (dump_in hs o).items; fault = f }) x) (faults_rest hs (n + 1) (map (dump_in hs) os)))
+        → AllByRecursion (IsOf hs (done ++ o ∷ os)) (cons_option (option_map
+        (λ f. record { key = key_after (factor hs (dump_in hs o).header) n (dump_in hs o).items; fault = f }) x)
+        (faults_rest hs (n + 1) (map (dump_in hs) os)))
     by_fault None f more = more
     by_fault (Some x) f more =
         (record { earlier = done; input = o; later = os; inputs = refl; place = e; fault = f }, more)
@@ -203,7 +205,8 @@ checked_merge_is_safe limit name names inputs checked few =
       where
         by_mark : (os : List Opened) (done : Outcome) (f : KeyedFault) (is : IsOf (headers os) os f)
             → done ≡ fault_outcome (merge_open (headers_of (dumps_of os)) (items_before f (merged_items (dumps_of os)))) (name_at names f.key.input) f.fault
-            → ((find (placed_is_too_large (factor (headers os) is.input.header)) (body_of is.input).placed ≡ None) × (scaled_fault (factor (headers os) is.input.header) (fault_in is.input) (body_of is.input) ≡ None))
+            → ((find (placed_is_too_large (factor (headers os) is.input.header)) (body_of is.input).placed ≡ None)
+            × (scaled_fault (factor (headers os) is.input.header) (fault_in is.input) (body_of is.input) ≡ None))
             ⊎ ((p : Placed BodyPhrase) × (find (placed_is_too_large (factor (headers os) is.input.header)) (body_of is.input).placed ≡ Some p)
             × (scaled_fault (factor (headers os) is.input.header) (fault_in is.input) (body_of is.input) ≡ Some (record { number = 20; line = p.line })))
             → (AllByRecursion (λ o. first_too_large os o ≡ None) os × EndsWell done) ⊎ NamesTooLarge os names done

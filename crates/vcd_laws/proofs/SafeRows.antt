@@ -143,7 +143,8 @@ abbrev merge_of : String → String → Outcome
 merge_of a b = outcome Want.Merge limit (codes "a.vcd" ∷ codes "b.vcd" ∷ []) (clean a ∷ clean b ∷ [])
 
 -- at the finer scale of the other it is too large
-too_large : merge_of late fine ≡ gives "$timescale;^100ps;$end;$scope module in1 $end;$var wire 1 ! a $end;$upscope $end;$scope module in2 $end;$var wire 1 \" b $end;$upscope $end;$enddefinitions $end;#40;1\";#50;1!;" "a.vcd:2: time too large" 1
+too_large : merge_of late fine
+    ≡ gives "$timescale;^100ps;$end;$scope module in1 $end;$var wire 1 ! a $end;$upscope $end;$scope module in2 $end;$var wire 1 \" b $end;$upscope $end;$enddefinitions $end;#40;1\";#50;1!;" "a.vcd:2: time too large" 1
 unfolding model
 too_large = refl
 
@@ -160,7 +161,8 @@ unfolding model
 both_fine = refl
 
 -- a merge names the fault that `check` names of one of its inputs
-faulty_merged : merge_of good faulty ≡ gives "$timescale;^1ns;$end;$scope module in1 $end;$scope module m $end;$var wire 1 ! a $end;$upscope $end;$upscope $end;$scope module in2 $end;$var wire 1 \" a $end;$upscope $end;$enddefinitions $end;#5;1!;#9;0!;#5000000000;1\";" "b.vcd:3: time goes back" 1
+faulty_merged : merge_of good faulty
+    ≡ gives "$timescale;^1ns;$end;$scope module in1 $end;$scope module m $end;$var wire 1 ! a $end;$upscope $end;$upscope $end;$scope module in2 $end;$var wire 1 \" a $end;$upscope $end;$enddefinitions $end;#5;1!;#9;0!;#5000000000;1\";" "b.vcd:3: time goes back" 1
 unfolding model
 faulty_merged = refl
 

@@ -85,7 +85,8 @@ cut_that_ends_before_it_begins : settled (Want.Cut (seconds 2) (seconds 1)) scal
 unfolding model
 cut_that_ends_before_it_begins = refl
 
-times_that_have_ticks : map (λ want. settled want scaled (6 ∷ 7 ∷ [])) (Want.Sample (seconds 1 ∷ seconds 2 ∷ []) [] ∷ Want.Cut (seconds 1) (seconds 2) ∷ []) ≡ (false ∷ false ∷ []) ∷ (false ∷ false ∷ []) ∷ []
+times_that_have_ticks : map (λ want. settled want scaled (6 ∷ 7 ∷ []))
+    (Want.Sample (seconds 1 ∷ seconds 2 ∷ []) [] ∷ Want.Cut (seconds 1) (seconds 2) ∷ []) ≡ (false ∷ false ∷ []) ∷ (false ∷ false ∷ []) ∷ []
 unfolding model
 times_that_have_ticks = refl
 
@@ -116,7 +117,9 @@ fault_of_a_cut : settled (Want.Cut (at 1) (at 9)) (written "$enddefinitions $end
 unfolding model
 fault_of_a_cut = refl
 
-faults_of_bodies : map (λ want. settled want (written "$var wire 1 ! a $end $enddefinitions $end #5 ? #6") (9 ∷ 10 ∷ 11 ∷ [])) (Want.Check ∷ Want.Pick (codes "a" ∷ []) ∷ Want.Sample (at 9 ∷ []) [] ∷ Want.Edges [] ∷ Want.Merge ∷ []) ≡ (false ∷ true ∷ true ∷ []) ∷ (false ∷ true ∷ true ∷ []) ∷ (false ∷ true ∷ true ∷ []) ∷ (false ∷ true ∷ true ∷ []) ∷ (false ∷ true ∷ true ∷ []) ∷ []
+faults_of_bodies : map (λ want. settled want (written "$var wire 1 ! a $end $enddefinitions $end #5 ? #6") (9 ∷ 10 ∷ 11 ∷ []))
+    (Want.Check ∷ Want.Pick (codes "a" ∷ []) ∷ Want.Sample (at 9 ∷ []) [] ∷ Want.Edges [] ∷ Want.Merge ∷ []) ≡ (false ∷ true ∷ true ∷ []) ∷
+    (false ∷ true ∷ true ∷ []) ∷ (false ∷ true ∷ true ∷ []) ∷ (false ∷ true ∷ true ∷ []) ∷ (false ∷ true ∷ true ∷ []) ∷ []
 unfolding model
 faults_of_bodies = refl
 
@@ -167,13 +170,15 @@ unfolding model
 late_alone = refl
 
 -- an input that ends before it is known to go no further if all of it is known
-ends_before_it : map is_settled_merge ((first 15 late ∷ all (written "$timescale 100 ps $end $enddefinitions $end #40") ∷ []) ∷ (first 15 late ∷ first 7 (written "$timescale 100 ps $end $enddefinitions $end #40") ∷ []) ∷ []) ≡ true ∷ false ∷ []
+ends_before_it : map is_settled_merge ((first 15 late ∷ all (written "$timescale 100 ps $end $enddefinitions $end #40") ∷ []) ∷
+    (first 15 late ∷ first 7 (written "$timescale 100 ps $end $enddefinitions $end #40") ∷ []) ∷ []) ≡ true ∷ false ∷ []
 unfolding model
 ends_before_it = refl
 
 -- a fault at the very time of the other's last timestamp: the first input comes before the second,
 -- and the other way round
-equal_times : map is_settled_merge ((first 4 (written "$enddefinitions $end #5 ?") ∷ first 3 (written "$enddefinitions $end #5 #6") ∷ []) ∷ (first 3 (written "$enddefinitions $end #5 #6") ∷ first 4 (written "$enddefinitions $end #5 ?") ∷ []) ∷ []) ≡ true ∷ false ∷ []
+equal_times : map is_settled_merge ((first 4 (written "$enddefinitions $end #5 ?") ∷ first 3 (written "$enddefinitions $end #5 #6") ∷ []) ∷
+    (first 3 (written "$enddefinitions $end #5 #6") ∷ first 4 (written "$enddefinitions $end #5 ?") ∷ []) ∷ []) ≡ true ∷ false ∷ []
 unfolding model
 equal_times = refl
 

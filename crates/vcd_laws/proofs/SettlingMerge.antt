@@ -155,7 +155,9 @@ faults_go_on f hs n (d ∷ ds) (d' ∷ ds') g = by_case g.0 (faults_go_on f hs (
         let none = e.fault in
         let late : key_lt f.key (key_after (factor hs d'.header) n d'.items) ≡ true =
         rw (h, i) (still_later f.key (factor hs d.header) n d.items e.more e.late) in
-        subst (λ (o : Option Fault). Extends f (cons_option (option_map (λ x. record { key = key_after (factor hs d.header) n d.items; fault = x }) o) (faults_rest hs (n + 1) ds)) (faults_rest hs n (d' ∷ ds'))) (sym none)
+        subst (λ (o : Option Fault). Extends f (cons_option (option_map
+        (λ x. record { key = key_after (factor hs d.header) n d.items; fault = x }) o) (faults_rest hs (n + 1) ds))
+        (faults_rest hs n (d' ∷ ds'))) (sym none)
         (by_more (key_after (factor hs d'.header) n d'.items) d'.fault late more)
 
 -- their items before f
@@ -349,7 +351,8 @@ body_known scale h s rest xs =
 -- an input of which this is known: its dump is the known one, or it continues from that; and not
 -- if all is known
 abbrev pub DumpOf : List Header → SeenBody → Dump → Type 0
-DumpOf hs s d' = (d' ≡ dump_seen hs s) ⊎ ((is_some s.whole ≡ false) × (d'.header ≡ (dump_seen hs s).header) × ((dump_seen hs s).fault ≡ None) × ((more : List BodyItem) × (d'.items ≡ (dump_seen hs s).items ++ more)))
+DumpOf hs s d' = (d' ≡ dump_seen hs s) ⊎ ((is_some s.whole ≡ false) × (d'.header ≡ (dump_seen hs s).header) × ((dump_seen hs s).fault ≡ None)
+    × ((more : List BodyItem) × (d'.items ≡ (dump_seen hs s).items ++ more)))
 
 same_opened : (o : Opened) (h : Header) (ts : List Token) → o.header ≡ h → o.rest ≡ ts → o ≡ opened_at h o.stream ts
 same_opened o h ts e f =

@@ -6,11 +6,14 @@ use Rattle.vcd_laws.proofs.RowText.{written, clean}
 
 -- ---- values
 
-extends : map (λ d. extend (str_to_ascii_lowercase d) 4) (codes "1" ∷ codes "0" ∷ codes "x" ∷ codes "Z" ∷ codes "10" ∷ codes "x10" ∷ codes "zx0" ∷ codes "0x10" ∷ []) ≡ codes "0001" ∷ codes "0000" ∷ codes "xxxx" ∷ codes "zzzz" ∷ codes "0010" ∷ codes "xx10" ∷ codes "zzx0" ∷ codes "0x10" ∷ []
+extends : map (λ d. extend
+    (str_to_ascii_lowercase d) 4) (codes "1" ∷ codes "0" ∷ codes "x" ∷ codes "Z" ∷ codes "10" ∷ codes "x10" ∷ codes "zx0" ∷ codes "0x10" ∷ [])
+    ≡ codes "0001" ∷ codes "0000" ∷ codes "xxxx" ∷ codes "zzzz" ∷ codes "0010" ∷ codes "xx10" ∷ codes "zzx0" ∷ codes "0x10" ∷ []
 unfolding model
 extends = refl
 
-shortens : map short (codes "0000" ∷ codes "0001" ∷ codes "1111" ∷ codes "xxxx" ∷ codes "00x1" ∷ codes "0xxx" ∷ codes "zzx0" ∷ codes "xz10" ∷ []) ≡ codes "0" ∷ codes "1" ∷ codes "1111" ∷ codes "x" ∷ codes "0x1" ∷ codes "0xxx" ∷ codes "zx0" ∷ codes "xz10" ∷ []
+shortens : map short (codes "0000" ∷ codes "0001" ∷ codes "1111" ∷ codes "xxxx" ∷ codes "00x1" ∷ codes "0xxx" ∷ codes "zzx0" ∷ codes "xz10" ∷ [])
+    ≡ codes "0" ∷ codes "1" ∷ codes "1111" ∷ codes "x" ∷ codes "0x1" ∷ codes "0xxx" ∷ codes "zx0" ∷ codes "xz10" ∷ []
 unfolding model
 shortens = refl
 
@@ -26,7 +29,8 @@ digit_lines : line 4 false ChangeForm.Scalar "Z" ∷ line 1 false ChangeForm.Vec
 unfolding model
 digit_lines = refl
 
-event_and_real_lines : line 1 true ChangeForm.Scalar "x" ∷ line 1 true ChangeForm.Vector "0110" ∷ line 1 false ChangeForm.RealText "1.5" ∷ line 4 false ChangeForm.RealText "NaN" ∷ [] ≡ written "1\";" ∷ written "1\";" ∷ written "r1.5 \";" ∷ written "rNaN \";" ∷ []
+event_and_real_lines : line 1 true ChangeForm.Scalar "x" ∷ line 1 true ChangeForm.Vector "0110" ∷ line 1 false ChangeForm.RealText "1.5" ∷ line 4 false ChangeForm.RealText "NaN" ∷ []
+    ≡ written "1\";" ∷ written "1\";" ∷ written "r1.5 \";" ∷ written "rNaN \";" ∷ []
 unfolding model
 event_and_real_lines = refl
 
@@ -48,11 +52,18 @@ final_values : map (final_value history) three ≡ Some (Value.Bits (codes "01")
 unfolding model
 final_values = refl
 
-values_at_times : map (λ t. map (λ c. value_at history c t) three) (0 ∷ 2 ∷ 3 ∷ 6 ∷ 7 ∷ []) ≡ (Some (Value.Bits (codes "xx")) ∷ None ∷ None ∷ []) ∷ (Some (Value.Bits (codes "xx")) ∷ None ∷ None ∷ []) ∷ (Some (Value.Real (codes "1.5")) ∷ Some (Value.Bits (codes "0")) ∷ None ∷ []) ∷ (Some (Value.Real (codes "1.5")) ∷ Some (Value.Bits (codes "0")) ∷ None ∷ []) ∷ (Some (Value.Bits (codes "01")) ∷ Some (Value.Bits (codes "0")) ∷ None ∷ []) ∷ []
+values_at_times : map (λ t. map (λ c. value_at history c t) three) (0 ∷ 2 ∷ 3 ∷ 6 ∷ 7 ∷ []) ≡ (Some (Value.Bits (codes "xx")) ∷ None ∷ None ∷ []) ∷
+    (Some (Value.Bits (codes "xx")) ∷ None ∷ None ∷ []) ∷ (Some (Value.Real (codes "1.5")) ∷ Some (Value.Bits (codes "0")) ∷ None ∷ []) ∷
+    (Some (Value.Real (codes "1.5")) ∷ Some (Value.Bits (codes "0")) ∷ None ∷ []) ∷
+    (Some (Value.Bits (codes "01")) ∷ Some (Value.Bits (codes "0")) ∷ None ∷ []) ∷ []
 unfolding model
 values_at_times = refl
 
-values_before_times : map (λ t. map (λ c. value_before history c t) three) (0 ∷ 1 ∷ 3 ∷ 4 ∷ 7 ∷ 8 ∷ []) ≡ (None ∷ None ∷ None ∷ []) ∷ (Some (Value.Bits (codes "xx")) ∷ None ∷ None ∷ []) ∷ (Some (Value.Bits (codes "xx")) ∷ None ∷ None ∷ []) ∷ (Some (Value.Real (codes "1.5")) ∷ Some (Value.Bits (codes "0")) ∷ None ∷ []) ∷ (Some (Value.Real (codes "1.5")) ∷ Some (Value.Bits (codes "0")) ∷ None ∷ []) ∷ (Some (Value.Bits (codes "01")) ∷ Some (Value.Bits (codes "0")) ∷ None ∷ []) ∷ []
+values_before_times : map (λ t. map (λ c. value_before history c t) three) (0 ∷ 1 ∷ 3 ∷ 4 ∷ 7 ∷ 8 ∷ []) ≡ (None ∷ None ∷ None ∷ []) ∷
+    (Some (Value.Bits (codes "xx")) ∷ None ∷ None ∷ []) ∷ (Some (Value.Bits (codes "xx")) ∷ None ∷ None ∷ []) ∷
+    (Some (Value.Real (codes "1.5")) ∷ Some (Value.Bits (codes "0")) ∷ None ∷ []) ∷
+    (Some (Value.Real (codes "1.5")) ∷ Some (Value.Bits (codes "0")) ∷ None ∷ []) ∷
+    (Some (Value.Bits (codes "01")) ∷ Some (Value.Bits (codes "0")) ∷ None ∷ []) ∷ []
 unfolding model
 values_before_times = refl
 
@@ -61,7 +72,9 @@ unfolding model
 values_in_order = refl
 
 -- a section that has ended is not open
-open_sections : map open_section ([] ∷ (BodyItem.Begin SectionKind.Off ∷ []) ∷ (BodyItem.Begin SectionKind.Off ∷ BodyItem.End ∷ []) ∷ (BodyItem.Begin SectionKind.Off ∷ BodyItem.End ∷ BodyItem.Begin SectionKind.All ∷ []) ∷ []) ≡ None ∷ Some SectionKind.Off ∷ None ∷ Some SectionKind.All ∷ []
+open_sections : map open_section ([] ∷ (BodyItem.Begin SectionKind.Off ∷ []) ∷ (BodyItem.Begin SectionKind.Off ∷ BodyItem.End ∷ []) ∷
+    (BodyItem.Begin SectionKind.Off ∷ BodyItem.End ∷ BodyItem.Begin SectionKind.All ∷ []) ∷ [])
+    ≡ None ∷ Some SectionKind.Off ∷ None ∷ Some SectionKind.All ∷ []
 unfolding model
 open_sections = refl
 
@@ -75,7 +88,8 @@ code_bytes_are_33_to_126 : filter is_code_byte (range_with_len 0 256) ≡ range_
 unfolding model
 code_bytes_are_33_to_126 = refl
 
-decimals : map (λ s. is_decimal (codes s)) ("0" ∷ "9" ∷ "007" ∷ "18446744073709551616" ∷ "" ∷ "1x" ∷ "x1" ∷ "-1" ∷ "/" ∷ ":" ∷ "1 2" ∷ []) ≡ true ∷ true ∷ true ∷ true ∷ false ∷ false ∷ false ∷ false ∷ false ∷ false ∷ false ∷ []
+decimals : map (λ s. is_decimal (codes s)) ("0" ∷ "9" ∷ "007" ∷ "18446744073709551616" ∷ "" ∷ "1x" ∷ "x1" ∷ "-1" ∷ "/" ∷ ":" ∷ "1 2" ∷ [])
+    ≡ true ∷ true ∷ true ∷ true ∷ false ∷ false ∷ false ∷ false ∷ false ∷ false ∷ false ∷ []
 unfolding model
 decimals = refl
 
@@ -89,7 +103,8 @@ lines_end = refl
 
 -- ---- the codes of a merge
 
-new_codes : map new_code (0 ∷ 1 ∷ 93 ∷ 94 ∷ 95 ∷ 187 ∷ 188 ∷ 8835 ∷ 8836 ∷ []) ≡ codes "!" ∷ codes "\"" ∷ codes "~" ∷ codes "!\"" ∷ codes "\"\"" ∷ codes "~\"" ∷ codes "!#" ∷ codes "~~" ∷ codes "!!\"" ∷ []
+new_codes : map new_code (0 ∷ 1 ∷ 93 ∷ 94 ∷ 95 ∷ 187 ∷ 188 ∷ 8835 ∷ 8836 ∷ [])
+    ≡ codes "!" ∷ codes "\"" ∷ codes "~" ∷ codes "!\"" ∷ codes "\"\"" ∷ codes "~\"" ∷ codes "!#" ∷ codes "~~" ∷ codes "!!\"" ∷ []
 unfolding model
 new_codes = refl
 
@@ -134,7 +149,8 @@ unfolding model
 no_unknown_commands = refl
 
 -- what begins a change, a timestamp or a section is out of place, and other bytes begin nothing
-begins_a_change_in_a_header : map (λ s. header_fault 16777216 [] [] (codes s)) ("#" ∷ "0" ∷ "1" ∷ "x" ∷ "X" ∷ "z" ∷ "Z" ∷ "b" ∷ "B" ∷ "r" ∷ "R" ∷ "2" ∷ "a" ∷ []) ≡ replicate 11 (Some 4) ++ Some 3 ∷ Some 3 ∷ []
+begins_a_change_in_a_header : map (λ s. header_fault 16777216 [] [] (codes s))
+    ("#" ∷ "0" ∷ "1" ∷ "x" ∷ "X" ∷ "z" ∷ "Z" ∷ "b" ∷ "B" ∷ "r" ∷ "R" ∷ "2" ∷ "a" ∷ []) ≡ replicate 11 (Some 4) ++ Some 3 ∷ Some 3 ∷ []
 unfolding model
 begins_a_change_in_a_header = refl
 
@@ -169,7 +185,10 @@ upscope_of_too_many = refl
 abbrev faults_after : List String → List String → List (Option ℕ)
 faults_after before tokens = map (λ token. header_fault 16777216 [] (map (λ s. codes s) before) (codes token)) tokens
 
-sizes : faults_after ("$var" ∷ "wire" ∷ []) ("1" ∷ "16777215" ∷ "000000000000000000000000016777215" ∷ "0" ∷ "000" ∷ "16777216" ∷ "18446744073709551617" ∷ "1x" ∷ "x1" ∷ "-1" ∷ "1.0" ∷ ":" ∷ "$end" ∷ []) ≡ replicate 3 None ++ replicate 10 (Some 7)
+sizes : faults_after
+    ("$var" ∷ "wire" ∷ [])
+    ("1" ∷ "16777215" ∷ "000000000000000000000000016777215" ∷ "0" ∷ "000" ∷ "16777216" ∷ "18446744073709551617" ∷ "1x" ∷ "x1" ∷ "-1" ∷ "1.0" ∷ ":" ∷ "$end" ∷ [])
+    ≡ replicate 3 None ++ replicate 10 (Some 7)
 unfolding model
 sizes = refl
 
@@ -178,32 +197,42 @@ unfolding model
 types_of_variables = refl
 
 -- a code of each single byte, and of two bytes
-bytes_of_codes : map (λ token. header_fault 16777216 [] (codes "$var" ∷ codes "wire" ∷ codes "1" ∷ []) token) ((31 ∷ []) ∷ (33 ∷ []) ∷ (126 ∷ []) ∷ (127 ∷ []) ∷ (255 ∷ []) ∷ (33 ∷ 126 ∷ []) ∷ (33 ∷ 127 ∷ []) ∷ (127 ∷ 33 ∷ []) ∷ []) ≡ Some 7 ∷ None ∷ None ∷ Some 7 ∷ Some 7 ∷ None ∷ Some 7 ∷ Some 7 ∷ []
+bytes_of_codes : map (λ token. header_fault 16777216 [] (codes "$var" ∷ codes "wire" ∷ codes "1" ∷ []) token)
+    ((31 ∷ []) ∷ (33 ∷ []) ∷ (126 ∷ []) ∷ (127 ∷ []) ∷ (255 ∷ []) ∷ (33 ∷ 126 ∷ []) ∷ (33 ∷ 127 ∷ []) ∷ (127 ∷ 33 ∷ []) ∷ [])
+    ≡ Some 7 ∷ None ∷ None ∷ Some 7 ∷ Some 7 ∷ None ∷ Some 7 ∷ Some 7 ∷ []
 unfolding model
 bytes_of_codes = refl
 
 -- only the first token of a reference is checked
-references : faults_after ("$var" ∷ "wire" ∷ "1" ∷ "!" ∷ []) ("a" ∷ "$var" ∷ "$end" ∷ []) ++ faults_after ("$var" ∷ "wire" ∷ "1" ∷ "!" ∷ "a" ∷ []) ("b" ∷ "$var" ∷ "$end" ∷ []) ≡ None ∷ None ∷ Some 7 ∷ None ∷ None ∷ None ∷ []
+references : faults_after ("$var" ∷ "wire" ∷ "1" ∷ "!" ∷ []) ("a" ∷ "$var" ∷ "$end" ∷ []) ++ faults_after ("$var" ∷ "wire" ∷ "1" ∷ "!" ∷ "a" ∷ [])
+    ("b" ∷ "$var" ∷ "$end" ∷ []) ≡ None ∷ None ∷ Some 7 ∷ None ∷ None ∷ None ∷ []
 unfolding model
 references = refl
 
 -- a variable of this type and size under `!`, and then one under this code
 abbrev next_code : String → ℕ → String → String → String → Option ℕ
-next_code type size next_type next_size code = header_fault 16777216 (HeaderPhrase.Declares (Declaration.Var (record { type = codes type; size = size; code = codes "!"; reference = codes "a" ∷ [] })) ∷ []) (codes "$var" ∷ codes next_type ∷ codes next_size ∷ []) (codes code)
+next_code type size next_type next_size code = header_fault 16777216
+    (HeaderPhrase.Declares (Declaration.Var (record { type = codes type; size = size; code = codes "!"; reference = codes "a" ∷ [] })) ∷ [])
+    (codes "$var" ∷ codes next_type ∷ codes next_size ∷ []) (codes code)
 
-codes_that_agree : next_code "wire" 4 "reg" "04" "!" ∷ next_code "event" 1 "event" "1" "!" ∷ next_code "wire" 4 "event" "1" "\"" ∷ next_code "wire" 4 "wire" "1" "!!" ∷ [] ≡ None ∷ None ∷ None ∷ None ∷ []
+codes_that_agree : next_code "wire" 4 "reg" "04" "!" ∷ next_code "event" 1 "event" "1" "!" ∷ next_code "wire" 4 "event" "1" "\"" ∷ next_code "wire" 4 "wire" "1" "!!" ∷ []
+    ≡ None ∷ None ∷ None ∷ None ∷ []
 unfolding model
 codes_that_agree = refl
 
-codes_that_differ : next_code "wire" 4 "wire" "3" "!" ∷ next_code "event" 1 "wire" "1" "!" ∷ next_code "wire" 1 "event" "1" "!" ∷ next_code "event" 1 "event" "2" "!" ∷ [] ≡ Some 8 ∷ Some 8 ∷ Some 8 ∷ Some 8 ∷ []
+codes_that_differ : next_code "wire" 4 "wire" "3" "!" ∷ next_code "event" 1 "wire" "1" "!" ∷ next_code "wire" 1 "event" "1" "!" ∷ next_code "event" 1 "event" "2" "!" ∷ []
+    ≡ Some 8 ∷ Some 8 ∷ Some 8 ∷ Some 8 ∷ []
 unfolding model
 codes_that_differ = refl
 
-first_tokens_of_scales : faults_after ("$timescale" ∷ []) ("1" ∷ "10" ∷ "100" ∷ "1s" ∷ "100fs" ∷ "s" ∷ "1000" ∷ "01" ∷ "1S" ∷ "2ns" ∷ "$end" ∷ []) ≡ replicate 5 None ++ replicate 6 (Some 5)
+first_tokens_of_scales : faults_after ("$timescale" ∷ []) ("1" ∷ "10" ∷ "100" ∷ "1s" ∷ "100fs" ∷ "s" ∷ "1000" ∷ "01" ∷ "1S" ∷ "2ns" ∷ "$end" ∷ [])
+    ≡ replicate 5 None ++ replicate 6 (Some 5)
 unfolding model
 first_tokens_of_scales = refl
 
-second_tokens_of_scales : faults_after ("$timescale" ∷ "10" ∷ []) ("s" ∷ "ms" ∷ "us" ∷ "ns" ∷ "ps" ∷ "fs" ∷ "as" ∷ "NS" ∷ "1s" ∷ "$end" ∷ []) ++ faults_after ("$timescale" ∷ "10ns" ∷ []) ("$end" ∷ "ns" ∷ []) ≡ replicate 6 None ++ replicate 4 (Some 5) ++ None ∷ Some 5 ∷ []
+second_tokens_of_scales : faults_after ("$timescale" ∷ "10" ∷ [])
+    ("s" ∷ "ms" ∷ "us" ∷ "ns" ∷ "ps" ∷ "fs" ∷ "as" ∷ "NS" ∷ "1s" ∷ "$end" ∷ []) ++ faults_after ("$timescale" ∷ "10ns" ∷ []) ("$end" ∷ "ns" ∷ [])
+    ≡ replicate 6 None ++ replicate 4 (Some 5) ++ None ∷ Some 5 ∷ []
 unfolding model
 second_tokens_of_scales = refl
 
@@ -211,7 +240,9 @@ third_tokens_of_scales : faults_after ("$timescale" ∷ "10" ∷ "ns" ∷ []) ("
 unfolding model
 third_tokens_of_scales = refl
 
-tokens_of_scopes : faults_after ("$scope" ∷ []) ("module" ∷ "$scope" ∷ "$end" ∷ []) ++ faults_after ("$scope" ∷ "module" ∷ []) ("tb" ∷ "$scope" ∷ "$end" ∷ []) ++ faults_after ("$scope" ∷ "module" ∷ "tb" ∷ []) ("$end" ∷ "u" ∷ []) ≡ None ∷ None ∷ Some 6 ∷ None ∷ None ∷ Some 6 ∷ None ∷ Some 6 ∷ []
+tokens_of_scopes : faults_after ("$scope" ∷ []) ("module" ∷ "$scope" ∷ "$end" ∷ []) ++ faults_after ("$scope" ∷ "module" ∷ [])
+    ("tb" ∷ "$scope" ∷ "$end" ∷ []) ++ faults_after ("$scope" ∷ "module" ∷ "tb" ∷ []) ("$end" ∷ "u" ∷ [])
+    ≡ None ∷ None ∷ Some 6 ∷ None ∷ None ∷ Some 6 ∷ None ∷ Some 6 ∷ []
 unfolding model
 tokens_of_scopes = refl
 
@@ -226,7 +257,8 @@ tokens_of_texts = refl
 -- ---- names
 
 -- which names select which path
-names_of_paths : map (λ name. selects_path (codes "t.u") (codes name)) ("t.u" ∷ "t" ∷ "t." ∷ "u" ∷ "" ∷ "t.u.v" ∷ "T.u" ∷ []) ≡ true ∷ true ∷ false ∷ false ∷ false ∷ false ∷ false ∷ []
+names_of_paths : map (λ name. selects_path (codes "t.u") (codes name)) ("t.u" ∷ "t" ∷ "t." ∷ "u" ∷ "" ∷ "t.u.v" ∷ "T.u" ∷ [])
+    ≡ true ∷ true ∷ false ∷ false ∷ false ∷ false ∷ false ∷ []
 unfolding model
 names_of_paths = refl
 
@@ -236,32 +268,40 @@ paths_of_names = refl
 
 -- a scope `s` in which `e` has no variable, and after it open scopes `f` and `g`
 abbrev declared : List Declaration
-declared = Declaration.Scope (codes "m") (codes "s") ∷ Declaration.Scope (codes "m") (codes "e") ∷ Declaration.Up ∷ variable "!" "a" ∷ Declaration.Up ∷ variable "\"" "b" ∷ Declaration.Scope (codes "m") (codes "f") ∷ Declaration.Scope (codes "m") (codes "g") ∷ variable "!" "c" ∷ []
+declared = Declaration.Scope (codes "m") (codes "s") ∷ Declaration.Scope (codes "m")
+    (codes "e") ∷ Declaration.Up ∷ variable "!" "a" ∷ Declaration.Up ∷ variable "\"" "b" ∷ Declaration.Scope (codes "m")
+    (codes "f") ∷ Declaration.Scope (codes "m") (codes "g") ∷ variable "!" "c" ∷ []
   where
     variable : String → String → Declaration
     variable code name = Declaration.Var (record { type = codes "wire"; size = 1; code = codes code; reference = codes name ∷ codes "[0]" ∷ [] })
 
 -- each variable with its scopes, innermost first; no scope without a variable that is selected
-places_that_are_marked : map (λ names. marked_places (map (λ s. codes s) names) declared) ([] ∷ ("s" ∷ []) ∷ ("f.g.c" ∷ "b" ∷ []) ∷ ("s.e" ∷ []) ∷ []) ≡ (3 ∷ 0 ∷ 5 ∷ 8 ∷ 7 ∷ 6 ∷ []) ∷ (3 ∷ 0 ∷ []) ∷ (5 ∷ 8 ∷ 7 ∷ 6 ∷ []) ∷ [] ∷ []
+places_that_are_marked : map (λ names. marked_places (map (λ s. codes s) names) declared)
+    ([] ∷ ("s" ∷ []) ∷ ("f.g.c" ∷ "b" ∷ []) ∷ ("s.e" ∷ []) ∷ []) ≡ (3 ∷ 0 ∷ 5 ∷ 8 ∷ 7 ∷ 6 ∷ []) ∷ (3 ∷ 0 ∷ []) ∷ (5 ∷ 8 ∷ 7 ∷ 6 ∷ []) ∷ [] ∷ []
 unfolding model
 places_that_are_marked = refl
 
-paths_that_are_selected : map (λ names. map (λ s. s.path) (selected (map (λ s. codes s) names) declared)) ([] ∷ ("s" ∷ []) ∷ ("f" ∷ "b" ∷ "f.g" ∷ []) ∷ ("c" ∷ []) ∷ []) ≡ (codes "s.a" ∷ codes "b" ∷ codes "f.g.c" ∷ []) ∷ (codes "s.a" ∷ []) ∷ (codes "b" ∷ codes "f.g.c" ∷ []) ∷ [] ∷ []
+paths_that_are_selected : map (λ names. map (λ s. s.path) (selected (map (λ s. codes s) names) declared))
+    ([] ∷ ("s" ∷ []) ∷ ("f" ∷ "b" ∷ "f.g" ∷ []) ∷ ("c" ∷ []) ∷ []) ≡ (codes "s.a" ∷ codes "b" ∷ codes "f.g.c" ∷ []) ∷ (codes "s.a" ∷ []) ∷
+    (codes "b" ∷ codes "f.g.c" ∷ []) ∷ [] ∷ []
 unfolding model
 paths_that_are_selected = refl
 
-first_names_that_select_nothing : map (λ names. first_unmatched (map (λ s. codes s) names) declared) ([] ∷ ("s" ∷ "b" ∷ []) ∷ ("s.e" ∷ "b" ∷ []) ∷ ("b" ∷ "c" ∷ "e" ∷ []) ∷ ("f" ∷ "s" ∷ "a" ∷ []) ∷ []) ≡ None ∷ None ∷ Some 0 ∷ Some 1 ∷ Some 2 ∷ []
+first_names_that_select_nothing : map (λ names. first_unmatched (map (λ s. codes s) names) declared)
+    ([] ∷ ("s" ∷ "b" ∷ []) ∷ ("s.e" ∷ "b" ∷ []) ∷ ("b" ∷ "c" ∷ "e" ∷ []) ∷ ("f" ∷ "s" ∷ "a" ∷ []) ∷ []) ≡ None ∷ None ∷ Some 0 ∷ Some 1 ∷ Some 2 ∷ []
 unfolding model
 first_names_that_select_nothing = refl
 
 -- a code is selected if a selected variable carries it, whichever is the first with it
-codes_that_are_selected : map (λ name. map (selects_code (selected (codes name ∷ []) declared)) three) ("s" ∷ "f" ∷ "b" ∷ []) ≡ (true ∷ false ∷ false ∷ []) ∷ (true ∷ false ∷ false ∷ []) ∷ (false ∷ false ∷ false ∷ []) ∷ []
+codes_that_are_selected : map (λ name. map (selects_code (selected (codes name ∷ []) declared)) three) ("s" ∷ "f" ∷ "b" ∷ []) ≡
+    (true ∷ false ∷ false ∷ []) ∷ (true ∷ false ∷ false ∷ []) ∷ (false ∷ false ∷ false ∷ []) ∷ []
 unfolding model
 codes_that_are_selected = refl
 
 -- ---- texts of faults
 
-texts_of_rare_faults : map fault_text (10 ∷ 11 ∷ 21 ∷ 31 ∷ 32 ∷ 0 ∷ 23 ∷ []) ≡ codes "scopes too deep" ∷ codes "too many declarations" ∷ codes "input too long" ∷ codes "read failed" ∷ codes "out of memory" ∷ [] ∷ [] ∷ []
+texts_of_rare_faults : map fault_text (10 ∷ 11 ∷ 21 ∷ 31 ∷ 32 ∷ 0 ∷ 23 ∷ [])
+    ≡ codes "scopes too deep" ∷ codes "too many declarations" ∷ codes "input too long" ∷ codes "read failed" ∷ codes "out of memory" ∷ [] ∷ [] ∷ []
 unfolding model
 texts_of_rare_faults = refl
 
@@ -270,11 +310,16 @@ texts_of_rare_faults = refl
 abbrev opened : String → List Opened
 opened s = elim (open_from 1048576 [] (clean s ∷ [])) [ Ok os ↦ os | Err e ↦ [] ]
 
-bound_of_clock : map (λ o. bound 1048576 (o.header ∷ [])) (opened "$timescale 1ns $end;$scope module tb $end;$var wire 1 ! clk $end;$var reg 4 \" q [3:0] $end;$upscope $end;$enddefinitions $end;") ≡ (65536 + 512 + 2 * 1048576 + 27 + 64 * 4 + (1 + 192) + (4 + 192)) ∷ []
+bound_of_clock : map
+    (λ o. bound 1048576 (o.header ∷ []))
+    (opened "$timescale 1ns $end;$scope module tb $end;$var wire 1 ! clk $end;$var reg 4 \" q [3:0] $end;$upscope $end;$enddefinitions $end;") ≡
+    (65536 + 512 + 2 * 1048576 + 27 + 64 * 4 + (1 + 192) + (4 + 192)) ∷ []
 unfolding model
 bound_of_clock = refl
 
-bound_with_texts : map (λ o. bound 64 (o.header ∷ o.header ∷ [])) (opened "$date ab c $end;$version de $end;$var wire 4 !! v [0] $end;$enddefinitions $end;") ≡ (2 * (65536 + 512 + 2 * 64 + (4 + 2 + 4 + 2 + 5) + 64 + (4 + 192))) ∷ []
+bound_with_texts : map (λ o. bound 64 (o.header ∷ o.header ∷ []))
+    (opened "$date ab c $end;$version de $end;$var wire 4 !! v [0] $end;$enddefinitions $end;") ≡
+    (2 * (65536 + 512 + 2 * 64 + (4 + 2 + 4 + 2 + 5) + 64 + (4 + 192))) ∷ []
 unfolding model
 bound_with_texts = refl
 
@@ -282,11 +327,15 @@ room_of_two_codes : map (λ o. room_of o.header) (opened "$var wire 4 ! v $end;$
 unfolding model
 room_of_two_codes = refl
 
-room_of_three_codes : map (λ o. room_of o.header) (opened "$scope module s $end;$var wire 256 ! a $end;$var wire 257 \" b $end;$var wire 1000 # c $end;$enddefinitions $end;") ≡ record { values = 379; slots = 3; marks = 4 } ∷ []
+room_of_three_codes : map
+    (λ o. room_of o.header)
+    (opened "$scope module s $end;$var wire 256 ! a $end;$var wire 257 \" b $end;$var wire 1000 # c $end;$enddefinitions $end;")
+    ≡ record { values = 379; slots = 3; marks = 4 } ∷ []
 unfolding model
 room_of_three_codes = refl
 
-shares : map (λ size. value_room (record { text = codes "!"; size = size; event = false })) (1 ∷ 255 ∷ 256 ∷ 257 ∷ 260 ∷ 261 ∷ 1000 ∷ 16777215 ∷ []) ≡ 64 ∷ 64 ∷ 64 ∷ 65 ∷ 65 ∷ 66 ∷ 250 ∷ 4194304 ∷ []
+shares : map (λ size. value_room (record { text = codes "!"; size = size; event = false })) (1 ∷ 255 ∷ 256 ∷ 257 ∷ 260 ∷ 261 ∷ 1000 ∷ 16777215 ∷ [])
+    ≡ 64 ∷ 64 ∷ 64 ∷ 65 ∷ 65 ∷ 66 ∷ 250 ∷ 4194304 ∷ []
 unfolding model
 shares = refl
 
@@ -299,7 +348,11 @@ shares_of_events : map (λ size. value_room (record { text = codes "!"; size = s
 unfolding model
 shares_of_events = refl
 
-counts_of_parts : (window_count (record { chunk = 1000; token = 200; value = 30 }) ∷ view_count (record { text = 1; rows = 1000; codes = 0; index = 0; look_up = 0 }) ∷ view_count (record { text = 0; rows = 0; codes = 1000; index = 0; look_up = 7 }) ∷ view_count (record { text = 0; rows = 0; codes = 0; index = 1000; look_up = 0 }) ∷ room_count (record { values = 1; slots = 1000; marks = 5 }) ∷ []) ≡ (1230 ∷ 49001 ∷ 25007 ∷ 8000 ∷ 42006 ∷ [])
+counts_of_parts : (window_count (record { chunk = 1000; token = 200; value = 30 }) ∷ view_count
+    (record { text = 1; rows = 1000; codes = 0; index = 0; look_up = 0 }) ∷ view_count
+    (record { text = 0; rows = 0; codes = 1000; index = 0; look_up = 7 }) ∷ view_count
+    (record { text = 0; rows = 0; codes = 0; index = 1000; look_up = 0 }) ∷ room_count (record { values = 1; slots = 1000; marks = 5 }) ∷ []) ≡
+    (1230 ∷ 49001 ∷ 25007 ∷ 8000 ∷ 42006 ∷ [])
 unfolding model
 counts_of_parts = refl
 
@@ -340,7 +393,14 @@ two_do_not_fit p = omega arith
 
 -- a header with a variable `a` and a date `d`
 abbrev one : Header
-one = record { declarations = Declaration.Var (record { type = codes "wire"; size = 1; code = codes "!"; reference = codes "a" ∷ [] }) ∷ []; codes = record { text = codes "!"; size = 1; event = false } ∷ []; date = codes "d"; version = []; scale = None }
+one = record {
+  declarations = Declaration.Var (record { type = codes "wire"; size = 1; code = codes "!"; reference = codes "a" ∷ [] })
+      ∷ [];
+  codes = record { text = codes "!"; size = 1; event = false } ∷ [];
+  date = codes "d";
+  version = [];
+  scale = None;
+}
 
 view_of_one : IsView one (record { text = 7; rows = 1; codes = 1; index = 1; look_up = 53 })
 view_of_one = record { text = omega arith; rows = omega arith; codes = omega arith; index = omega arith; look_up = omega arith }

@@ -7,16 +7,34 @@ use Rattle.vcd_model.specs.Tokens.{first_halt}
 
 -- ---- white space and lines
 
-all_white_space : outcome Want.Check limit (codes "(stdin)" ∷ []) (record { bytes = written "$var" ++ (13 ∷ []) ++ written "wire" ++ (11 ∷ []) ++ written "1" ++ (12 ∷ []) ++ written "!^a $end" ++ (13 ∷ []) ++ written ";$enddefinitions" ++ (12 ∷ []) ++ written "$end" ++ (13 ∷ []) ++ written ";#0" ++ (13 ∷ []) ++ written ";0!" ++ (11 ∷ []) ++ written "1!" ++ (13 ∷ []) ++ written ";"; mark = Mark.Clean } ∷ []) ≡ gives "scopes 0;variables 1;codes 1;times 1;sections 0;changes 2;last 0;" "" 0
+all_white_space : outcome Want.Check limit (codes "(stdin)" ∷ [])
+    (record {
+      bytes = written "$var" ++ (13 ∷ []) ++ written "wire" ++ (11 ∷ []) ++ written "1" ++ (12 ∷ []) ++ written "!^a $end" ++
+          (13 ∷ []) ++ written ";$enddefinitions" ++ (12 ∷ []) ++ written "$end" ++ (13 ∷ []) ++ written ";#0" ++ (13 ∷ []) ++ written ";0!" ++
+          (11 ∷ []) ++ written "1!" ++ (13 ∷ []) ++ written ";";
+      mark = Mark.Clean;
+    } ∷ [])
+    ≡ gives "scopes 0;variables 1;codes 1;times 1;sections 0;changes 2;last 0;" "" 0
 unfolding model
 all_white_space = refl
 
-lines_of_carriage_returns : outcome Want.Check limit (codes "(stdin)" ∷ []) (record { bytes = written "$var wire 1 ! a $end" ++ (13 ∷ []) ++ written ";$enddefinitions $end" ++ (13 ∷ []) ++ written ";" ++ (13 ∷ []) ++ (13 ∷ []) ++ written "?;"; mark = Mark.Clean } ∷ []) ≡ gives "" "(stdin):3: unknown command" 1
+lines_of_carriage_returns : outcome Want.Check limit (codes "(stdin)" ∷ [])
+    (record {
+      bytes = written "$var wire 1 ! a $end" ++ (13 ∷ []) ++ written ";$enddefinitions $end" ++ (13 ∷ []) ++ written ";" ++ (13 ∷ []) ++
+          (13 ∷ []) ++ written "?;";
+      mark = Mark.Clean;
+    } ∷ []) ≡ gives "" "(stdin):3: unknown command" 1
 unfolding model
 lines_of_carriage_returns = refl
 
 -- every other byte may be in a token
-other_bytes_in_a_name : outcome Want.Listing limit (codes "(stdin)" ∷ []) (record { bytes = written "$var wire 1 ! a" ++ (0 ∷ 1 ∷ 8 ∷ 14 ∷ 31 ∷ 127 ∷ 133 ∷ 160 ∷ 255 ∷ []) ++ written "b $end;$enddefinitions $end;"; mark = Mark.Clean } ∷ []) ≡ record { output = written "a" ++ (0 ∷ 1 ∷ 8 ∷ 14 ∷ 31 ∷ 127 ∷ 133 ∷ 160 ∷ 255 ∷ []) ++ written "b wire 1 !;"; message = []; status = 0 }
+other_bytes_in_a_name : outcome Want.Listing limit (codes "(stdin)" ∷ [])
+    (record {
+      bytes = written "$var wire 1 ! a" ++ (0 ∷ 1 ∷ 8 ∷ 14 ∷ 31 ∷ 127 ∷ 133 ∷ 160 ∷ 255 ∷ [])
+          ++ written "b $end;$enddefinitions $end;";
+      mark = Mark.Clean;
+    } ∷ [])
+    ≡ record { output = written "a" ++ (0 ∷ 1 ∷ 8 ∷ 14 ∷ 31 ∷ 127 ∷ 133 ∷ 160 ∷ 255 ∷ []) ++ written "b wire 1 !;"; message = []; status = 0 }
 unfolding model
 other_bytes_in_a_name = refl
 
@@ -69,11 +87,15 @@ long_before_failed : map (λ s. halt_place 2 (failed s)) ("abc" ∷ "abc d" ∷ 
 unfolding model
 long_before_failed = refl
 
-long_token_before_a_failed_read : outcome Want.Check 64 (codes "(stdin)" ∷ []) (record { bytes = written "$comment;xxxxxxxxxxxxxxxxxxxxxxxxxxxxxxxxxxxxxxxxxxxxxxxxxxxxxxxxxxxxxxxxx;$end;"; mark = Mark.Failed } ∷ []) ≡ gives "" "(stdin):2: token too long" 1
+long_token_before_a_failed_read : outcome Want.Check 64 (codes "(stdin)" ∷ [])
+    (record { bytes = written "$comment;xxxxxxxxxxxxxxxxxxxxxxxxxxxxxxxxxxxxxxxxxxxxxxxxxxxxxxxxxxxxxxxxx;$end;"; mark = Mark.Failed } ∷ [])
+    ≡ gives "" "(stdin):2: token too long" 1
 unfolding model
 long_token_before_a_failed_read = refl
 
-first_of_long_tokens : outcome Want.Check 64 (codes "(stdin)" ∷ []) (clean "$comment;xxxxxxxxxxxxxxxxxxxxxxxxxxxxxxxxxxxxxxxxxxxxxxxxxxxxxxxxxxxxxxxxx;;yyyyyyyyyyyyyyyyyyyyyyyyyyyyyyyyyyyyyyyyyyyyyyyyyyyyyyyyyyyyyyyyyy $end;" ∷ []) ≡ gives "" "(stdin):2: token too long" 1
+first_of_long_tokens : outcome Want.Check 64 (codes "(stdin)" ∷ [])
+    (clean "$comment;xxxxxxxxxxxxxxxxxxxxxxxxxxxxxxxxxxxxxxxxxxxxxxxxxxxxxxxxxxxxxxxxx;;yyyyyyyyyyyyyyyyyyyyyyyyyyyyyyyyyyyyyyyyyyyyyyyyyyyyyyyyyyyyyyyyyy $end;" ∷ [])
+    ≡ gives "" "(stdin):2: token too long" 1
 unfolding model
 first_of_long_tokens = refl
 
@@ -86,7 +108,8 @@ too_long_input : (text : List ℕ) → length text ≡ 2 ^ 63 → too_much_input
 too_long_input text e = rw e
 
 -- at one offset too much input counts before a token that is too long
-too_much_before_too_long : (limit : ℕ) (i : Input) → too_much_input i.bytes ≡ record { fault = 21; place = 9; line = 1 } ∷ [] → too_long_tokens limit i.bytes ≡ record { fault = 1; place = 9; line = 1 } ∷ [] → failed_read i ≡ []
+too_much_before_too_long : (limit : ℕ) (i : Input) → too_much_input i.bytes ≡ record { fault = 21; place = 9; line = 1 } ∷ []
+    → too_long_tokens limit i.bytes ≡ record { fault = 1; place = 9; line = 1 } ∷ [] → failed_read i ≡ []
     → first_halt limit i ≡ Some (record { fault = 21; place = 9; line = 1 })
 unfolding first_halt
 too_much_before_too_long limit i a b c = rw (a, b, c) refl

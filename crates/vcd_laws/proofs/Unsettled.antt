@@ -219,8 +219,10 @@ all_inside front test i (suc k) line h = by_test (test i) (all_inside front test
     halt = record { fault = 31; place = length (as_line front); line = line }
 
     by_test : (b : Bool)
-        → filter (λ j. comes_before (end_at (as_line front) j) (Some (record { fault = 31; place = length (as_line front); line = line }))) (filter test (range_with_len (i + 1) k)) ≡ filter test (range_with_len (i + 1) k)
-        → filter (λ j. comes_before (end_at (as_line front) j) (Some (record { fault = 31; place = length (as_line front); line = line }))) (cond b (i ∷ filter test (range_with_len (i + 1) k)) (filter test (range_with_len (i + 1) k)))
+        → filter (λ j. comes_before (end_at (as_line front) j) (Some (record { fault = 31; place = length (as_line front); line = line })))
+        (filter test (range_with_len (i + 1) k)) ≡ filter test (range_with_len (i + 1) k)
+        → filter (λ j. comes_before (end_at (as_line front) j) (Some (record { fault = 31; place = length (as_line front); line = line })))
+        (cond b (i ∷ filter test (range_with_len (i + 1) k)) (filter test (range_with_len (i + 1) k)))
         ≡ cond b (i ∷ filter test (range_with_len (i + 1) k)) (filter test (range_with_len (i + 1) k))
     by_test true e =
         let n = length-append front (10 ∷ []) in

@@ -434,7 +434,8 @@ failed_or R hs done (s ∷ ss) (d' ∷ ds') n e all r =
         (by_known (dump_seen hs s).fault (key_after (factor hs (dump_seen hs s).header) n (dump_seen hs s).items) refl ends r more)
     by_case (inr (ends, none, h, i, (u, w, lacks))) more =
         let number : (missing u).number ≡ 31 = ap (λ (x : Option ℕ). unwrap_or x 2) w in
-        subst (λ (o : Option Fault). AllByRecursion (FailedOr R hs (done ++ s ∷ ss)) (with_key (key_after (factor hs d'.header) n d'.items) o (faults_rest hs (n + 1) ds'))) (sym (failed_missing u d'.fault w lacks))
+        subst (λ (o : Option Fault). AllByRecursion (FailedOr R hs (done ++ s ∷ ss))
+        (with_key (key_after (factor hs d'.header) n d'.items) o (faults_rest hs (n + 1) ds'))) (sym (failed_missing u d'.fault w lacks))
         (inl (rw number refl), more)
 
 -- if the least fault is known, all that may continue are past it
@@ -456,7 +457,8 @@ past_known f g hs n (s ∷ ss) (d' ∷ ds') all le not low =
     by_case (inl (same, ends, other)) more = rw (ends, more) refl
     by_case (inr (ends, none, h, i, (u, w, lacks))) more =
         let lows : AllByRecursion (λ y. key_lt y.key g.key ≡ false) (with_key (key_after (factor hs d'.header) n d'.items) (Some (missing u)) (faults_rest hs (n + 1) ds'))
-        = subst (λ (o : Option Fault). AllByRecursion (λ y. key_lt y.key g.key ≡ false) (with_key (key_after (factor hs d'.header) n d'.items) o (faults_rest hs (n + 1) ds'))) (failed_missing u d'.fault w lacks) low in
+        = subst (λ (o : Option Fault). AllByRecursion (λ y. key_lt y.key g.key ≡ false)
+        (with_key (key_after (factor hs d'.header) n d'.items) o (faults_rest hs (n + 1) ds'))) (failed_missing u d'.fault w lacks) low in
         let own : key_lt (key_after (factor hs (dump_seen hs s).header) n (dump_seen hs s).items) g.key ≡ false
         = ap (λ (k : Header). key_lt (key_after (factor hs k) n (dump_seen hs s).items) g.key) (sym h)
         ∙ ap (λ (l : List BodyItem). key_lt (key_after (factor hs d'.header) n l) g.key) (sym i) ∙ lows.0 in

@@ -12,7 +12,8 @@ number_fits digits e =
     ltb-true (decimal_value digits) (2 ^ 64) outer.1
 
 -- a word that is one of these has the exponent of a unit, if each of these has
-unit_among : (word : List ℕ) (units : List (List ℕ)) → AllByRecursion (λ u. is_unit (exponent_of (49 ∷ u)) ≡ true) units → list_any (bytes_eq word) units ≡ true → is_unit (exponent_of (49 ∷ word)) ≡ true
+unit_among : (word : List ℕ) (units : List (List ℕ)) → AllByRecursion (λ u. is_unit (exponent_of (49 ∷ u)) ≡ true) units
+    → list_any (bytes_eq word) units ≡ true → is_unit (exponent_of (49 ∷ word)) ≡ true
 unit_among word [] all e = cc
 unit_among word (u ∷ us) all e =
     elim (or_cases (bytes_eq word u) (list_any (bytes_eq word) us) e) [
@@ -22,7 +23,8 @@ unit_among word (u ∷ us) all e =
 
 unit_is : (word : List ℕ) → is_unit (unit_exponent word) ≡ true
 unfolding is_scale_unit exponent_of
-unit_is word = unit_with (is_scale_unit word) (λ e. unit_among word (codes "s" ∷ codes "ms" ∷ codes "us" ∷ codes "ns" ∷ codes "ps" ∷ codes "fs" ∷ []) (refl, (refl, (refl, (refl, (refl, (refl, tt)))))) e)
+unit_is word = unit_with (is_scale_unit word) (λ e. unit_among word (codes "s" ∷ codes "ms" ∷ codes "us" ∷ codes "ns" ∷ codes "ps" ∷ codes "fs" ∷ [])
+    (refl, (refl, (refl, (refl, (refl, (refl, tt)))))) e)
   where
     unit_with : (b : Bool) → (b ≡ true → is_unit (exponent_of (49 ∷ word)) ≡ true) → is_unit (cond b (exponent_of (49 ∷ word)) None) ≡ true
     unit_with true h = h refl
@@ -53,7 +55,8 @@ time_is word m e = from_option (moment_of word) (λ n f. moment_is word n f) e
 -- ---- times
 
 -- one more time, if there is one
-more_times : (t : Result Moment UseFault) (ts : Result (List Moment) UseFault) (ms : List Moment) → with_time t ts ≡ Ok ms → (m : Moment) × (others : List Moment) × (t ≡ Ok m) × (ts ≡ Ok others) × (ms ≡ m ∷ others)
+more_times : (t : Result Moment UseFault) (ts : Result (List Moment) UseFault) (ms : List Moment) → with_time t ts ≡ Ok ms → (m : Moment)
+    × (others : List Moment) × (t ≡ Ok m) × (ts ≡ Ok others) × (ms ≡ m ∷ others)
 more_times (Ok m) (Ok others) ms e = let same : m ∷ others ≡ ms = cc in (m, others, refl, refl, sym same)
 more_times (Ok m) (Err f) ms e = cc
 more_times (Err f) ts ms e = cc
@@ -74,7 +77,8 @@ ordered from to false e none = ltb-false to.number from.number e
 cut_is : (a b : Result Moment UseFault) (want : Want) → ((m : Moment) → a ≡ Ok m → IsTime m) → ((m : Moment) → b ≡ Ok m → IsTime m) → cut_of a b ≡ Ok want → IsJob want
 cut_is (Ok from) (Ok to) want ha hb e = decided (not (has_unit (from ∷ to ∷ [])) && nat_lt to.number from.number) (λ o. ordered from to (has_unit (from ∷ to ∷ [])) o) e
   where
-    decided : (b : Bool) → (b ≡ false → IsFalse (has_unit (from ∷ to ∷ [])) → from.number ≤ to.number) → cond b (Err UseFault.FromAboveTo) (Ok (Want.Cut from to)) ≡ Ok want → IsJob want
+    decided : (b : Bool) → (b ≡ false → IsFalse (has_unit (from ∷ to ∷ [])) → from.number ≤ to.number)
+        → cond b (Err UseFault.FromAboveTo) (Ok (Want.Cut from to)) ≡ Ok want → IsJob want
     decided true h e = cc
     decided false h e = let same : Want.Cut from to ≡ want = cc in subst IsJob same (ha from refl, hb to refl, h refl)
 cut_is (Ok from) (Err f) want ha hb e = cc
@@ -84,10 +88,12 @@ rise : (ns : List ℕ) (units : Bool) → (not units && not (do_rise ns)) ≡ fa
 rise ns true e none = cc
 rise ns false e none = rises_at ns (not-false (do_rise ns) e)
 
-sample_is : (names : List (List ℕ)) (ts : Result (List Moment) UseFault) (want : Want) → ((ms : List Moment) → ts ≡ Ok ms → (ms ≢ []) × AllByRecursion IsTime ms) → sample_of names ts ≡ Ok want → IsJob want
+sample_is : (names : List (List ℕ)) (ts : Result (List Moment) UseFault) (want : Want)
+    → ((ms : List Moment) → ts ≡ Ok ms → (ms ≢ []) × AllByRecursion IsTime ms) → sample_of names ts ≡ Ok want → IsJob want
 sample_is names (Ok times) want h e = decided (not (has_unit times) && not (do_rise (map (λ m. m.number) times))) (λ r. rise (map (λ m. m.number) times) (has_unit times) r) e
   where
-    decided : (b : Bool) → (b ≡ false → IsFalse (has_unit times) → IsStrictlyIncreasing (map (λ m. m.number) times)) → cond b (Err UseFault.NotRising) (Ok (Want.Sample times names)) ≡ Ok want → IsJob want
+    decided : (b : Bool) → (b ≡ false → IsFalse (has_unit times) → IsStrictlyIncreasing (map (λ m. m.number) times))
+        → cond b (Err UseFault.NotRising) (Ok (Want.Sample times names)) ≡ Ok want → IsJob want
     decided true r e = cc
     decided false r e = let same : Want.Sample times names ≡ want = cc in let p = h times refl in subst IsJob same (p.0, p.1, r refl)
 sample_is names (Err f) want h e = cc
@@ -137,7 +143,8 @@ limit_is (Some word) n e = decided (is_limit word) (λ is. in_range is) e
         let inner = and_parts (is_number word) (nat_le 64 (decimal_value word)) outer.0 in
         (leb-true 64 (decimal_value word) inner.1, leb-true (decimal_value word) 16777216 outer.1)
 
-    decided : (b : Bool) → (b ≡ true → (64 ≤ decimal_value word) × (decimal_value word ≤ 16777216)) → cond b (Ok (decimal_value word)) (Err (UseFault.BadLimit word)) ≡ Ok n → (64 ≤ n) × (n ≤ 16777216)
+    decided : (b : Bool) → (b ≡ true → (64 ≤ decimal_value word) × (decimal_value word ≤ 16777216))
+        → cond b (Ok (decimal_value word)) (Err (UseFault.BadLimit word)) ≡ Ok n → (64 ≤ n) × (n ≤ 16777216)
     decided true h e = let same : decimal_value word ≡ n = cc in subst (λ k. (64 ≤ k) × (k ≤ 16777216)) same (h refl)
     decided false h e = cc
 
@@ -145,7 +152,8 @@ limit_is (Some word) n e = decided (is_limit word) (λ is. in_range is) e
 
 both : (limit : Result ℕ UseFault) (want : Result Want UseFault) (job : Job) → ((n : ℕ) → limit ≡ Ok n → (64 ≤ n) × (n ≤ 16777216)) → ((w : Want) → want ≡ Ok w → IsJob w)
     → job_with limit want ≡ Ok job → IsJob job.want × (64 ≤ job.limit) × (job.limit ≤ 16777216)
-both (Ok n) (Ok w) job hn hw e = let same : record { want = w; limit = n } ≡ job = cc in let l = hn n refl in subst (λ j. IsJob j.want × (64 ≤ j.limit) × (j.limit ≤ 16777216)) same (hw w refl, l.0, l.1)
+both (Ok n) (Ok w) job hn hw e = let same : record { want = w; limit = n } ≡ job = cc in let l = hn n refl in
+    subst (λ j. IsJob j.want × (64 ≤ j.limit) × (j.limit ≤ 16777216)) same (hw w refl, l.0, l.1)
 both (Ok n) (Err f) job hn hw e = cc
 both (Err f) want job hn hw e = cc
 

@@ -69,7 +69,8 @@ unfolding model
 input_twice_among_files = refl
 
 -- standard input once, and files whose names only look like it
-input_once : map (λ files. want_of (Command.Merge (map codes files))) (("-" ∷ []) ∷ ("a.vcd" ∷ "-" ∷ []) ∷ ("-" ∷ "./-" ∷ "--" ∷ "" ∷ "-a" ∷ []) ∷ []) ≡ Ok Want.Merge ∷ Ok Want.Merge ∷ Ok Want.Merge ∷ []
+input_once : map (λ files. want_of (Command.Merge (map codes files)))
+    (("-" ∷ []) ∷ ("a.vcd" ∷ "-" ∷ []) ∷ ("-" ∷ "./-" ∷ "--" ∷ "" ∷ "-a" ∷ []) ∷ []) ≡ Ok Want.Merge ∷ Ok Want.Merge ∷ Ok Want.Merge ∷ []
 unfolding model
 input_once = refl
 
@@ -124,24 +125,33 @@ limits : map (λ w. limit_of (Some (codes w))) ("64" ∷ "16777216" ∷ "0000000
 unfolding model
 limits = refl
 
-no_limits : map (λ w. limit_of (Some (codes w))) ("16777217" ∷ "000000000000001048576" ∷ "64ns" ∷ "" ∷ []) ≡ map (λ w. Err (UseFault.BadLimit (codes w))) ("16777217" ∷ "000000000000001048576" ∷ "64ns" ∷ "" ∷ [])
+no_limits : map (λ w. limit_of (Some (codes w))) ("16777217" ∷ "000000000000001048576" ∷ "64ns" ∷ "" ∷ []) ≡ map
+    (λ w. Err (UseFault.BadLimit (codes w))) ("16777217" ∷ "000000000000001048576" ∷ "64ns" ∷ "" ∷ [])
 unfolding model
 no_limits = refl
 
 -- with a unit on some time the order of times waits for the time scale
-cut_with_a_unit : job_of (Some (record { command = Command.Cut (codes "15ns") (codes "4"); limit = None })) ≡ Ok (record { want = Want.Cut (record { number = 15; unit = Some (negsuc 8) }) (at 4); limit = 1048576 })
+cut_with_a_unit : job_of (Some (record { command = Command.Cut (codes "15ns") (codes "4"); limit = None })) ≡ Ok
+    (record { want = Want.Cut (record { number = 15; unit = Some (negsuc 8) }) (at 4); limit = 1048576 })
 unfolding model
 cut_with_a_unit = refl
 
-cut_with_a_unit_at_the_end : job_of (Some (record { command = Command.Cut (codes "15") (codes "4us"); limit = None })) ≡ Ok (record { want = Want.Cut (at 15) (record { number = 4; unit = Some (negsuc 5) }); limit = 1048576 })
+cut_with_a_unit_at_the_end : job_of (Some (record { command = Command.Cut (codes "15") (codes "4us"); limit = None })) ≡ Ok
+    (record { want = Want.Cut (at 15) (record { number = 4; unit = Some (negsuc 5) }); limit = 1048576 })
 unfolding model
 cut_with_a_unit_at_the_end = refl
 
-sample_with_a_unit : job_of (Some (record { command = Command.Sample (codes "5ns,1us") []; limit = None })) ≡ Ok (record { want = Want.Sample (record { number = 5; unit = Some (negsuc 8) } ∷ record { number = 1; unit = Some (negsuc 5) } ∷ []) []; limit = 1048576 })
+sample_with_a_unit : job_of (Some (record { command = Command.Sample (codes "5ns,1us") []; limit = None })) ≡ Ok
+    (record {
+      want = Want.Sample (record { number = 5; unit = Some (negsuc 8) } ∷ record { number = 1; unit = Some (negsuc 5) } ∷ [])
+          [];
+      limit = 1048576;
+    })
 unfolding model
 sample_with_a_unit = refl
 
-sample_of_three : job_of (Some (record { command = Command.Sample (codes "1,007,20") (codes "a" ∷ []); limit = Some (codes "64") })) ≡ Ok (record { want = Want.Sample (at 1 ∷ at 7 ∷ at 20 ∷ []) (codes "a" ∷ []); limit = 64 })
+sample_of_three : job_of (Some (record { command = Command.Sample (codes "1,007,20") (codes "a" ∷ []); limit = Some (codes "64") })) ≡ Ok
+    (record { want = Want.Sample (at 1 ∷ at 7 ∷ at 20 ∷ []) (codes "a" ∷ []); limit = 64 })
 unfolding model
 sample_of_three = refl
 
@@ -155,7 +165,8 @@ list_is_run : asked Command.Listing "$var wire 1 ! a $end;$enddefinitions $end;"
 unfolding model
 list_is_run = refl
 
-pick_is_run : asked (Command.Pick (codes "a" ∷ codes "b" ∷ [])) "$var wire 1 ! a $end;$var wire 1 \" b $end;$enddefinitions $end;" ≡ gives "$var wire 1 ! a $end;$var wire 1 \" b $end;$enddefinitions $end;" "" 0
+pick_is_run : asked (Command.Pick (codes "a" ∷ codes "b" ∷ [])) "$var wire 1 ! a $end;$var wire 1 \" b $end;$enddefinitions $end;"
+    ≡ gives "$var wire 1 ! a $end;$var wire 1 \" b $end;$enddefinitions $end;" "" 0
 unfolding model
 pick_is_run = refl
 
@@ -167,7 +178,9 @@ edges_without_names_are_run : asked (Command.Edges []) "$var wire 1 ! a $end;$en
 unfolding model
 edges_without_names_are_run = refl
 
-token_limit_is_used : command_outcome (Some (record { command = Command.Check; limit = Some (codes "64") })) (codes "(stdin)" ∷ []) (clean "$comment xxxxxxxxxxxxxxxxxxxxxxxxxxxxxxxxxxxxxxxxxxxxxxxxxxxxxxxxxxxxxxxxx $end;$enddefinitions $end;" ∷ []) ≡ gives "" "(stdin):1: token too long" 1
+token_limit_is_used : command_outcome (Some (record { command = Command.Check; limit = Some (codes "64") })) (codes "(stdin)" ∷ [])
+    (clean "$comment xxxxxxxxxxxxxxxxxxxxxxxxxxxxxxxxxxxxxxxxxxxxxxxxxxxxxxxxxxxxxxxxx $end;$enddefinitions $end;" ∷ [])
+    ≡ gives "" "(stdin):1: token too long" 1
 unfolding model
 token_limit_is_used = refl
 
@@ -175,11 +188,16 @@ token_limit_is_used = refl
 abbrev job : Command → Result Job UseFault
 job command = job_of (Some (record { command = command; limit = None }))
 
-jobs : map job (Command.Check ∷ Command.Listing ∷ Command.Pick (codes "a" ∷ codes "b" ∷ []) ∷ Command.Edges [] ∷ Command.Edges (codes "a" ∷ []) ∷ Command.Merge (codes "f" ∷ []) ∷ []) ≡ map (λ want. Ok (record { want = want; limit = 1048576 })) (Want.Check ∷ Want.Listing ∷ Want.Pick (codes "a" ∷ codes "b" ∷ []) ∷ Want.Edges [] ∷ Want.Edges (codes "a" ∷ []) ∷ Want.Merge ∷ [])
+jobs : map job (Command.Check ∷ Command.Listing ∷ Command.Pick (codes "a" ∷ codes "b" ∷ []) ∷ Command.Edges [] ∷ Command.Edges
+    (codes "a" ∷ []) ∷ Command.Merge (codes "f" ∷ []) ∷ []) ≡ map (λ want. Ok (record { want = want; limit = 1048576 }))
+    (Want.Check ∷ Want.Listing ∷ Want.Pick (codes "a" ∷ codes "b" ∷ []) ∷ Want.Edges [] ∷ Want.Edges (codes "a" ∷ []) ∷ Want.Merge ∷ [])
 unfolding model
 jobs = refl
 
 -- the order of times is that of their numbers: the words may be longer or have zeros in front
-times_by_their_numbers : job (Command.Cut (codes "9") (codes "10")) ∷ job (Command.Cut (codes "10") (codes "9")) ∷ job (Command.Cut (codes "010") (codes "9")) ∷ job (Command.Sample (codes "9,10") []) ∷ [] ≡ Ok (record { want = Want.Cut (at 9) (at 10); limit = 1048576 }) ∷ Err UseFault.FromAboveTo ∷ Err UseFault.FromAboveTo ∷ Ok (record { want = Want.Sample (at 9 ∷ at 10 ∷ []) []; limit = 1048576 }) ∷ []
+times_by_their_numbers : job (Command.Cut (codes "9") (codes "10")) ∷ job (Command.Cut (codes "10") (codes "9")) ∷ job
+    (Command.Cut (codes "010") (codes "9")) ∷ job (Command.Sample (codes "9,10") []) ∷ [] ≡ Ok
+    (record { want = Want.Cut (at 9) (at 10); limit = 1048576 }) ∷ Err UseFault.FromAboveTo ∷ Err UseFault.FromAboveTo ∷ Ok
+    (record { want = Want.Sample (at 9 ∷ at 10 ∷ []) []; limit = 1048576 }) ∷ []
 unfolding model
 times_by_their_numbers = refl

@@ -14,7 +14,9 @@ small_section factor codes text (Time t) x is at = absurd is
 small_section factor codes text (Change place f) x is at = absurd is
 small_section factor codes text Finish x is at = absurd is
 
-none_due : (written : Option ℕ) (scale first : ℕ) (h : Header) (items : List BodyItem) (text : List ℕ) (it : Item) (x : BodyItem) → IsSection it → IsItem h.codes text it x → (due_with written (entry_for scale first h items x) ≡ []) × (written_with written (entry_for scale first h items x) ≡ written)
+none_due : (written : Option ℕ) (scale first : ℕ) (h : Header) (items : List BodyItem) (text : List ℕ) (it : Item) (x : BodyItem) → IsSection it
+    → IsItem h.codes text it x → (due_with written (entry_for scale first h items x) ≡ [])
+    × (written_with written (entry_for scale first h items x) ≡ written)
 none_due written scale first h items text (Begin s) x is at = rw at (refl, refl)
 none_due written scale first h items text End x is at = rw at (refl, refl)
 none_due written scale first h items text (Time t) x is at = absurd is
@@ -39,15 +41,20 @@ module _ (v : HeadView) (s t : MergeStage) (p : ScannedItem) (item : TakesItem v
     puts = puts;
   }
 
-  pub mark_taken : (time : ℕ) → p.item ≡ Time time → time * s.visit.factor < 2 ^ 64 → SameMerging s.visit t.visit → t.regs ≡ regs_after s.regs p.item → t.visit.time ≡ time * s.visit.factor → t.command ≡ s.command → t.out ≡ s.out → TakesNext v s t (Ok tt)
+  pub mark_taken : (time : ℕ) → p.item ≡ Time time → time * s.visit.factor < 2 ^ 64 → SameMerging s.visit t.visit → t.regs ≡ regs_after s.regs p.item
+      → t.visit.time ≡ time * s.visit.factor → t.command ≡ s.command → t.out ≡ s.out → TakesNext v s t (Ok tt)
   mark_taken time e fits same regs is written out = record {
     scanned = p;
     item = item;
     regs = regs;
     same = same;
-    time = λ scale factor now. is ∙ mul_comm time s.visit.factor ∙ ap (λ n. n * time) factor ∙ ap (λ n. scale * n) (sym (ap (λ (r : Regs). r.time) regs ∙ ap (λ (i : Item). (regs_after s.regs i).time) e));
-    small = λ codes text x at. let y : x ≡ BodyItem.Time time = subst (λ (i : Item). IsItem codes text i x) e at in subst (λ (z : BodyItem). is_too_large s.visit.factor z ≡ false) (sym y) (not_large s.visit.factor time fits);
-    puts = λ w scale first h items x same views known now number few at. let y : x ≡ BodyItem.Time time = subst (λ (i : Item). IsItem h.codes p.text.now i x) e at in rw (y, written, out) (appends-none s.out.held, refl);
+    time = λ scale factor now. is ∙ mul_comm time s.visit.factor ∙ ap (λ n. n * time) factor
+        ∙ ap (λ n. scale * n) (sym (ap (λ (r : Regs). r.time) regs ∙ ap (λ (i : Item). (regs_after s.regs i).time) e));
+    small = λ codes text x at. let y : x ≡ BodyItem.Time time = subst (λ (i : Item). IsItem codes text i x) e at in
+        subst (λ (z : BodyItem). is_too_large s.visit.factor z ≡ false) (sym y) (not_large s.visit.factor time fits);
+    puts = λ w scale first h items x same views known now number few at.
+        let y : x ≡ BodyItem.Time time = subst (λ (i : Item). IsItem h.codes p.text.now i x) e at in
+        rw (y, written, out) (appends-none s.out.held, refl);
   }
 
   pub section_taken : IsSection p.item → t.regs ≡ regs_after s.regs p.item → t.visit ≡ s.visit → t.command ≡ s.command → t.out ≡ s.out → TakesNext v s t (Ok tt)
@@ -58,13 +65,20 @@ module _ (v : HeadView) (s t : MergeStage) (p : ScannedItem) (item : TakesItem v
     same = same_merging s.visit t.visit visit;
     time = λ scale factor time. ap (λ (m : Merging). m.time) visit ∙ time ∙ ap (λ n. scale * n) (sym (ap (λ (r : Regs). r.time) regs ∙ section_time s.regs p.item is));
     small = λ codes text x at. small_section s.visit.factor codes text p.item x is at;
-    puts = λ w scale first h items x same views known now number few at. let none = none_due s.command scale first h items p.text.now p.item x is at in rw (none.0, none.1, written, out) (appends-none s.out.held, refl);
+    puts = λ w scale first h items x same views known now number few at.
+        let none = none_due s.command scale first h items p.text.now p.item x is at in
+        rw (none.0, none.1, written, out) (appends-none s.out.held, refl);
   }
 
 -- ---- one item more after others
 
-module _ {scale first : ℕ} {h : Header} {limit lines : ℕ} {bytes : List ℕ} {behind : List BodyItem} {v : HeadView} {s t : MergeStage} {result : Result (Unit {0}) WriteFailed} (few : first + length h.codes < 2 ^ 64) (views : IsViewOf v h) (n : TakesNext v s t result) (over : LooksOver limit bytes s.ahead) (factor : s.visit.factor ≡ scale) (first_is : s.visit.first ≡ first) {items : List BodyItem} (at : IsAhead scale h limit lines bytes behind (passed_of s.ahead) items s.regs s.visit.time) where
-  pub one : (x : BodyItem) × IsItem h.codes n.scanned.text.now n.scanned.item x × GaveAhead h.codes limit lines bytes (passed_of t.ahead) behind (items ++ x ∷ []) × AreRegsAfter (behind ++ (items ++ x ∷ [])) (regs_after s.regs n.scanned.item)
+module _ {scale first : ℕ} {h : Header} {limit lines : ℕ} {bytes : List ℕ} {behind : List BodyItem} {v : HeadView} {s t : MergeStage} {result : Result
+    (Unit {0}) WriteFailed} (few : first + length h.codes < 2 ^ 64) (views : IsViewOf v h) (n : TakesNext v s t result)
+    (over : LooksOver limit bytes s.ahead) (factor : s.visit.factor ≡ scale) (first_is : s.visit.first ≡ first) {items : List BodyItem}
+    (at : IsAhead scale h limit lines bytes behind (passed_of s.ahead) items s.regs s.visit.time) where
+  pub one : (x : BodyItem) × IsItem h.codes n.scanned.text.now n.scanned.item x
+      × GaveAhead h.codes limit lines bytes (passed_of t.ahead) behind (items ++ x ∷ [])
+      × AreRegsAfter (behind ++ (items ++ x ∷ [])) (regs_after s.regs n.scanned.item)
   one = n.item.gives h limit lines bytes behind items views over at.known at.gave
 
   abbrev pub next_item : BodyItem
@@ -82,7 +96,8 @@ module _ {scale first : ℕ} {h : Header} {limit lines : ℕ} {bytes : List ℕ}
         time_is = n.time scale factor at.time_is;
       }
 
-  put : Takes s.out t.out (due_with s.command (entry_for scale first h (behind ++ items) next_item)) result × IfOk result (λ _. t.command ≡ written_with s.command (entry_for scale first h (behind ++ items) next_item))
+  put : Takes s.out t.out (due_with s.command (entry_for scale first h (behind ++ items) next_item)) result
+      × IfOk result (λ _. t.command ≡ written_with s.command (entry_for scale first h (behind ++ items) next_item))
   put = n.puts v scale first h (behind ++ items) next_item refl views at.known (at.time_is ∙ ap (λ m. scale * m) at.known.time_is) first_is few one.1
 
   -- what is due with it was written
@@ -90,16 +105,27 @@ module _ {scale first : ℕ} {h : Header} {limit lines : ℕ} {bytes : List ℕ}
   one_next e counts = record {
     ahead = ahead_next;
     written_is = subst (λ (r : Result (Unit {0}) WriteFailed). IfOk r (λ _. t.command ≡ written_with s.command (entry_for scale first h (behind ++ items) next_item))) e put.1;
-    writes = (subst (λ (r : Result (Unit {0}) WriteFailed). Takes s.out t.out (due_with s.command (entry_for scale first h (behind ++ items) next_item)) r) e put.0, subst (λ (r : Result (Unit {0}) WriteFailed). Counts s.out t.out r) e counts);
+    writes = (
+      subst (λ (r : Result (Unit {0}) WriteFailed). Takes s.out t.out
+          (due_with s.command (entry_for scale first h (behind ++ items) next_item)) r) e put.0,
+      subst (λ (r : Result (Unit {0}) WriteFailed). Counts s.out t.out r) e counts,
+    );
   }
 
   -- or a prefix of that
   pub some_next : (e : WriteFailed) → result ≡ Err e → Counts s.out t.out result → WritesSome s.out t.out (due_with s.command (entry_for scale first h (behind ++ items) next_item))
-  some_next f e counts = (subst (λ (r : Result (Unit {0}) WriteFailed). Takes s.out t.out (due_with s.command (entry_for scale first h (behind ++ items) next_item)) r) e put.0, subst (λ (r : Result (Unit {0}) WriteFailed). Counts s.out t.out r) e counts)
+  some_next f e counts = (
+    subst (λ (r : Result (Unit {0}) WriteFailed). Takes s.out t.out
+        (due_with s.command (entry_for scale first h (behind ++ items) next_item)) r) e put.0,
+    subst (λ (r : Result (Unit {0}) WriteFailed). Counts s.out t.out r) e counts,
+  )
 
 -- ---- a run of items, one of which is the next
 
-module _ (scale first : ℕ) (h : Header) (limit lines : ℕ) (bytes : List ℕ) (behind : List BodyItem) (few : first + length h.codes < 2 ^ 64) (v : HeadView) (views : IsViewOf v h) (s t : MergeStage) (result : Result (Unit {0}) WriteFailed) (n : TakesNext v s t result) (counts : Counts s.out t.out result) (over : LooksOver limit bytes s.ahead) (factor : s.visit.factor ≡ scale) (first_is : s.visit.first ≡ first) (before : ℕ) (start : StageAhead) where
+module _ (scale first : ℕ) (h : Header) (limit lines : ℕ) (bytes : List ℕ) (behind : List BodyItem) (few : first + length h.codes < 2 ^ 64)
+    (v : HeadView) (views : IsViewOf v h) (s t : MergeStage) (result : Result (Unit {0}) WriteFailed) (n : TakesNext v s t result)
+    (counts : Counts s.out t.out result) (over : LooksOver limit bytes s.ahead) (factor : s.visit.factor ≡ scale) (first_is : s.visit.first ≡ first)
+    (before : ℕ) (start : StageAhead) where
   abbrev RunsTo : MergeStage → Result Bool WriteFailed → Type 0
   RunsTo z ended = RunsAhead scale first h limit lines bytes behind {E = WriteFailed} before start (passed_of z.ahead) z.regs z.visit.time z.command z.out ended
 
@@ -115,7 +141,8 @@ module _ (scale first : ℕ) (h : Header) (limit lines : ℕ) (bytes : List ℕ)
         let o = one_next few views n over factor first_is at e counts in record {
           ahead = o.ahead;
           written_is = o.written_is ∙ ap (λ w. written_with w (entry_for scale first h (behind ++ m.items) next)) same;
-          writes = subst (λ w. Writes m.out t.out (due_with w (entry_for scale first h (behind ++ m.items) next))) same (subst (λ d. Writes d t.out (due_with s.command (entry_for scale first h (behind ++ m.items) next))) out_is o.writes);
+          writes = subst (λ w. Writes m.out t.out (due_with w (entry_for scale first h (behind ++ m.items) next))) same
+              (subst (λ d. Writes d t.out (due_with s.command (entry_for scale first h (behind ++ m.items) next))) out_is o.writes);
         }
 
     -- the run continues with it
@@ -137,7 +164,8 @@ module _ (scale first : ℕ) (h : Header) (limit lines : ℕ) (bytes : List ℕ)
         let m = r.mid in
         let (at, same, out_is) = r.ends in
         let some = some_next few views n over factor first_is at f e counts in
-        let due = subst (λ w. WritesSome m.out t.out (due_with w (entry_for scale first h (behind ++ m.items) next))) same (subst (λ d. WritesSome d t.out (due_with s.command (entry_for scale first h (behind ++ m.items) next))) out_is some) in
+        let due = subst (λ w. WritesSome m.out t.out (due_with w (entry_for scale first h (behind ++ m.items) next))) same
+        (subst (λ d. WritesSome d t.out (due_with s.command (entry_for scale first h (behind ++ m.items) next))) out_is some) in
         record { mid = m; trail = r.trail; ends = (next, ahead_next few views n over factor first_is at, due) }
 
 -- ---- a walk
@@ -148,7 +176,8 @@ module _ (v : HeadView) (stands : Merging → Option ℕ → List ℕ → Regs �
 
   -- where a run continues, the walk takes more items, and it continues after them or ends
   abbrev pub Runs : MergeStage → Result Bool WriteFailed → Type 0
-  Runs z ended = (scale first lines : ℕ) (h : Header) (behind : List BodyItem) (start : StageAhead) → IsViewOf v h → s.visit.factor ≡ scale → s.visit.first ≡ first → first + length h.codes < 2 ^ 64
+  Runs z ended = (scale first lines : ℕ) (h : Header) (behind : List BodyItem) (start : StageAhead) → IsViewOf v h → s.visit.factor ≡ scale
+      → s.visit.first ≡ first → first + length h.codes < 2 ^ 64
       → RunsAhead scale first h (longest_of s.ahead) lines (bytes_of s.ahead) behind {E = WriteFailed} s.visit.before start (passed_of s.ahead) s.regs s.visit.time s.command s.out (Ok false)
       → RunsAhead scale first h (longest_of s.ahead) lines (bytes_of s.ahead) behind {E = WriteFailed} s.visit.before start (passed_of z.ahead) z.regs z.visit.time z.command z.out ended
 
@@ -171,7 +200,9 @@ module _ (v : HeadView) (stands : Merging → Option ℕ → List ℕ → Regs �
         over = (n.item.same.1 ∙ so.over.0, n.item.same.0 ∙ so.over.1);
         same = record { factor = n.same.factor ∙ so.same.factor; first = n.same.first ∙ so.same.first; before = before };
         runs = λ scale first lines h behind start views factor first_is few r.
-            runs_on scale first h (longest_of s.ahead) lines (bytes_of s.ahead) behind few v views b c (Ok tt) n one.counts so.over (so.same.factor ∙ factor) (so.same.first ∙ first_is) s.visit.before start (so.runs scale first lines h behind start views factor first_is few r) refl (early c before on);
+            runs_on scale first h (longest_of s.ahead) lines (bytes_of s.ahead) behind few v views b c (Ok tt) n one.counts so.over (so.same.factor
+            ∙ factor) (so.same.first ∙ first_is) s.visit.before start (so.runs scale first lines h behind start views factor first_is few r) refl
+            (early c before on);
       }
   along _ (Past b c so_far there none is) =
       let so = along b so_far in
@@ -192,9 +223,12 @@ module _ (v : HeadView) (stands : Merging → Option ℕ → List ℕ → Regs �
       let m = w.0 in
       let so = along m w.1.trail in
       let one = w.2 in
-      runs_out scale first h (longest_of s.ahead) lines (bytes_of s.ahead) behind few v views m z (Ok tt) one.did one.counts so.over (so.same.factor ∙ factor) (so.same.first ∙ first_is) s.visit.before start (so.runs scale first lines h behind start views factor first_is few r) refl
+      runs_out scale first h (longest_of s.ahead) lines (bytes_of s.ahead) behind few v views m z (Ok tt) one.did one.counts so.over (so.same.factor
+      ∙ factor) (so.same.first ∙ first_is) s.visit.before start (so.runs scale first lines h behind start views factor first_is few r) refl
   walk_runs z (Err f) w = λ scale first lines h behind start views factor first_is few r.
       let m = w.0 in
       let so = along m w.1.trail in
       let one = w.2 in
-      runs_failed scale first h (longest_of s.ahead) lines (bytes_of s.ahead) behind few v views m z (Err f) one.did one.counts so.over (so.same.factor ∙ factor) (so.same.first ∙ first_is) s.visit.before start (so.runs scale first lines h behind start views factor first_is few r) f refl
+      runs_failed scale first h (longest_of s.ahead) lines (bytes_of s.ahead) behind few v views m z (Err f) one.did one.counts so.over
+      (so.same.factor ∙ factor) (so.same.first ∙ first_is) s.visit.before start
+      (so.runs scale first lines h behind start views factor first_is few r) f refl

@@ -10,9 +10,11 @@ done = Ok tt
 abbrev failed : WriteFailed → Result (Unit {0}) WriteFailed
 failed e = Err e
 
-module _ (codes : List Code) (code size : ℕ) (form : Form) (text : List ℕ) (sized : IsSized codes (record { position = code; size_or_zero = size })) (some : size ≢ 0) (r : Regs) (time number : ℕ) (written written' : Option ℕ) (out : Device) where
+module _ (codes : List Code) (code size : ℕ) (form : Form) (text : List ℕ) (sized : IsSized codes (record { position = code; size_or_zero = size }))
+    (some : size ≢ 0) (r : Regs) (time number : ℕ) (written written' : Option ℕ) (out : Device) where
   -- the write of the line of its time failed
-  pub due_failed : (out' : Device) (e : WriteFailed) → Takes out out' (time_due written time) (failed e) → PutsDue {A = Unit {0}} codes text (item.Change code form) r time number written written' out out' (failed e)
+  pub due_failed : (out' : Device) (e : WriteFailed) → Takes out out' (time_due written time) (failed e)
+      → PutsDue {A = Unit {0}} codes text (item.Change code form) r time number written written' out out' (failed e)
   due_failed out' e t = λ v scale first h items x same views known time_is number_is few is.
       let y : Change = record { code = is.0; form = model_form form; text = text } in
       let here = subst (λ (l : List Code). IsSized l (record { position = code; size_or_zero = size })) (sym same) sized in
@@ -21,7 +23,8 @@ module _ (codes : List Code) (code size : ℕ) (form : Form) (text : List ℕ) (
 
   -- that line was written, or was not due, and its own line was put
   pub due_put : (mid out' : Device) (result : Result (Unit {0}) WriteFailed) → Takes out mid (time_due written time) done → written' ≡ Some time
-      → Takes mid out' (line_under (new_code ((number + code) % 2 ^ 64)) size false form text) result → PutsDue {A = Unit {0}} codes text (item.Change code form) r time number written written' out out' result
+      → Takes mid out' (line_under (new_code ((number + code) % 2 ^ 64)) size false form text) result
+      → PutsDue {A = Unit {0}} codes text (item.Change code form) r time number written written' out out' result
   due_put mid out' result t noted l = λ v scale first h items x same views known time_is number_is few is.
       let y : Change = record { code = is.0; form = model_form form; text = text } in
       let here = subst (λ (l : List Code). IsSized l (record { position = code; size_or_zero = size })) (sym same) sized in

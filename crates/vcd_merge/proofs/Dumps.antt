@@ -18,7 +18,9 @@ module _ (scale limit : ℕ) (h : Header) (front : List Token) (i : Input) (item
       }
 
   -- a timestamp that was given, and that is too large
-  pub marked_dump : {X : Type 0} {g : Ghosts X} (f : Feed X g) (time : ℕ) (r : Regs) → limit_of f ≡ limit → is_too_large scale (BodyItem.Time time) ≡ true → GaveItem h.codes i front items (BodyItem.Time time) f r → HasDump scale limit h front i items (Some (record { number = 20; line = (token_of f).line }))
+  pub marked_dump : {X : Type 0} {g : Ghosts X} (f : Feed X g) (time : ℕ) (r : Regs) → limit_of f ≡ limit
+      → is_too_large scale (BodyItem.Time time) ≡ true → GaveItem h.codes i front items (BodyItem.Time time) f r
+      → HasDump scale limit h front i items (Some (record { number = 20; line = (token_of f).line }))
   marked_dump f time r same large m =
       let first = m.gave.stands.given_first in
       let rest = m.gave.given ++ first.0 in

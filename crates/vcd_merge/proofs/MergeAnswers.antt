@@ -5,7 +5,9 @@ use Rattle.vcd_body.specs.declared.answer.Stop.TheVariants.{Dump as Faulty}
 use Rattle.vcd_merge.proofs.MergeSteps.{AtTurn, Leaves, all_before, given_more, given_still, lane_at, len_map, same_header, seat_spot, spot_seat, time_at}
 use Rattle.vcd_merge.proofs.SpotLemmas.{seats_stay, spot_source}
 
-module _ {X : Type 0} {rest : X → Option (List ℕ)} {hs : List Header} {lanes : List Lane} {ds : List Dump} {s : Standing X} {k : ℕ} {l : Lane} {d : Dump} (t : AtTurn rest hs lanes ds s k l d) where
+module _ {X : Type 0} {rest : X
+    → Option (List ℕ)} {hs : List Header} {lanes : List Lane} {ds : List Dump} {s : Standing X} {k : ℕ} {l : Lane} {d : Dump}
+    (t : AtTurn rest hs lanes ds s k l d) where
   abbrev scale : ℕ
   scale = factor hs l.header
 
@@ -26,13 +28,16 @@ module _ {X : Type 0} {rest : X → Option (List ℕ)} {hs : List Header} {lanes
       let y = next_item rest hs lanes k d x in
       let sorted : IsSorted (merged_items ds) = subst IsSorted (sym b) (sorted_by_key (keyed_rest hs 0 [] ds)) in
       let timed : AllByRecursion IsTimed (merged_items ds) = subst (AllByRecursion IsTimed) (sym b) (all_by_key IsTimed (keyed_rest hs 0 [] ds) (timed_rest hs 0 [] ds)) in
-      let less : AllByRecursion (λ z. key_lt z.key y.key ≡ true) (merged_items ds) = subst (AllByRecursion (λ z. key_lt z.key y.key ≡ true)) (sym b) (all_by_key (λ z. key_lt z.key y.key ≡ true) (keyed_rest hs 0 [] ds) (all_before t)) in
+      let less : AllByRecursion (λ z. key_lt z.key y.key ≡ true) (merged_items ds) = subst (AllByRecursion (λ z. key_lt z.key y.key ≡ true)) (sym b)
+      (all_by_key (λ z. key_lt z.key y.key ≡ true) (keyed_rest hs 0 [] ds) (all_before t)) in
       ap (merge_open hs) (merged_is x)
       ∙ text_more hs (merged_items ds) y s.written t.holds.written sorted timed refl less
       ∙ ap (λ (e : Entry). merge_open hs (merged_items ds) ++ due_with s.written e) (sym (entry_is x))
 
-  pub written_with_it : (x : BodyItem) (written : Option ℕ) → written ≡ written_with s.written (entry_for scale first l.header d.items x) → written ≡ last_written (merged_items (with_item ds k d x))
-  written_with_it x written e = e ∙ ap (written_with s.written) (entry_is x) ∙ written_more (merged_items ds) (next_item rest hs lanes k d x) s.written t.holds.written ∙ ap last_written (sym (merged_is x))
+  pub written_with_it : (x : BodyItem) (written : Option ℕ) → written ≡ written_with s.written (entry_for scale first l.header d.items x)
+      → written ≡ last_written (merged_items (with_item ds k d x))
+  written_with_it x written e = e ∙ ap (written_with s.written) (entry_is x)
+      ∙ written_more (merged_items ds) (next_item rest hs lanes k d x) s.written t.holds.written ∙ ap last_written (sym (merged_is x))
 
   module _ {s' : Standing X} {p : Spot} (v : Leaves rest s s' k p) where
     pub taken : (x : BodyItem) → AtSeat scale first l (d.items ++ x ∷ []) p → Takes rest hs lanes ds s' k d x
@@ -75,7 +80,9 @@ module _ {X : Type 0} {rest : X → Option (List ℕ)} {hs : List Header} {lanes
       })
 
       -- none is left: then it has finished
-      pub ended : (u : A) → All (λ (x : Seat). x.finished ≡ true) s'.seats → Turns {A = A} k scale first l d.items s.written s'.written p out out' (Ok u) → Holds rest hs lanes ds s' × Writes out out' [] × ReadsOne rest lanes ds s s' k None
+      pub ended : (u : A) → All (λ (x : Seat). x.finished ≡ true) s'.seats
+          → Turns {A = A} k scale first l d.items s.written s'.written p out out' (Ok u) → Holds rest hs lanes ds s' × Writes out out' []
+          × ReadsOne rest lanes ds s s' k None
       ended u all (inr e) = (record { given = still e.0 e.1; written = e.2 ∙ t.holds.written }, e.3, all_read e.4)
       ended u all (inl e) =
           let seat = spot_seat rest s' k p v.spot in
@@ -84,7 +91,8 @@ module _ {X : Type 0} {rest : X → Option (List ℕ)} {hs : List Header} {lanes
           absurd (true≢false (sym done ∙ is ∙ e.1.0))
 
       -- it stops
-      fault_at : (line fault : ℕ) (cut : Option ℕ) → HasDump scale (length p.token) l.header l.front (cut_at cut l.input) d.items (Some (record { number = fault; line = line })) → HasFault rest hs lanes ds s k line fault cut
+      fault_at : (line fault : ℕ) (cut : Option ℕ) → HasDump scale (length p.token) l.header l.front (cut_at cut l.input) d.items
+          (Some (record { number = fault; line = line })) → HasFault rest hs lanes ds s k line fault cut
       fault_at line fault cut has = record { next = t.next; lane = l; dump = d; lane_at = t.lane_at; dump_at = t.dump_at; has = rw (← v.token) has }
 
       pub stopped : (stop : Stop) → Turns {A = A} k scale first l d.items s.written s'.written p out out' (Err stop) → Gives rest hs lanes ds s s' out out' (Err stop)

@@ -13,7 +13,8 @@ seats_gs None [] = refl
 seats_gs (Some t) [] = refl
 seats_gs t (s ∷ ss) = by_mark s.regs.marked t (λ u. seats_gs u ss) ∙ greater_assoc t (cond s.regs.marked (Some s.time) None) (gs ss)
   where
-    by_mark : (b : Bool) (t : Option ℕ) → ((u : Option ℕ) → greatest_from u ss ≡ greater_of u (gs ss)) → greatest_from (cond b (greater_time s t) t) ss ≡ greater_of (greater_of t (cond b (Some s.time) None)) (gs ss)
+    by_mark : (b : Bool) (t : Option ℕ) → ((u : Option ℕ) → greatest_from u ss ≡ greater_of u (gs ss))
+        → greatest_from (cond b (greater_time s t) t) ss ≡ greater_of (greater_of t (cond b (Some s.time) None)) (gs ss)
     by_mark true None more = more (Some s.time)
     by_mark true (Some u) more = more (Some (max u s.time))
     by_mark false None more = more None
@@ -42,14 +43,16 @@ most_of : (t : ℕ) (ss : List Seat) → gs ss ≡ Some t → Most t ss
 most_of t [] e = tt
 most_of t (s ∷ ss) e = by_mark s.regs.marked (gs ss) refl e (λ u f. most_of u ss f)
   where
-    by_mark : (b : Bool) (o : Option ℕ) → gs ss ≡ o → greater_of (cond b (Some s.time) None) o ≡ Some t → ((u : ℕ) → gs ss ≡ Some u → Most u ss) → (b ≡ true → s.time ≤ t) × Most t ss
+    by_mark : (b : Bool) (o : Option ℕ) → gs ss ≡ o → greater_of (cond b (Some s.time) None) o ≡ Some t → ((u : ℕ) → gs ss ≡ Some u → Most u ss)
+        → (b ≡ true → s.time ≤ t) × Most t ss
     by_mark true None f e more = let g : s.time ≡ t = cc in ((λ h. omega arith), all_low t ss f)
     by_mark true (Some u) f e more = let g : max s.time u ≡ t = cc in ((λ h. omega arith), most_more u t ss (omega arith) (more u f))
     by_mark false None f e more = cc
     by_mark false (Some u) f e more = let g : u ≡ t = cc in ((λ h. cc), most_more u t ss (omega arith) (more u f))
 
 -- an input without a timestamp is at 0
-own_low : (t : ℕ) (s : Seat) → (s.regs.marked ≡ true → s.time ≤ t) → (scale : ℕ) (items : List BodyItem) → s.time ≡ scale * time_after items → s.regs.marked ≡ not (is_empty (marks items)) → s.time ≤ t
+own_low : (t : ℕ) (s : Seat) → (s.regs.marked ≡ true → s.time ≤ t) → (scale : ℕ) (items : List BodyItem) → s.time ≡ scale * time_after items
+    → s.regs.marked ≡ not (is_empty (marks items)) → s.time ≤ t
 own_low t s most scale items time marked = by_marks (marks items) refl
   where
     by_marks : (ms : List ℕ) → marks items ≡ ms → s.time ≤ t
@@ -59,7 +62,8 @@ own_low t s most scale items time marked = by_marks (marks items) refl
 -- inputs and seats, one by one
 same_marks : (hs : List Header) (n : ℕ) (es : List Header) (ds : List Dump) (ss : List Seat) → length ds ≡ length ss
     → ((k : ℕ) (d : Dump) (s : Seat) → slice_get ds k ≡ Some d → slice_get ss k ≡ Some s → s.time ≡ factor hs d.header * time_after d.items)
-    → ((k : ℕ) (d : Dump) (s : Seat) → slice_get ds k ≡ Some d → slice_get ss k ≡ Some s → s.regs.marked ≡ not (is_empty (marks d.items))) → greatest_in (keyed_rest hs n es ds) ≡ gs ss
+    → ((k : ℕ) (d : Dump) (s : Seat) → slice_get ds k ≡ Some d → slice_get ss k ≡ Some s → s.regs.marked ≡ not (is_empty (marks d.items)))
+    → greatest_in (keyed_rest hs n es ds) ≡ gs ss
 same_marks hs n es [] [] len time marked = refl
 same_marks hs n es [] (s ∷ ss) len time marked = absurd (omega arith)
 same_marks hs n es (d ∷ ds) [] len time marked = absurd (omega arith)
@@ -68,7 +72,8 @@ same_marks hs n es (d ∷ ds) (s ∷ ss) len time marked =
     let m = marked 0 d s refl refl in
     let more = same_marks hs (n + 1) (es ++ d.header ∷ []) ds ss (omega arith) (λ k. time (suc k)) (λ k. marked (suc k)) in
     append_greatest (keyed_own hs n es d) (keyed_rest hs (n + 1) (es ++ d.header ∷ []) ds)
-    ∙ ap (λ o. greater_of o (greatest_in (keyed_rest hs (n + 1) (es ++ d.header ∷ []) ds))) (keyed_greatest (factor hs d.header) n (renamed es d.header) [] d.items ∙ own_greatest (factor hs d.header) d.items ∙ rw (sym t, sym m) refl)
+    ∙ ap (λ o. greater_of o (greatest_in (keyed_rest hs (n + 1) (es ++ d.header ∷ []) ds)))
+    (keyed_greatest (factor hs d.header) n (renamed es d.header) [] d.items ∙ own_greatest (factor hs d.header) d.items ∙ rw (sym t, sym m) refl)
     ∙ ap (greater_of (cond s.regs.marked (Some s.time) None)) more
 
 pub greatest_is : (hs : List Header) (ds : List Dump) (seats : List Seat) → AreMarked hs ds seats → greatest_mark (merged_items ds) ≡ greatest_time seats
@@ -84,7 +89,8 @@ greatest_is hs ds seats m =
 
 rest_most : (hs : List Header) (n t : ℕ) (es : List Header) (ds : List Dump) (ss : List Seat) → length ds ≡ length ss
     → ((k : ℕ) (d : Dump) (s : Seat) → slice_get ds k ≡ Some d → slice_get ss k ≡ Some s → s.time ≡ factor hs d.header * time_after d.items)
-    → ((k : ℕ) (d : Dump) (s : Seat) → slice_get ds k ≡ Some d → slice_get ss k ≡ Some s → s.regs.marked ≡ not (is_empty (marks d.items))) → Most t ss → AllByRecursion (λ y. y.key.time ≤ t) (keyed_rest hs n es ds)
+    → ((k : ℕ) (d : Dump) (s : Seat) → slice_get ds k ≡ Some d → slice_get ss k ≡ Some s → s.regs.marked ≡ not (is_empty (marks d.items)))
+    → Most t ss → AllByRecursion (λ y. y.key.time ≤ t) (keyed_rest hs n es ds)
 rest_most hs n t es [] ss len time marked most = tt
 rest_most hs n t es (d ∷ ds) [] len time marked most = absurd (omega arith)
 rest_most hs n t es (d ∷ ds) (s ∷ ss) len time marked most =
@@ -99,7 +105,8 @@ pub closes_none : (hs : List Header) (ds : List Dump) (seats : List Seat) → Ar
 unfolding merge_close
 closes_none hs ds seats m e = ap (closing (map (λ e. e.time) (merge_kept (merged_items ds)))) (greatest_is hs ds seats m ∙ e)
 
-pub closes_some : (hs : List Header) (ds : List Dump) (seats : List Seat) (written : Option ℕ) (t : ℕ) → AreMarked hs ds seats → written ≡ last_written (merged_items ds) → greatest_time seats ≡ Some t → merge_close (merged_items ds) ≡ time_due written t
+pub closes_some : (hs : List Header) (ds : List Dump) (seats : List Seat) (written : Option ℕ) (t : ℕ) → AreMarked hs ds seats
+    → written ≡ last_written (merged_items ds) → greatest_time seats ≡ Some t → merge_close (merged_items ds) ≡ time_due written t
 unfolding merge_close
 closes_some hs ds seats written t m is e =
     let b = merged_by hs ds m.dumps_are in

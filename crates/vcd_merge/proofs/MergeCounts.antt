@@ -37,11 +37,13 @@ left_falls (x ∷ seats) (suc k) s s' at less =
     omega (arith, a, b, more)
 
 -- an input that has moved on has less left
-pub less_left : (s s' : Seat) → s.finished ≡ false → parked_seen s.parked < 2 ^ 63 → parked_seen s'.parked < 2 ^ 63 → (s'.finished ≡ false → parked_seen s.parked < parked_seen s'.parked) → left_in s' < left_in s
+pub less_left : (s s' : Seat) → s.finished ≡ false → parked_seen s.parked < 2 ^ 63 → parked_seen s'.parked < 2 ^ 63
+    → (s'.finished ≡ false → parked_seen s.parked < parked_seen s'.parked) → left_in s' < left_in s
 less_left s s' on below below' moved = by_flag s'.finished (λ e. rw (e, on) (omega arith)) (λ e. let m = moved e in rw (e, on) (omega (arith, m)))
 
 -- a step of one input leaves less
-pub left_moved : (seats : List Seat) (k : ℕ) (d s' : Seat) (c t : ℕ) → k < length seats → All (IsSeated c t) seats → ((s : Seat) → slice_get seats k ≡ Some s → s.finished ≡ false) → parked_seen s'.parked < 2 ^ 63
+pub left_moved : (seats : List Seat) (k : ℕ) (d s' : Seat) (c t : ℕ) → k < length seats → All (IsSeated c t) seats
+    → ((s : Seat) → slice_get seats k ≡ Some s → s.finished ≡ false) → parked_seen s'.parked < 2 ^ 63
     → (s'.finished ≡ false → parked_seen (get_or seats k d).parked < parked_seen s'.parked) → left_of (slice_set seats k s') < left_of seats
 left_moved seats k d s' c t within seated on below moved =
     let at = slice_get-get_or seats k d within in

@@ -11,8 +11,10 @@ pub place_is : (s : HeadShown) (h : Header) (place : ℕ) (c : IdCode) → Views
 place_is s h place c v e = place_of h.codes s.index place c v.index e
 
 -- the written line is that of the code with its new text
-pub line_is : (first place number : ℕ) (s : HeadShown) (h : Header) (c : IdCode) (d : Code) (form : ChangeForm) (text id : List ℕ) → Views s h → slice_get h.codes place ≡ Some c → slice_get s.codes place ≡ Some d → number ≡ first + place → id ≡ new_code number
-    → change_line (record { code = record { text = id; size = d.size; event = d.event }; form = form; text = text }) ≡ change_line (record { code = record { text = new_code (first + code_place h c.text); size = c.size; event = c.event }; form = form; text = text })
+pub line_is : (first place number : ℕ) (s : HeadShown) (h : Header) (c : IdCode) (d : Code) (form : ChangeForm) (text id : List ℕ) → Views s h
+    → slice_get h.codes place ≡ Some c → slice_get s.codes place ≡ Some d → number ≡ first + place → id ≡ new_code number
+    → change_line (record { code = record { text = id; size = d.size; event = d.event }; form = form; text = text }) ≡ change_line
+    (record { code = record { text = new_code (first + code_place h c.text); size = c.size; event = c.event }; form = form; text = text })
 line_is first place number s h c d form text id v at shown n e =
     let m = code_at s.text s.codes h.codes place c v.codes at in
     let same : d ≡ m.0 = cc (sym shown ∙ m.1) in
@@ -47,12 +49,15 @@ sized_is y most is some = by_parts y.event (nat_le (2 ^ 32) y.size) refl refl
     by_parts false false h g = (h, sym (is ∙ rw (h, g) refl))
 
 -- the line under its new code, and that it is no event, where the look-up gave its size
-module _ (place most : ℕ) (s : HeadShown) (h : Header) (c : IdCode) (v : Views s h) (at : slice_get h.codes place ≡ Some c) (sized : IsSized s.codes (record { position = place; size_or_zero = most })) (some : most ≢ 0) where
+module _ (place most : ℕ) (s : HeadShown) (h : Header) (c : IdCode) (v : Views s h) (at : slice_get h.codes place ≡ Some c)
+    (sized : IsSized s.codes (record { position = place; size_or_zero = most })) (some : most ≢ 0) where
   pub sized_line : (first number : ℕ) (form : ChangeForm) (text : List ℕ) → number ≡ first + place
-      → change_line (record { code = record { text = new_code number; size = most; event = false }; form = form; text = text }) ≡ change_line (record { code = record { text = new_code (first + code_place h c.text); size = c.size; event = c.event }; form = form; text = text })
+      → change_line (record { code = record { text = new_code number; size = most; event = false }; form = form; text = text }) ≡ change_line
+      (record { code = record { text = new_code (first + code_place h c.text); size = c.size; event = c.event }; form = form; text = text })
   sized_line first number form text n =
       let z = sized_is sized.0 most sized.2 some in
-      ap₂ (λ (e : Bool) (k : ℕ). change_line (record { code = record { text = new_code number; size = k; event = e }; form = form; text = text })) (sym z.0) (sym z.1) ∙ line_is first place number s h c sized.0 form text (new_code number) v at sized.1 n refl
+      ap₂ (λ (e : Bool) (k : ℕ). change_line (record { code = record { text = new_code number; size = k; event = e }; form = form; text = text }))
+      (sym z.0) (sym z.1) ∙ line_is first place number s h c sized.0 form text (new_code number) v at sized.1 n refl
 
   pub no_event : c.event ≡ false
   no_event = let z = sized_is sized.0 most sized.2 some in sym (event_of s h place c sized.0 v at sized.1) ∙ z.0

@@ -38,13 +38,16 @@ abbrev pub IsRead : (limit chunk : ℕ) → List Header → List Dump → List S
 IsRead limit chunk hs ds seats k l old new left = IsLeft l.input old new left × IsReadSo limit chunk hs ds seats k l old new left
 
 -- other inputs may continue
-still_so : (limit chunk : ℕ) (hs : List Header) (ds es : List Dump) (seats news : List Seat) (k : ℕ) (l : Lane) (old new : Supply) (left : Input) → GoOn ds seats es news → IsReadSo limit chunk hs ds seats k l old new left → IsReadSo limit chunk hs es news k l old new left
+still_so : (limit chunk : ℕ) (hs : List Header) (ds es : List Dump) (seats news : List Seat) (k : ℕ) (l : Lane) (old new : Supply) (left : Input)
+    → GoOn ds seats es news → IsReadSo limit chunk hs ds seats k l old new left → IsReadSo limit chunk hs es news k l old new left
 still_so limit chunk hs ds es seats news k l old new left go (inl same) = inl same
 still_so limit chunk hs ds es seats news k l old new left go (inr r) = inr (turn_on limit chunk hs ds es seats news k l left new.rest go r)
 
 -- no more was read than what settles work that tokens with just these items do not settle
-module _ {X : Type 0} (rest : X → Option (List ℕ)) (failures : X → ℕ) (limit chunk : ℕ) (hs : List Header) (ds : List Dump) (seats : List Seat) (k : ℕ) (l : Lane) (old new : Supply) (left : Input) (x : X) (is : supply rest failures x ≡ new) (settled : List Token → Bool) where
-  pub reads_for : ((r : ReadInTurn limit chunk hs ds seats k l left new.rest) (ts : List Token) → HaveJust l.header.codes r.items ts → settled ts ≡ false) → IsReadSo limit chunk hs ds seats k l old new left → ReadsAsNeeded limit chunk old new left l.front settled
+module _ {X : Type 0} (rest : X → Option (List ℕ)) (failures : X → ℕ) (limit chunk : ℕ) (hs : List Header) (ds : List Dump) (seats : List Seat)
+    (k : ℕ) (l : Lane) (old new : Supply) (left : Input) (x : X) (is : supply rest failures x ≡ new) (settled : List Token → Bool) where
+  pub reads_for : ((r : ReadInTurn limit chunk hs ds seats k l left new.rest) (ts : List Token) → HaveJust l.header.codes r.items ts
+      → settled ts ≡ false) → IsReadSo limit chunk hs ds seats k l old new left → ReadsAsNeeded limit chunk old new left l.front settled
   reads_for on (inl same) = Nothing same
   reads_for on (inr r) =
       let of_x : ReadsNoMore limit chunk l r.items left (rest x) = subst (λ (z : Supply). ReadsNoMore limit chunk l r.items left z.rest) (sym is) r.no_more in
@@ -57,7 +60,8 @@ module _ {X : Type 0} (rest : X → Option (List ℕ)) (failures : X → ℕ) (h
   -- The sources were these olds before the merge: none of their reads has failed in it, and each
   -- was read on its turn alone. After that the inputs have these items and seats.
   pub record AreReadSoFar (ds : List Dump) (seats : List Seat) (xs : List X) : Type 0 where
-    pub each : (j : ℕ) (l : Lane) (old new : Supply) → slice_get lanes j ≡ Some l → slice_get olds j ≡ Some old → slice_get (supplies xs) j ≡ Some new → (new.failures ≡ old.failures) × IsReadSo limit chunk hs ds seats j l old new l.input
+    pub each : (j : ℕ) (l : Lane) (old new : Supply) → slice_get lanes j ≡ Some l → slice_get olds j ≡ Some old
+        → slice_get (supplies xs) j ≡ Some new → (new.failures ≡ old.failures) × IsReadSo limit chunk hs ds seats j l old new l.input
 
   -- other inputs may continue
   pub still_read : (ds es : List Dump) (seats news : List Seat) (xs : List X) → GoOn ds seats es news → AreReadSoFar ds seats xs → AreReadSoFar es news xs
@@ -67,7 +71,8 @@ module _ {X : Type 0} (rest : X → Option (List ℕ)) (failures : X → ℕ) (h
 
   -- after reads of which each left its source as it was, or came on its turn
   pub read_along : (ds es : List Dump) (seats news : List Seat) (ss ms : List X) → GoOn ds seats es news → map failures ms ≡ map failures ss
-      → ((j : ℕ) (l : Lane) (x : X) → slice_get lanes j ≡ Some l → slice_get ms j ≡ Some x → (slice_get ss j ≡ Some x) ⊎ ReadInTurn limit chunk hs es news j l l.input (rest x)) → AreReadSoFar ds seats ss → AreReadSoFar es news ms
+      → ((j : ℕ) (l : Lane) (x : X) → slice_get lanes j ≡ Some l → slice_get ms j ≡ Some x → (slice_get ss j ≡ Some x)
+      ⊎ ReadInTurn limit chunk hs es news j l l.input (rest x)) → AreReadSoFar ds seats ss → AreReadSoFar es news ms
   read_along ds es seats news ss ms go same reads so_far = record {
     each = λ j l old new at_l at_old at_new.
         let x = unmap (supply rest failures) ms j new at_new in
@@ -83,12 +88,16 @@ module _ {X : Type 0} (rest : X → Option (List ℕ)) (failures : X → ℕ) (h
   }
 
   -- each input is left whole
-  pub left_whole : (ds : List Dump) (seats : List Seat) (xs : List X) → AreReadSoFar ds seats xs → (j : ℕ) (l : Lane) (old new : Supply) → slice_get lanes j ≡ Some l → slice_get olds j ≡ Some old → slice_get (supplies xs) j ≡ Some new → IsRead limit chunk hs ds seats j l old new l.input
+  pub left_whole : (ds : List Dump) (seats : List Seat) (xs : List X) → AreReadSoFar ds seats xs → (j : ℕ) (l : Lane) (old new : Supply)
+      → slice_get lanes j ≡ Some l → slice_get olds j ≡ Some old → slice_get (supplies xs) j ≡ Some new
+      → IsRead limit chunk hs ds seats j l old new l.input
   left_whole ds seats xs so_far j l old new at_l at_old at_new = let e = so_far.each j l old new at_l at_old at_new in (inl (e.0, refl), e.1)
 
   -- a step, after which the inputs have these items and seats
-  module _ {A : Type 0} (ds es : List Dump) (news : List Seat) (s s' : Standing X) (k : ℕ) (result : Result A Stop) (cut : Option ℕ) (holds : Holds rest hs lanes ds s) (go : GoOn ds s.seats es news) (so_far : AreReadSoFar ds s.seats s.sources)
-      (r : ReadsOne rest lanes ds s s' k cut) (counts : map failures s'.sources ≡ failures_with (map failures s.sources) k result) (limit_is : part_len (length s.seats) s.tokens ≡ limit) (chunk_is : part_len (length s.seats) s.chunks ≡ chunk) where
+  module _ {A : Type 0} (ds es : List Dump) (news : List Seat) (s s' : Standing X) (k : ℕ) (result : Result A Stop) (cut : Option ℕ)
+      (holds : Holds rest hs lanes ds s) (go : GoOn ds s.seats es news) (so_far : AreReadSoFar ds s.seats s.sources)
+      (r : ReadsOne rest lanes ds s s' k cut) (counts : map failures s'.sources ≡ failures_with (map failures s.sources) k result)
+      (limit_is : part_len (length s.seats) s.tokens ≡ limit) (chunk_is : part_len (length s.seats) s.chunks ≡ chunk) where
     turn : ReadInTurn limit chunk hs es news k r.lane (cut_at cut r.lane.input) (rest r.source)
     turn =
         let more : ReadsNoMore limit chunk r.lane r.dump.items (cut_at cut r.lane.input) (rest r.source) = rw (← limit_is, ← chunk_is) r.no_more in
@@ -97,7 +106,8 @@ module _ {X : Type 0} (rest : X → Option (List ℕ)) (failures : X → ℕ) (h
 
     -- of the input whose turn it was
     own : (l : Lane) (old new : Supply) → slice_get lanes k ≡ Some l → slice_get olds k ≡ Some old → slice_get (supplies s'.sources) k ≡ Some new
-        → (new.failures ≡ old.failures + reads_failed result) × ReadInTurn limit chunk hs es news k l (cut_at cut l.input) new.rest × IfSome cut (λ n. l.input.mark ≡ Clean → HasRest new.rest n l.input)
+        → (new.failures ≡ old.failures + reads_failed result) × ReadInTurn limit chunk hs es news k l (cut_at cut l.input) new.rest
+        × IfSome cut (λ n. l.input.mark ≡ Clean → HasRest new.rest n l.input)
     own l old new at_l at_old at_new =
         let x = unmap (supply rest failures) s'.sources k new at_new in
         let y = own_failures failures s.sources s'.sources k result counts x.0 x.1 in
@@ -106,7 +116,8 @@ module _ {X : Type 0} (rest : X → Option (List ℕ)) (failures : X → ℕ) (h
         let lane : r.lane ≡ l = cc (sym r.lane_at ∙ at_l) in
         let is : supply rest failures r.source ≡ new = ap (supply rest failures) source ∙ x.2 in (
           ap (λ (z : Supply). z.failures) (sym x.2) ∙ y.2 ∙ ap (λ n. n + reads_failed result) before.0,
-          subst (λ (m : Lane). ReadInTurn limit chunk hs es news k m (cut_at cut m.input) new.rest) lane (subst (λ (z : Supply). ReadInTurn limit chunk hs es news k r.lane (cut_at cut r.lane.input) z.rest) is turn),
+          subst (λ (m : Lane). ReadInTurn limit chunk hs es news k m (cut_at cut m.input) new.rest) lane
+              (subst (λ (z : Supply). ReadInTurn limit chunk hs es news k r.lane (cut_at cut r.lane.input) z.rest) is turn),
           subst (λ (m : Lane). IfSome cut (λ n. m.input.mark ≡ Clean → HasRest new.rest n m.input)) lane
               (subst (λ (z : Supply). IfSome cut (λ n. r.lane.input.mark ≡ Clean → HasRest z.rest n r.lane.input)) is r.has_rest),
         )
@@ -118,7 +129,8 @@ module _ {X : Type 0} (rest : X → Option (List ℕ)) (failures : X → ℕ) (h
         get_mapped (supply rest failures) s.sources j x.0 (sym (r.others j apart) ∙ x.1) ∙ ap (λ (z : Supply). Some z) x.2
 
     -- an input whose turn it was not is left whole
-    pub other_left : (j : ℕ) (l : Lane) (old new : Supply) → j ≢ k → slice_get lanes j ≡ Some l → slice_get olds j ≡ Some old → slice_get (supplies s'.sources) j ≡ Some new → IsRead limit chunk hs es news j l old new l.input
+    pub other_left : (j : ℕ) (l : Lane) (old new : Supply) → j ≢ k → slice_get lanes j ≡ Some l → slice_get olds j ≡ Some old
+        → slice_get (supplies s'.sources) j ≡ Some new → IsRead limit chunk hs es news j l old new l.input
     other_left j l old new apart at_l at_old at_new = left_whole es news s.sources (still_read ds es s.seats news s.sources go so_far) j l old new at_l at_old (other j new apart at_new)
 
     -- no read failed
@@ -136,7 +148,9 @@ module _ {X : Type 0} (rest : X → Option (List ℕ)) (failures : X → ℕ) (h
     }
 
     -- a read failed after n bytes: the input is cut there
-    pub cut_left : (n : ℕ) → cut ≡ Some n → reads_failed result ≡ 1 → (l : Lane) (old new : Supply) → slice_get lanes k ≡ Some l → slice_get olds k ≡ Some old → slice_get (supplies s'.sources) k ≡ Some new → IsRead limit chunk hs es news k l old new (failed_after n l.input)
+    pub cut_left : (n : ℕ) → cut ≡ Some n → reads_failed result ≡ 1 → (l : Lane) (old new : Supply) → slice_get lanes k ≡ Some l
+        → slice_get olds k ≡ Some old → slice_get (supplies s'.sources) k ≡ Some new
+        → IsRead limit chunk hs es news k l old new (failed_after n l.input)
     cut_left n at_n one l old new at_l at_old at_new =
         let was = own l old new at_l at_old at_new in
         let read = subst (λ (c : Option ℕ). ReadInTurn limit chunk hs es news k l (cut_at c l.input) new.rest) at_n was.1 in

@@ -45,12 +45,14 @@ merge_within limit heads w are = λ hs show.
     merge_fits limit hs w (kept_in heads) 0 (subst (λ n. AreAllWindows limit n w) (sym long) are) (are_views heads hs show) (omega arith)
 
 -- windows whose tokens and values are as long as the limit says, and then none, whatever the limit
-pub without_windows : (limit : ℕ) (heads : List Head) (w : WindowSize) → w.token ≡ length heads * limit → w.value ≡ w.token → MergeIsWithinBound limit heads w → (other : ℕ) → MergeIsWithinBound other heads no_windows
+pub without_windows : (limit : ℕ) (heads : List Head) (w : WindowSize) → w.token ≡ length heads * limit → w.value ≡ w.token
+    → MergeIsWithinBound limit heads w → (other : ℕ) → MergeIsWithinBound other heads no_windows
 without_windows limit heads w token value within other = λ hs show.
     let long = ap (λ n. n * limit) (AllZip-long _ heads hs show) in
     omega (arith, within hs show, token, value, long, bound_of_limit limit hs, bound_of_limit other hs)
 
 -- as many seats, the same heads and windows that are as long
-pub still_within : (n n' : ℕ) (heads heads' : List Head) (w w' : Windows) → n' ≡ n → heads' ≡ heads → SameLengths w w' → MergeIsWithinBound (part_len n w.tokens.now) heads (windows_size w) → MergeIsWithinBound (part_len n' w'.tokens.now) heads' (windows_size w')
+pub still_within : (n n' : ℕ) (heads heads' : List Head) (w w' : Windows) → n' ≡ n → heads' ≡ heads → SameLengths w w'
+    → MergeIsWithinBound (part_len n w.tokens.now) heads (windows_size w) → MergeIsWithinBound (part_len n' w'.tokens.now) heads' (windows_size w')
 still_within n n' heads heads' w w' many same lengths within =
     rw (many, same, lengths.chunks, lengths.tokens, lengths.values) within

@@ -63,9 +63,17 @@ record SameParts {X : Type 0} (s s' : Standing X) : Type 0 where
   chunk : part_len (length s'.seats) s'.chunks ≡ part_len (length s.seats) s.chunks
 
 same_parts : {X : Type 0} (s s' : Standing X) → length s'.seats ≡ length s.seats → length s'.chunks ≡ length s.chunks → length s'.tokens ≡ length s.tokens → SameParts s s'
-same_parts s s' seats chunks tokens = record { seats = seats; tokens = tokens; limit = same_part (length s.seats) (length s'.seats) s.tokens s'.tokens seats tokens; chunk = same_part (length s.seats) (length s'.seats) s.chunks s'.chunks seats chunks }
+same_parts s s' seats chunks tokens = record {
+  seats = seats;
+  tokens = tokens;
+  limit = same_part (length s.seats)
+      (length s'.seats) s.tokens s'.tokens seats tokens;
+  chunk = same_part (length s.seats) (length s'.seats) s.chunks s'.chunks seats chunks;
+}
 
-module _ {X : Type 0} {rest : X → Option (List ℕ)} {failures : X → ℕ} {hs : List Header} {lanes : List Lane} {limit chunk : ℕ} {olds : List Supply} {begin : Device} {ds : List Dump} {s : Standing X} {out : Device} (b : IsSoFar rest failures hs lanes limit chunk olds begin ds s out) where
+module _ {X : Type 0} {rest : X → Option (List ℕ)} {failures : X
+    → ℕ} {hs : List Header} {lanes : List Lane} {limit chunk : ℕ} {olds : List Supply} {begin : Device} {ds : List Dump} {s : Standing X} {out : Device}
+    (b : IsSoFar rest failures hs lanes limit chunk olds begin ds s out) where
   -- there are as many sources as lanes
   as_many : (xs : List X) → length xs ≡ length s.sources → length (map (supply rest failures) xs) ≡ length lanes
   as_many xs e =
@@ -86,7 +94,8 @@ module _ {X : Type 0} {rest : X → Option (List ℕ)} {failures : X → ℕ} {h
   module _ (s' : Standing X) (k : ℕ) (r : Result More Stop) (counts : map failures s'.sources ≡ failures_with (map failures s.sources) k r) where
     -- .. in which no read failed
     read_on : (es : List Dump) (news : List Seat) (j : ℕ) → GoOn ds s.seats es news → reads_failed r ≡ 0 → ReadsOne rest lanes ds s s' j None → AreReadTo s' es news
-    read_on es news j go none one = read_more rest failures hs limit chunk lanes olds ds es news s s' j r None b.holds go b.reads one (at_any (map failures s.sources) (map failures s'.sources) k j r none counts) b.limit_is b.chunk_is refl none
+    read_on es news j go none one = read_more rest failures hs limit chunk lanes olds ds es news s s' j r None b.holds go b.reads one
+        (at_any (map failures s.sources) (map failures s'.sources) k j r none counts) b.limit_is b.chunk_is refl none
 
     -- .. by which no item was taken
     read_same : (j : ℕ) → reads_failed r ≡ 0 → ReadsOne rest lanes ds s s' j None → AreReadTo s' ds s'.seats
@@ -124,12 +133,34 @@ module _ {X : Type 0} {rest : X → Option (List ℕ)} {failures : X → ℕ} {h
   wrote_none new w = subst (Writes begin new) (append-nil (merge_open hs (merged_items ds))) (wrote new [] w)
 
   -- the merge continues: it holds an item more, or the same
-  advances : (s' : Standing X) (new : Device) (k : ℕ) → IsReady s' → SameParts s s' → map failures s'.sources ≡ failures_with {A = More} (map failures s.sources) k (Ok Again) → Gives rest hs lanes ds s s' out new (Ok Again) → (es : List Dump) × IsSoFar rest failures hs lanes limit chunk olds begin es s' new
+  advances : (s' : Standing X) (new : Device) (k : ℕ) → IsReady s' → SameParts s s'
+      → map failures s'.sources ≡ failures_with {A = More} (map failures s.sources) k (Ok Again) → Gives rest hs lanes ds s s' out new (Ok Again)
+      → (es : List Dump) × IsSoFar rest failures hs lanes limit chunk olds begin es s' new
   advances s' new k ready same counts (inl t) = (
     with_item ds t.0 t.1 t.2,
-    record { holds = record { given = t.3.given; written = t.4 }; ready = ready; limit_is = same.limit ∙ b.limit_is; chunk_is = same.chunk ∙ b.chunk_is; reads = read_item s' k (Ok Again) counts t.0 t.1 t.2 t.3.dump_at refl t.6; writes = rw t.5.1 (wrote new t.5.0 t.5.2) },
+    record {
+      holds = record { given = t.3.given; written = t.4 };
+      ready = ready;
+      limit_is = same.limit ∙ b.limit_is;
+      chunk_is = same.chunk
+          ∙ b.chunk_is;
+      reads = read_item s' k (Ok Again) counts t.0 t.1 t.2 t.3.dump_at refl t.6;
+      writes = rw t.5.1 (wrote new t.5.0 t.5.2);
+    },
   )
-  advances s' new k ready same counts (inr t) = (ds, record { holds = t.holds; ready = ready; limit_is = same.limit ∙ b.limit_is; chunk_is = same.chunk ∙ b.chunk_is; reads = read_same s' k (Ok Again) counts t.input refl t.reads; writes = wrote_none new t.writes })
+  advances s' new k ready same counts (inr t) = (
+    ds,
+    record {
+      holds = t.holds;
+      ready = ready;
+      limit_is = same.limit
+          ∙ b.limit_is;
+      chunk_is = same.chunk ∙ b.chunk_is;
+      reads = read_same s' k
+          (Ok Again) counts t.input refl t.reads;
+      writes = wrote_none new t.writes;
+    },
+  )
 
   -- ---- the exits: what a last step takes the run to
 
@@ -154,12 +185,14 @@ module _ {X : Type 0} {rest : X → Option (List ℕ)} {failures : X → ℕ} {h
     new_long = long_of rest s s' limit b.limit_is b.ready same.seats same.tokens
 
     -- by what is left of each input, which was read on its turn alone
-    module _ (P : ℕ → whole.Whole hs limit → Type 0) (es : List Dump) (ends : List Seat) (ws : Wholes hs limit P 0 lanes es) (later : (k : ℕ) (x : whole.Whole hs limit) → P k x → HasLaterFault hs limit ends k x) where
+    module _ (P : ℕ → whole.Whole hs limit → Type 0) (es : List Dump) (ends : List Seat) (ws : Wholes hs limit P 0 lanes es)
+        (later : (k : ℕ) (x : whole.Whole hs limit) → P k x → HasLaterFault hs limit ends k x) where
       abbrev os : List Opened
       os = map (opened_of hs limit) ws.list
 
       abbrev AreAllRead : Type 0
-      AreAllRead = (k : ℕ) (x : whole.Whole hs limit) (old new : Supply) → P k x → slice_get lanes k ≡ Some x.lane → slice_get olds k ≡ Some old → slice_get news k ≡ Some new → IsRead limit chunk hs es ends k x.lane old new x.left
+      AreAllRead = (k : ℕ) (x : whole.Whole hs limit) (old new : Supply) → P k x → slice_get lanes k ≡ Some x.lane → slice_get olds k ≡ Some old
+          → slice_get news k ≡ Some new → IsRead limit chunk hs es ends k x.lane old new x.left
 
       lane_of : (k : ℕ) (x : whole.Whole hs limit) → slice_get ws.list k ≡ Some x → slice_get lanes k ≡ Some x.lane
       lane_of k x at = ap (λ (ls : List Lane). slice_get ls k) (sym ws.lanes_are) ∙ get_mapped (λ (y : whole.Whole hs limit). y.lane) ws.list k x at
@@ -168,7 +201,8 @@ module _ {X : Type 0} {rest : X → Option (List ℕ)} {failures : X → ℕ} {h
       fits k x at = let i : 0 + k ≡ k = omega arith in subst (λ (j : ℕ). P j x) i (fit_at hs limit P 0 k ws.list x at ws.fit)
 
       -- the faults of the others come after its position
-      others_later : (k : ℕ) (x : whole.Whole hs limit) (old new : Supply) (r : ReadInTurn limit chunk hs es ends k x.lane x.left new.rest) (i : ℕ) (d : Dump) (f : Fault) → i ≢ k → slice_get (entire_of hs limit ws.list) i ≡ Some d → d.fault ≡ Some f
+      others_later : (k : ℕ) (x : whole.Whole hs limit) (old new : Supply) (r : ReadInTurn limit chunk hs es ends k x.lane x.left new.rest) (i : ℕ)
+          (d : Dump) (f : Fault) → i ≢ k → slice_get (entire_of hs limit ws.list) i ≡ Some d → d.fault ≡ Some f
           → key_lt (key_after (factor hs x.lane.header) k r.items) (key_after (factor hs d.header) i d.items) ≡ true
       others_later k x old new r i d f other at e =
           let v = reads.unmap (entire hs limit) ws.list i d at in
@@ -182,22 +216,30 @@ module _ {X : Type 0} {rest : X → Option (List ℕ)} {failures : X → ℕ} {h
       needed each = λ k x old new at at_old at_new.
           let y = reads.unmap (supply rest failures) s'.sources k new at_new in
           reads_for rest failures limit chunk hs es ends k x.lane old new x.left y.0 y.2 (settles_among os k x.lane.header)
-          (λ r ts have. unsettled hs os (entire_of hs limit ws.list) k (opened_of hs limit x) r.items (opened_headers hs limit ws.list ∙ ap (map (λ (l : Lane). l.header)) ws.lanes_are ∙ b.holds.given.lanes_are) (opened_dumps hs limit ws.list) (get_mapped (opened_of hs limit) ws.list k x at) r.small (others_later k x old new r) ts have)
+          (λ r ts have. unsettled hs os (entire_of hs limit ws.list) k (opened_of hs limit x) r.items (opened_headers hs limit ws.list
+          ∙ ap (map (λ (l : Lane). l.header)) ws.lanes_are ∙ b.holds.given.lanes_are) (opened_dumps hs limit ws.list)
+          (get_mapped (opened_of hs limit) ws.list k x at) r.small (others_later k x old new r) ts have)
           (each k x old new (fits k x at) (lane_of k x at) at_old at_new).1
 
       -- and than what settles it alone
-      settled_behind : AreAllRead → (k : ℕ) (x : whole.Whole hs limit) (old new : Supply) → P k x → slice_get ws.list k ≡ Some x → slice_get olds k ≡ Some old → slice_get news k ≡ Some new
+      settled_behind : AreAllRead → (k : ℕ) (x : whole.Whole hs limit) (old new : Supply) → P k x → slice_get ws.list k ≡ Some x
+          → slice_get olds k ≡ Some old → slice_get news k ≡ Some new
           → IsLeft x.lane.input old new x.left × ReadsAsNeeded limit chunk old new x.left x.lane.front (is_settled_behind Request.Merge x.lane.header)
       settled_behind each k x old new p at at_old at_new =
           let one = each k x old new p (lane_of k x at) at_old at_new in
-          let y = reads.unmap (supply rest failures) s'.sources k new at_new in
-          (one.0, reads_for rest failures limit chunk hs es ends k x.lane old new x.left y.0 y.2 (is_settled_behind Request.Merge x.lane.header) (λ r ts have. open_behind x.lane.header r.items ts have) one.1)
+          let y = reads.unmap (supply rest failures) s'.sources k new at_new in (
+            one.0,
+            reads_for rest failures limit chunk hs es ends k x.lane old new x.left y.0 y.2 (is_settled_behind Request.Merge x.lane.header)
+                (λ r ts have. open_behind x.lane.header r.items ts have) one.1,
+          )
 
       abbrev AreAllOnTurn : Type 0
-      AreAllOnTurn = (k : ℕ) (x : whole.Whole hs limit) (old new : Supply) → P k x → slice_get lanes k ≡ Some x.lane → slice_get olds k ≡ Some old → slice_get news k ≡ Some new → IsReadSo limit chunk hs ds s.seats k x.lane old new x.left
+      AreAllOnTurn = (k : ℕ) (x : whole.Whole hs limit) (old new : Supply) → P k x → slice_get lanes k ≡ Some x.lane → slice_get olds k ≡ Some old
+          → slice_get news k ≡ Some new → IsReadSo limit chunk hs ds s.seats k x.lane old new x.left
 
       -- each was read on its turn, and what is due before the last step is on the output
-      all_on_turn : IsOut → AreAllOnTurn → AreReadOnTurn limit chunk hs (map (λ (x : whole.Whole hs limit). x.lane) ws.list) olds news (map (λ (x : whole.Whole hs limit). x.left) ws.list) begin new
+      all_on_turn : IsOut → AreAllOnTurn → AreReadOnTurn limit chunk hs (map (λ (x : whole.Whole hs limit). x.lane) ws.list) olds news
+          (map (λ (x : whole.Whole hs limit). x.left) ws.list) begin new
       all_on_turn due turns =
           subst (λ (ls : List Lane). AreReadOnTurn limit chunk hs ls olds news (map (λ (x : whole.Whole hs limit). x.left) ws.list) begin new) (sym ws.lanes_are)
           (OnTurn ds b.holds.given.dumps_are (begins b.holds.given long) due.0 due.1 (λ k l old new i at_l at_old at_new at_i.
@@ -208,7 +250,8 @@ module _ {X : Type 0} {rest : X → Option (List ℕ)} {failures : X → ℕ} {h
           on_turn b.holds.given long chunk k l old new i
           (subst (λ (j : _). IsReadSo limit chunk hs ds s.seats k l old new j) x.2 (subst (λ (m : Lane). IsReadSo limit chunk hs ds s.seats k m old new x.0.left) is so))))
 
-      all_follow : (r : Result Done Stop) → length news ≡ length lanes → AreAllRead → IsOut → AreAllOnTurn → Belongs (merge_outcome names (entire_of hs limit ws.list)) names begin new r → IsFollowed r
+      all_follow : (r : Result Done Stop) → length news ≡ length lanes → AreAllRead → IsOut → AreAllOnTurn
+          → Belongs (merge_outcome names (entire_of hs limit ws.list)) names begin new r → IsFollowed r
       all_follow r as_many each due turns belongs =
           let len = len_map (λ (x : whole.Whole hs limit). x.lane) ws.list in
           let same = ap (λ (ls : List Lane). length ls) ws.lanes_are in
@@ -217,24 +260,32 @@ module _ {X : Type 0} {rest : X → Option (List ℕ)} {failures : X → ℕ} {h
           follows hs limit chunk ws.list lanes names olds news begin new r ws.lanes_are b.holds.given.lanes_are left (needed each) (all_on_turn due turns) belongs
 
       -- where each input is left whole
-      all_whole : (r : Result Done Stop) → length news ≡ length lanes → AreReadTo s' es ends → AreReadTo s' ds s.seats → IsOut → ((k : ℕ) (x : whole.Whole hs limit) → P k x → x.left ≡ x.lane.input) → Belongs (merge_outcome names (entire_of hs limit ws.list)) names begin new r → IsFollowed r
+      all_whole : (r : Result Done Stop) → length news ≡ length lanes → AreReadTo s' es ends → AreReadTo s' ds s.seats → IsOut
+          → ((k : ℕ) (x : whole.Whole hs limit) → P k x → x.left ≡ x.lane.input)
+          → Belongs (merge_outcome names (entire_of hs limit ws.list)) names begin new r → IsFollowed r
       all_whole r as_many more turns due left belongs =
           all_follow r as_many
-          (λ k x old new p at at_old at_new. subst (IsRead limit chunk hs es ends k x.lane old new) (sym (left k x p)) (left_whole rest failures hs limit chunk lanes olds es ends s'.sources more k x.lane old new at at_old at_new))
+          (λ k x old new p at at_old at_new. subst (IsRead limit chunk hs es ends k x.lane old new) (sym (left k x p))
+          (left_whole rest failures hs limit chunk lanes olds es ends s'.sources more k x.lane old new at at_old at_new))
           due
-          (λ k x old new p at at_old at_new. subst (IsReadSo limit chunk hs ds s.seats k x.lane old new) (sym (left k x p)) (left_whole rest failures hs limit chunk lanes olds ds s.seats s'.sources turns k x.lane old new at at_old at_new).1)
+          (λ k x old new p at at_old at_new. subst (IsReadSo limit chunk hs ds s.seats k x.lane old new) (sym (left k x p))
+          (left_whole rest failures hs limit chunk lanes olds ds s.seats s'.sources turns k x.lane old new at at_old at_new).1)
           belongs
 
     -- all inputs have ended
-    ended_merge : (done : Done) (k : ℕ) → map failures s'.sources ≡ failures_with {A = More} (map failures s.sources) k (Ok (Ended done)) → Gives rest hs lanes ds s s' out new (Ok (Ended done)) → IsFollowed (Ok done)
+    ended_merge : (done : Done) (k : ℕ) → map failures s'.sources ≡ failures_with {A = More} (map failures s.sources) k (Ok (Ended done))
+        → Gives rest hs lanes ds s s' out new (Ok (Ended done)) → IsFollowed (Ok done)
     ended_merge Early k counts gives = absurd gives
     ended_merge Whole k counts gives =
         let r : Result More Stop = Ok (Ended Whole) in
-        all_whole (EndFits gives.given new_long) ds s'.seats (ends gives.given new_long gives.finished) (λ j x p. p.later) (Ok Whole) (new_many s' k r counts) (read_same s' k r counts gives.input refl gives.reads) (turn_of s' k r counts gives.input refl gives.reads) (out_with _ gives.closes.0) (λ j x p. p.left)
+        all_whole (EndFits gives.given new_long) ds s'.seats (ends gives.given new_long gives.finished) (λ j x p. p.later) (Ok Whole)
+        (new_many s' k r counts) (read_same s' k r counts gives.input refl gives.reads) (turn_of s' k r counts gives.input refl gives.reads)
+        (out_with _ gives.closes.0) (λ j x p. p.left)
         (rw (clean_is gives.given new_long gives.finished names) (refl, wrote new (merge_close (merged_items ds)) gives.closes))
 
     -- what is on the output before this fault is that of its outcome
-    output_is : (input : ℕ) (f : Fault) → Writes out new [] → let o = fault_outcome (merge_open hs (merged_items ds)) (name_at names input) f in (o ≡ fault_outcome o.output (name_at names input) f) × Writes begin new o.output
+    output_is : (input : ℕ) (f : Fault) → Writes out new [] → let o = fault_outcome (merge_open hs (merged_items ds)) (name_at names input) f in
+        (o ≡ fault_outcome o.output (name_at names input) f) × Writes begin new o.output
     output_is input f none =
         let e = fault_output (merge_open hs (merged_items ds)) (name_at names input) f in
         (ap (λ l. fault_outcome l (name_at names input) f) (sym e), subst (Writes begin new) (sym e) (wrote_none new none))
@@ -258,13 +309,15 @@ module _ {X : Type 0} {rest : X → Option (List ℕ)} {failures : X → ℕ} {h
 
     -- it has stopped: the fault is the first of the merged inputs, and the output is what comes
     -- before it; or a write failed
-    stopped_merge : (stop : Stop) (k : ℕ) → IsNext s.seats k → map failures s'.sources ≡ failures_with {A = More} (map failures s.sources) k (Err stop) → Gives rest hs lanes ds s s' out new (Err stop) → IsFollowed (Err stop)
+    stopped_merge : (stop : Stop) (k : ℕ) → IsNext s.seats k → map failures s'.sources ≡ failures_with {A = More} (map failures s.sources) k
+        (Err stop) → Gives rest hs lanes ds s s' out new (Err stop) → IsFollowed (Err stop)
     stopped_merge (Faulty input line fault) k next counts gives =
         let r : Result More Stop = Err (Faulty input line fault) in
         let has = gives.0 in
         let o = output_is input (record { number = fault; line = line }) gives.2 in
         let turns = turn_of s' k r counts input refl gives.3 in
-        all_whole (Fits input line fault k None has) ds s.seats (inputs input line fault k None has) (λ j x p. p.behind) (Err (Faulty input line fault)) (new_many s' k r counts) turns turns (out_with [] gives.2.0)
+        all_whole (Fits input line fault k None has) ds s.seats (inputs input line fault k None has) (λ j x p. p.behind)
+        (Err (Faulty input line fault)) (new_many s' k r counts) turns turns (out_with [] gives.2.0)
         (λ j x p. elim (same_or_not j input) [ inl e ↦ p.cut_is e | inr other ↦ p.left other ])
         (rw (outcome input line fault k None has) (o.0, gives.1, o.1))
     stopped_merge (Read input) k next counts gives =
@@ -282,35 +335,47 @@ module _ {X : Type 0} {rest : X → Option (List ℕ)} {failures : X → ℕ} {h
         counted : map failures s'.sources ≡ failures_with {A = More} (map failures s.sources) input (Err (Read input))
         counted = counts ∙ ap (λ i. failures_with {A = More} (map failures s.sources) i (Err (Read input))) (same_next s.seats k input next gives.0.2.next)
 
-        by_place : (j : ℕ) (x : whole.Whole hs limit) (old new : Supply) → Fits input gives.0.1 31 k (Some gives.0.0) gives.0.2 j x → (j ≡ input) ⊎ (j ≢ input) → slice_get lanes j ≡ Some x.lane → slice_get olds j ≡ Some old → slice_get news j ≡ Some new → IsRead limit chunk hs ds s.seats j x.lane old new x.left
+        by_place : (j : ℕ) (x : whole.Whole hs limit) (old new : Supply) → Fits input gives.0.1 31 k (Some gives.0.0) gives.0.2 j x → (j ≡ input)
+            ⊎ (j ≢ input) → slice_get lanes j ≡ Some x.lane → slice_get olds j ≡ Some old → slice_get news j ≡ Some new
+            → IsRead limit chunk hs ds s.seats j x.lane old new x.left
         by_place j x old new p (inl e) at at_old at_new =
-            let left = cut_left rest failures hs limit chunk lanes olds {A = More} ds ds s.seats s s' input (Err (Read input)) (Some gives.0.0) b.holds (go_still ds s.seats) b.reads gives.0.3 counted b.limit_is b.chunk_is gives.0.0 refl refl x.lane old new
+            let left = cut_left rest failures hs limit chunk lanes olds {A = More} ds ds s.seats s s' input (Err (Read input))
+            (Some gives.0.0) b.holds (go_still ds s.seats) b.reads gives.0.3 counted b.limit_is b.chunk_is gives.0.0 refl refl x.lane old new
             (ap (slice_get lanes) (sym e) ∙ at) (ap (slice_get olds) (sym e) ∙ at_old) (ap (slice_get news) (sym e) ∙ at_new) in
             rw (p.cut_is e, e) left
         by_place j x old new p (inr other) at at_old at_new =
-            rw (p.left other) (other_left rest failures hs limit chunk lanes olds {A = More} ds ds s.seats s s' input (Err (Read input)) (Some gives.0.0) b.holds (go_still ds s.seats) b.reads gives.0.3 counted b.limit_is b.chunk_is j x.lane old new other at at_old at_new)
+            rw (p.left other) (other_left rest failures hs limit chunk lanes olds {A = More} ds ds s.seats s s' input (Err (Read input))
+            (Some gives.0.0) b.holds
+            (go_still ds s.seats) b.reads gives.0.3 counted b.limit_is b.chunk_is j x.lane old new other at at_old at_new)
     stopped_merge Write k next counts (inl t) =
         let r : Result More Stop = Err Write in
         let some = some-behind begin out new (merge_open hs (merged_items ds)) t.4.0 b.writes t.4.2 in
-        all_whole (WriteFits t.3.given new_long (behind t.3) (late_behind t.3)) (with_item ds t.0 t.1 t.2) s'.seats (writes t.3.given new_long (behind t.3) (late_behind t.3)) (λ j x p. p.later) (Err Write) (new_many s' k r counts)
+        all_whole (WriteFits t.3.given new_long (behind t.3) (late_behind t.3)) (with_item ds t.0 t.1 t.2) s'.seats
+        (writes t.3.given new_long (behind t.3) (late_behind t.3)) (λ j x p. p.later) (Err Write) (new_many s' k r counts)
         (read_item s' k r counts t.0 t.1 t.2 t.3.dump_at refl t.5) (turn_of s' k r counts t.0 refl t.5) (out_with _ t.4.2.0.1) (λ j x p. p.left)
         (written_some t.3.given new_long (behind t.3) (late_behind t.3) (all_up_to t.3) names begin new (rw t.4.1 some))
     stopped_merge Write k next counts (inr (inl t)) =
         let r : Result More Stop = Err Write in
-        let some : WritesSome begin new (merge_open hs (merged_items ds) ++ merge_close (merged_items ds)) = some-behind begin out new (merge_open hs (merged_items ds)) (merge_close (merged_items ds)) b.writes (subst (WritesSome out new) (sym t.closes.1) t.closes.2) in
-        all_whole (EndFits t.given new_long) ds s'.seats (ends t.given new_long t.finished) (λ j x p. p.later) (Err Write) (new_many s' k r counts) (read_same s' k r counts t.input refl t.reads) (turn_of s' k r counts t.input refl t.reads) (out_with _ t.closes.2.0.1) (λ j x p. p.left)
+        let some : WritesSome begin new (merge_open hs (merged_items ds) ++ merge_close (merged_items ds)) = some-behind begin out new
+        (merge_open hs (merged_items ds)) (merge_close (merged_items ds)) b.writes (subst (WritesSome out new) (sym t.closes.1) t.closes.2) in
+        all_whole (EndFits t.given new_long) ds s'.seats (ends t.given new_long t.finished) (λ j x p. p.later) (Err Write) (new_many s' k r counts)
+        (read_same s' k r counts t.input refl t.reads) (turn_of s' k r counts t.input refl t.reads) (out_with _ t.closes.2.0.1) (λ j x p. p.left)
         (rw (clean_is t.given new_long t.finished names) some)
     stopped_merge Write k next counts (inr (inr t)) =
         let r : Result More Stop = Err Write in
         let f = found rest hs lanes ds s t.input b.holds b.ready t.next in
         let some = subst (WritesSome begin new) (append-nil (merge_open hs (merged_items ds))) (some-behind begin out new (merge_open hs (merged_items ds)) [] b.writes t.writes) in
-        all_whole (WriteFits b.holds.given long (place_next f.turn) (late_next f.turn)) ds s.seats (writes b.holds.given long (place_next f.turn) (late_next f.turn)) (λ j x p. p.later) (Err Write) (new_many s' k r counts) (unread s' k r counts refl t.unread) (unread s' k r counts refl t.unread) (out_with _ t.writes.0.1) (λ j x p. p.left)
+        all_whole (WriteFits b.holds.given long (place_next f.turn) (late_next f.turn)) ds s.seats
+        (writes b.holds.given long (place_next f.turn) (late_next f.turn)) (λ j x p. p.later) (Err Write) (new_many s' k r counts)
+        (unread s' k r counts refl t.unread) (unread s' k r counts refl t.unread) (out_with _ t.writes.0.1) (λ j x p. p.left)
         (written_some b.holds.given long (place_next f.turn) (late_next f.turn) (all_before f.turn) names begin new some)
     stopped_merge (Unmatched place) k next counts gives = absurd gives
 
 -- ---- a turn of the input that comes next
 
-module _ {X : Type 0} {rest : X → Option (List ℕ)} {failures : X → ℕ} {hs : List Header} {lanes : List Lane} {limit chunk : ℕ} {olds : List Supply} {begin : Device} {ds : List Dump} {s s' : Standing X} {out new : Device} (until : ℕ) (b : IsSoFar rest failures hs lanes limit chunk olds begin ds s out) where
+module _ {X : Type 0} {rest : X → Option (List ℕ)} {failures : X
+    → ℕ} {hs : List Header} {lanes : List Lane} {limit chunk : ℕ} {olds : List Supply} {begin : Device} {ds : List Dump} {s s' : Standing X} {out new : Device}
+    (until : ℕ) (b : IsSoFar rest failures hs lanes limit chunk olds begin ds s out) where
   module _ {r : Result More Stop} (runs : Runs rest failures until s s' out new r) where
     turned : RunGives rest failures hs lanes false ds s s' out new r
     turned = runs.gives false hs lanes ds (λ f. cc) b.holds
@@ -329,22 +394,26 @@ module _ {X : Type 0} {rest : X → Option (List ℕ)} {failures : X → ℕ} {h
     ended_on done runs = ended_merge (run_on b (turned runs)) names many s' new (mid_same runs) done runs.input (counted runs) (turned runs).last
 
     pub stopped_on : (stop : Stop) → Runs rest failures until s s' out new (Err stop) → Follows limit chunk lanes names olds (map (supply rest failures) s'.sources) begin new (Err stop)
-    stopped_on stop runs = let t = turned runs in stopped_merge (run_on b t) names many s' new (mid_same runs) stop runs.input (subst (IsNext t.mid.seats) (same_next s.seats t.input runs.input t.turn runs.next) t.next) (counted runs) t.last
+    stopped_on stop runs = let t = turned runs in stopped_merge (run_on b t) names many s' new (mid_same runs) stop runs.input
+        (subst (IsNext t.mid.seats) (same_next s.seats t.input runs.input t.turn runs.next) t.next) (counted runs) t.last
 
 -- ---- a write failed in the head, before any step
 
-module _ (hs : List Header) (lanes : List Lane) (limit chunk : ℕ) (headers : map (λ (l : Lane). l.header) lanes ≡ hs) (begun : (k : ℕ) (l : Lane) → slice_get lanes k ≡ Some l → (more : List Token) × ((stream_of limit l.input).tokens ≡ l.front ++ more)) where
+module _ (hs : List Header) (lanes : List Lane) (limit chunk : ℕ) (headers : map (λ (l : Lane). l.header) lanes ≡ hs) (begun : (k : ℕ) (l : Lane)
+    → slice_get lanes k ≡ Some l → (more : List Token) × ((stream_of limit l.input).tokens ≡ l.front ++ more)) where
   abbrev none_yet : List Dump
   none_yet = map (λ (l : Lane). record { header = l.header; items = []; fault = None }) lanes
 
   -- whatever its body is, an input is some dump
-  any_at : (k : ℕ) (l : Lane) (d : Dump) → slice_get lanes k ≡ Some l → slice_get none_yet k ≡ Some d → (x : whole.Whole hs limit) × (x.lane ≡ l) × (x.dump ≡ d) × (x.left ≡ x.lane.input)
+  any_at : (k : ℕ) (l : Lane) (d : Dump) → slice_get lanes k ≡ Some l → slice_get none_yet k ≡ Some d → (x : whole.Whole hs limit) × (x.lane ≡ l)
+      × (x.dump ≡ d) × (x.left ≡ x.lane.input)
   unfolding dump_of
   any_at k l d at_l at_d =
       let more = begun k l at_l in
       let r = read_body l.header.codes more.0 in
       let dump = dump_of (factor hs l.header) l.header (body_fault_of (stream_of limit l.input) r) r in
-      let e : Some (record { header = l.header; items = []; fault = None }) ≡ Some d = sym (get_mapped (λ (m : Lane). record { header = m.header; items = []; fault = None }) lanes k l at_l) ∙ at_d in
+      let e : Some (record { header = l.header; items = []; fault = None }) ≡ Some d = sym
+      (get_mapped (λ (m : Lane). record { header = m.header; items = []; fault = None }) lanes k l at_l) ∙ at_d in
       let is : record { header = l.header; items = []; fault = None } ≡ d = cc in (
         record { lane = l; dump = d; same = ap (λ (x : Dump). x.header) is; left = l.input; items = dump.items; fault = dump.fault; has = record { rest = more.0; tokens = more.1; is = refl } },
         refl,
@@ -352,7 +421,8 @@ module _ (hs : List Header) (lanes : List Lane) (limit chunk : ℕ) (headers : m
         refl,
       )
 
-  pub unwritten_head : (names : List (List ℕ)) (olds : List Supply) (begin new : Device) → length olds ≡ length lanes → WritesSome begin new (merge_open hs []) → Follows limit chunk lanes names olds olds begin new (Err Write)
+  pub unwritten_head : (names : List (List ℕ)) (olds : List Supply) (begin new : Device) → length olds ≡ length lanes
+      → WritesSome begin new (merge_open hs []) → Follows limit chunk lanes names olds olds begin new (Err Write)
   unwritten_head names olds begin new many some =
       let ws = choose_all hs limit (λ k x. x.left ≡ x.lane.input) lanes none_yet (len_map (λ (l : Lane). record { header = l.header; items = []; fault = None }) lanes) any_at in
       let len = len_map (λ (x : whole.Whole hs limit). x.lane) ws.list in
@@ -361,7 +431,9 @@ module _ (hs : List Header) (lanes : List Lane) (limit chunk : ℕ) (headers : m
       (λ k x old new p at at_old at_new. let e : new ≡ old = cc (sym at_new ∙ at_old) in (inl (ap (λ (z : Supply). z.failures) e, p), Nothing e)) in
       let under : headers_of (entire_of hs limit ws.list) ≡ hs = entire_headers hs limit ws.list ∙ ap headers_of ws.dumps_are ∙ headers_none lanes ∙ headers in
       let first = head_first names hs (entire_of hs limit ws.list) under in
-      follows hs limit chunk ws.list lanes names olds olds begin new (Err Write) ws.lanes_are headers left (λ k x old new at at_old at_new. let e : new ≡ old = cc (sym at_new ∙ at_old) in Nothing e) (Unread refl) (subst (WritesSome begin new) (sym first.1) (some-first begin new (merge_open hs []) first.0 some))
+      follows hs limit chunk ws.list lanes names olds olds begin new (Err Write) ws.lanes_are headers left (λ k x old new at at_old at_new.
+      let e : new ≡ old = cc (sym at_new ∙ at_old) in Nothing e) (Unread refl)
+      (subst (WritesSome begin new) (sym first.1) (some-first begin new (merge_open hs []) first.0 some))
     where
       headers_none : (ls : List Lane) → headers_of (map (λ (l : Lane). record { header = l.header; items = []; fault = None }) ls) ≡ map (λ (l : Lane). l.header) ls
       headers_none [] = refl

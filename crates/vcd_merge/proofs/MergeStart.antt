@@ -12,7 +12,8 @@ pub record SetSoFar (R : ℕ → Seat → Seat → Type 0) (n : ℕ) (old new : 
   pub done : (j : ℕ) (s s' : Seat) → j < n → slice_get old j ≡ Some s → slice_get new j ≡ Some s' → R j s s'
   pub left : (j : ℕ) → n ≤ j → slice_get new j ≡ slice_get old j
 
-pub one_more : (R : ℕ → Seat → Seat → Type 0) (n : ℕ) (old mid : List Seat) (v : Seat) → SetSoFar R n old mid → n < length mid → ((s : Seat) → slice_get old n ≡ Some s → R n s v) → SetSoFar R (n + 1) old (slice_set mid n v)
+pub one_more : (R : ℕ → Seat → Seat → Type 0) (n : ℕ) (old mid : List Seat) (v : Seat) → SetSoFar R n old mid → n < length mid
+    → ((s : Seat) → slice_get old n ≡ Some s → R n s v) → SetSoFar R (n + 1) old (slice_set mid n v)
 one_more R n old mid v h l here = record {
   done = λ j s s' below a b. elim (same_or_not j n) [
     | inl e ↦
@@ -29,10 +30,12 @@ one_more R n old mid v h l here = record {
     below_n j m other = elim (cases_lt j n) [ inl less ↦ less | inr more ↦ absurd (other (omega arith)) ]
 
 -- the seat at an index, with what the merge adds
-pub as_begun : (seats : List Seat) (n : ℕ) (s d : Seat) (a b scale first : ℕ) → slice_get seats n ≡ Some s → a ≡ scale → b ≡ first → begun a b (get_or seats n d) ≡ begun scale first s
+pub as_begun : (seats : List Seat) (n : ℕ) (s d : Seat) (a b scale first : ℕ) → slice_get seats n ≡ Some s → a ≡ scale → b ≡ first
+    → begun a b (get_or seats n d) ≡ begun scale first s
 as_begun seats n s d a b scale first at e f = ap (begun a b) (get_or_from_slice_get seats n s d at) ∙ ap (λ x. begun x b s) e ∙ ap (λ x. begun scale x s) f
 
-pub all_set : (R : ℕ → Seat → Seat → Type 0) (n : ℕ) (old new : List Seat) → SetSoFar R n old new → length old ≤ n → (j : ℕ) (s s' : Seat) → slice_get old j ≡ Some s → slice_get new j ≡ Some s' → R j s s'
+pub all_set : (R : ℕ → Seat → Seat → Type 0) (n : ℕ) (old new : List Seat) → SetSoFar R n old new → length old ≤ n → (j : ℕ) (s s' : Seat)
+    → slice_get old j ≡ Some s → slice_get new j ≡ Some s' → R j s s'
 all_set R n old new h l j s s' a b = let w = slice_get_within old j s a in h.done j s s' (omega arith) a b
 
 -- ---- no items
@@ -61,23 +64,27 @@ opens hs lanes e = ap (merge_open hs) (none_merged hs lanes e) ∙ opens_with hs
 items_of_same : (d e : Dump) → Some d ≡ Some e → d.items ≡ e.items
 items_of_same d e same = let is : d ≡ e = cc in ap (λ (x : Dump). x.items) is
 
-shown_at : (heads : List Head) (hs : List Header) (k : ℕ) (head : Head) (h : Header) → ShowHeaders heads hs → slice_get heads k ≡ Some head → slice_get hs k ≡ Some h → Views (shown head) h
+shown_at : (heads : List Head) (hs : List Header) (k : ℕ) (head : Head) (h : Header) → ShowHeaders heads hs → slice_get heads k ≡ Some head
+    → slice_get hs k ≡ Some h → Views (shown head) h
 shown_at [] hs k head h s a b = cc
 shown_at (x ∷ heads) [] k head h s a b = absurd s
 shown_at (x ∷ heads) (y ∷ hs) zero head h s a b = let p : x ≡ head = cc in let q : y ≡ h = cc in subst (λ (z : Head). Views (shown z) h) p (subst (Views (shown x)) q s.0)
 shown_at (x ∷ heads) (y ∷ hs) (suc k) head h s a b = shown_at heads hs k head h s.1 a b
 
 -- the same spot with another seat
-other_seat : (o o' : Option Seat) (r : Option (Option (List ℕ))) (c t : List ℕ) (p : Spot) (s : Seat) → spot_of o r c t ≡ Some p → o' ≡ Some s → spot_of o' r c t ≡ Some (record { seat = s; rest = p.rest; chunk = p.chunk; token = p.token })
+other_seat : (o o' : Option Seat) (r : Option (Option (List ℕ))) (c t : List ℕ) (p : Spot) (s : Seat) → spot_of o r c t ≡ Some p → o' ≡ Some s
+    → spot_of o' r c t ≡ Some (record { seat = s; rest = p.rest; chunk = p.chunk; token = p.token })
 other_seat None o' r c t p s e f = cc
 other_seat (Some x) o' None c t p s e f = cc
 other_seat (Some x) None (Some r) c t p s e f = cc
 other_seat (Some x) (Some y) (Some r) c t p s e f =
     let same : record { seat = x; rest = r; chunk = c; token = t } ≡ p = cc in
     let seat : y ≡ s = cc in
-    ap (λ (q : Spot). Some (record { seat = y; rest = q.rest; chunk = q.chunk; token = q.token })) same ∙ ap (λ (z : Seat). Some (record { seat = z; rest = p.rest; chunk = p.chunk; token = p.token })) seat
+    ap (λ (q : Spot). Some (record { seat = y; rest = q.rest; chunk = q.chunk; token = q.token })) same
+    ∙ ap (λ (z : Seat). Some (record { seat = z; rest = p.rest; chunk = p.chunk; token = p.token })) seat
 
-at_first : (scale first : ℕ) (l : Lane) (s : Seat) (p : Spot) → p.seat ≡ begun scale first s → first + length l.header.codes < 2 ^ 64 → GaveParked l.header.codes l.input l.front [] p.rest p.chunk p.token s.parked s.regs → AtSeat scale first l [] p
+at_first : (scale first : ℕ) (l : Lane) (s : Seat) (p : Spot) → p.seat ≡ begun scale first s → first + length l.header.codes < 2 ^ 64
+    → GaveParked l.header.codes l.input l.front [] p.rest p.chunk p.token s.parked s.regs → AtSeat scale first l [] p
 at_first scale first l s p e fits gave = record {
   gave = subst (λ (x : Seat). GaveParked l.header.codes l.input l.front [] p.rest p.chunk p.token x.parked x.regs) (sym e) gave;
   small = tt;
@@ -92,8 +99,10 @@ at_first scale first l s p e fits gave = record {
 
 -- Over the seats that are set, it holds the dumps of inputs that have given no item.
 pub begins : {X : Type 0} (rest : X → Option (List ℕ)) (hs : List Header) (lanes : List Lane) (heads : List Head) (old new : List Seat) (sources : List X) (chunks tokens values : List ℕ)
-    → ShowHeaders heads hs → length heads ≤ 64 → map (λ (l : Lane). l.header) lanes ≡ hs → length heads ≡ length old → length new ≡ length old → length sources ≡ length old → AreBegun hs old new
-    → HaveNoItems rest lanes old sources chunks tokens → Holds rest hs lanes (no_items lanes) (record { heads = heads; seats = new; written = None; sources = sources; chunks = chunks; tokens = tokens; values = values })
+    → ShowHeaders heads hs → length heads ≤ 64 → map (λ (l : Lane). l.header) lanes ≡ hs → length heads ≡ length old → length new ≡ length old
+    → length sources ≡ length old → AreBegun hs old new
+    → HaveNoItems rest lanes old sources chunks tokens → Holds rest hs lanes (no_items lanes)
+    (record { heads = heads; seats = new; written = None; sources = sources; chunks = chunks; tokens = tokens; values = values })
 begins {X} rest hs lanes heads old new sources chunks tokens values show few lanes_are heads_many many sources_many set gave = record {
   given = record {
     lanes_are = lanes_are;
@@ -102,7 +111,8 @@ begins {X} rest hs lanes heads old new sources chunks tokens values show few lan
     sources_are = omega arith;
     views = λ k head l a b. shown_at heads hs k head l.header show a (header_there k l b);
     at = λ k l d p a b spot.
-        let same : Some (record { header = l.header; items = []; fault = None }) ≡ Some d = sym (get_mapped (λ (x : Lane). record { header = x.header; items = []; fault = None }) lanes k l a) ∙ b in
+        let same : Some (record { header = l.header; items = []; fault = None }) ≡ Some d = sym
+        (get_mapped (λ (x : Lane). record { header = x.header; items = []; fault = None }) lanes k l a) ∙ b in
         let none : [] ≡ d.items = items_of_same (record { header = l.header; items = []; fault = None }) d same in
         subst (λ items. AtSeat (factor hs l.header) (first_number (take k hs)) l items p) none (at_place k l p a spot);
     before = λ k d s a b f. subst (AllByRecursion (λ y. key_lt y.key (key_after (factor hs d.header) k d.items) ≡ true)) (sym (no_keyed hs 0 [] lanes)) tt;
@@ -116,7 +126,8 @@ begins {X} rest hs lanes heads old new sources chunks tokens values show few lan
     header_there : (k : ℕ) (l : Lane) → slice_get lanes k ≡ Some l → slice_get hs k ≡ Some l.header
     header_there k l a = ap (λ (x : List Header). slice_get x k) (sym lanes_are) ∙ get_mapped (λ (x : Lane). x.header) lanes k l a
 
-    at_place : (k : ℕ) (l : Lane) (p : Spot) → slice_get lanes k ≡ Some l → spot_at rest new sources chunks tokens k ≡ Some p → AtSeat (factor hs l.header) (first_number (take k hs)) l [] p
+    at_place : (k : ℕ) (l : Lane) (p : Spot) → slice_get lanes k ≡ Some l → spot_at rest new sources chunks tokens k ≡ Some p
+        → AtSeat (factor hs l.header) (first_number (take k hs)) l [] p
     at_place k l p a spot =
         let at = spot_seat rest (record { heads = heads; seats = new; written = None; sources = sources; chunks = chunks; tokens = tokens; values = values }) k p spot in
         let w = slice_get_within new k p.seat at in
@@ -124,9 +135,11 @@ begins {X} rest hs lanes heads old new sources chunks tokens values show few lan
         let head = there heads k (omega arith) in
         let is = set k l.header s.0 p.seat (header_there k l a) s.1 at in
         let v = shown_at heads hs k head.0 l.header show head.1 (header_there k l a) in
-        let spot_old = other_seat (slice_get new k) (slice_get old k) (option_map rest (slice_get sources k)) (part (part_len (length old) chunks) k chunks) (part (part_len (length old) tokens) k tokens) p s.0
+        let spot_old = other_seat (slice_get new k) (slice_get old k) (option_map rest (slice_get sources k))
+        (part (part_len (length old) chunks) k chunks) (part (part_len (length old) tokens) k tokens) p s.0
         (subst (λ n. spot_of (slice_get new k) (option_map rest (slice_get sources k)) (part (part_len n chunks) k chunks) (part (part_len n tokens) k tokens) ≡ Some p) many spot) s.1 in
-        at_first (factor hs l.header) (first_number (take k hs)) l s.0 p is (numbers_fit heads hs k l.header head.0 show (omega arith) v) (gave k l (record { seat = s.0; rest = p.rest; chunk = p.chunk; token = p.token }) a spot_old)
+        at_first (factor hs l.header) (first_number (take k hs)) l s.0 p is (numbers_fit heads hs k l.header head.0 show (omega arith) v)
+        (gave k l (record { seat = s.0; rest = p.rest; chunk = p.chunk; token = p.token }) a spot_old)
 
 -- ---- whatever the inputs are
 
@@ -140,7 +153,8 @@ seated_still c t old new many set h = λ k d l.
     }
 
 -- The first input is next.
-pub ready_at_first : {X : Type 0} (heads : List Head) (old new : List Seat) (sources : List X) (chunks tokens values : List ℕ) → 0 < length old → length heads ≡ length old → length new ≡ length old → length sources ≡ length old
+pub ready_at_first : {X : Type 0} (heads : List Head) (old new : List Seat) (sources : List X) (chunks tokens values : List ℕ) → 0 < length old
+    → length heads ≡ length old → length new ≡ length old → length sources ≡ length old
     → AreParts (length old) chunks tokens values → AreSeated chunks tokens old → AreOpen old new
     → IsReady (record { heads = heads; seats = new; written = None; sources = sources; chunks = chunks; tokens = tokens; values = values })
 ready_at_first heads old new sources chunks tokens values some heads_many many sources_many parts seated set = record {
@@ -170,20 +184,30 @@ ready_at_first heads old new sources chunks tokens values some heads_many many s
 -- ---- and over the merge itself
 
 pub holds_begun : {X : Type 0} (rest : X → Option (List ℕ)) (hs : List Header) (lanes : List Lane) (heads : List Head) (old : List Seat) (m : Merge) (sources : List X) (windows : Windows)
-    → ShowHeaders heads hs → length heads ≤ 64 → map (λ (l : Lane). l.header) lanes ≡ hs → length heads ≡ length old → length sources ≡ length old → HasBegun heads old m → AreBegun hs old m.seats.now
+    → ShowHeaders heads hs → length heads ≤ 64 → map (λ (l : Lane). l.header) lanes ≡ hs → length heads ≡ length old → length sources ≡ length old
+    → HasBegun heads old m → AreBegun hs old m.seats.now
     → HaveNoItems rest lanes old sources windows.chunks.now windows.tokens.now → Holds rest hs lanes (no_items lanes) (standing_of m sources windows)
 holds_begun rest hs lanes heads old m sources windows show few lanes_are heads_many sources_many begun set gave =
-    rw (begun.heads_are, begun.written) (begins rest hs lanes heads old m.seats.now sources windows.chunks.now windows.tokens.now windows.values.now show few lanes_are heads_many begun.many sources_many set gave)
+    rw (
+      begun.heads_are,
+      begun.written,
+    ) (begins rest hs lanes heads old m.seats.now sources windows.chunks.now windows.tokens.now windows.values.now show few lanes_are heads_many begun.many sources_many set gave)
 
 pub ready_begun : {X : Type 0} (heads : List Head) (old : List Seat) (m : Merge) (sources : List X) (windows : Windows)
-    → 0 < length old → length heads ≡ length old → length sources ≡ length old → HasBegun heads old m → AreParts (length old) windows.chunks.now windows.tokens.now windows.values.now → AreSeated windows.chunks.now windows.tokens.now old
+    → 0 < length old → length heads ≡ length old → length sources ≡ length old → HasBegun heads old m
+    → AreParts (length old) windows.chunks.now windows.tokens.now windows.values.now → AreSeated windows.chunks.now windows.tokens.now old
     → IsReady (standing_of m sources windows)
 ready_begun heads old m sources windows some heads_many sources_many begun parts seated =
-    rw (begun.heads_are, begun.written) (ready_at_first heads old m.seats.now sources windows.chunks.now windows.tokens.now windows.values.now some heads_many begun.many sources_many parts seated begun.open_seats)
+    rw (
+      begun.heads_are,
+      begun.written,
+    ) (ready_at_first heads old m.seats.now sources windows.chunks.now windows.tokens.now windows.values.now some heads_many begun.many sources_many parts seated begun.open_seats)
 
 -- each input begins with the tokens of its header
-pub heads_given : {X : Type 0} (rest : X → Option (List ℕ)) (lanes : List Lane) (seats : List Seat) (sources : List X) (chunks tokens values : List ℕ) → AreParts (length seats) chunks tokens values → length lanes ≡ length seats → length sources ≡ length seats
-    → HaveNoItems rest lanes seats sources chunks tokens → (k : ℕ) (l : Lane) → slice_get lanes k ≡ Some l → (more : List Token) × ((stream_of (part_len (length seats) tokens) l.input).tokens ≡ l.front ++ more)
+pub heads_given : {X : Type 0} (rest : X → Option (List ℕ)) (lanes : List Lane) (seats : List Seat) (sources : List X)
+    (chunks tokens values : List ℕ) → AreParts (length seats) chunks tokens values → length lanes ≡ length seats → length sources ≡ length seats
+    → HaveNoItems rest lanes seats sources chunks tokens → (k : ℕ) (l : Lane) → slice_get lanes k ≡ Some l → (more : List Token)
+    × ((stream_of (part_len (length seats) tokens) l.input).tokens ≡ l.front ++ more)
 heads_given rest lanes seats sources chunks tokens values parts lanes_many sources_many none k l at =
     let w = slice_get_within lanes k l at in
     let x = there seats k (omega arith) in
@@ -191,7 +215,8 @@ heads_given rest lanes seats sources chunks tokens values parts lanes_many sourc
     let n = length seats in
     let chunk = part (part_len n chunks) k chunks in
     let token = part (part_len n tokens) k tokens in
-    let spot : spot_at rest seats sources chunks tokens k ≡ Some (record { seat = x.0; rest = rest y.0; chunk = chunk; token = token }) = λ j. spot_of (x.1 j) (option_map rest (y.1 j)) chunk token in
+    let spot : spot_at rest seats sources chunks tokens k ≡ Some
+    (record { seat = x.0; rest = rest y.0; chunk = chunk; token = token }) = λ j. spot_of (x.1 j) (option_map rest (y.1 j)) chunk token in
     let gave = none k l (record { seat = x.0; rest = rest y.0; chunk = chunk; token = token }) at spot in
     let begun = gave.stands.given_first in
     let len = part_long (part_len n tokens) n k tokens parts.tokens_are (omega arith) in

@@ -19,21 +19,26 @@ by_flag true on off = on refl
 by_flag false on off = off refl
 
 -- what a spot is made of
-spot_is : (o : Option Seat) (r : Option (Option (List ℕ))) (c t : List ℕ) (p : Spot) → spot_of o r c t ≡ Some p → (o ≡ Some p.seat) × (r ≡ Some p.rest) × (c ≡ p.chunk) × (t ≡ p.token)
-spot_is (Some s) (Some rest) c t p e = let same : record { seat = s; rest = rest; chunk = c; token = t } ≡ p = cc in (ap (λ (q : Spot). Some q.seat) same, ap (λ (q : Spot). Some q.rest) same, ap (λ (q : Spot). q.chunk) same, ap (λ (q : Spot). q.token) same)
+spot_is : (o : Option Seat) (r : Option (Option (List ℕ))) (c t : List ℕ) (p : Spot) → spot_of o r c t ≡ Some p → (o ≡ Some p.seat)
+    × (r ≡ Some p.rest) × (c ≡ p.chunk) × (t ≡ p.token)
+spot_is (Some s) (Some rest) c t p e = let same : record { seat = s; rest = rest; chunk = c; token = t } ≡ p = cc in
+    (ap (λ (q : Spot). Some q.seat) same, ap (λ (q : Spot). Some q.rest) same, ap (λ (q : Spot). q.chunk) same, ap (λ (q : Spot). q.token) same)
 spot_is (Some s) None c t p e = absurd (cc)
 spot_is None r c t p e = absurd (cc)
 
 module _ {X : Type 0} (rest : X → Option (List ℕ)) (s : Standing X) where
   pub spot_parts : (k : ℕ) (p : Spot) → spot_at rest s.seats s.sources s.chunks s.tokens k ≡ Some p
-      → (slice_get s.seats k ≡ Some p.seat) × (option_map rest (slice_get s.sources k) ≡ Some p.rest) × (part (part_len (length s.seats) s.chunks) k s.chunks ≡ p.chunk) × (part (part_len (length s.seats) s.tokens) k s.tokens ≡ p.token)
-  spot_parts k p e = spot_is (slice_get s.seats k) (option_map rest (slice_get s.sources k)) (part (part_len (length s.seats) s.chunks) k s.chunks) (part (part_len (length s.seats) s.tokens) k s.tokens) p e
+      → (slice_get s.seats k ≡ Some p.seat) × (option_map rest (slice_get s.sources k) ≡ Some p.rest)
+      × (part (part_len (length s.seats) s.chunks) k s.chunks ≡ p.chunk) × (part (part_len (length s.seats) s.tokens) k s.tokens ≡ p.token)
+  spot_parts k p e = spot_is (slice_get s.seats k) (option_map rest (slice_get s.sources k)) (part (part_len (length s.seats) s.chunks) k s.chunks)
+      (part (part_len (length s.seats) s.tokens) k s.tokens) p e
 
   pub spot_seat : (k : ℕ) (p : Spot) → spot_at rest s.seats s.sources s.chunks s.tokens k ≡ Some p → slice_get s.seats k ≡ Some p.seat
   spot_seat k p e = (spot_parts k p e).0
 
   -- a seat that there is has a spot
-  pub seat_spot : (k : ℕ) (x : Seat) → length s.sources ≡ length s.seats → slice_get s.seats k ≡ Some x → (p : Spot) × (spot_at rest s.seats s.sources s.chunks s.tokens k ≡ Some p) × (p.seat ≡ x)
+  pub seat_spot : (k : ℕ) (x : Seat) → length s.sources ≡ length s.seats → slice_get s.seats k ≡ Some x → (p : Spot)
+      × (spot_at rest s.seats s.sources s.chunks s.tokens k ≡ Some p) × (p.seat ≡ x)
   seat_spot k x same at =
       let w = slice_get_within s.seats k x at in
       let y = there s.sources k (omega arith) in (
@@ -86,7 +91,9 @@ pub record Leaves {X : Type 0} (rest : X → Option (List ℕ)) (s s' : Standing
   pub token : length p.token ≡ part_len (length s.seats) s.tokens
   pub chunk : length p.chunk ≡ part_len (length s.seats) s.chunks
 
-module _ {X : Type 0} {rest : X → Option (List ℕ)} {hs : List Header} {lanes : List Lane} {ds : List Dump} {s : Standing X} {k : ℕ} {l : Lane} {d : Dump} (t : AtTurn rest hs lanes ds s k l d) where
+module _ {X : Type 0} {rest : X
+    → Option (List ℕ)} {hs : List Header} {lanes : List Lane} {ds : List Dump} {s : Standing X} {k : ℕ} {l : Lane} {d : Dump}
+    (t : AtTurn rest hs lanes ds s k l d) where
   g : AreGiven rest hs lanes ds s
   g = t.holds.given
 
@@ -95,11 +102,16 @@ module _ {X : Type 0} {rest : X → Option (List ℕ)} {hs : List Header} {lanes
   all_before = g.before k d t.next.seat t.dump_at t.next.there t.next.unfinished
 
   -- the position of the next item goes before those of the other inputs
-  pub next_first : (j : ℕ) (c : Dump) (y : Seat) → j ≢ k → slice_get ds j ≡ Some c → slice_get s.seats j ≡ Some y → y.finished ≡ false → key_lt (key_after (factor hs d.header) k d.items) (key_after (factor hs c.header) j c.items) ≡ true
+  pub next_first : (j : ℕ) (c : Dump) (y : Seat) → j ≢ k → slice_get ds j ≡ Some c → slice_get s.seats j ≡ Some y → y.finished ≡ false
+      → key_lt (key_after (factor hs d.header) k d.items) (key_after (factor hs c.header) j c.items) ≡ true
   next_first j c y other a b on =
-      before_key (key_after (factor hs d.header) k d.items) (key_after (factor hs c.header) j c.items) (by_least (t.next.least j y b on) (time_at rest hs lanes ds s g k d t.next.seat t.dump_at t.next.there) (time_at rest hs lanes ds s g j c y a b))
+      before_key (key_after (factor hs d.header) k d.items) (key_after (factor hs c.header) j c.items)
+      (by_least (t.next.least j y b on) (time_at rest hs lanes ds s g k d t.next.seat t.dump_at t.next.there)
+      (time_at rest hs lanes ds s g j c y a b))
     where
-      by_least : (t.next.seat.time < y.time) ⊎ ((t.next.seat.time ≡ y.time) × (k ≤ j)) → t.next.seat.time ≡ factor hs d.header * time_after d.items → y.time ≡ factor hs c.header * time_after c.items → Before (key_after (factor hs d.header) k d.items) (key_after (factor hs c.header) j c.items)
+      by_least : (t.next.seat.time < y.time) ⊎ ((t.next.seat.time ≡ y.time) × (k ≤ j)) → t.next.seat.time ≡ factor hs d.header * time_after d.items
+          → y.time ≡ factor hs c.header * time_after c.items → Before (key_after (factor hs d.header) k d.items)
+          (key_after (factor hs c.header) j c.items)
       by_least (inl m) x u = inl (omega arith)
       by_least (inr m) x u = let e = m.0 in inr (omega arith, inl (apart k j other m.1))
 
@@ -110,7 +122,8 @@ module _ {X : Type 0} {rest : X → Option (List ℕ)} {hs : List Header} {lanes
         spot_seat rest s j q.0 (sym (v.others j other) ∙ q.1) ∙ ap (λ (z : Seat). Some z) q.2
 
     -- .. if these are its items then
-    given_by : (es : List Dump) (e : Dump) → slice_get es k ≡ Some e → ((j : ℕ) → j ≢ k → slice_get es j ≡ slice_get ds j) → headers_of es ≡ hs → AtSeat (factor hs l.header) (first_number (take k hs)) l e.items p → GoBefore hs es s'.seats → AreGiven rest hs lanes es s'
+    given_by : (es : List Dump) (e : Dump) → slice_get es k ≡ Some e → ((j : ℕ) → j ≢ k → slice_get es j ≡ slice_get ds j) → headers_of es ≡ hs
+        → AtSeat (factor hs l.header) (first_number (take k hs)) l e.items p → GoBefore hs es s'.seats → AreGiven rest hs lanes es s'
     given_by es e own dumps headers a before = record {
       lanes_are = g.lanes_are;
       dumps_are = headers;
@@ -130,7 +143,8 @@ module _ {X : Type 0} {rest : X → Option (List ℕ)} {hs : List Header} {lanes
 
     -- one item more
     pub given_more : (x : BodyItem) → AtSeat (factor hs l.header) (first_number (take k hs)) l (d.items ++ x ∷ []) p → AreGiven rest hs lanes (with_item ds k d x) s'
-    given_more x a = given_by (with_item ds k d x) more own (λ j other. get_other ds k j more other) (headers_stay ds k d x t.dump_at ∙ g.dumps_are) a (λ j c y at_c at_y on. before_place j c y (same_or_not j k) at_c at_y on)
+    given_more x a = given_by (with_item ds k d x) more own (λ j other. get_other ds k j more other) (headers_stay ds k d x t.dump_at
+        ∙ g.dumps_are) a (λ j c y at_c at_y on. before_place j c y (same_or_not j k) at_c at_y on)
       where
         more : Dump
         more = record { header = d.header; items = d.items ++ x ∷ []; fault = d.fault }
@@ -138,11 +152,14 @@ module _ {X : Type 0} {rest : X → Option (List ℕ)} {hs : List Header} {lanes
         own : slice_get (with_item ds k d x) k ≡ Some more
         own = get_set ds k more (slice_get_within ds k d t.dump_at)
 
-        before_place : (j : ℕ) (c : Dump) (y : Seat) → (j ≡ k) ⊎ (j ≢ k) → slice_get (with_item ds k d x) j ≡ Some c → slice_get s'.seats j ≡ Some y → y.finished ≡ false → AllByRecursion (λ z. key_lt z.key (key_after (factor hs c.header) j c.items) ≡ true) (keyed_rest hs 0 [] (with_item ds k d x))
+        before_place : (j : ℕ) (c : Dump) (y : Seat) → (j ≡ k) ⊎ (j ≢ k) → slice_get (with_item ds k d x) j ≡ Some c → slice_get s'.seats j ≡ Some y
+            → y.finished ≡ false → AllByRecursion (λ z. key_lt z.key (key_after (factor hs c.header) j c.items) ≡ true)
+            (keyed_rest hs 0 [] (with_item ds k d x))
         before_place j c y (inl here) at_c at_y on =
             let ec : more ≡ c = cc (sym own ∙ ap (λ i. slice_get (with_item ds k d x) i) (sym here) ∙ at_c) in
             let later = later_key (factor hs d.header) k d.items x [] in
-            let all = order.all_more (λ z. key_lt z.key (key_after (factor hs d.header) k d.items) ≡ true) (λ z. key_lt z.key (key_after (factor hs d.header) k (d.items ++ x ∷ [])) ≡ true) (keyed_rest hs 0 [] ds)
+            let all = order.all_more (λ z. key_lt z.key (key_after (factor hs d.header) k d.items) ≡ true)
+            (λ z. key_lt z.key (key_after (factor hs d.header) k (d.items ++ x ∷ [])) ≡ true) (keyed_rest hs 0 [] ds)
             (λ z h. key_chain z.key (key_after (factor hs d.header) k d.items) (key_after (factor hs d.header) k (d.items ++ x ∷ [])) h later) all_before in
             rw (← ec, here) (all_with_item hs ds k d x g.dumps_are t.dump_at (λ z. key_lt z.key (key_after (factor hs d.header) k (d.items ++ x ∷ [])) ≡ true) all later)
         before_place j c y (inr other) at_c at_y on =

@@ -11,9 +11,12 @@ use Rattle.vcd_merge.proofs.WholeInputs.{finished, goes_on}
 
 -- a fault of the input comes after any position that was reached while it had not finished
 abbrev pub HasLaterFault : (hs : List Header) (limit : ℕ) → List Seat → (k : ℕ) → Whole hs limit → Type 0
-HasLaterFault hs limit seats k w = (b : Key) → ((y : Seat) → slice_get seats k ≡ Some y → y.finished ≡ false → key_lt b (key_after (factor hs w.dump.header) k w.dump.items) ≡ true) → (f : Fault) → w.fault ≡ Some f → key_lt b (key_after (factor hs w.dump.header) k w.items) ≡ true
+HasLaterFault hs limit seats k w = (b : Key) → ((y : Seat) → slice_get seats k ≡ Some y → y.finished ≡ false
+    → key_lt b (key_after (factor hs w.dump.header) k w.dump.items) ≡ true) → (f : Fault) → w.fault ≡ Some f
+    → key_lt b (key_after (factor hs w.dump.header) k w.items) ≡ true
 
-module _ {X : Type 0} {rest : X → Option (List ℕ)} {hs : List Header} {lanes : List Lane} {ds : List Dump} {s : Standing X} (g : AreGiven rest hs lanes ds s) {limit : ℕ} (long : IsLong rest limit s) where
+module _ {X : Type 0} {rest : X → Option (List ℕ)} {hs : List Header} {lanes : List Lane} {ds : List Dump} {s : Standing X}
+    (g : AreGiven rest hs lanes ds s) {limit : ℕ} (long : IsLong rest limit s) where
   as_many : length ds ≡ length lanes
   as_many =
       let a = ap (λ (x : List Header). length x) g.dumps_are in
@@ -43,7 +46,16 @@ module _ {X : Type 0} {rest : X → Option (List ℕ)} {hs : List Header} {lanes
 
       by_end : (b : Bool) → p.spot.seat.finished ≡ b → Some_at MayGo k l d
       by_end true e = (
-        record { lane = l; dump = d; same = p.same; left = l.input; items = d.items ++ []; fault = None; has = finished (factor hs l.header) (first_number (take k hs)) limit l d.items p.spot p.at p.long e },
+        record {
+          lane = l;
+          dump = d;
+          same = p.same;
+          left = l.input;
+          items = d.items ++ [];
+          fault = None;
+          has = finished (factor hs l.header)
+              (first_number (take k hs)) limit l d.items p.spot p.at p.long e;
+        },
         refl,
         refl,
         record { seat = p.spot.seat; there = p.there; more = []; items = refl; ended = λ f. (refl, refl); left = refl },
@@ -91,7 +103,16 @@ module _ {X : Type 0} {rest : X → Option (List ℕ)} {hs : List Header} {lanes
         let p = known g long k l d at_l at_d in
         let done = finish k p.spot.seat (slice_get_within s.seats k p.spot.seat p.there) in
         let e : p.spot.seat.finished ≡ true = ap (λ (x : Seat). x.finished) (sym (get_or_from_slice_get s.seats k p.spot.seat p.spot.seat p.there)) ∙ done in (
-          record { lane = l; dump = d; same = p.same; left = l.input; items = d.items; fault = None; has = subst (λ (n : ℕ). HasDump (factor hs l.header) n l.header l.front l.input d.items None) p.long (p.at.finished e) },
+          record {
+            lane = l;
+            dump = d;
+            same = p.same;
+            left = l.input;
+            items = d.items;
+            fault = None;
+            has = subst
+                (λ (n : ℕ). HasDump (factor hs l.header) n l.header l.front l.input d.items None) p.long (p.at.finished e);
+          },
           refl,
           refl,
           record { all = refl; left = refl; later = λ b later f none. cc },
@@ -113,7 +134,8 @@ module _ {X : Type 0} {rest : X → Option (List ℕ)} {hs : List Header} {lanes
   -- ---- a write failed: the outcome begins with what is on the output
 
   -- all items come before this key, and no position does
-  module _ (place : Key) (late_at : (j : ℕ) (c : Dump) (y : Seat) → slice_get ds j ≡ Some c → slice_get s.seats j ≡ Some y → y.finished ≡ false → key_lt (key_after (factor hs c.header) j c.items) place ≡ false) where
+  module _ (place : Key) (late_at : (j : ℕ) (c : Dump) (y : Seat) → slice_get ds j ≡ Some c → slice_get s.seats j ≡ Some y → y.finished ≡ false
+      → key_lt (key_after (factor hs c.header) j c.items) place ≡ false) where
     pub record WriteFits (n : ℕ) (w : Whole hs limit) : Type 0 where
       pub grown : GrownOne place hs n w.dump (entire hs limit w)
       pub late : (f : Fault) → w.fault ≡ Some f → key_lt (key_after (factor hs w.dump.header) n w.items) place ≡ false
@@ -129,16 +151,20 @@ module _ {X : Type 0} {rest : X → Option (List ℕ)} {hs : List Header} {lanes
     pub writes : Wholes hs limit WriteFits 0 lanes ds
     writes = choose_all hs limit WriteFits lanes ds as_many write_at
 
-    pub written_some : AllByRecursion (λ y. key_lt y.key place ≡ true) (keyed_rest hs 0 [] ds) → (names : List (List ℕ)) (begin new : Device) → WritesSome begin new (merge_open hs (merged_items ds)) → WritesSome begin new (merge_outcome names (entire_of hs limit writes.list)).output
+    pub written_some : AllByRecursion (λ y. key_lt y.key place ≡ true) (keyed_rest hs 0 [] ds) → (names : List (List ℕ)) (begin new : Device)
+        → WritesSome begin new (merge_open hs (merged_items ds)) → WritesSome begin new (merge_outcome names (entire_of hs limit writes.list)).output
     written_some all names begin new some =
         let headers = ap headers_of writes.dumps_are ∙ g.dumps_are in
-        let grown = subst (λ (l : List Dump). AreGrown place hs 0 l (entire_of hs limit writes.list)) writes.dumps_are (grown_all hs limit WriteFits place (λ n v fit. fit.grown) 0 writes.list writes.fit) in
+        let grown = subst (λ (l : List Dump). AreGrown place hs 0 l (entire_of hs limit writes.list)) writes.dumps_are
+        (grown_all hs limit WriteFits place (λ n v fit. fit.grown) 0 writes.list writes.fit) in
         let late = late_all hs limit WriteFits place (λ n v fit. fit.late) 0 writes.list writes.fit in
         let begins = outcome_begins names hs ds (entire_of hs limit writes.list) place g.dumps_are (entire_headers hs limit writes.list ∙ headers) grown all late in
         subst (WritesSome begin new) (sym begins.1) (some-first begin new (merge_open hs (merged_items ds)) begins.0 some)
 
 -- .. after an item: no other position comes before its end
-module _ {X : Type 0} {rest : X → Option (List ℕ)} {hs : List Header} {lanes : List Lane} {ds : List Dump} {s : Standing X} {k : ℕ} {d : Dump} {x : BodyItem} (t : Takes rest hs lanes ds s k d x) where
+module _ {X : Type 0} {rest : X
+    → Option (List ℕ)} {hs : List Header} {lanes : List Lane} {ds : List Dump} {s : Standing X} {k : ℕ} {d : Dump} {x : BodyItem}
+    (t : Takes rest hs lanes ds s k d x) where
   abbrev es : List Dump
   es = with_item ds k d x
 
@@ -148,30 +174,36 @@ module _ {X : Type 0} {rest : X → Option (List ℕ)} {hs : List Header} {lanes
   abbrev pub behind : Key
   behind = after_key item.key
 
-  pub late_behind : (j : ℕ) (c : Dump) (y : Seat) → slice_get es j ≡ Some c → slice_get s.seats j ≡ Some y → y.finished ≡ false → key_lt (key_after (factor hs c.header) j c.items) behind ≡ false
+  pub late_behind : (j : ℕ) (c : Dump) (y : Seat) → slice_get es j ≡ Some c → slice_get s.seats j ≡ Some y → y.finished ≡ false
+      → key_lt (key_after (factor hs c.header) j c.items) behind ≡ false
   late_behind j c y at_c at_y on =
       let b = key_after (factor hs c.header) j c.items in
       let all = all_by_key (λ z. key_lt z.key b ≡ true) (keyed_rest hs 0 [] es) (t.given.before j c y at_c at_y on) in
-      let merged : AllByRecursion (λ z. key_lt z.key b ≡ true) (merged_items ds ++ item ∷ []) = subst (AllByRecursion (λ z. key_lt z.key b ≡ true)) (sym (merged_by hs es t.given.dumps_are) ∙ t.merged) all in
+      let merged : AllByRecursion (λ z. key_lt z.key b ≡ true) (merged_items ds ++ item ∷ []) = subst (AllByRecursion (λ z. key_lt z.key b ≡ true))
+      (sym (merged_by hs es t.given.dumps_are) ∙ t.merged) all in
       none_between item.key b (all_back (λ z. key_lt z.key b ≡ true) (merged_items ds) (item ∷ []) merged).0
 
   pub all_up_to : AllByRecursion (λ y. key_lt y.key behind ≡ true) (keyed_rest hs 0 [] es)
   all_up_to =
       let b = merged_by hs es t.given.dumps_are in
       let sorted : IsSorted (merged_items ds ++ item ∷ []) = subst IsSorted (sym b ∙ t.merged) (sorted_by_key (keyed_rest hs 0 [] es)) in
-      all_keyed (λ y. key_lt y.key behind ≡ true) (keyed_rest hs 0 [] es) (subst (AllByRecursion (λ y. key_lt y.key behind ≡ true)) (sym t.merged ∙ b) (up_to_last (merged_items ds) item sorted))
+      all_keyed (λ y. key_lt y.key behind ≡ true) (keyed_rest hs 0 [] es)
+      (subst (AllByRecursion (λ y. key_lt y.key behind ≡ true)) (sym t.merged ∙ b) (up_to_last (merged_items ds) item sorted))
 
 -- no key comes before itself
 not_itself : (a : Key) → key_lt a a ≡ false
 not_itself a = by_flag (key_lt a a) (λ e. let n = key_never a a e in cc) (λ e. e)
 
-module _ {X : Type 0} {rest : X → Option (List ℕ)} {hs : List Header} {lanes : List Lane} {ds : List Dump} {s : Standing X} {k : ℕ} {l : Lane} {d : Dump} (t : AtTurn rest hs lanes ds s k l d) where
+module _ {X : Type 0} {rest : X
+    → Option (List ℕ)} {hs : List Header} {lanes : List Lane} {ds : List Dump} {s : Standing X} {k : ℕ} {l : Lane} {d : Dump}
+    (t : AtTurn rest hs lanes ds s k l d) where
   -- the position of the input whose turn it is
   abbrev pub place_next : Key
   place_next = key_after (factor hs d.header) k d.items
 
   -- .. before it was read, since what is kept back was not passed on: no position comes before it
-  pub late_next : (j : ℕ) (c : Dump) (y : Seat) → slice_get ds j ≡ Some c → slice_get s.seats j ≡ Some y → y.finished ≡ false → key_lt (key_after (factor hs c.header) j c.items) place_next ≡ false
+  pub late_next : (j : ℕ) (c : Dump) (y : Seat) → slice_get ds j ≡ Some c → slice_get s.seats j ≡ Some y → y.finished ≡ false
+      → key_lt (key_after (factor hs c.header) j c.items) place_next ≡ false
   late_next j c y at_c at_y on = elim (same_or_not j k) [
     | inr other ↦ key_never place_next (key_after (factor hs c.header) j c.items) (next_first t j c y other at_c at_y on)
     | inl here ↦
@@ -182,7 +214,8 @@ module _ {X : Type 0} {rest : X → Option (List ℕ)} {hs : List Header} {lanes
 
   -- ---- a fault of it
 
-  module _ {limit : ℕ} (long : IsLong rest limit s) (line fault : ℕ) (cut : Option ℕ) (has : HasDump (factor hs l.header) limit l.header l.front (cut_at cut l.input) d.items (Some (record { number = fault; line = line }))) where
+  module _ {limit : ℕ} (long : IsLong rest limit s) (line fault : ℕ) (cut : Option ℕ)
+      (has : HasDump (factor hs l.header) limit l.header l.front (cut_at cut l.input) d.items (Some (record { number = fault; line = line }))) where
     abbrev fault_is : Fault
     fault_is = record { number = fault; line = line }
 
@@ -197,7 +230,8 @@ module _ {X : Type 0} {rest : X → Option (List ℕ)} {hs : List Header} {lanes
       pub left : n ≢ k → w.left ≡ w.lane.input
       pub behind : HasLaterFault hs limit s.seats n w
 
-    stop_at : (j : ℕ) (m : Lane) (c : Dump) → slice_get lanes j ≡ Some m → slice_get ds j ≡ Some c → (j ≡ k) ⊎ (j ≢ k) → (w : Whole hs limit) × (w.lane ≡ m) × (w.dump ≡ c) × StopFits j w
+    stop_at : (j : ℕ) (m : Lane) (c : Dump) → slice_get lanes j ≡ Some m → slice_get ds j ≡ Some c → (j ≡ k) ⊎ (j ≢ k) → (w : Whole hs limit)
+        × (w.lane ≡ m) × (w.dump ≡ c) × StopFits j w
     stop_at j m c at_m at_c (inl e) =
         let el : l ≡ m = cc (sym t.lane_at ∙ ap (λ i. slice_get lanes i) (sym e) ∙ at_m) in
         let ed : d ≡ c = cc (sym t.dump_at ∙ ap (λ i. slice_get ds i) (sym e) ∙ at_c) in (
@@ -215,7 +249,8 @@ module _ {X : Type 0} {rest : X → Option (List ℕ)} {hs : List Header} {lanes
         )
     stop_at j m c at_m at_c (inr other) =
         let o = may_go t.holds.given long j m c at_m at_c in
-        let later : o.3.seat.finished ≡ false → key_lt place_next (key_after (factor hs o.0.dump.header) j o.0.dump.items) ≡ true = λ on. next_first t j o.0.dump o.3.seat other (at_c ∙ ap (λ (z : Dump). Some z) (sym o.2)) o.3.there on in (
+        let later : o.3.seat.finished ≡ false → key_lt place_next (key_after (factor hs o.0.dump.header) j o.0.dump.items)
+        ≡ true = λ on. next_first t j o.0.dump o.3.seat other (at_c ∙ ap (λ (z : Dump). Some z) (sym o.2)) o.3.there on in (
           o.0,
           o.1,
           o.2,

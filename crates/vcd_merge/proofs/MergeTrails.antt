@@ -24,7 +24,8 @@ put_at m k c = record {
 }
 
 -- what the merge would hold, were the input parked at this stage
-pub record Arrives {X : Type 0} (rest : X → Option (List ℕ)) (failures : X → ℕ) (hs : List Header) (lanes : List Lane) (ds : List Dump) (s : Standing X) (k before : ℕ) (l : Lane) (out : Device) (b : Stage X) : Type 0 where
+pub record Arrives {X : Type 0} (rest : X → Option (List ℕ)) (failures : X → ℕ) (hs : List Header) (lanes : List Lane) (ds : List Dump)
+    (s : Standing X) (k before : ℕ) (l : Lane) (out : Device) (b : Stage X) : Type 0 where
   pub dumps : List Dump
   pub mid : Standing X
   pub dump : Dump
@@ -49,7 +50,8 @@ pub record Arrives {X : Type 0} (rest : X → Option (List ℕ)) (failures : X �
       → (slice_get s.sources j ≡ Some x) ⊎ ReadInTurn (part_len (length s.seats) s.tokens) (part_len (length s.seats) s.chunks) hs dumps mid.seats j l l.input (rest x)
   pub by_one : before ≡ 0 → (dumps ≡ ds) × (mid ≡ s) × (b.out ≡ out)
 
-module _ {X : Type 0} (rest : X → Option (List ℕ)) (failures : X → ℕ) (hs : List Header) (lanes : List Lane) (ds : List Dump) (s : Standing X) (k before : ℕ) (l : Lane) (early : IsFirstBefore s.seats k before) (out : Device) where
+module _ {X : Type 0} (rest : X → Option (List ℕ)) (failures : X → ℕ) (hs : List Header) (lanes : List Lane) (ds : List Dump) (s : Standing X)
+    (k before : ℕ) (l : Lane) (early : IsFirstBefore s.seats k before) (out : Device) where
   abbrev scale : ℕ
   scale = factor hs l.header
 
@@ -149,7 +151,8 @@ module _ {X : Type 0} (rest : X → Option (List ℕ)) (failures : X → ℕ) (h
 
     own_read : IsReadIn es new.seats k l c.source
     own_read =
-        let more : ReadsNoMore (part_len (length s.seats) s.tokens) (part_len (length s.seats) s.chunks) l m.dump.items l.input (rest c.source) = rw (← m.token, ← on.token, ← m.chunk, ← on.chunk) one.3 in
+        let more : ReadsNoMore (part_len (length s.seats) s.tokens) (part_len (length s.seats) s.chunks) l m.dump.items l.input (rest c.source) = rw
+        (← m.token, ← on.token, ← m.chunk, ← on.chunk) one.3 in
         in_turn m.turn (part_len (length s.seats) s.tokens) (part_len (length s.seats) s.chunks) l.input (rest c.source) es new.seats step_goes more
 
     new_reads : (j : ℕ) (n : Lane) (x : X) → slice_get lanes j ≡ Some n → slice_get new.sources j ≡ Some x → (slice_get s.sources j ≡ Some x) ⊎ IsReadIn es new.seats j n x
@@ -193,7 +196,12 @@ module _ {X : Type 0} (rest : X → Option (List ℕ)) (failures : X → ℕ) (h
           others = λ j other. after.others j other ∙ m.others j other;
           stay = λ j other. after.stay j other ∙ m.stay j other;
           failures_are = failures_still ∙ m.failures_are;
-          grows = (m.grows.0 ++ due, open_with m.turn item ∙ ap (λ (t : List ℕ). t ++ due) m.grows.1 ∙ append_assoc (merge_open hs (merged_items ds)) m.grows.0 due, both-written out b.out c.out m.grows.0 due m.grows.2 writes);
+          grows = (
+            m.grows.0 ++ due,
+            open_with m.turn item ∙ ap (λ (t : List ℕ). t ++ due) m.grows.1
+                ∙ append_assoc (merge_open hs (merged_items ds)) m.grows.0 due,
+            both-written out b.out c.out m.grows.0 due m.grows.2 writes,
+          );
           goes = go_through ds m.dumps es s.seats m.mid.seats new.seats m.goes step_goes;
           reads = new_reads;
           by_one = λ none. let e = on.early in absurd (omega (arith, e, none));
@@ -212,15 +220,21 @@ pub record TookTurn {X A : Type 0} (rest : X → Option (List ℕ)) (failures : 
   pub heads : s'.heads ≡ s.heads
   pub sources : length s'.sources ≡ length s.sources
   pub touches : Touches rest failures s s' out out' k r
-  pub turns : (scale first : ℕ) (l : Lane) (items : List BodyItem) (h : Head) (p : Spot) → slice_get s.heads k ≡ Some h → Views (shown h) l.header → spot_at rest s.seats s.sources s.chunks s.tokens k ≡ Some p → AtSeat scale first l items p
+  pub turns : (scale first : ℕ) (l : Lane) (items : List BodyItem) (h : Head) (p : Spot) → slice_get s.heads k ≡ Some h → Views (shown h) l.header
+      → spot_at rest s.seats s.sources s.chunks s.tokens k ≡ Some p → AtSeat scale first l items p
       → (q : Spot) × (spot_at rest s'.seats s'.sources s'.chunks s'.tokens k ≡ Some q) × TurnsAt rest failures s.sources k scale first l before items s.written s'.written p q out out' r
 
 -- what it leaves, where the merge holds these items
-module _ {X A : Type 0} {rest : X → Option (List ℕ)} {failures : X → ℕ} {s s' : Standing X} {k before until : ℕ} {out out' : Device} {r : Result A Stop} (u : TookTurn rest failures s s' k before until out out' r) {hs : List Header} {lanes : List Lane} {ds : List Dump} (holds : Holds rest hs lanes ds s) where
+module _ {X A : Type 0} {rest : X → Option (List ℕ)} {failures : X
+    → ℕ} {s s' : Standing X} {k before until : ℕ} {out out' : Device} {r : Result A Stop}
+    (u : TookTurn rest failures s s' k before until out out' r) {hs : List Header} {lanes : List Lane} {ds : List Dump}
+    (holds : Holds rest hs lanes ds s) where
   start : Found rest hs lanes ds s k
   start = found rest hs lanes ds s k holds u.ready u.next
 
-  run : (q : Spot) × (spot_at rest s'.seats s'.sources s'.chunks s'.tokens k ≡ Some q) × TurnsAt rest failures s.sources k (factor hs start.lane.header) (first_number (take k hs)) start.lane before start.dump.items s.written s'.written start.spot q out out' r
+  run : (q : Spot) × (spot_at rest s'.seats s'.sources s'.chunks s'.tokens k ≡ Some q)
+      × TurnsAt rest failures s.sources k (factor hs start.lane.header)
+      (first_number (take k hs)) start.lane before start.dump.items s.written s'.written start.spot q out out' r
   run = u.turns (factor hs start.lane.header) (first_number (take k hs)) start.lane start.dump.items start.head start.spot start.head_there start.views start.spot_there start.is
 
   within : k < length s.seats
@@ -230,7 +244,9 @@ module _ {X A : Type 0} {rest : X → Option (List ℕ)} {failures : X → ℕ} 
   arrived : Arrives rest failures hs lanes ds s k before start.lane out run.2.turns.mid
   arrived =
       let x = run.2 in
-      arrives rest failures hs lanes ds s k before start.lane u.early out (record { items = start.dump.items; written = s.written; seat = x.seat; source = x.source; chunk = x.chunk; token = x.token; out = out }) x.turns.mid (record {
+      arrives rest failures hs lanes ds s k before start.lane u.early out
+      (record { items = start.dump.items; written = s.written; seat = x.seat; source = x.source; chunk = x.chunk; token = x.token; out = out })
+      x.turns.mid (record {
         dumps = ds;
         mid = s;
         dump = start.dump;
@@ -263,15 +279,22 @@ module _ {X A : Type 0} {rest : X → Option (List ℕ)} {failures : X → ℕ} 
     spot = run.1;
     others = λ j other. u.touches.others j other ∙ sym (arrived.others j other);
     stay = λ j other. (u.touches.untouched j other).0 ∙ sym (arrived.stay j other);
-    token = token_len rest s s' k run.0 u.ready within u.touches.seats run.1 u.touches.tokens ∙ sym (same_part (length s.seats) (length arrived.mid.seats) s.tokens arrived.mid.tokens arrived.seats arrived.tokens);
-    chunk = chunk_len rest s s' k run.0 u.ready within u.touches.seats run.1 u.touches.chunks ∙ sym (same_part (length s.seats) (length arrived.mid.seats) s.chunks arrived.mid.chunks arrived.seats arrived.chunks);
+    token = token_len rest s s' k run.0 u.ready within u.touches.seats run.1 u.touches.tokens
+        ∙ sym (same_part (length s.seats) (length arrived.mid.seats) s.tokens arrived.mid.tokens arrived.seats arrived.tokens);
+    chunk = chunk_len rest s s' k run.0 u.ready within u.touches.seats run.1 u.touches.chunks
+        ∙ sym (same_part (length s.seats) (length arrived.mid.seats) s.chunks arrived.mid.chunks arrived.seats arrived.chunks);
   }
 
   -- what the last step gave, over the dump that it began with
-  told : Turns {A = A} k (factor hs start.lane.header) (first_number (take k hs)) start.lane run.2.turns.mid.items run.2.turns.mid.written s'.written run.0 run.2.turns.mid.out out' r → Turns {A = A} k (factor hs start.lane.header) (first_number (take k hs)) start.lane arrived.dump.items arrived.mid.written s'.written run.0 run.2.turns.mid.out out' r
+  told : Turns {A = A} k (factor hs start.lane.header) (first_number (take k hs))
+      start.lane run.2.turns.mid.items run.2.turns.mid.written s'.written run.0 run.2.turns.mid.out out' r
+      → Turns {A = A} k (factor hs start.lane.header) (first_number (take k hs))
+      start.lane arrived.dump.items arrived.mid.written s'.written run.0 run.2.turns.mid.out out' r
   told gave = rw (arrived.items_are, arrived.written_is) gave
 
-  runs : (alone : Bool) → (alone ≡ true → until ≡ 0) → (result : Result More Stop) (after : Device) → Gives rest hs lanes arrived.dumps arrived.mid s' run.2.turns.mid.out after result → RunGives rest failures hs lanes alone ds s s' out after result
+  runs : (alone : Bool) → (alone ≡ true → until ≡ 0) → (result : Result More Stop) (after : Device)
+      → Gives rest hs lanes arrived.dumps arrived.mid s' run.2.turns.mid.out after result
+      → RunGives rest failures hs lanes alone ds s s' out after result
   runs alone none result after gives = record {
     dumps = arrived.dumps;
     mid = arrived.mid;
@@ -296,19 +319,23 @@ module _ {X A : Type 0} {rest : X → Option (List ℕ)} {failures : X → ℕ} 
   unread : run.0.rest ≡ rest run.2.turns.mid.source → (j : ℕ) → option_map rest (slice_get s'.sources j) ≡ option_map rest (slice_get arrived.mid.sources j)
   unread same j = elim (same_or_not j k) [
     | inr other ↦ ap (option_map rest) (last.stay j other)
-    | inl here ↦ let y = spot_source rest s' k run.0 run.1 in rw here (ap (option_map rest) y.1 ∙ ap (λ (q : Option (List ℕ)). Some q) (sym y.2 ∙ same) ∙ sym (ap (option_map rest) arrived.source_at))
+    | inl here ↦ let y = spot_source rest s' k run.0 run.1 in rw here (ap (option_map rest) y.1
+        ∙ ap (λ (q : Option (List ℕ)). Some q) (sym y.2 ∙ same) ∙ sym (ap (option_map rest) arrived.source_at))
   ]
 
 -- what it has used, by what is counted
-touches_with : {X A : Type 0} {rest : X → Option (List ℕ)} {failures : X → ℕ} {s s' : Standing X} {out out' : Device} {k : ℕ} {r : Result A Stop} → Touches rest failures s s' out out' k r → (after : Device) (result : Result More Stop)
+touches_with : {X A : Type 0} {rest : X → Option (List ℕ)} {failures : X → ℕ} {s s' : Standing X} {out out' : Device} {k : ℕ} {r : Result A Stop}
+    → Touches rest failures s s' out out' k r → (after : Device) (result : Result More Stop)
     → map failures s'.sources ≡ failures_with (map failures s.sources) k result → NamesInput k result → CountsWrites out after result → Touches rest failures s s' out after k result
 touches_with t after result reads named writes = record { seats = t.seats; chunks = t.chunks; tokens = t.tokens; values = t.values; reads = reads; named = named; others = t.others; untouched = t.untouched; writes = writes }
 
 module _ {X A : Type 0} {rest : X → Option (List ℕ)} {failures : X → ℕ} {s s' : Standing X} {k before until : ℕ} {out out' : Device} where
   -- it stops
-  was_kept : (stop : Stop) (u : TookTurn {A = A} rest failures s s' k before until out out' (Err stop)) {hs : List Header} {lanes : List Lane} {ds : List Dump} (holds : Holds rest hs lanes ds s) (alone : Bool) → (alone ≡ true → until ≡ 0)
+  was_kept : (stop : Stop) (u : TookTurn {A = A} rest failures s s' k before until out out' (Err stop))
+      {hs : List Header} {lanes : List Lane} {ds : List Dump} (holds : Holds rest hs lanes ds s) (alone : Bool) → (alone ≡ true → until ≡ 0)
       → StaysBack {A = A} rest (run u holds).2.turns.mid (run u holds).0 out' (Err stop) → RunGives rest failures hs lanes alone ds s s' out out' (Err stop)
-  was_kept Write u holds alone none back = runs u holds alone none (Err Write) out' (inr (inr (record { input = k; next = (arrived u holds).turn.next; writes = back.0; unread = unread u holds back.1 })))
+  was_kept Write u holds alone none back = runs u holds alone none (Err Write) out'
+      (inr (inr (record { input = k; next = (arrived u holds).turn.next; writes = back.0; unread = unread u holds back.1 })))
   was_kept (Faulty input line fault) u holds alone none back = absurd back
   was_kept (Read input) u holds alone none back = absurd back
   was_kept (Unmatched place) u holds alone none back = absurd back
@@ -323,14 +350,16 @@ module _ {X A : Type 0} {rest : X → Option (List ℕ)} {failures : X → ℕ} 
     next = u.next;
     leaves = record {
       ready = λ again. cc;
-      touches = touches_with u.touches out' (Err stop) (still_counted A More stop _ _ k u.touches.reads) (still_named A More k stop u.touches.named) (subst (λ n. failures_then n out' ≡ out.failures + n) (still_written A More stop) u.touches.writes);
+      touches = touches_with u.touches out' (Err stop) (still_counted A More stop _ _ k u.touches.reads) (still_named A More k stop u.touches.named)
+          (subst (λ n. failures_then n out' ≡ out.failures + n) (still_written A More stop) u.touches.writes);
       left = λ again. cc;
     };
   }
 
   module _ {v : A} (u : TookTurn rest failures s s' k before until out out' (Ok v)) where
     gave : {hs : List Header} {lanes : List Lane} {ds : List Dump} (holds : Holds rest hs lanes ds s)
-        → Turns {A = A} k (factor hs (start u holds).lane.header) (first_number (take k hs)) (start u holds).lane (arrived u holds).dump.items (arrived u holds).mid.written s'.written (run u holds).0 (run u holds).2.turns.mid.out out' (Ok v)
+        → Turns {A = A} k (factor hs (start u holds).lane.header) (first_number (take k hs)) (start u holds).lane (arrived u holds).dump.items
+        (arrived u holds).mid.written s'.written (run u holds).0 (run u holds).2.turns.mid.out out' (Ok v)
     gave holds = elim (run u holds).2.turns.last [ inl x ↦ told u holds x | inr back ↦ absurd back ]
 
     -- it continues
@@ -369,7 +398,15 @@ module _ {X A : Type 0} {rest : X → Option (List ℕ)} {failures : X → ℕ} 
       has_ended counts closes = record {
         gives = λ alone hs lanes ds none holds.
             let close = merge_close (merged_items (arrived u holds).dumps) in
-            runs u holds alone none (Ok (Ended Whole)) new (record { given = (done holds).0.given; finished = all; closes = both-written (run u holds).2.turns.mid.out out' new [] close (done holds).1 (closing holds (Writes out' new) closes); input = k; reads = (done holds).2 });
+            runs u holds alone none (Ok (Ended Whole)) new (record {
+              given = (done holds).0.given;
+              finished = all;
+              closes = both-written
+                  (run u holds).2.turns.mid.out out' new [] close (done holds).1 (closing holds (Writes out' new) closes);
+              input = k;
+              reads =
+                  (done holds).2;
+            });
         input = k;
         next = u.next;
         leaves = record { ready = λ again. cc; touches = touches_with u.touches new (Ok (Ended Whole)) u.touches.reads tt counts; left = λ again. cc };
@@ -379,14 +416,27 @@ module _ {X A : Type 0} {rest : X → Option (List ℕ)} {failures : X → ℕ} 
       was_cut counts closes = record {
         gives = λ alone hs lanes ds none holds.
             let close = merge_close (merged_items (arrived u holds).dumps) in
-            runs u holds alone none (Err Write) new (inr (inl (record { given = (done holds).0.given; finished = all; closes = (close, refl, some-behind (run u holds).2.turns.mid.out out' new [] close (done holds).1 (closing holds (WritesSome out' new) closes)); input = k; reads = (done holds).2 })));
+            runs u holds alone none (Err Write) new (inr (inl (record {
+              given = (done holds).0.given;
+              finished = all;
+              closes = (
+                close,
+                refl,
+                some-behind (run u holds).2.turns.mid.out out' new [] close (done holds).1
+                    (closing holds (WritesSome out' new) closes),
+              );
+              input = k;
+              reads = (done holds).2;
+            })));
         input = k;
         next = u.next;
         leaves = record { ready = λ again. cc; touches = touches_with u.touches new (Err Write) u.touches.reads tt counts; left = λ again. cc };
       }
 
 -- one item alone is one step
-pub one_step : {X : Type 0} (rest : X → Option (List ℕ)) (failures : X → ℕ) (hs : List Header) (lanes : List Lane) (ds : List Dump) (s s' : Standing X) (out out' : Device) (result : Result More Stop) → RunGives rest failures hs lanes true ds s s' out out' result → Gives rest hs lanes ds s s' out out' result
+pub one_step : {X : Type 0} (rest : X → Option (List ℕ)) (failures : X → ℕ) (hs : List Header) (lanes : List Lane) (ds : List Dump)
+    (s s' : Standing X) (out out' : Device) (result : Result More Stop) → RunGives rest failures hs lanes true ds s s' out out' result
+    → Gives rest hs lanes ds s s' out out' result
 one_step {X} rest failures hs lanes ds s s' out out' result r =
     let e = r.by_one refl in
     subst (λ (es : List Dump). Gives rest hs lanes es s s' out out' result) e.0

@@ -20,14 +20,16 @@ high p q b at less u e = grind arith
 
 module _ (In : ℕ → Type 0) (time : ℕ → ℕ) (xs : List ℕ) (len : ℕ) (o : AreInOrder In time xs len) (k : ℕ) where
   -- from an index on that comes before k, all do
-  pub sooner_from : (middle : ℕ) → ComesBefore (time (get_or xs middle 0)) (get_or xs middle 0) (time k) k → (p : ℕ) → middle ≤ p → p < len → ComesBefore (time (get_or xs p 0)) (get_or xs p 0) (time k) k
+  pub sooner_from : (middle : ℕ) → ComesBefore (time (get_or xs middle 0)) (get_or xs middle 0) (time k) k → (p : ℕ) → middle ≤ p → p < len
+      → ComesBefore (time (get_or xs p 0)) (get_or xs p 0) (time k) k
   sooner_from middle first p from within = elim (cases_lt middle p) [
     | inl l ↦ before_both _ _ _ _ _ _ (o.falls middle p l within) first
     | inr l ↦ let e : middle ≡ p = omega (arith, l, from) in subst (λ (q : ℕ). ComesBefore (time (get_or xs q 0)) (get_or xs q 0) (time k) k) e first
   ]
 
   -- up to an index before which k comes, it comes before all
-  pub later_to : (middle : ℕ) → middle < len → ComesBefore (time k) k (time (get_or xs middle 0)) (get_or xs middle 0) → (p : ℕ) → p < middle + 1 → ComesBefore (time k) k (time (get_or xs p 0)) (get_or xs p 0)
+  pub later_to : (middle : ℕ) → middle < len → ComesBefore (time k) k (time (get_or xs middle 0)) (get_or xs middle 0) → (p : ℕ) → p < middle + 1
+      → ComesBefore (time k) k (time (get_or xs p 0)) (get_or xs p 0)
   later_to middle within last p upto = elim (cases_lt p middle) [
     | inl l ↦ before_both _ _ _ _ _ _ last (o.falls p middle l within)
     | inr l ↦ let e : middle ≡ p = omega (arith, l, upto) in subst (λ (q : ℕ). ComesBefore (time k) k (time (get_or xs q 0)) (get_or xs q 0)) e last
@@ -89,7 +91,8 @@ same_before : (a b c d j k : ℕ) → a ≡ b → c ≡ d → ComesBefore a j c 
 same_before a b c d j k e f l = grind arith
 
 -- the same where what is in order is said otherwise
-pub said_so : (In Now : ℕ → Type 0) (time now : ℕ → ℕ) (xs : List ℕ) (len : ℕ) → ((j : ℕ) → In j → Now j) → ((j : ℕ) → Now j → In j) → ((j : ℕ) → In j → time j ≡ now j) → AreInOrder In time xs len → AreInOrder Now now xs len
+pub said_so : (In Now : ℕ → Type 0) (time now : ℕ → ℕ) (xs : List ℕ) (len : ℕ) → ((j : ℕ) → In j → Now j) → ((j : ℕ) → Now j → In j)
+    → ((j : ℕ) → In j → time j ≡ now j) → AreInOrder In time xs len → AreInOrder Now now xs len
 said_so In Now time now xs len to back same o = record {
   there = λ p w. to (get_or xs p 0) (o.there p w);
   all = λ j i. o.all j (back j i);
@@ -117,7 +120,9 @@ not_in seats n out j k (inr l) w e = w.other (e ∙ l)
 -- where the seat at an index is known, so is whether an input waits
 module _ (seats : List Seat) (k : ℕ) (x : Seat) (here : slice_get seats k ≡ Some x) where
   -- it goes in among the others
-  pub put_in : (n out m : ℕ) (xs : List ℕ) (len : ℕ) → x.finished ≡ false → k < m → ((j : ℕ) → j < n → j < m) → ((j : ℕ) → j < m → j ≢ k → (j < n) × (j ≢ out)) → AreInOrder (λ j. Waits seats n out j ⊎ (j ≡ k)) (time_of seats) xs len → IsOrder seats m m xs len
+  pub put_in : (n out m : ℕ) (xs : List ℕ) (len : ℕ) → x.finished ≡ false → k < m → ((j : ℕ) → j < n → j < m)
+      → ((j : ℕ) → j < m → j ≢ k → (j < n) × (j ≢ out)) → AreInOrder (λ j. Waits seats n out j ⊎ (j ≡ k)) (time_of seats) xs len
+      → IsOrder seats m m xs len
   put_in n out m xs len going within to back o = said_so (λ j. Waits seats n out j ⊎ (j ≡ k)) (Waits seats m m) (time_of seats) (time_of seats) xs len now old (λ j i. refl) o
     where
       now : (j : ℕ) → Waits seats n out j ⊎ (j ≡ k) → Waits seats m m j
@@ -136,11 +141,14 @@ pub record MovesUp (xs ys : List ℕ) (at len k : ℕ) : Type 0 where
   pub here : get_or ys at 0 ≡ k
   pub above : (p : ℕ) → at ≤ p → p < len → get_or ys (p + 1) 0 ≡ get_or xs p 0
 
-pub moved_behind : (xs ys : List ℕ) (at len k : ℕ) → at ≤ len → len < length xs → length ys ≡ length xs → SameBelow xs ys (at + 1) → CopiedTo xs ys at (at + 1) (len - at) → MovesUp xs (slice_set ys at k) at len k
+pub moved_behind : (xs ys : List ℕ) (at len k : ℕ) → at ≤ len → len < length xs → length ys ≡ length xs → SameBelow xs ys (at + 1)
+    → CopiedTo xs ys at (at + 1) (len - at) → MovesUp xs (slice_set ys at k) at len k
 moved_behind xs ys at len k most room long low high = record {
   below = λ p l. get_or-set_other ys at p k 0 (λ e. omega (arith, l, e)) ∙ low p 0 (omega (arith, l));
   here = get_or-set_same ys at k 0 (omega (arith, most, room, long));
-  above = λ p l w. let old : at + (p + 1 - (at + 1)) ≡ p = omega (arith, l) in get_or-set_other ys at (p + 1) k 0 (λ e. omega (arith, l, e)) ∙ high (p + 1) 0 (omega (arith, l)) (omega (arith, l, w, most)) ∙ ap (λ (n : ℕ). get_or xs n 0) old;
+  above = λ p l w. let old : at + (p + 1 - (at + 1)) ≡ p = omega (arith, l) in
+      get_or-set_other ys at (p + 1) k 0 (λ e. omega (arith, l, e)) ∙ high (p + 1) 0 (omega (arith, l)) (omega (arith, l, w, most))
+      ∙ ap (λ (n : ℕ). get_or xs n 0) old;
 }
 
 -- the time of a seat
@@ -153,7 +161,14 @@ none_waits seats xs o = λ k d within. by_flag k within (get_or seats k d) (slic
   where
     by_flag : (k : ℕ) → k < length seats → (s : Seat) → slice_get seats k ≡ Some s → (b : Bool) → s.finished ≡ b → s.finished ≡ true
     by_flag k within s at true e = e
-    by_flag k within s at false e = let p = o.all k (record { within = within; other = λ f. omega (arith, within, f); seat = s; there = at; unfinished = e }) in let h = p.1 in absurd (omega (arith, h))
+    by_flag k within s at false e = let p = o.all k (record {
+      within = within;
+      other = λ f. omega
+          (arith, within, f);
+      seat = s;
+      there = at;
+      unfinished = e;
+    }) in let h = p.1 in absurd (omega (arith, h))
 
 not_sooner : (t u v w i j k : ℕ) → t ≡ v → u ≡ w → i ≡ j → ComesBefore t k u i → (v < w) ⊎ ((v ≡ w) × (k ≤ j))
 not_sooner t u v w i j k e f g l = grind arith
@@ -163,7 +178,8 @@ module _ (seats : List Seat) (xs : List ℕ) (last : ℕ) (o : IsOrder seats (le
   pub last_is_next : IsNext seats (get_or xs last 0)
   last_is_next = let w = o.there last (omega arith) in record { seat = w.seat; there = w.there; unfinished = w.unfinished; least = λ j s at going. least w j s at going }
     where
-      least : (w : Waits seats (length seats) (length seats) (get_or xs last 0)) (j : ℕ) (s : Seat) → slice_get seats j ≡ Some s → s.finished ≡ false → (w.seat.time < s.time) ⊎ ((w.seat.time ≡ s.time) × (get_or xs last 0 ≤ j))
+      least : (w : Waits seats (length seats) (length seats) (get_or xs last 0)) (j : ℕ) (s : Seat) → slice_get seats j ≡ Some s → s.finished ≡ false
+          → (w.seat.time < s.time) ⊎ ((w.seat.time ≡ s.time) × (get_or xs last 0 ≤ j))
       least w j s at going =
           let within = slice_get_within seats j s at in
           let e = time_is seats j s at in
@@ -190,20 +206,28 @@ not_later t k j s u m v e l h = grind arith
 module _ (seats : List Seat) (k : ℕ) (xs : List ℕ) where
   -- where no other waits
   pub alone_before : (before : ℕ) → IsOrder seats (length seats) k xs 0 → IsFirstBefore seats k before
-  alone_before before o t less j s apart at going = let p = o.all j (record { within = slice_get_within seats j s at; other = apart; seat = s; there = at; unfinished = going }) in let h = p.1 in absurd (omega (arith, h))
+  alone_before before o t less j s apart at going = let p = o.all j
+      (record { within = slice_get_within seats j s at; other = apart; seat = s; there = at; unfinished = going }) in let h = p.1 in
+      absurd (omega (arith, h))
 
   -- before the time of the last entry, or at that time where its number is greater
-  pub before_last : (last before : ℕ) → IsOrder seats (length seats) k xs (last + 1) → ((t : ℕ) → t < before → (t < time_of seats (get_or xs last 0)) ⊎ ((t ≡ time_of seats (get_or xs last 0)) × (k < get_or xs last 0))) → IsFirstBefore seats k before
+  pub before_last : (last before : ℕ) → IsOrder seats (length seats) k xs (last + 1)
+      → ((t : ℕ) → t < before → (t < time_of seats (get_or xs last 0)) ⊎ ((t ≡ time_of seats (get_or xs last 0)) × (k < get_or xs last 0)))
+      → IsFirstBefore seats k before
   before_last last before o low t less j s apart at going =
       let e = time_is seats j s at in
       let (p, w, f) = o.all j (record { within = slice_get_within seats j s at; other = apart; seat = s; there = at; unfinished = going }) in
       elim (cases_lt p last) [
-        | inl l ↦ not_later t k j s.time _ _ (time_of seats j) e (low t less) (inl (subst (λ (i : ℕ). ComesBefore (time_of seats (get_or xs last 0)) (get_or xs last 0) (time_of seats i) i) f (o.falls p last l (omega arith))))
-        | inr l ↦ let q : last ≡ p = omega (arith, l, w) in let g = ap (λ (i : ℕ). get_or xs i 0) q ∙ f in not_later t k j s.time _ _ (time_of seats j) e (low t less) (inr (ap (time_of seats) g, g))
+        | inl l ↦ not_later t k j s.time _ _ (time_of seats j) e (low t less)
+            (inl (subst (λ (i : ℕ). ComesBefore (time_of seats (get_or xs last 0)) (get_or xs last 0) (time_of seats i) i) f
+            (o.falls p last l (omega arith))))
+        | inr l ↦ let q : last ≡ p = omega (arith, l, w) in let g = ap (λ (i : ℕ). get_or xs i 0) q ∙ f in
+            not_later t k j s.time _ _ (time_of seats j) e (low t less) (inr (ap (time_of seats) g, g))
       ]
 
 -- the other seats stay as they were
-pub others_stay : (old new : List Seat) (k : ℕ) (xs : List ℕ) (len : ℕ) → length new ≡ length old → ((j : ℕ) → j ≢ k → slice_get new j ≡ slice_get old j) → IsOrder old (length old) k xs len → IsOrder new (length new) k xs len
+pub others_stay : (old new : List Seat) (k : ℕ) (xs : List ℕ) (len : ℕ) → length new ≡ length old
+    → ((j : ℕ) → j ≢ k → slice_get new j ≡ slice_get old j) → IsOrder old (length old) k xs len → IsOrder new (length new) k xs len
 others_stay old new k xs len long kept o = said_so (Waits old (length old) k) (Waits new (length new) k) (time_of old) (time_of new) xs len to back same o
   where
     to : (j : ℕ) → Waits old (length old) k j → Waits new (length new) k j

@@ -18,7 +18,8 @@ module _ (len n place : ℕ) (xs ys : List ℕ) (all : n * len ≡ length xs) (w
   part_put =
       let e = part_ends len n place within in
       let k : len ≡ place * len + len - place * len = omega arith in
-      ap (λ m. take m (drop (place * len) (put_mid (place * len) (place * len + len - place * len) xs ys))) k ∙ between-put_mid (place * len) (place * len + len - place * len) xs ys (place * len + len) (omega arith) (omega arith)
+      ap (λ m. take m (drop (place * len) (put_mid (place * len) (place * len + len - place * len) xs ys))) k
+      ∙ between-put_mid (place * len) (place * len + len - place * len) xs ys (place * len + len) (omega arith) (omega arith)
 
   pub part_other : (j : ℕ) → j ≢ place → part len j (put_mid (place * len) (place * len + len - place * len) xs ys) ≡ part len j xs
   part_other j other =
@@ -80,8 +81,20 @@ module _ {X : Type 0} (rest : X → Option (List ℕ)) (seats : List Seat) (sour
   spot_lent s x d at h1 h2 is =
       let a = slice_get-get_or seats k d h1 in
       let b = slice_get-get_or sources k x h2 in
-      let e : spot_at rest seats sources chunks tokens k ≡ Some (record { seat = get_or seats k d; rest = rest x; chunk = part (part_len (length seats) chunks) k chunks; token = part (part_len (length seats) tokens) k tokens }) = rw (a, b, sym is) refl in
-      let same : s ≡ record { seat = get_or seats k d; rest = rest x; chunk = part (part_len (length seats) chunks) k chunks; token = part (part_len (length seats) tokens) k tokens } = cc (sym at ∙ e) in
+      let e : spot_at rest seats sources chunks tokens k ≡ Some (record {
+        seat = get_or seats k d;
+        rest = rest x;
+        chunk = part
+            (part_len (length seats) chunks) k chunks;
+        token = part (part_len (length seats) tokens) k tokens;
+      }) = rw (a, b, sym is) refl in
+      let same : s ≡ record {
+        seat = get_or seats k d;
+        rest = rest x;
+        chunk = part (part_len (length seats) chunks) k chunks;
+        token = part
+            (part_len (length seats) tokens) k tokens;
+      } = cc (sym at ∙ e) in
       rw (part_of_some (part_len (length seats) chunks) k chunks, part_of_some (part_len (length seats) tokens) k tokens, sym is) same
 
 -- an input is there, and these are as long as its parts
@@ -101,21 +114,25 @@ module _ {X : Type 0} {seats : List Seat} {sources : List X} {chunks tokens : Li
   len_tokens = len_put (part_len (length seats) tokens) (length seats) k tokens ts own.tokens_are own.in_seats own.token
 
   -- the spot of the input whose parts were written
-  pub spot_put : (rest : X → Option (List ℕ)) → spot_at rest (slice_set seats k s') (slice_set sources k x') (lent (length seats) k chunks cs) (lent (length seats) k tokens ts) k ≡ Some (record { seat = s'; rest = rest x'; chunk = cs; token = ts })
+  pub spot_put : (rest : X → Option (List ℕ)) → spot_at rest (slice_set seats k s') (slice_set sources k x') (lent (length seats) k chunks cs)
+      (lent (length seats) k tokens ts) k ≡ Some (record { seat = s'; rest = rest x'; chunk = cs; token = ts })
   spot_put rest =
       let c = part_put (part_len (length seats) chunks) (length seats) k chunks cs own.chunks_are own.in_seats own.chunk in
       let t = part_put (part_len (length seats) tokens) (length seats) k tokens ts own.tokens_are own.in_seats own.token in
       rw (get_set seats k s' own.in_seats, get_set sources k x' own.in_sources, length-set seats k s', len_chunks, len_tokens, c, t) refl
 
   -- and those of the others
-  pub spot_other : (rest : X → Option (List ℕ)) (j : ℕ) → j ≢ k → spot_at rest (slice_set seats k s') (slice_set sources k x') (lent (length seats) k chunks cs) (lent (length seats) k tokens ts) j ≡ spot_at rest seats sources chunks tokens j
+  pub spot_other : (rest : X → Option (List ℕ)) (j : ℕ) → j ≢ k
+      → spot_at rest (slice_set seats k s') (slice_set sources k x') (lent (length seats) k chunks cs) (lent (length seats) k tokens ts) j
+      ≡ spot_at rest seats sources chunks tokens j
   spot_other rest j other =
       let c = part_other (part_len (length seats) chunks) (length seats) k chunks cs own.chunks_are own.in_seats own.chunk j other in
       let t = part_other (part_len (length seats) tokens) (length seats) k tokens ts own.tokens_are own.in_seats own.token j other in
       rw (get_other seats k j s' other, get_other sources k j x' other, length-set seats k s', len_chunks, len_tokens, c, t) refl
 
   -- what holds of all seats holds once one was set
-  pub seated_put : IsSeated (part_len (length seats) chunks) (part_len (length seats) tokens) s' → AreSeated chunks tokens seats → AreSeated (lent (length seats) k chunks cs) (lent (length seats) k tokens ts) (slice_set seats k s')
+  pub seated_put : IsSeated (part_len (length seats) chunks) (part_len (length seats) tokens) s' → AreSeated chunks tokens seats
+      → AreSeated (lent (length seats) k chunks cs) (lent (length seats) k tokens ts) (slice_set seats k s')
   seated_put seated all =
       let set = All-set (IsSeated (part_len (length seats) chunks) (part_len (length seats) tokens)) seats k s' seated all in
       let c = same_part (length seats) (length (slice_set seats k s')) chunks (lent (length seats) k chunks cs) (length-set seats k s') len_chunks in

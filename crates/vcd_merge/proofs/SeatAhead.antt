@@ -4,7 +4,8 @@ use Rattle.vcd_merge.specs.MergeAhead.{Further, Stands}
 use Rattle.vcd_merge.proofs.SeatLemmas.{no_more_at_last, out_of}
 use Rattle.vcd_merge.proofs.SeatTrails.{reaches_on, turns_at}
 
-module _ {X : Type 0} {g : Ghosts X} (scale first : ℕ) (l : Lane) (behind : List BodyItem) (s : Seat) (f : Feed X g) (at : AtSeat scale first l behind (spot_with s f)) (on : s.finished ≡ false) where
+module _ {X : Type 0} {g : Ghosts X} (scale first : ℕ) (l : Lane) (behind : List BodyItem) (s : Seat) (f : Feed X g)
+    (at : AtSeat scale first l behind (spot_with s f)) (on : s.finished ≡ false) where
   abbrev LiesAhead : ℕ → List BodyItem → Regs → ℕ → Type 0
   LiesAhead n items r time = IsAhead scale l.header (limit_of f) (lines_of f) (ahead_of f) behind n items r time
 
@@ -21,7 +22,8 @@ module _ {X : Type 0} {g : Ghosts X} (scale first : ℕ) (l : Lane) (behind : Li
   }
 
   -- once a feed has given them
-  pub seat_at : (new : Feed X g) (all : List BodyItem) (n : ℕ) (items : List BodyItem) (r : Regs) (time : ℕ) → all ≡ behind ++ items → LiesAhead n items r time → GaveItems l.header.codes l.input l.front all new r → AtSeat scale first l all (spot_with (seat_with s r time) new)
+  pub seat_at : (new : Feed X g) (all : List BodyItem) (n : ℕ) (items : List BodyItem) (r : Regs) (time : ℕ) → all ≡ behind ++ items
+      → LiesAhead n items r time → GaveItems l.header.codes l.input l.front all new r → AtSeat scale first l all (spot_with (seat_with s r time) new)
   seat_at new all n items r time e a gave = record {
     gave = record { given = gave.given; placed = gave.placed; stands = gave.stands; so_far = gave.so_far; items_are = gave.items_are; known = gave.known };
     small = subst (AllByRecursion (λ x. is_too_large scale x ≡ false)) (sym e) (all_append (λ x. is_too_large scale x ≡ false) behind items at.small a.small);
@@ -32,9 +34,16 @@ module _ {X : Type 0} {g : Ghosts X} (scale first : ℕ) (l : Lane) (behind : Li
     finished = λ e. cc (sym on ∙ e);
   }
 
-  pub one_at : (new : Feed X g) (b : StageAhead) (x : BodyItem) (n : ℕ) (r : Regs) (time : ℕ) (written : Option ℕ) (out : Device) → TakesAhead b x n r time written out → GaveLast l.header.codes l.input l.front (behind ++ b.items) x new r
+  pub one_at : (new : Feed X g) (b : StageAhead) (x : BodyItem) (n : ℕ) (r : Regs) (time : ℕ) (written : Option ℕ) (out : Device)
+      → TakesAhead b x n r time written out → GaveLast l.header.codes l.input l.front (behind ++ b.items) x new r
       → GivesOne scale first l (behind ++ b.items) b.written written (spot_with (seat_with s r time) new) x
-  one_at new b x n r time written out one last = (on, seat_at new _ n (b.items ++ x ∷ []) r time (append_assoc behind b.items (x ∷ [])) one.ahead last.gave, one.written_is, no_more_at_last l l.input (behind ++ b.items) new x r last)
+  one_at new b x n r time written out one last = (
+    on,
+    seat_at new _ n (b.items ++ x ∷ []) r time
+        (append_assoc behind b.items (x ∷ [])) one.ahead last.gave,
+    one.written_is,
+    no_more_at_last l l.input (behind ++ b.items) new x r last,
+  )
 
   -- ---- the feed as it would be after some of them
 
@@ -62,19 +71,23 @@ module _ {X : Type 0} {g : Ghosts X} (scale first : ℕ) (l : Lane) (behind : Li
         parked-stands rest f.chunk.now f.token.now (length f.token.now) (gone_on f.chunk.now f.parked n) l.input (given ++ ts) refl on (λ some. absurd (omega arith))
 
     -- at most a chunk was read past the first of them
-    feed_near : (given : List Token) (end : ℕ) (first : List Token) → first ≢ [] → Passed (limit_of f) (lines_of f) (ahead_of f) end first → HasGiven l.input given f → HasReadTo l.input (given ++ first) feed_at
+    feed_near : (given : List Token) (end : ℕ) (first : List Token) → first ≢ [] → Passed (limit_of f) (lines_of f) (ahead_of f) end first
+        → HasGiven l.input given f → HasReadTo l.input (given ++ first) feed_at
     unfolding feed_at
     feed_near given end first some to st =
         let rest = g.rest f.source.now in
         let far = pass_far f.parked.phase (length f.token.now) rest f.chunk.now f.parked l.input given first end f.fits some to st.at in
         near-more (length f.chunk.now) rest (looked f.parked) (end_of_tokens l.input.bytes (length (given ++ first))) l.input far st.read_ahead
 
-  feed_gave : (n : ℕ) (items : List BodyItem) (x : BodyItem) (r : Regs) (time : ℕ) (a : LiesAhead n (items ++ x ∷ []) r time) → GaveLast l.header.codes l.input l.front (behind ++ items) x (feed_at n a.gave.tokens a.gave.passed) r
+  feed_gave : (n : ℕ) (items : List BodyItem) (x : BodyItem) (r : Regs) (time : ℕ) (a : LiesAhead n (items ++ x ∷ []) r time)
+      → GaveLast l.header.codes l.input l.front (behind ++ items) x (feed_at n a.gave.tokens a.gave.passed) r
   feed_gave n items x r time a =
       let h = out_of scale first l behind s f at in
       let ts = a.gave.tokens in
       let given = l.front ++ h.given in
-      gave_last l.header.codes (limit_of f) (lines_of f) (ahead_of f) behind items x l.input l.front n f (feed_at n ts a.gave.passed) s.regs r h a.gave (feed_stands n ts a.gave.passed given h.stands) (λ end first some to. feed_near n ts a.gave.passed given end first some to h.stands) a.known
+      gave_last l.header.codes (limit_of f) (lines_of f) (ahead_of f) behind items x l.input l.front n f
+      (feed_at n ts a.gave.passed) s.regs r h a.gave (feed_stands n ts a.gave.passed given h.stands)
+      (λ end first some to. feed_near n ts a.gave.passed given end first some to h.stands) a.known
 
   -- ---- a run of them
 
@@ -88,7 +101,18 @@ module _ {X : Type 0} {g : Ghosts X} (scale first : ℕ) (l : Lane) (behind : Li
     -- the stages of the run, over the feed as it would be
     reaches : (b : StageAhead) → Trails b → Reaches g.rest failures scale first l before start (stage_with (behind ++ b.items) b.written s f b.out)
     unfolding feed_at
-    reaches b Stands = record { mid = start; trail = Trail.Stands; items_are = sym (append-nil behind); written_is = refl; out_is = refl; rest_is = refl; failures_are = refl; chunk = refl; token = refl }
+    reaches b Stands = record {
+      mid = start;
+      trail = Trail.Stands;
+      items_are = sym
+          (append-nil behind);
+      written_is = refl;
+      out_is = refl;
+      rest_is = refl;
+      failures_are = refl;
+      chunk = refl;
+      token = refl;
+    }
     reaches _ (Further b c x so_far items_are one early) =
         let new = feed_at c.at one.ahead.gave.tokens one.ahead.gave.passed in
         let from : Stage X = stage_with (behind ++ b.items) b.written s f b.out in
@@ -105,14 +129,30 @@ module _ {X : Type 0} {g : Ghosts X} (scale first : ℕ) (l : Lane) (behind : Li
           token = refl;
         } in
         let t = reaches_on (reaches b so_far) to by in
-        record { mid = t.mid; trail = t.trail; items_are = t.items_are ∙ append_assoc behind b.items (x ∷ []) ∙ ap (λ xs. behind ++ xs) (sym items_are); written_is = t.written_is; out_is = t.out_is; rest_is = t.rest_is; failures_are = t.failures_are; chunk = t.chunk; token = t.token }
+        record {
+          mid = t.mid;
+          trail = t.trail;
+          items_are = t.items_are ∙ append_assoc behind b.items (x ∷ [])
+              ∙ ap (λ xs. behind ++ xs)
+              (sym items_are);
+          written_is = t.written_is;
+          out_is = t.out_is;
+          rest_is = t.rest_is;
+          failures_are = t.failures_are;
+          chunk = t.chunk;
+          token = t.token;
+        }
 
     -- once the feed has passed them
-    module _ (new : Feed X g) (n : ℕ) (r : Regs) (time : ℕ) (written : Option ℕ) (out : Device) (source : source_of new ≡ source_of f) (limit : limit_of new ≡ limit_of f) (chunk : chunk_len_of new ≡ chunk_len_of f)
-        (gives : (items : List BodyItem) → GaveAhead l.header.codes (limit_of f) (lines_of f) (ahead_of f) n behind items → AreRegsAfter (behind ++ items) r → GaveItems l.header.codes l.input l.front (behind ++ items) new r)
-        (ends : (items : List BodyItem) (x : BodyItem) → GaveAhead l.header.codes (limit_of f) (lines_of f) (ahead_of f) n behind (items ++ x ∷ []) → AreRegsAfter (behind ++ (items ++ x ∷ [])) r → GaveLast l.header.codes l.input l.front (behind ++ items) x new r) where
+    module _ (new : Feed X g) (n : ℕ) (r : Regs) (time : ℕ) (written : Option ℕ) (out : Device) (source : source_of new ≡ source_of f)
+        (limit : limit_of new ≡ limit_of f) (chunk : chunk_len_of new ≡ chunk_len_of f)
+        (gives : (items : List BodyItem) → GaveAhead l.header.codes (limit_of f) (lines_of f) (ahead_of f) n behind items
+        → AreRegsAfter (behind ++ items) r → GaveItems l.header.codes l.input l.front (behind ++ items) new r)
+        (ends : (items : List BodyItem) (x : BodyItem) → GaveAhead l.header.codes (limit_of f) (lines_of f) (ahead_of f) n behind (items ++ x ∷ [])
+        → AreRegsAfter (behind ++ (items ++ x ∷ [])) r → GaveLast l.header.codes l.input l.front (behind ++ items) x new r) where
       abbrev Runs : {E : Type 0} → Result Bool E → Type 0
-      Runs result = RunsAhead scale first l.header (limit_of f) (lines_of f) (ahead_of f) behind before (record { at = 0; items = []; regs = s.regs; time = s.time; written = written0; out = out0 }) n r time written out result
+      Runs result = RunsAhead scale first l.header (limit_of f) (lines_of f) (ahead_of f) behind before
+          (record { at = 0; items = []; regs = s.regs; time = s.time; written = written0; out = out0 }) n r time written out result
 
       pub ahead_turns : {E : Type 0} (result : Result Bool E) → Runs result → AheadTurns g.rest failures k scale first l before start written (seat_with s r time) new out result
       ahead_turns (Ok false) t =
@@ -121,7 +161,19 @@ module _ {X : Type 0} {g : Ghosts X} (scale first : ℕ) (l : Lane) (behind : Li
           let q = reaches m t.trail in (
             behind ++ m.items,
             seat_at new (behind ++ m.items) n m.items r time refl a (gives m.items a.gave a.known),
-            record { mid = q.mid; trail = q.trail; items_are = q.items_are; written_is = q.written_is ∙ sym t.ends.1; out_is = q.out_is ∙ sym t.ends.2; rest_is = q.rest_is ∙ ap g.rest (sym source); failures_are = q.failures_are ∙ ap failures (sym source); chunk = q.chunk ∙ sym chunk; token = q.token ∙ sym limit },
+            record {
+              mid = q.mid;
+              trail = q.trail;
+              items_are = q.items_are;
+              written_is = q.written_is ∙ sym t.ends.1;
+              out_is = q.out_is
+                  ∙ sym t.ends.2;
+              rest_is = q.rest_is ∙ ap g.rest (sym source);
+              failures_are = q.failures_are
+                  ∙ ap failures (sym source);
+              chunk = q.chunk ∙ sym chunk;
+              token = q.token ∙ sym limit;
+            },
           )
       ahead_turns (Ok true) t =
           let m = t.mid in

@@ -16,7 +16,8 @@ pub record Found {X : Type 0} (rest : X → Option (List ℕ)) (hs : List Header
   pub views : Views (shown head) lane.header
   pub is : AtSeat (factor hs lane.header) (first_number (take k hs)) lane dump.items spot
 
-pub found : {X : Type 0} (rest : X → Option (List ℕ)) (hs : List Header) (lanes : List Lane) (ds : List Dump) (s : Standing X) (k : ℕ) → Holds rest hs lanes ds s → IsReady s → IsNext s.seats k → Found rest hs lanes ds s k
+pub found : {X : Type 0} (rest : X → Option (List ℕ)) (hs : List Header) (lanes : List Lane) (ds : List Dump) (s : Standing X) (k : ℕ)
+    → Holds rest hs lanes ds s → IsReady s → IsNext s.seats k → Found rest hs lanes ds s k
 found rest hs lanes ds s k holds ready next =
     let g = holds.given in
     let w = slice_get_within s.seats k next.seat next.there in
@@ -37,13 +38,15 @@ found rest hs lanes ds s k holds ready next =
     }
 
 -- how long a part of a window is, by the window before
-part_in : (n n' k : ℕ) (xs xs' ys : List ℕ) → n' ≡ n → length xs' ≡ length xs → n * part_len n xs ≡ length xs → k < n → part (part_len n' xs') k xs' ≡ ys → length ys ≡ part_len n xs
+part_in : (n n' k : ℕ) (xs xs' ys : List ℕ) → n' ≡ n → length xs' ≡ length xs → n * part_len n xs ≡ length xs → k < n
+    → part (part_len n' xs') k xs' ≡ ys → length ys ≡ part_len n xs
 part_in n n' k xs xs' ys e l all w is =
     let same : part_len n' xs' ≡ part_len n xs = same_part n n' xs xs' e l in
     let whole : n' * part_len n' xs' ≡ length xs' = rw (same, e, l) all in
     ap length (sym is) ∙ part_long (part_len n' xs') n' k xs' whole (omega (arith, w, e)) ∙ same
 
-module _ {X : Type 0} (rest : X → Option (List ℕ)) (s s' : Standing X) (k : ℕ) (p : Spot) (ready : IsReady s) (w : k < length s.seats) (seats : length s'.seats ≡ length s.seats) (at : spot_at rest s'.seats s'.sources s'.chunks s'.tokens k ≡ Some p) where
+module _ {X : Type 0} (rest : X → Option (List ℕ)) (s s' : Standing X) (k : ℕ) (p : Spot) (ready : IsReady s) (w : k < length s.seats)
+    (seats : length s'.seats ≡ length s.seats) (at : spot_at rest s'.seats s'.sources s'.chunks s'.tokens k ≡ Some p) where
   -- how long the part of an input is in the chunks' window, and in the tokens'
   pub chunk_len : length s'.chunks ≡ length s.chunks → length p.chunk ≡ part_len (length s.seats) s.chunks
   chunk_len chunks = part_in (length s.seats) (length s'.seats) k s.chunks s'.chunks p.chunk seats chunks ready.parts.chunks_are w (spot_parts rest s' k p at).2
@@ -55,8 +58,10 @@ module _ {X : Type 0} (rest : X → Option (List ℕ)) (s s' : Standing X) (k : 
 abbrev pub IsLong : {X : Type 0} → (X → Option (List ℕ)) → ℕ → Standing X → Type 0
 IsLong rest limit s = (k : ℕ) (p : Spot) → spot_at rest s.seats s.sources s.chunks s.tokens k ≡ Some p → length p.token ≡ limit
 
-pub long_of : {X : Type 0} (rest : X → Option (List ℕ)) (s s' : Standing X) (limit : ℕ) → part_len (length s.seats) s.tokens ≡ limit → IsReady s → length s'.seats ≡ length s.seats → length s'.tokens ≡ length s.tokens → IsLong rest limit s'
-long_of rest s s' limit is_limit ready seats tokens = λ k p at. let w = slice_get_within s'.seats k p.seat (spot_seat rest s' k p at) in token_len rest s s' k p ready (omega (arith, w, seats)) seats at tokens ∙ is_limit
+pub long_of : {X : Type 0} (rest : X → Option (List ℕ)) (s s' : Standing X) (limit : ℕ) → part_len (length s.seats) s.tokens ≡ limit → IsReady s
+    → length s'.seats ≡ length s.seats → length s'.tokens ≡ length s.tokens → IsLong rest limit s'
+long_of rest s s' limit is_limit ready seats tokens = λ k p at. let w = slice_get_within s'.seats k p.seat (spot_seat rest s' k p at) in
+    token_len rest s s' k p ready (omega (arith, w, seats)) seats at tokens ∙ is_limit
 
 -- what is known of the input at an index
 pub record Known {X : Type 0} (hs : List Header) (limit : ℕ) (s : Standing X) (k : ℕ) (l : Lane) (d : Dump) : Type 0 where
@@ -66,7 +71,9 @@ pub record Known {X : Type 0} (hs : List Header) (limit : ℕ) (s : Standing X) 
   pub long : length spot.token ≡ limit
   pub same : l.header ≡ d.header
 
-pub known : {X : Type 0} {rest : X → Option (List ℕ)} {hs : List Header} {lanes : List Lane} {ds : List Dump} {s : Standing X} → AreGiven rest hs lanes ds s → {limit : ℕ} → IsLong rest limit s → (k : ℕ) (l : Lane) (d : Dump) → slice_get lanes k ≡ Some l → slice_get ds k ≡ Some d → Known hs limit s k l d
+pub known : {X : Type 0} {rest : X → Option (List ℕ)} {hs : List Header} {lanes : List Lane} {ds : List Dump} {s : Standing X}
+    → AreGiven rest hs lanes ds s → {limit : ℕ} → IsLong rest limit s → (k : ℕ) (l : Lane) (d : Dump) → slice_get lanes k ≡ Some l
+    → slice_get ds k ≡ Some d → Known hs limit s k l d
 known {rest = rest} {hs = hs} {lanes = lanes} {ds = ds} {s = s} g long k l d at_l at_d =
     let many = g.many in
     let a = ap (λ (x : List Header). length x) g.dumps_are in
@@ -81,7 +88,8 @@ of_map rest (Some y) r e = (y, refl, sym (same_Some (rest y) r e))
 of_map rest None r e = absurd (cc)
 
 -- the source of a spot
-pub spot_source : {X : Type 0} (rest : X → Option (List ℕ)) (s : Standing X) (k : ℕ) (p : Spot) → spot_at rest s.seats s.sources s.chunks s.tokens k ≡ Some p → (y : X) × (slice_get s.sources k ≡ Some y) × (p.rest ≡ rest y)
+pub spot_source : {X : Type 0} (rest : X → Option (List ℕ)) (s : Standing X) (k : ℕ) (p : Spot)
+    → spot_at rest s.seats s.sources s.chunks s.tokens k ≡ Some p → (y : X) × (slice_get s.sources k ≡ Some y) × (p.rest ≡ rest y)
 spot_source rest s k p at = of_map rest (slice_get s.sources k) p.rest (spot_parts rest s k p at).1
 
 by_least : (s t j k : ℕ) → (s < t) ⊎ ((s ≡ t) × (j ≤ k)) → (t < s) ⊎ ((t ≡ s) × (k ≤ j)) → j ≡ k
@@ -92,7 +100,9 @@ pub same_next : (seats : List Seat) (j k : ℕ) → IsNext seats j → IsNext se
 same_next seats j k a b = by_least a.seat.time b.seat.time j k (a.least k b.seat b.there b.unfinished) (b.least j a.seat a.there a.unfinished)
 
 -- seats whose spots stay
-pub seats_stay : {X : Type 0} (rest : X → Option (List ℕ)) (s s' : Standing X) (j : ℕ) → length s.sources ≡ length s.seats → length s'.sources ≡ length s'.seats → spot_at rest s'.seats s'.sources s'.chunks s'.tokens j ≡ spot_at rest s.seats s.sources s.chunks s.tokens j
+pub seats_stay : {X : Type 0} (rest : X → Option (List ℕ)) (s s' : Standing X) (j : ℕ) → length s.sources ≡ length s.seats
+    → length s'.sources ≡ length s'.seats → spot_at rest s'.seats s'.sources s'.chunks s'.tokens j
+    ≡ spot_at rest s.seats s.sources s.chunks s.tokens j
     → slice_get s'.seats j ≡ slice_get s.seats j
 seats_stay {X} rest s s' j same sources spots = by_seats (slice_get s.seats j) refl (slice_get s'.seats j) refl
   where

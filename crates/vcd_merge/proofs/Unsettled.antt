@@ -15,19 +15,25 @@ set_same (y ∷ xs) zero x at = let same : y ≡ x = cc in ap (λ z. z ∷ xs) (
 set_same (y ∷ xs) (suc k) x at = ap (λ l. y ∷ l) (set_same xs k x at)
 
 -- from what is known of the fault at each index
-late_each : (b : Key) (hs : List Header) (n : ℕ) (ds : List Dump) → ((i : ℕ) (d : Dump) (f : Fault) → slice_get ds i ≡ Some d → d.fault ≡ Some f → key_lt (key_after (factor hs d.header) (n + i) d.items) b ≡ false) → AreLate b hs n ds
+late_each : (b : Key) (hs : List Header) (n : ℕ) (ds : List Dump)
+    → ((i : ℕ) (d : Dump) (f : Fault) → slice_get ds i ≡ Some d → d.fault ≡ Some f
+    → key_lt (key_after (factor hs d.header) (n + i) d.items) b ≡ false) → AreLate b hs n ds
 late_each b hs n [] each = tt
 late_each b hs n (d ∷ ds) each = (
   λ f e. let i : n + 0 ≡ n = omega arith in subst (λ (m : ℕ). key_lt (key_after (factor hs d.header) m d.items) b ≡ false) i (each 0 d f refl e),
-  late_each b hs (n + 1) ds (λ i c f at e. let j : n + suc i ≡ n + 1 + i = omega arith in subst (λ (m : ℕ). key_lt (key_after (factor hs c.header) m c.items) b ≡ false) j (each (suc i) c f at e)),
+  late_each b hs (n + 1) ds (λ i c f at e. let j : n + suc i ≡ n + 1 + i = omega arith in
+      subst (λ (m : ℕ). key_lt (key_after (factor hs c.header) m c.items) b ≡ false) j (each (suc i) c f at e)),
 )
 
-not_past : (f : Option KeyedFault) (hs : List Header) (n k : ℕ) (ss : List SeenBody) (s : SeenBody) → slice_get ss k ≡ Some s → (is_at_its_end s (dump_seen hs s) || is_past f hs (n + k) (dump_seen hs s)) ≡ false → are_past f hs n ss ≡ false
+not_past : (f : Option KeyedFault) (hs : List Header) (n k : ℕ) (ss : List SeenBody) (s : SeenBody) → slice_get ss k ≡ Some s
+    → (is_at_its_end s (dump_seen hs s) || is_past f hs (n + k) (dump_seen hs s)) ≡ false → are_past f hs n ss ≡ false
 not_past f hs n k [] s at e = cc
 not_past f hs n zero (t ∷ ss) s at e =
     let same : s ≡ t = cc in
     let i : n + 0 ≡ n = omega arith in
-    let here : (is_at_its_end t (dump_seen hs t) || is_past f hs n (dump_seen hs t)) ≡ false = subst (λ (x : SeenBody). (is_at_its_end x (dump_seen hs x) || is_past f hs n (dump_seen hs x)) ≡ false) same (subst (λ (m : ℕ). (is_at_its_end s (dump_seen hs s) || is_past f hs m (dump_seen hs s)) ≡ false) i e) in
+    let here : (is_at_its_end t (dump_seen hs t) || is_past f hs n (dump_seen hs t)) ≡ false = subst
+    (λ (x : SeenBody). (is_at_its_end x (dump_seen hs x) || is_past f hs n (dump_seen hs x)) ≡ false) same
+    (subst (λ (m : ℕ). (is_at_its_end s (dump_seen hs s) || is_past f hs m (dump_seen hs s)) ≡ false) i e) in
     ap (λ (b : Bool). b && are_past f hs (n + 1) ss) here
 not_past f hs n (suc k) (t ∷ ss) s at e =
     let i : n + suc k ≡ n + 1 + k = omega arith in
@@ -42,7 +48,9 @@ none_met AtEnd e = refl
 none_met AtLast e = refl
 
 -- first tokens without a fault, whose items have no time that is too large
-first_dump : (hs : List Header) (h : Header) (items : List BodyItem) (ts : List Token) → HaveJust h.codes items ts → AllByRecursion (λ x. is_too_large (factor hs h) x ≡ false) items → dump_seen hs (known_first h ts) ≡ record { header = h; items = items; fault = None }
+first_dump : (hs : List Header) (h : Header) (items : List BodyItem) (ts : List Token) → HaveJust h.codes items ts
+    → AllByRecursion (λ x. is_too_large (factor hs h) x ≡ false) items
+    → dump_seen hs (known_first h ts) ≡ record { header = h; items = items; fault = None }
 first_dump hs h items ts have small =
     let r = read_body h.codes ts in
     dump_whole (factor hs h) h (fault_met r.ending) r (subst (AllByRecursion (λ x. is_too_large (factor hs h) x ≡ false)) (sym have.1) small)
@@ -66,9 +74,11 @@ seen_headers hs (s ∷ ss) = ap (λ (l : List Header). s.header ∷ l) (seen_hea
 
 -- ---- the merge is not settled
 
-module _ (hs : List Header) (os : List Opened) (ds : List Dump) (k : ℕ) (o : Opened) (items : List BodyItem) (headers : map (λ (o : Opened). o.header) os ≡ hs) (dumps : map (dump_under hs) os ≡ ds) (at : slice_get os k ≡ Some o)
+module _ (hs : List Header) (os : List Opened) (ds : List Dump) (k : ℕ) (o : Opened) (items : List BodyItem)
+    (headers : map (λ (o : Opened). o.header) os ≡ hs) (dumps : map (dump_under hs) os ≡ ds) (at : slice_get os k ≡ Some o)
     (small : AllByRecursion (λ x. is_too_large (factor hs o.header) x ≡ false) items)
-    (later : (i : ℕ) (d : Dump) (f : Fault) → i ≢ k → slice_get ds i ≡ Some d → d.fault ≡ Some f → key_lt (key_after (factor hs o.header) k items) (key_after (factor hs d.header) i d.items) ≡ true) where
+    (later : (i : ℕ) (d : Dump) (f : Fault) → i ≢ k → slice_get ds i ≡ Some d → d.fault ≡ Some f
+    → key_lt (key_after (factor hs o.header) k items) (key_after (factor hs d.header) i d.items) ≡ true) where
   abbrev here : Key
   here = key_after (factor hs o.header) k items
 
@@ -77,15 +87,16 @@ module _ (hs : List Header) (os : List Opened) (ds : List Dump) (k : ℕ) (o : O
 
   -- no fault of the others comes before its position
   late : AreLate here hs 0 (slice_set ds k own)
-  late = late_each here hs 0 (slice_set ds k own) (λ i d f at_d e. let z : i ≡ 0 + i = omega arith in subst (λ (m : ℕ). key_lt (key_after (factor hs d.header) m d.items) here ≡ false) z (elim (same_or_not i k) [
-    | inr other ↦ key_never here (key_after (factor hs d.header) i d.items) (later i d f other (sym (get_other ds k i own other) ∙ at_d) e)
-    | inl same ↦
-        let within = slice_get_within ds k (dump_under hs o) (ap (λ (l : List Dump). slice_get l k) (sym dumps) ∙ get_mapped (dump_under hs) os k o at) in
-        let both : Some own ≡ Some d = sym (get_set ds k own within) ∙ ap (slice_get (slice_set ds k own)) (sym same) ∙ at_d in
-        let is : own ≡ d = cc in
-        let none : None ≡ Some f = ap (λ (c : Dump). c.fault) is ∙ e in
-        cc
-  ]))
+  late = late_each here hs 0 (slice_set ds k own) (λ i d f at_d e. let z : i ≡ 0 + i = omega arith in
+      subst (λ (m : ℕ). key_lt (key_after (factor hs d.header) m d.items) here ≡ false) z (elim (same_or_not i k) [
+        | inr other ↦ key_never here (key_after (factor hs d.header) i d.items) (later i d f other (sym (get_other ds k i own other) ∙ at_d) e)
+        | inl same ↦
+            let within = slice_get_within ds k (dump_under hs o) (ap (λ (l : List Dump). slice_get l k) (sym dumps) ∙ get_mapped (dump_under hs) os k o at) in
+            let both : Some own ≡ Some d = sym (get_set ds k own within) ∙ ap (slice_get (slice_set ds k own)) (sym same) ∙ at_d in
+            let is : own ≡ d = cc in
+            let none : None ≡ Some f = ap (λ (c : Dump). c.fault) is ∙ e in
+            cc
+      ]))
 
   module _ (ts : List Token) (have : HaveJust o.header.codes items ts) where
     abbrev first : SeenBody
@@ -119,7 +130,8 @@ module _ (hs : List Header) (os : List Opened) (ds : List Dump) (k : ℕ) (o : O
         let z : 0 + k ≡ k = omega arith in
         let last = first_late here hs (map (dump_seen hs) ss) f (seen_headers hs ss ∙ same_headers) e (subst (AreLate here hs 0) (sym seen_is) late) in
         not_past (Some f) hs 0 k ss first there
-        (ap (λ (m : ℕ). is_at_its_end first (dump_seen hs first) || is_past (Some f) hs m (dump_seen hs first)) z ∙ ap (λ (d : Dump). is_at_its_end first d || is_past (Some f) hs k d) own_is ∙ last)
+        (ap (λ (m : ℕ). is_at_its_end first (dump_seen hs first) || is_past (Some f) hs m (dump_seen hs first)) z
+        ∙ ap (λ (d : Dump). is_at_its_end first d || is_past (Some f) hs k d) own_is ∙ last)
 
     pub unsettled : settles_among os k o.header ts ≡ false
     unsettled = ap (λ (l : List Header). are_past (first_fault (map (dump_seen l) ss)) l 0 ss) same_headers ∙ by_first (first_fault (map (dump_seen hs) ss)) refl

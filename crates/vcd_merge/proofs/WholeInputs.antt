@@ -31,4 +31,5 @@ module _ (scale first limit : ℕ) (l : Lane) (items : List BodyItem) (s : Spot)
 
   -- where it has finished, they are all, and it has no fault
   pub finished : s.seat.finished ≡ true → HasDump scale limit l.header l.front l.input (items ++ []) None
-  finished e = subst (λ (n : ℕ). HasDump scale n l.header l.front l.input (items ++ []) None) len (subst (λ (i : List BodyItem). HasDump scale (length s.token) l.header l.front l.input i None) (sym (append-nil items)) (a.finished e))
+  finished e = subst (λ (n : ℕ). HasDump scale n l.header l.front l.input (items ++ []) None) len
+      (subst (λ (i : List BodyItem). HasDump scale (length s.token) l.header l.front l.input i None) (sym (append-nil items)) (a.finished e))

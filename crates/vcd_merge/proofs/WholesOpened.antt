@@ -31,7 +31,9 @@ module _ (hs : List Header) (limit : ℕ) where
       → ReadsAsNeeded limit chunk old new w.left w.lane.front (settles_among (map (opened_of hs limit) ws) k w.lane.header)
 
   needed_all : (chunk : ℕ) (ws : List (Whole hs limit)) (olds news : List Supply) → AreNeeded chunk ws olds news
-      → (k : ℕ) (l : Lane) (s t : Supply) (i : Input) → slice_get (lanes_of hs limit ws) k ≡ Some l → slice_get olds k ≡ Some s → slice_get news k ≡ Some t → slice_get (lefts_of hs limit ws) k ≡ Some i → ReadsAsNeeded limit chunk s t i l.front (settles_among (map (opened_of hs limit) ws) k l.header)
+      → (k : ℕ) (l : Lane) (s t : Supply) (i : Input) → slice_get (lanes_of hs limit ws) k ≡ Some l → slice_get olds k ≡ Some s
+      → slice_get news k ≡ Some t → slice_get (lefts_of hs limit ws) k ≡ Some i
+      → ReadsAsNeeded limit chunk s t i l.front (settles_among (map (opened_of hs limit) ws) k l.header)
   needed_all chunk ws olds news needed k l s t i at_l at_s at_t at_i =
       let w = unmap (λ (w : Whole hs limit). w.lane) ws k l at_l in
       let left : Some w.0.left ≡ Some i = sym (get_mapped (λ (w : Whole hs limit). w.left) ws k w.0 w.1) ∙ at_i in
@@ -39,8 +41,11 @@ module _ (hs : List Header) (limit : ℕ) where
       (subst (λ (m : Lane). ReadsAsNeeded limit chunk s t w.0.left m.front (settles_among (map (opened_of hs limit) ws) k m.header)) w.2 (needed k w.0 s t w.1 at_s at_t))
 
   -- a merge over them has the outcome of their dumps
-  pub follows : (chunk : ℕ) (ws : List (Whole hs limit)) (lanes : List Lane) (names : List (List ℕ)) (olds news : List Supply) (begin new : Device) (result : Result Done Stop) → lanes_of hs limit ws ≡ lanes → map (λ (l : Lane). l.header) lanes ≡ hs
-      → AreLeft limit chunk (lanes_of hs limit ws) olds news (lefts_of hs limit ws) → AreNeeded chunk ws olds news → AreReadOnTurn limit chunk hs (lanes_of hs limit ws) olds news (lefts_of hs limit ws) begin new → Belongs (merge_outcome names (entire_of hs limit ws)) names begin new result → Follows limit chunk lanes names olds news begin new result
+  pub follows : (chunk : ℕ) (ws : List (Whole hs limit)) (lanes : List Lane) (names : List (List ℕ)) (olds news : List Supply) (begin new : Device)
+      (result : Result Done Stop) → lanes_of hs limit ws ≡ lanes → map (λ (l : Lane). l.header) lanes ≡ hs
+      → AreLeft limit chunk (lanes_of hs limit ws) olds news (lefts_of hs limit ws) → AreNeeded chunk ws olds news
+      → AreReadOnTurn limit chunk hs (lanes_of hs limit ws) olds news (lefts_of hs limit ws) begin new
+      → Belongs (merge_outcome names (entire_of hs limit ws)) names begin new result → Follows limit chunk lanes names olds news begin new result
   follows chunk ws lanes names olds news begin new result e headers left needed turns belongs =
       let dumps = dumps_under (map (opened_of hs limit) ws) hs (opened_headers ws ∙ ap (map (λ (l : Lane). l.header)) e ∙ headers) ∙ opened_dumps ws in
       subst (λ (ls : List Lane). Follows limit chunk ls names olds news begin new result) e (record {
@@ -49,6 +54,7 @@ module _ (hs : List Header) (limit : ℕ) where
         opened = map (opened_of hs limit) ws;
         are_opened = opened_all ws;
         needed = needed_all chunk ws olds news needed;
-        on_turn = subst (λ (hs' : List Header). AreReadOnTurn limit chunk hs' (lanes_of hs limit ws) olds news (lefts_of hs limit ws) begin new) (sym (ap (map (λ (l : Lane). l.header)) e ∙ headers)) turns;
+        on_turn = subst (λ (hs' : List Header). AreReadOnTurn limit chunk hs' (lanes_of hs limit ws) olds news (lefts_of hs limit ws) begin new)
+            (sym (ap (map (λ (l : Lane). l.header)) e ∙ headers)) turns;
         belongs = subst (λ (ds : List Dump). Belongs (merge_outcome names ds) names begin new result) (sym dumps) belongs;
       })

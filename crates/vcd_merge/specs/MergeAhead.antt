@@ -28,7 +28,9 @@ seat_with s r time = record { parked = s.parked; regs = r; factor = s.factor; ti
 
 -- what is due with an item here was written, or a prefix of it if a write failed
 abbrev pub PutsDue : {A E : Type 0} → List Code → List ℕ → Item → Regs → ℕ → ℕ → Option ℕ → Option ℕ → Device → Device → Result A E → Type 0
-PutsDue codes text item r time number written written' out out' result = (v : HeadView) (scale first : ℕ) (h : Header) (items : List BodyItem) (x : BodyItem) → v.codes.now ≡ codes → IsViewOf v h → AreRegsAfter items r → time ≡ scale * time_after items → number ≡ first → first + length h.codes < 2 ^ 64 → IsItem h.codes text item x
+PutsDue codes text item r time number written written' out out' result = (v : HeadView) (scale first : ℕ) (h : Header) (items : List BodyItem)
+    (x : BodyItem) → v.codes.now ≡ codes → IsViewOf v h → AreRegsAfter items r → time ≡ scale * time_after items → number ≡ first
+    → first + length h.codes < 2 ^ 64 → IsItem h.codes text item x
     → Takes out out' (due_with written (entry_for scale first h items x)) result × IfOk result (λ _. written' ≡ written_with written (entry_for scale first h items x))
 
 -- where a walk over the items of an input is; it works on the time whose line was written last
@@ -79,7 +81,8 @@ module _ (scale first : ℕ) (h : Header) (limit lines : ℕ) (bytes : List ℕ)
   -- any number of items, after each of which the time of the input is before this one
   pub data TrailAhead (before : ℕ) (a : StageAhead) : StageAhead → Type 0 where
     Stands : TrailAhead before a a
-    Further : (b c : StageAhead) (x : BodyItem) (so_far : TrailAhead before a b) (items_are : c.items ≡ b.items ++ x ∷ []) (one : OneAhead b x c.at c.regs c.time c.written c.out) (early : c.time < before) → TrailAhead before a c
+    Further : (b c : StageAhead) (x : BodyItem) (so_far : TrailAhead before a b) (items_are : c.items ≡ b.items ++ x ∷ [])
+        (one : OneAhead b x c.at c.regs c.time c.written c.out) (early : c.time < before) → TrailAhead before a c
 
   -- how that ends: no other was taken; after one more the time is no longer early; or a write of
   -- what is due with one more failed

@@ -26,14 +26,16 @@ AreLeft limit chunk [] old new lefts = lefts ≡ []
 AreLeft limit chunk (l ∷ ls) [] new lefts = ⊥
 AreLeft limit chunk (l ∷ ls) (s ∷ ss) [] lefts = ⊥
 AreLeft limit chunk (l ∷ ls) (s ∷ ss) (t ∷ ts) [] = ⊥
-AreLeft limit chunk (l ∷ ls) (s ∷ ss) (t ∷ ts) (i ∷ is) = IsLeft l.input s t i × ReadsAsNeeded limit chunk s t i l.front (is_settled_behind Request.Merge l.header) × AreLeft limit chunk ls ss ts is
+AreLeft limit chunk (l ∷ ls) (s ∷ ss) (t ∷ ts) (i ∷ is) = IsLeft l.input s t i
+    × ReadsAsNeeded limit chunk s t i l.front (is_settled_behind Request.Merge l.header) × AreLeft limit chunk ls ss ts is
 
 -- the inputs after their headers, one by one, over what is left of them
 abbrev pub AreOpened : ℕ → List Lane → List Input → List Opened → Type 0
 AreOpened limit [] lefts os = os ≡ []
 AreOpened limit (l ∷ ls) [] os = ⊥
 AreOpened limit (l ∷ ls) (i ∷ is) [] = ⊥
-AreOpened limit (l ∷ ls) (i ∷ is) (o ∷ os) = (o ≡ record { header = l.header; stream = stream_of limit i; rest = o.rest }) × ((stream_of limit i).tokens ≡ l.front ++ o.rest) × AreOpened limit ls is os
+AreOpened limit (l ∷ ls) (i ∷ is) (o ∷ os) = (o ≡ record { header = l.header; stream = stream_of limit i; rest = o.rest })
+    × ((stream_of limit i).tokens ≡ l.front ++ o.rest) × AreOpened limit ls is os
 
 -- an input after its header of which all is known, and one of which these first tokens are
 abbrev pub known_whole : Opened → SeenBody
@@ -52,7 +54,8 @@ settles_among os k h ts = bodies_settle (slice_set (map known_whole os) k (known
 abbrev pub Belongs : Outcome → List (List ℕ) → Device → Device → Result Done Stop → Type 0
 Belongs o names out out' (Ok Whole) = (o ≡ clean_outcome o.output) × Writes out out' o.output
 Belongs o names out out' (Ok Early) = ⊥
-Belongs o names out out' (Err (Faulty input line fault)) = (o ≡ fault_outcome o.output (name_at names input) (record { number = fault; line = line })) × ((fault == 31) ≡ false) × Writes out out' o.output
+Belongs o names out out' (Err (Faulty input line fault)) = (o ≡ fault_outcome o.output (name_at names input)
+    (record { number = fault; line = line })) × ((fault == 31) ≡ false) × Writes out out' o.output
 Belongs o names out out' (Err (Read input)) = ((line : ℕ) × (o ≡ fault_outcome o.output (name_at names input) (record { number = 31; line = line }))) × Writes out out' o.output
 Belongs o names out out' (Err Write) = WritesSome out out' o.output
 Belongs o names out out' (Err (Unmatched index)) = ⊥
@@ -85,9 +88,11 @@ pub record ReadOnTurn (limit chunk : ℕ) (hs : List Header) (lanes : List Lane)
 -- first items, what is due with them is on the output, and each was read in its turn after them.
 pub data AreReadOnTurn (limit chunk : ℕ) (hs : List Header) (lanes : List Lane) (old new : List Supply) (lefts : List Input) (out out' : Device) : Type 0 where
   Unread : (same : new ≡ old) → AreReadOnTurn limit chunk hs lanes old new lefts out out'
-  OnTurn : (merged : List Dump) (headers : headers_of merged ≡ hs) (begins : (k : ℕ) (l : Lane) (d : Dump) → slice_get lanes k ≡ Some l → slice_get merged k ≡ Some d → BeginsWith limit hs l d.items)
+  OnTurn : (merged : List Dump) (headers : headers_of merged ≡ hs) (begins : (k : ℕ) (l : Lane) (d : Dump) → slice_get lanes k ≡ Some l
+      → slice_get merged k ≡ Some d → BeginsWith limit hs l d.items)
       (more : List ℕ) (written : Appends out.held out'.held (merge_open hs (merged_items merged) ++ more))
-      (each : (k : ℕ) (l : Lane) (s t : Supply) (i : Input) → slice_get lanes k ≡ Some l → slice_get old k ≡ Some s → slice_get new k ≡ Some t → slice_get lefts k ≡ Some i → (t ≡ s) ⊎ ReadOnTurn limit chunk hs lanes merged k l i t.rest)
+      (each : (k : ℕ) (l : Lane) (s t : Supply) (i : Input) → slice_get lanes k ≡ Some l → slice_get old k ≡ Some s → slice_get new k ≡ Some t
+      → slice_get lefts k ≡ Some i → (t ≡ s) ⊎ ReadOnTurn limit chunk hs lanes merged k l i t.rest)
       → AreReadOnTurn limit chunk hs lanes old new lefts out out'
 
 -- After these headers and their tokens, a merge over these inputs has this outcome; `old` and `new`
@@ -98,6 +103,7 @@ pub record Follows (limit chunk : ℕ) (lanes : List Lane) (names : List (List �
   pub are_left : AreLeft limit chunk lanes old new lefts
   pub opened : List Opened
   pub are_opened : AreOpened limit lanes lefts opened
-  pub needed : (k : ℕ) (l : Lane) (s t : Supply) (i : Input) → slice_get lanes k ≡ Some l → slice_get old k ≡ Some s → slice_get new k ≡ Some t → slice_get lefts k ≡ Some i → ReadsAsNeeded limit chunk s t i l.front (settles_among opened k l.header)
+  pub needed : (k : ℕ) (l : Lane) (s t : Supply) (i : Input) → slice_get lanes k ≡ Some l → slice_get old k ≡ Some s → slice_get new k ≡ Some t
+      → slice_get lefts k ≡ Some i → ReadsAsNeeded limit chunk s t i l.front (settles_among opened k l.header)
   pub on_turn : AreReadOnTurn limit chunk (map (λ (l : Lane). l.header) lanes) lanes old new lefts out out'
   pub belongs : Belongs (merge_outcome names (dumps_of opened)) names out out' result

@@ -19,7 +19,8 @@ AreOpen old new = (k : ℕ) (s s' : Seat) → slice_get old k ≡ Some s → sli
 
 -- each seat has the factor and the first number of its header among these
 abbrev pub AreBegun : List Header → List Seat → List Seat → Type 0
-AreBegun hs old new = (k : ℕ) (h : Header) (s s' : Seat) → slice_get hs k ≡ Some h → slice_get old k ≡ Some s → slice_get new k ≡ Some s' → s' ≡ begun (factor hs h) (first_number (take k hs)) s
+AreBegun hs old new = (k : ℕ) (h : Header) (s s' : Seat) → slice_get hs k ≡ Some h → slice_get old k ≡ Some s → slice_get new k ≡ Some s'
+    → s' ≡ begun (factor hs h) (first_number (take k hs)) s
 
 -- a merge over these heads and seats that has begun
 pub record HasBegun (heads : List Head) (old : List Seat) (m : Merge) : Type 0 where
@@ -35,4 +36,6 @@ no_items lanes = map (λ (l : Lane). record { header = l.header; items = []; fau
 
 -- the inputs have given the tokens of their headers, and no item
 abbrev pub HaveNoItems : {X : Type 0} → (X → Option (List ℕ)) → List Lane → List Seat → List X → List ℕ → List ℕ → Type 0
-HaveNoItems rest lanes seats sources chunks tokens = (k : ℕ) (l : Lane) (p : Spot) → slice_get lanes k ≡ Some l → spot_at rest seats sources chunks tokens k ≡ Some p → GaveParked l.header.codes l.input l.front [] p.rest p.chunk p.token p.seat.parked p.seat.regs
+HaveNoItems rest lanes seats sources chunks tokens = (k : ℕ) (l : Lane) (p : Spot) → slice_get lanes k ≡ Some l
+    → spot_at rest seats sources chunks tokens k
+    ≡ Some p → GaveParked l.header.codes l.input l.front [] p.rest p.chunk p.token p.seat.parked p.seat.regs

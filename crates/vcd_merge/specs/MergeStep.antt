@@ -201,6 +201,7 @@ module _ {X : Type 0} (rest : X → Option (List ℕ)) (hs : List Header) (lanes
   Gives ds s s' out out' (Err (Faulty input line fault)) = HasFault ds s input line fault None × ((fault == 31) ≡ false) × Writes out out' [] × ReadsOne rest lanes ds s s' input None
   Gives ds s s' out out' (Err (Read input)) = ((n : ℕ) × (line : ℕ) × HasFault ds s input line 31 (Some n) × ReadsOne rest lanes ds s s' input (Some n)) × Writes out out' []
   Gives ds s s' out out' (Err Write) =
-      ((k : ℕ) × (d : Dump) × (x : BodyItem) × Takes ds s' k d x × GrowsSome out out' (merge_open hs (merged_items ds)) (merge_open hs (merged_items (with_item ds k d x))) × ReadsOne rest lanes ds s s' k None)
+      ((k : ℕ) × (d : Dump) × (x : BodyItem) × Takes ds s' k d x × GrowsSome out out' (merge_open hs (merged_items ds))
+      (merge_open hs (merged_items (with_item ds k d x))) × ReadsOne rest lanes ds s s' k None)
       ⊎ (IsEndSome ds s s' out out' ⊎ KeepsBack s s' out out')
   Gives ds s s' out out' (Err (Unmatched name)) = ⊥

@@ -78,20 +78,24 @@ StaysBack rest a s out (Err Write) = WritesSome a.out out [] × (s.rest ≡ rest
 StaysBack rest a s out result = ⊥
 
 -- items, and then the step that ends them
-pub record RunTurns {X A : Type 0} (rest : X → Option (List ℕ)) (failures : X → ℕ) (k scale first : ℕ) (l : Lane) (before : ℕ) (a : Stage X) (written : Option ℕ) (s : Spot) (out : Device) (result : Result A Stop) : Type 0 where
+pub record RunTurns {X A : Type 0} (rest : X → Option (List ℕ)) (failures : X → ℕ) (k scale first : ℕ) (l : Lane) (before : ℕ) (a : Stage X)
+    (written : Option ℕ) (s : Spot) (out : Device) (result : Result A Stop) : Type 0 where
   pub mid : Stage X
   pub trail : Trail rest failures scale first l before a mid
   pub last : Turns k scale first l mid.items mid.written written s mid.out out result ⊎ StaysBack rest mid s out result
 
 -- what the items that lie ahead leave: all of them were taken; or, with the last of them, the turn
 -- has ended, or a write failed
-abbrev pub AheadTurns : {X E : Type 0} {g : Ghosts X} → (X → Option (List ℕ)) → (X → ℕ) → (k scale first : ℕ) → Lane → ℕ → Stage X → Option ℕ → Seat → Feed X g → Device → Result Bool E → Type 0
-AheadTurns rest failures k scale first l before a written s f out (Ok false) = (xs : List BodyItem) × AtSeat scale first l xs (spot_with s f) × Reaches rest failures scale first l before a (stage_with xs written s f out)
+abbrev pub AheadTurns : {X E : Type 0} {g : Ghosts X} → (X → Option (List ℕ)) → (X → ℕ) → (k scale first : ℕ) → Lane → ℕ → Stage X → Option ℕ → Seat
+    → Feed X g → Device → Result Bool E → Type 0
+AheadTurns rest failures k scale first l before a written s f out (Ok false) = (xs : List BodyItem) × AtSeat scale first l xs (spot_with s f)
+    × Reaches rest failures scale first l before a (stage_with xs written s f out)
 AheadTurns rest failures k scale first l before a written s f out (Ok true) = RunTurns {A = Bool} rest failures k scale first l before a written (spot_with s f) out (Ok true)
 AheadTurns rest failures k scale first l before a written s f out (Err e) = RunTurns {A = Bool} rest failures k scale first l before a written (spot_with s f) out (Err Write)
 
 -- how a turn ends, from what the input has in a merge
-pub record TurnsAt {X A : Type 0} (rest : X → Option (List ℕ)) (failures : X → ℕ) (sources : List X) (k scale first : ℕ) (l : Lane) (before : ℕ) (items : List BodyItem) (written written' : Option ℕ) (s s' : Spot) (out out' : Device) (result : Result A Stop) : Type 0 where
+pub record TurnsAt {X A : Type 0} (rest : X → Option (List ℕ)) (failures : X → ℕ) (sources : List X) (k scale first : ℕ) (l : Lane) (before : ℕ)
+    (items : List BodyItem) (written written' : Option ℕ) (s s' : Spot) (out out' : Device) (result : Result A Stop) : Type 0 where
   pub seat : Seat
   pub source : X
   pub chunk : List ℕ
@@ -118,7 +122,8 @@ GoOn ds seats ds' seats' = (k : ℕ) (d' : Dump) (s' : Seat) → slice_get ds' k
 
 -- no other input that has not finished comes before this key of the input number k
 abbrev pub IsReached : List Header → List Dump → List Seat → ℕ → Key → Type 0
-IsReached hs ds seats k key = (j : ℕ) (d : Dump) (s : Seat) → j ≢ k → slice_get ds j ≡ Some d → slice_get seats j ≡ Some s → s.finished ≡ false → key_lt key (key_after (factor hs d.header) j d.items) ≡ true
+IsReached hs ds seats k key = (j : ℕ) (d : Dump) (s : Seat) → j ≢ k → slice_get ds j ≡ Some d → slice_get seats j ≡ Some s → s.finished ≡ false
+    → key_lt key (key_after (factor hs d.header) j d.items) ≡ true
 
 -- of the input number k, of which this is left, was read on its turn, no more than a chunk past a
 -- token that came after these items
@@ -130,7 +135,8 @@ pub record ReadInTurn (limit chunk : ℕ) (hs : List Header) (ds : List Dump) (s
 
 -- What a turn of one input leaves: it has taken some items, to `mid`, and the last step gives this.
 -- If it takes only one item, there is only that step.
-pub record RunGives {X : Type 0} (rest : X → Option (List ℕ)) (failures : X → ℕ) (hs : List Header) (lanes : List Lane) (alone : Bool) (ds : List Dump) (s s' : Standing X) (out out' : Device) (result : Result More Stop) : Type 0 where
+pub record RunGives {X : Type 0} (rest : X → Option (List ℕ)) (failures : X → ℕ) (hs : List Header) (lanes : List Lane) (alone : Bool)
+    (ds : List Dump) (s s' : Standing X) (out out' : Device) (result : Result More Stop) : Type 0 where
   pub dumps : List Dump
   pub mid : Standing X
   pub between : Device
@@ -160,7 +166,8 @@ pub record Touches {X A : Type 0} (rest : X → Option (List ℕ)) (failures : X
   pub reads : map failures s'.sources ≡ failures_with (map failures s.sources) k result
   pub named : NamesInput k result
   pub others : (j : ℕ) → j ≢ k → spot_at rest s'.seats s'.sources s'.chunks s'.tokens j ≡ spot_at rest s.seats s.sources s.chunks s.tokens j
-  pub untouched : (j : ℕ) → j ≢ k → (slice_get s'.sources j ≡ slice_get s.sources j) × (part (part_len (length s.seats) s.tokens) j s'.values ≡ part (part_len (length s.seats) s.tokens) j s.values)
+  pub untouched : (j : ℕ) → j ≢ k → (slice_get s'.sources j ≡ slice_get s.sources j)
+      × (part (part_len (length s.seats) s.tokens) j s'.values ≡ part (part_len (length s.seats) s.tokens) j s.values)
   pub writes : CountsWrites out out' result
 
 -- What a step of a merge leaves whatever the inputs are: the input whose turn it was was used, and
@@ -172,7 +179,8 @@ pub record RunLeaves {X : Type 0} (rest : X → Option (List ℕ)) (failures : X
 
 -- What the turn of the next input gives and leaves, if each turn ends at this time at the latest.
 pub record Runs {X : Type 0} (rest : X → Option (List ℕ)) (failures : X → ℕ) (until : ℕ) (s s' : Standing X) (out out' : Device) (result : Result More Stop) : Type 0 where
-  pub gives : (alone : Bool) (hs : List Header) (lanes : List Lane) (ds : List Dump) → (alone ≡ true → until ≡ 0) → Holds rest hs lanes ds s → RunGives rest failures hs lanes alone ds s s' out out' result
+  pub gives : (alone : Bool) (hs : List Header) (lanes : List Lane) (ds : List Dump) → (alone ≡ true → until ≡ 0) → Holds rest hs lanes ds s
+      → RunGives rest failures hs lanes alone ds s s' out out' result
   pub input : ℕ
   pub next : IsNext s.seats input
   pub leaves : RunLeaves rest failures s s' out out' input result

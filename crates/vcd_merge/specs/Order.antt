@@ -39,4 +39,5 @@ MayJoin seats input inputs len = (n : ℕ) × (out : ℕ) × (n ≤ length seats
 
 -- with any time before this one, the input would go before all others that have not finished
 abbrev pub IsFirstBefore : List Seat → ℕ → ℕ → Type 0
-IsFirstBefore seats k before = (t : ℕ) → t < before → (j : ℕ) (s : Seat) → j ≢ k → slice_get seats j ≡ Some s → s.finished ≡ false → (t < s.time) ⊎ ((t ≡ s.time) × (k ≤ j))
+IsFirstBefore seats k before = (t : ℕ) → t < before → (j : ℕ) (s : Seat) → j ≢ k → slice_get seats j ≡ Some s → s.finished ≡ false → (t < s.time)
+    ⊎ ((t ≡ s.time) × (k ≤ j))

@@ -105,7 +105,8 @@ HasReadNoMore l items left s = ReadsNoMore (length s.token) (length s.chunk) l i
 
 -- one more item was given, and what is due with it was written
 abbrev pub GivesOne : ℕ → ℕ → Lane → List BodyItem → Option ℕ → Option ℕ → Spot → BodyItem → Type 0
-GivesOne scale first l items written written' s x = (s.seat.finished ≡ false) × AtSeat scale first l (items ++ x ∷ []) s × (written' ≡ written_with written (entry_for scale first l.header items x)) × HasReadNoMore l items l.input s
+GivesOne scale first l items written written' s x = (s.seat.finished ≡ false) × AtSeat scale first l (items ++ x ∷ []) s
+    × (written' ≡ written_with written (entry_for scale first l.header items x)) × HasReadNoMore l items l.input s
 
 -- what the step of input number k after these items leaves: one more item, or that it has finished,
 -- or why the merge stops
@@ -114,10 +115,13 @@ Turns k scale first l items written written' s out out' (Ok u) =
     ((x : BodyItem) × GivesOne scale first l items written written' s x × Writes out out' (due_with written (entry_for scale first l.header items x)))
     ⊎ ((s.seat.finished ≡ true) × AtSeat scale first l items s × (written' ≡ written) × Writes out out' [] × HasReadNoMore l items l.input s)
 Turns k scale first l items written written' s out out' (Err (Faulty input line fault)) =
-    (input ≡ k) × ((fault == 31) ≡ false) × HasDump scale (length s.token) l.header l.front l.input items (Some (record { number = fault; line = line })) × Writes out out' [] × HasReadNoMore l items l.input s
+    (input ≡ k) × ((fault == 31) ≡ false) × HasDump scale (length s.token) l.header l.front l.input items
+    (Some (record { number = fault; line = line })) × Writes out out' [] × HasReadNoMore l items l.input s
 Turns k scale first l items written written' s out out' (Err (Read input)) =
     (input ≡ k)
-    × ((n : ℕ) × (line : ℕ) × HasDump scale (length s.token) l.header l.front (failed_after n l.input) items (Some (record { number = 31; line = line })) × HasReadNoMore l items (failed_after n l.input) s × (l.input.mark ≡ Clean → HasRest s.rest n l.input))
+    × ((n : ℕ) × (line : ℕ) × HasDump scale (length s.token) l.header l.front (failed_after n l.input) items
+    (Some (record { number = 31; line = line })) × HasReadNoMore l items (failed_after n l.input) s
+    × (l.input.mark ≡ Clean → HasRest s.rest n l.input))
     × Writes out out' []
 Turns k scale first l items written written' s out out' (Err Write) =
     (x : BodyItem) × AtSeat scale first l (items ++ x ∷ []) s × WritesSome out out' (due_with written (entry_for scale first l.header items x)) × HasReadNoMore l items l.input s

@@ -20,14 +20,20 @@ module _ (codes : List IdCode) where
   abbrev OnFrom : List Token → Type 0
   OnFrom ts = (given : List Token) (placed : List (Placed BodyPhrase)) (before : List (List ℕ)) → IsSoFar (body_grammar codes) given placed before → Begins (given ++ ts) placed
 
-  by_phrase : (t : Token) (ts given : List Token) (placed : List (Placed BodyPhrase)) (before : List (List ℕ)) → IsSoFar (body_grammar codes) given placed before → OnFrom ts → (q : Option BodyPhrase) → (body_grammar codes).phrase (before ++ t.bytes ∷ []) ≡ q
+  by_phrase : (t : Token) (ts given : List Token) (placed : List (Placed BodyPhrase)) (before : List (List ℕ))
+      → IsSoFar (body_grammar codes) given placed before → OnFrom ts → (q : Option BodyPhrase)
+      → (body_grammar codes).phrase (before ++ t.bytes ∷ []) ≡ q
       → (body_grammar codes).fault (phrases_of placed) before t.bytes ≡ None → Begins (given ++ t ∷ ts) placed
-  by_phrase t ts given placed before s on None f e = token_on given t ts placed (on (given ++ t ∷ []) placed (before ++ t.bytes ∷ []) (so_far-token (body_grammar codes) given placed before t s e f))
+  by_phrase t ts given placed before s on None f e = token_on given t ts placed
+      (on (given ++ t ∷ []) placed (before ++ t.bytes ∷ []) (so_far-token (body_grammar codes) given placed before t s e f))
   by_phrase t ts given placed before s on (Some p) f e =
       let next : Placed BodyPhrase = record { phrase = p; line = t.line } in
-      token_on given t ts placed (phrase_on ((given ++ t ∷ []) ++ ts) placed next (on (given ++ t ∷ []) (placed ++ next ∷ []) [] (so_far-phrase (body_grammar codes) given placed before t p s e f refl)))
+      token_on given t ts placed (phrase_on ((given ++ t ∷ []) ++ ts) placed next
+      (on (given ++ t ∷ []) (placed ++ next ∷ []) [] (so_far-phrase (body_grammar codes) given placed before t p s e f refl)))
 
-  by_fault : (t : Token) (ts given : List Token) (placed : List (Placed BodyPhrase)) (before : List (List ℕ)) → IsSoFar (body_grammar codes) given placed before → OnFrom ts → (o : Option ℕ) → (body_grammar codes).fault (phrases_of placed) before t.bytes ≡ o
+  by_fault : (t : Token) (ts given : List Token) (placed : List (Placed BodyPhrase)) (before : List (List ℕ))
+      → IsSoFar (body_grammar codes) given placed before → OnFrom ts → (o : Option ℕ)
+      → (body_grammar codes).fault (phrases_of placed) before t.bytes ≡ o
       → Begins (given ++ t ∷ ts) placed
   by_fault t ts given placed before s on None e = by_phrase t ts given placed before s on ((body_grammar codes).phrase (before ++ t.bytes ∷ [])) refl e
   by_fault t ts given placed before s on (Some n) e = ([], ap (λ (r : Reading BodyPhrase). r.placed) (faulty-token (body_grammar codes) given placed before t ts n s e) ∙ sym (append-nil placed))
@@ -37,12 +43,14 @@ module _ (codes : List IdCode) where
   begins (t ∷ ts) given placed before s = by_fault t ts given placed before s (begins ts) ((body_grammar codes).fault (phrases_of placed) before t.bytes) refl
 
   -- the body after these tokens has these phrases first
-  pub phrases_begin : (given rest : List Token) (placed : List (Placed BodyPhrase)) → IsSoFar (body_grammar codes) given placed [] → (more : List (Placed BodyPhrase)) × ((read_body codes (given ++ rest)).placed ≡ placed ++ more)
+  pub phrases_begin : (given rest : List Token) (placed : List (Placed BodyPhrase)) → IsSoFar (body_grammar codes) given placed []
+      → (more : List (Placed BodyPhrase)) × ((read_body codes (given ++ rest)).placed ≡ placed ++ more)
   unfolding read_body
   phrases_begin given rest placed s = begins rest given placed [] s
 
   -- the body after these tokens has these items first
-  pub items_begin : (given rest : List Token) (placed : List (Placed BodyPhrase)) → IsSoFar (body_grammar codes) given placed [] → (more : List BodyItem) × (body_items (read_body codes (given ++ rest)) ≡ items_of (phrases_of placed) ++ more)
+  pub items_begin : (given rest : List Token) (placed : List (Placed BodyPhrase)) → IsSoFar (body_grammar codes) given placed []
+      → (more : List BodyItem) × (body_items (read_body codes (given ++ rest)) ≡ items_of (phrases_of placed) ++ more)
   unfolding read_body
   items_begin given rest placed s =
       let b = begins rest given placed [] s in

@@ -29,7 +29,8 @@ head_fits : (limit : ℕ) (h : Header) → 65536 + 512 + 2 * limit + text_bytes 
 head_fits limit h = let m = codes_fit h.codes in omega arith
 
 heads_fit : (limit : ℕ) (hs : List Header)
-    → length hs * 65536 + 512 * length hs + 2 * (length hs * limit) + sum_by text_bytes hs + 50 * sum_by (λ h. length h.declarations) hs + 86 * sum_by (λ h. length h.codes) hs ≤ sum_by (input_bound limit) hs
+    → length hs * 65536 + 512 * length hs + 2 * (length hs * limit) + sum_by text_bytes hs + 50 * sum_by
+    (λ h. length h.declarations) hs + 86 * sum_by (λ h. length h.codes) hs ≤ sum_by (input_bound limit) hs
 heads_fit limit [] = omega arith
 heads_fit limit (h ∷ hs) =
     let own = head_fits limit h in

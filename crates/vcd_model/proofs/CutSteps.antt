@@ -57,7 +57,8 @@ value_at_mark c a p t =
     ∙ latest-append (gives_at c (λ u. nat_lt u a)) (entries p) (entry_after p (BodyItem.Time t) ∷ [])
     ∙ sym (last_value_is c (λ u. nat_lt u a) p)
 
-lines_at_mark : (a : ℕ) (p : List BodyItem) (t : ℕ) (cs : List IdCode) → flat_map (λ c. line_if_set c (value_before (p ++ BodyItem.Time t ∷ []) c a)) cs ≡ flat_map (λ c. line_if_set c (value_before p c a)) cs
+lines_at_mark : (a : ℕ) (p : List BodyItem) (t : ℕ) (cs : List IdCode)
+    → flat_map (λ c. line_if_set c (value_before (p ++ BodyItem.Time t ∷ []) c a)) cs ≡ flat_map (λ c. line_if_set c (value_before p c a)) cs
 lines_at_mark a p t [] = refl
 lines_at_mark a p t (c ∷ cs) = rw (value_at_mark c a p t, lines_at_mark a p t cs) refl
 
@@ -97,7 +98,8 @@ module _ (h : Header) (a b : ℕ) (p : List BodyItem) (on : ends_cut b p ≡ fal
   unstarted_text s = rw (s, none_kept a p s) (append-nil _ ∙ append-nil (head_for h []))
 
   -- a kept item
-  pub due_kept : (x : BodyItem) (d : List ℕ) → is_mark_above b x ≡ false → is_started a p ≡ true → keeps (from_on a) p x ≡ true → text_after (a ∷ []) (cut_entries a p ++ entry_after p x ∷ []) ≡ text_after (a ∷ []) (cut_entries a p) ++ d
+  pub due_kept : (x : BodyItem) (d : List ℕ) → is_mark_above b x ≡ false → is_started a p ≡ true → keeps (from_on a) p x ≡ true
+      → text_after (a ∷ []) (cut_entries a p ++ entry_after p x ∷ []) ≡ text_after (a ∷ []) (cut_entries a p) ++ d
       → cut_open h a b (p ++ x ∷ []) ≡ cut_open h a b p ++ d
   due_kept x d low s k e =
       open_next x low ∙ started_next x s ∙ ap (λ es. (head_for h [] ++ start_section h a p) ++ text_after (a ∷ []) es) (kept_more (from_on a) p x true k)
@@ -105,11 +107,13 @@ module _ (h : Header) (a b : ℕ) (p : List BodyItem) (on : ends_cut b p ≡ fal
       ∙ ap (λ l. l ++ d) (sym (open_here ∙ started_text s))
 
   -- an item that is not kept, and begins nothing
-  pub due_none : (x : BodyItem) → is_mark_above b x ≡ false → keeps (from_on a) p x ≡ false → is_started a (p ++ x ∷ []) ≡ is_started a p → cut_open h a b (p ++ x ∷ []) ≡ cut_open h a b p ++ []
+  pub due_none : (x : BodyItem) → is_mark_above b x ≡ false → keeps (from_on a) p x ≡ false → is_started a (p ++ x ∷ []) ≡ is_started a p
+      → cut_open h a b (p ++ x ∷ []) ≡ cut_open h a b p ++ []
   due_none x low k same = by_case (is_started a p) refl ∙ sym (append-nil (cut_open h a b p))
     where
       by_case : (s : Bool) → is_started a p ≡ s → cut_open h a b (p ++ x ∷ []) ≡ cut_open h a b p
-      by_case true s = open_next x low ∙ started_next x s ∙ ap (λ es. (head_for h [] ++ start_section h a p) ++ text_after (a ∷ []) es) (kept_same (from_on a) p x k) ∙ sym (open_here ∙ started_text s)
+      by_case true s = open_next x low ∙ started_next x s ∙ ap (λ es. (head_for h [] ++ start_section h a p) ++ text_after (a ∷ []) es)
+          (kept_same (from_on a) p x k) ∙ sym (open_here ∙ started_text s)
       by_case false s = open_next x low ∙ rw (same ∙ s, none_kept a (p ++ x ∷ []) (same ∙ s)) (append-nil _ ∙ append-nil (head_for h [])) ∙ sym (open_here ∙ unstarted_text s)
 
   -- ---- a timestamp
@@ -126,19 +130,23 @@ module _ (h : Header) (a b : ℕ) (p : List BodyItem) (on : ends_cut b p ≡ fal
   begun_next t s le =
       rw (started_by a p t le, kept_same (from_on a) p (BodyItem.Time t) (mark_kept t), none_kept a p s) (append-nil _ ∙ ap (λ l. head_for h [] ++ l) (section_at_mark h a p t))
 
-  pub due_section : (t : ℕ) → is_mark_above b (BodyItem.Time t) ≡ false → is_started a p ≡ false → a ≤ t → cut_open h a b (p ++ BodyItem.Time t ∷ []) ≡ cut_open h a b p ++ start_section h a p
+  pub due_section : (t : ℕ) → is_mark_above b (BodyItem.Time t) ≡ false → is_started a p ≡ false → a ≤ t
+      → cut_open h a b (p ++ BodyItem.Time t ∷ []) ≡ cut_open h a b p ++ start_section h a p
   due_section t low s le = open_next (BodyItem.Time t) low ∙ begun_next t s le ∙ ap (λ l. l ++ start_section h a p) (sym (open_here ∙ unstarted_text s))
 
   -- with which the cut ends
-  pub due_last : (t : ℕ) → is_mark_above b (BodyItem.Time t) ≡ true → is_started a p ≡ true → cut_open h a b (p ++ BodyItem.Time t ∷ []) ≡ cut_open h a b p ++ time_unless (a ∷ times_of (cut_entries a p)) b
+  pub due_last : (t : ℕ) → is_mark_above b (BodyItem.Time t) ≡ true → is_started a p ≡ true
+      → cut_open h a b (p ++ BodyItem.Time t ∷ []) ≡ cut_open h a b p ++ time_unless (a ∷ times_of (cut_entries a p)) b
   due_last t high s =
       let kept = kept_same (from_on a) p (BodyItem.Time t) (mark_kept t) in
       open_last (BodyItem.Time t) high
       ∙ ap (λ es. so_far h a (p ++ BodyItem.Time t ∷ []) ++ time_unless (a ∷ times_of es) b) kept
-      ∙ ap (λ l. l ++ time_unless (a ∷ times_of (cut_entries a p)) b) (started_next (BodyItem.Time t) s ∙ ap (λ es. (head_for h [] ++ start_section h a p) ++ text_after (a ∷ []) es) kept ∙ sym (open_here ∙ started_text s))
+      ∙ ap (λ l. l ++ time_unless (a ∷ times_of (cut_entries a p)) b) (started_next (BodyItem.Time t) s
+      ∙ ap (λ es. (head_for h [] ++ start_section h a p) ++ text_after (a ∷ []) es) kept ∙ sym (open_here ∙ started_text s))
 
   -- both
-  pub due_both : (t : ℕ) → is_mark_above b (BodyItem.Time t) ≡ true → is_started a p ≡ false → a ≤ t → cut_open h a b (p ++ BodyItem.Time t ∷ []) ≡ cut_open h a b p ++ (start_section h a p ++ time_unless (a ∷ []) b)
+  pub due_both : (t : ℕ) → is_mark_above b (BodyItem.Time t) ≡ true → is_started a p ≡ false → a ≤ t
+      → cut_open h a b (p ++ BodyItem.Time t ∷ []) ≡ cut_open h a b p ++ (start_section h a p ++ time_unless (a ∷ []) b)
   due_both t high s le =
       let none = kept_same (from_on a) p (BodyItem.Time t) (mark_kept t) ∙ none_kept a p s in
       open_last (BodyItem.Time t) high
@@ -187,8 +195,11 @@ rise_to low high higher [] r le = omega arith
 rise_to low high higher (t ∷ ts) r le = (r.0, rise_to t high higher ts r.1 le)
 
 -- a look at the last one is enough for a time after all items
-pub last_tells : (a : ℕ) (p : List BodyItem) (t : ℕ) → a ≤ t → time_after p ≤ t → time_unless (a ∷ times_of (cut_entries a p)) t ≡ time_due (last_or None (a ∷ times_of (cut_entries a p))) t
-last_tells a p t from behind = last_is_enough t a (times_of (cut_entries a p)) (rise_at a 0 t (times_of (cut_entries a p)) (rise_to 0 (time_after p) t (times_of (cut_entries a p)) (kept_rise (from_on a) [] p) behind) (all_from a (entries p)) from)
+pub last_tells : (a : ℕ) (p : List BodyItem) (t : ℕ) → a ≤ t → time_after p ≤ t
+    → time_unless (a ∷ times_of (cut_entries a p)) t ≡ time_due (last_or None (a ∷ times_of (cut_entries a p))) t
+last_tells a p t from behind = last_is_enough t a (times_of (cut_entries a p))
+    (rise_at a 0 t (times_of (cut_entries a p)) (rise_to 0 (time_after p) t (times_of (cut_entries a p)) (kept_rise (from_on a) [] p) behind)
+    (all_from a (entries p)) from)
 
 -- no timestamp above b
 pub at_most : (b : ℕ) (p : List BodyItem) → ends_cut b p ≡ false → time_after p ≤ b

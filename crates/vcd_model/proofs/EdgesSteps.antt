@@ -38,7 +38,9 @@ latest_given c earlier (x ∷ items) = by_item x (gives_to c x) refl (latest_giv
     rest : Option Value
     rest = latest (gives_at c (λ u. true)) (each_after entry_after (earlier ++ x ∷ []) items)
 
-    by_item : (y : BodyItem) (b : Bool) → gives_to c y ≡ b → rest ≡ last_or None (values_of items c) → newer (gives_to c y && true) (given y) rest ≡ last_or None (filter_map given (cond (gives_to c y) (y ∷ filter (gives_to c) items) (filter (gives_to c) items)))
+    by_item : (y : BodyItem) (b : Bool) → gives_to c y ≡ b → rest ≡ last_or None (values_of items c)
+        → newer (gives_to c y && true) (given y) rest ≡ last_or None
+        (filter_map given (cond (gives_to c y) (y ∷ filter (gives_to c) items) (filter (gives_to c) items)))
     by_item y false e h = rw e (newer-false (given y) rest ∙ h)
     by_item (BodyItem.Changes d) true e h = rw e (ap (newer true (Some (value_of d))) h ∙ sym (last_newer (Some (value_of d)) (values_of items c)))
     by_item (BodyItem.Time t) true e h = cc
@@ -102,12 +104,14 @@ module _ (c : IdCode) (items : List BodyItem) where
   pub counts_other : (x : BodyItem) → gives_to c x ≡ false → counts_for (items ++ x ∷ []) c ≡ counts_for items c
   counts_other x e = rw (events_more x, e, values_other c items x e) (by_event c.event)
     where
-      by_event : (b : Bool) → cond b (record { changes = event_count c items + 0; rises = 0; falls = 0 }) (counts_of (values_of items c)) ≡ cond b (record { changes = event_count c items; rises = 0; falls = 0 }) (counts_of (values_of items c))
+      by_event : (b : Bool) → cond b (record { changes = event_count c items + 0; rises = 0; falls = 0 }) (counts_of (values_of items c)) ≡ cond b
+          (record { changes = event_count c items; rises = 0; falls = 0 }) (counts_of (values_of items c))
       by_event true = let n : event_count c items + 0 ≡ event_count c items = omega arith in rw n refl
       by_event false = refl
 
   -- a change of it that is no event
-  pub counts_new : (d : Change) → same_code c d.code ≡ true → c.event ≡ false → counts_for (items ++ BodyItem.Changes d ∷ []) c ≡ with_value (counts_for items c) (final_value items c) (value_of d)
+  pub counts_new : (d : Change) → same_code c d.code ≡ true → c.event ≡ false
+      → counts_for (items ++ BodyItem.Changes d ∷ []) c ≡ with_value (counts_for items c) (final_value items c) (value_of d)
   counts_new d e event = rw (event, values_new c items d e, counts_more (values_of items c) (value_of d), final_is c items) refl
 
   -- a trigger of it, if it is one

@@ -30,13 +30,15 @@ times_within b (x ∷ q) = (
 )
 
 -- a test that all times pass
-pub all_pass : (c : IdCode) (test : ℕ → Bool) (t : ℕ) → ((u : ℕ) → u ≤ t → test u ≡ true) → (es : List Entry) → AllByRecursion (λ e. e.time ≤ t) es → AllByRecursion (λ e. gives_at c test e ≡ gives_at c (λ u. true) e) es
+pub all_pass : (c : IdCode) (test : ℕ → Bool) (t : ℕ) → ((u : ℕ) → u ≤ t → test u ≡ true) → (es : List Entry) → AllByRecursion (λ e. e.time ≤ t) es
+    → AllByRecursion (λ e. gives_at c test e ≡ gives_at c (λ u. true) e) es
 all_pass c test t passes [] h = tt
 all_pass c test t passes (e ∷ es) h = (ap (λ (b : Bool). gives_to c e.item && b) (passes e.time h.0), all_pass c test t passes es h.1)
 
 pub value_by : (c : IdCode) (test : ℕ → Bool) (p : List BodyItem) → ((u : ℕ) → u ≤ time_after p → test u ≡ true) → last_value c test p ≡ final_value p c
 value_by c test p passes =
-    last_value_is c test p ∙ latest_agree (gives_at c test) (gives_at c (λ u. true)) (entries p) (all_pass c test (time_after p) passes (entries p) (times_within [] p)) ∙ sym (last_value_is c (λ u. true) p)
+    last_value_is c test p ∙ latest_agree (gives_at c test) (gives_at c (λ u. true)) (entries p)
+    (all_pass c test (time_after p) passes (entries p) (times_within [] p)) ∙ sym (last_value_is c (λ u. true) p)
 
 -- before a time that is not reached, the value is that after all items
 pub value_before_is : (c : IdCode) (a : ℕ) (p : List BodyItem) → time_after p < a → value_before p c a ≡ final_value p c

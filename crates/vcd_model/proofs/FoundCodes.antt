@@ -18,7 +18,8 @@ pub find-filter : {X : Type 0} (test keep : X → Bool) (xs : List X) (y : X) �
 find-filter test keep [] y e k = cc
 find-filter test keep (x ∷ xs) y e k = by_test (test x) (keep x) refl refl e (λ f. find-filter test keep xs y f k)
   where
-    by_test : (b p : Bool) → test x ≡ b → keep x ≡ p → cond b (Some x) (find test xs) ≡ Some y → (find test xs ≡ Some y → find test (filter keep xs) ≡ Some y) → find test (cond p (x ∷ filter keep xs) (filter keep xs)) ≡ Some y
+    by_test : (b p : Bool) → test x ≡ b → keep x ≡ p → cond b (Some x) (find test xs) ≡ Some y
+        → (find test xs ≡ Some y → find test (filter keep xs) ≡ Some y) → find test (cond p (x ∷ filter keep xs) (filter keep xs)) ≡ Some y
     by_test true true f g h more = rw f h
     by_test true false f g h more = let same : x ≡ y = cc in let other : keep x ≡ true = ap keep same ∙ k in cc
     by_test false true f g h more = rw f (more h)
@@ -45,10 +46,12 @@ same_declared codes c d e f s =
 -- ---- entries that count are kept
 
 pub gives_kept : (codes : List IdCode) (c : IdCode) (at : ℕ → Bool) (keep : Entry → Bool) (low t : ℕ) (o : Bool) (xs : List BodyItem) → declared_code codes c.text ≡ Some c
-    → ((u : ℕ) (p : Bool) (d : Change) → low ≤ u → d.code ≡ c → at u ≡ true → keep (record { time = u; inside = p; item = BodyItem.Changes d }) ≡ true) → low ≤ t → AreFit codes t o xs
+    → ((u : ℕ) (p : Bool) (d : Change) → low ≤ u → d.code ≡ c → at u ≡ true
+    → keep (record { time = u; inside = p; item = BodyItem.Changes d }) ≡ true) → low ≤ t → AreFit codes t o xs
     → AllByRecursion (λ e. gives_at c at e ≡ true → keep e ≡ true) (entries_from t o xs)
 gives_kept codes c at keep low t o [] declared f l fit = tt
-gives_kept codes c at keep low t o (BodyItem.Time u ∷ xs) declared f l fit = let h = fit.0 in let m : low ≤ u = (let g = h.0 in omega arith) in (λ g. cc, gives_kept codes c at keep low u o xs declared f m fit.1)
+gives_kept codes c at keep low t o (BodyItem.Time u ∷ xs) declared f l fit = let h = fit.0 in let m : low ≤ u = (let g = h.0 in omega arith) in
+    (λ g. cc, gives_kept codes c at keep low u o xs declared f m fit.1)
 gives_kept codes c at keep low t o (BodyItem.Begin s ∷ xs) declared f l fit = (λ h. cc, gives_kept codes c at keep low t true xs declared f l fit.1)
 gives_kept codes c at keep low t o (BodyItem.End ∷ xs) declared f l fit = (λ h. cc, gives_kept codes c at keep low t false xs declared f l fit.1)
 gives_kept codes c at keep low t o (BodyItem.Changes d ∷ xs) declared f l fit = (

@@ -47,7 +47,9 @@ kept_rise chosen b (x ∷ q) =
     (subst (λ (all : List BodyItem). Rise (time_after (b ++ x ∷ [])) (time_after all) (times_behind chosen (b ++ x ∷ []) q)) (append_assoc b (x ∷ []) q) (kept_rise chosen (b ++ x ∷ []) q)))
   where
     by_keep : (k : Bool) → Rise (time_after b) (time_after (b ++ x ∷ q)) (times_behind chosen (b ++ x ∷ []) q)
-        → Rise (time_after b) (time_after (b ++ x ∷ q)) (map (λ e. e.time) (cond k (entry_after b x ∷ kept_by chosen (each_after entry_after (b ++ x ∷ []) q)) (kept_by chosen (each_after entry_after (b ++ x ∷ []) q))))
+        → Rise (time_after b) (time_after (b ++ x ∷ q)) (map (λ e. e.time)
+        (cond k (entry_after b x ∷ kept_by chosen (each_after entry_after (b ++ x ∷ []) q))
+        (kept_by chosen (each_after entry_after (b ++ x ∷ []) q))))
     by_keep true later = (omega arith, later)
     by_keep false later = later
 
@@ -60,7 +62,8 @@ last_is_enough t u [] r = by_test (u == t)
     by_test false = refl
 last_is_enough t u (v ∷ ts) r = by_test (u == t) refl (last_is_enough t v ts r.1)
   where
-    by_test : (b : Bool) → (u == t) ≡ b → time_unless (v ∷ ts) t ≡ time_due (last_or (Some v) ts) t → cond (b || list_any (λ w. w == t) (v ∷ ts)) [] (time_line t) ≡ time_due (last_or (Some v) ts) t
+    by_test : (b : Bool) → (u == t) ≡ b → time_unless (v ∷ ts) t ≡ time_due (last_or (Some v) ts) t
+        → cond (b || list_any (λ w. w == t) (v ∷ ts)) [] (time_line t) ≡ time_due (last_or (Some v) ts) t
     by_test true e later =
         let same = eqb-true u t e in let low = r.0 in let high = rise_bounds v t ts r.1 in
         let there : (v == t) ≡ true = eq-eqb v t (omega arith) in
@@ -79,7 +82,8 @@ time_unless_last chosen items = by_times (kept_times chosen items) (kept_rise ch
 -- ---- one item more
 
 -- the kept entries, with one item more
-pub kept_more : (chosen : Entry → Bool) (items : List BodyItem) (x : BodyItem) (k : Bool) → keeps chosen items x ≡ k → kept_by chosen (entries (items ++ x ∷ [])) ≡ kept_by chosen (entries items) ++ cond k (entry_after items x ∷ []) []
+pub kept_more : (chosen : Entry → Bool) (items : List BodyItem) (x : BodyItem) (k : Bool) → keeps chosen items x ≡ k
+    → kept_by chosen (entries (items ++ x ∷ [])) ≡ kept_by chosen (entries items) ++ cond k (entry_after items x ∷ []) []
 kept_more chosen items x k e =
     ap (kept_by chosen) (entries-append items (x ∷ []))
     ∙ kept_by-append chosen (entries items) (entry_after items x ∷ [])

@@ -23,7 +23,8 @@ clear_rest hs n es [] = refl
 clear_rest hs n es (d ∷ ds) = ap (λ l. keyed_own hs n es d ++ l) (clear_rest hs (n + 1) (es ++ d.header ∷ []) ds)
 
 clear_merged : (ds : List Dump) → merged_items (map clear ds) ≡ merged_items ds
-clear_merged ds = merged_by_input (map clear ds) ∙ ap (λ (h : List Header). by_key (keyed_rest h 0 [] (map clear ds))) (clear_headers ds) ∙ ap by_key (clear_rest (headers_of ds) 0 [] ds) ∙ sym (merged_by_input ds)
+clear_merged ds = merged_by_input (map clear ds) ∙ ap (λ (h : List Header). by_key (keyed_rest h 0 [] (map clear ds))) (clear_headers ds)
+    ∙ ap by_key (clear_rest (headers_of ds) 0 [] ds) ∙ sym (merged_by_input ds)
 
 no_faults : (hs : List Header) (n : ℕ) (ds : List Dump) → faults_rest hs n (map clear ds) ≡ []
 no_faults hs n [] = refl

@@ -66,7 +66,8 @@ inserted : (P : Keyed → Type 0) (x : Keyed) (ys : List Keyed) → AllByRecursi
 inserted P x [] h = (h.0, tt)
 inserted P x (y ∷ ys) h = by_test (key_lt x.key y.key) h (inserted P x ys)
   where
-    by_test : (b : Bool) → AllByRecursion P (cond b (x ∷ y ∷ ys) (y ∷ insert_by_key x ys)) → (AllByRecursion P (insert_by_key x ys) → P x × AllByRecursion P ys) → P x × AllByRecursion P (y ∷ ys)
+    by_test : (b : Bool) → AllByRecursion P (cond b (x ∷ y ∷ ys) (y ∷ insert_by_key x ys))
+        → (AllByRecursion P (insert_by_key x ys) → P x × AllByRecursion P ys) → P x × AllByRecursion P (y ∷ ys)
     by_test true h more = (h.0, h.1)
     by_test false h more = let r = more h.1 in (r.0, (h.0, r.1))
 
@@ -91,7 +92,8 @@ late_faults : (b : Key) (hs : List Header) (n : ℕ) (ds : List Dump) → AreLat
 late_faults b hs n [] h = tt
 late_faults b hs n (d ∷ ds) h = by_fault d.fault h.0 (late_faults b hs (n + 1) ds h.1)
   where
-    by_fault : (o : Option Fault) → ((f : Fault) → o ≡ Some f → key_lt (key_after (factor hs d.header) n d.items) b ≡ false) → AllByRecursion (λ g. key_lt g.key b ≡ false) (faults_rest hs (n + 1) ds)
+    by_fault : (o : Option Fault) → ((f : Fault) → o ≡ Some f → key_lt (key_after (factor hs d.header) n d.items) b ≡ false)
+        → AllByRecursion (λ g. key_lt g.key b ≡ false) (faults_rest hs (n + 1) ds)
         → AllByRecursion (λ g. key_lt g.key b ≡ false) (cons_option (option_map (λ f. record { key = key_after (factor hs d.header) n d.items; fault = f }) o) (faults_rest hs (n + 1) ds))
     by_fault None h more = more
     by_fault (Some f) h more = (h f refl, more)
@@ -112,7 +114,8 @@ first_all P (x ∷ xs) f e h = let same : fold earlier_fault x xs ≡ f = cc in 
 pub first_late : (b : Key) (hs : List Header) (ds : List Dump) (f : KeyedFault) → headers_of ds ≡ hs → first_fault ds ≡ Some f → AreLate b hs 0 ds → key_lt f.key b ≡ false
 unfolding first_fault
 first_late b hs ds f headers e late =
-    let all : filter_map (λ o. o) (each_after (keyed_fault (headers_of ds)) [] ds) ≡ faults_rest hs 0 ds = ap (λ (h : List Header). filter_map (λ o. o) (each_after (keyed_fault h) [] ds)) headers ∙ faults_are hs [] ds in
+    let all : filter_map (λ o. o) (each_after (keyed_fault (headers_of ds)) [] ds) ≡ faults_rest hs 0 ds = ap
+    (λ (h : List Header). filter_map (λ o. o) (each_after (keyed_fault h) [] ds)) headers ∙ faults_are hs [] ds in
     first_all (λ g. key_lt g.key b ≡ false) (faults_rest hs 0 ds) f (sym (ap (reduce earlier_fault) all) ∙ e) (late_faults b hs 0 ds late)
 
 -- ---- outcomes
@@ -125,12 +128,14 @@ fault_output output name f = by_kind (f.number == 31) refl
     by_kind false e = rw (e, fault_outcome) refl
 
 -- with a first fault
-pub with_fault : (names : List (List ℕ)) (ds : List Dump) (f : KeyedFault) → first_fault ds ≡ Some f → merge_outcome names ds ≡ fault_outcome (merge_open (headers_of ds) (items_before f (merged_items ds))) (name_at names f.key.input) f.fault
+pub with_fault : (names : List (List ℕ)) (ds : List Dump) (f : KeyedFault) → first_fault ds ≡ Some f
+    → merge_outcome names ds ≡ fault_outcome (merge_open (headers_of ds) (items_before f (merged_items ds))) (name_at names f.key.input) f.fault
 unfolding merge_outcome
 with_fault names ds f e = rw (e, merge_outcome) refl
 
 -- without a fault
-pub without_fault : (names : List (List ℕ)) (ds : List Dump) → first_fault ds ≡ None → merge_outcome names ds ≡ clean_outcome (merge_open (headers_of ds) (merged_items ds) ++ merge_close (merged_items ds))
+pub without_fault : (names : List (List ℕ)) (ds : List Dump) → first_fault ds ≡ None
+    → merge_outcome names ds ≡ clean_outcome (merge_open (headers_of ds) (merged_items ds) ++ merge_close (merged_items ds))
 unfolding merge_outcome
 without_fault names ds e = rw (e, merge_outcome) refl
 
@@ -138,9 +143,11 @@ filter_all : (test : Keyed → Bool) (xs : List Keyed) → AllByRecursion (λ x.
 filter_all test [] h = refl
 filter_all test (x ∷ xs) h = rw h.0 (ap (λ l. x ∷ l) (filter_all test xs h.1))
 
-module _ (names : List (List ℕ)) (hs : List Header) (ds ds' : List Dump) (b : Key) (headers : headers_of ds ≡ hs) (headers' : headers_of ds' ≡ hs) (grown : AreGrown b hs 0 ds ds') (all : AllByRecursion (λ y. key_lt y.key b ≡ true) (keyed_rest hs 0 [] ds)) where
+module _ (names : List (List ℕ)) (hs : List Header) (ds ds' : List Dump) (b : Key) (headers : headers_of ds ≡ hs) (headers' : headers_of ds' ≡ hs)
+    (grown : AreGrown b hs 0 ds ds') (all : AllByRecursion (λ y. key_lt y.key b ≡ true) (keyed_rest hs 0 [] ds)) where
   -- the first fault is at this key: the output is that of what was merged so far
-  pub fault_outcome_is : (f : Fault) → first_fault ds' ≡ Some (record { key = b; fault = f }) → merge_outcome names ds' ≡ fault_outcome (merge_open hs (merged_items ds)) (name_at names b.input) f
+  pub fault_outcome_is : (f : Fault) → first_fault ds' ≡ Some (record { key = b; fault = f })
+      → merge_outcome names ds' ≡ fault_outcome (merge_open hs (merged_items ds)) (name_at names b.input) f
   fault_outcome_is f e =
       with_fault names ds' (record { key = b; fault = f }) e
       ∙ ap (λ (h : List Header). fault_outcome (merge_open h (items_before (record { key = b; fault = f }) (merged_items ds'))) (name_at names b.input) f) headers'
@@ -174,7 +181,8 @@ module _ (names : List (List ℕ)) (hs : List Header) (ds ds' : List Dump) (b : 
       by_fault (Some f) e =
           let test = λ (y : Keyed). key_lt y.key f.key in
           let last = first_late b hs ds' f headers' e late in
-          let own = filter_all test (merged_items ds) (order.all_more (λ y. key_lt y.key b ≡ true) (λ y. key_lt y.key f.key ≡ true) (merged_items ds) (λ y h. key_trans y.key b f.key h last) less) in
+          let own = filter_all test (merged_items ds) (order.all_more (λ y. key_lt y.key b ≡ true) (λ y. key_lt y.key f.key ≡ true) (merged_items ds)
+          (λ y h. key_trans y.key b f.key h last) less) in
           let g = merge_grows hs (merged_items ds) (filter test more.0) in (
             g.0,
             ap (λ (o : Outcome). o.output) (with_fault names ds' f e)

@@ -26,14 +26,17 @@ merged_by hs ds e = merged_by_input ds ∙ ap (λ (h : List Header). by_key (key
 -- ---- one item more
 
 own_more : (hs : List Header) (n : ℕ) (es : List Header) (d : Dump) (x : BodyItem) (rest : List Keyed)
-    → keyed_own hs n es (record { header = d.header; items = d.items ++ x ∷ []; fault = d.fault }) ++ rest ≡ keyed_own hs n es d ++ keyed_after (factor hs d.header) n (renamed es d.header) d.items x ∷ rest
+    → keyed_own hs n es (record { header = d.header; items = d.items ++ x ∷ []; fault = d.fault }) ++ rest ≡ keyed_own hs n es d ++ keyed_after
+    (factor hs d.header) n (renamed es d.header) d.items x ∷ rest
 own_more hs n es d x rest =
     let f = keyed_after (factor hs d.header) n (renamed es d.header) in
     ap (λ l. l ++ rest) (each_after-append f [] d.items (x ∷ [])) ∙ append_assoc (each f d.items) (f d.items x ∷ []) rest
 
 -- an item more is somewhere among the others
 split_at : (hs : List Header) (n m : ℕ) (es : List Header) (ds : List Dump) (k : ℕ) (d : Dump) (x : BodyItem) → m ≡ n + k → slice_get ds k ≡ Some d
-    → (xs : List Keyed) × (ys : List Keyed) × (keyed_rest hs n es ds ≡ xs ++ ys) × (keyed_rest hs n es (with_item ds k d x) ≡ xs ++ keyed_after (factor hs d.header) m (renamed (es ++ take k (headers_of ds)) d.header) d.items x ∷ ys)
+    → (xs : List Keyed) × (ys : List Keyed) × (keyed_rest hs n es ds ≡ xs ++ ys)
+    × (keyed_rest hs n es (with_item ds k d x) ≡ xs ++ keyed_after (factor hs d.header) m
+    (renamed (es ++ take k (headers_of ds)) d.header) d.items x ∷ ys)
 split_at hs n m es [] k d x e at = cc
 split_at hs n m es (c ∷ ds) zero d x e at =
     let same : c ≡ d = cc in
@@ -54,7 +57,8 @@ split_at hs n m es (c ∷ ds) (suc k) d x e at =
       ap (λ l. keyed_own hs n es c ++ l) more.2 ∙ sym (append_assoc (keyed_own hs n es c) more.0 more.1),
       ap (λ l. keyed_own hs n es c ++ l) more.3
           ∙ sym (append_assoc (keyed_own hs n es c) more.0 (keyed_after (factor hs d.header) m (renamed ((es ++ c.header ∷ []) ++ take k (headers_of ds)) d.header) d.items x ∷ more.1))
-          ∙ ap (λ (l : List Header). (keyed_own hs n es c ++ more.0) ++ keyed_after (factor hs d.header) m (renamed l d.header) d.items x ∷ more.1) (append_assoc es (c.header ∷ []) (take k (headers_of ds))),
+          ∙ ap (λ (l : List Header). (keyed_own hs n es c ++ more.0) ++ keyed_after (factor hs d.header) m (renamed l d.header) d.items x ∷ more.1)
+          (append_assoc es (c.header ∷ []) (take k (headers_of ds))),
     )
 
 -- the headers stay
@@ -72,7 +76,8 @@ module _ (hs : List Header) (ds : List Dump) (k : ℕ) (d : Dump) (x : BodyItem)
   split = let s = split_at hs 0 k [] ds k d x (omega arith) at in rw headers at s
 
   -- if it is after all others, it goes to the end of the merged list
-  pub merged_more : AllByRecursion (λ y. key_lt y.key (key_after (factor hs d.header) k d.items) ≡ true) (keyed_rest hs 0 [] ds) → merged_items (with_item ds k d x) ≡ merged_items ds ++ item ∷ []
+  pub merged_more : AllByRecursion (λ y. key_lt y.key (key_after (factor hs d.header) k d.items) ≡ true) (keyed_rest hs 0 [] ds)
+      → merged_items (with_item ds k d x) ≡ merged_items ds ++ item ∷ []
   merged_more before =
       let s = split in
       merged_by_input (with_item ds k d x)

@@ -53,7 +53,8 @@ pub marks_greatest : (ks : List Keyed) → greatest_of (marks (map (λ k. k.entr
 marks_greatest [] = refl
 marks_greatest (k ∷ ks) = by_mark (time_mark k.entry.item) (marks_greatest ks)
   where
-    by_mark : (o : Option ℕ) → greatest_of (marks (map (λ k. k.entry.item) ks)) ≡ greatest_in ks → greatest_of (cons_option o (marks (map (λ k. k.entry.item) ks))) ≡ greater_of o (greatest_in ks)
+    by_mark : (o : Option ℕ) → greatest_of (marks (map (λ k. k.entry.item) ks)) ≡ greatest_in ks
+        → greatest_of (cons_option o (marks (map (λ k. k.entry.item) ks))) ≡ greater_of o (greatest_in ks)
     by_mark None more = more
     by_mark (Some t) more = ap (greater_of (Some t)) more
 
@@ -61,7 +62,8 @@ insert_greatest : (x : Keyed) (ys : List Keyed) → greatest_in (insert_by_key x
 insert_greatest x [] = refl
 insert_greatest x (y ∷ ys) = by_test (key_lt x.key y.key) (insert_greatest x ys)
   where
-    by_test : (b : Bool) → greatest_in (insert_by_key x ys) ≡ greater_of (mark_in x) (greatest_in ys) → greatest_in (cond b (x ∷ y ∷ ys) (y ∷ insert_by_key x ys)) ≡ greater_of (mark_in x) (greater_of (mark_in y) (greatest_in ys))
+    by_test : (b : Bool) → greatest_in (insert_by_key x ys) ≡ greater_of (mark_in x) (greatest_in ys)
+        → greatest_in (cond b (x ∷ y ∷ ys) (y ∷ insert_by_key x ys)) ≡ greater_of (mark_in x) (greater_of (mark_in y) (greatest_in ys))
     by_test true more = refl
     by_test false more = ap (greater_of (mark_in y)) more ∙ greater_swap (mark_in y) (mark_in x) (greatest_in ys)
 
@@ -96,7 +98,8 @@ own_greatest s items = by_marks (marks items)
     by_marks [] = refl
     by_marks (t ∷ ts) = scaled_greatest s t ts ∙ ap (λ n. Some (s * fold max n ts)) (let e : t ≡ max 0 t = omega arith in e)
 
-pub keyed_greatest : (s n : ℕ) (rename : List ℕ → List ℕ) (before items : List BodyItem) → greatest_in (each_after (keyed_after s n rename) before items) ≡ greatest_of (map (λ t. s * t) (marks items))
+pub keyed_greatest : (s n : ℕ) (rename : List ℕ → List ℕ) (before items : List BodyItem)
+    → greatest_in (each_after (keyed_after s n rename) before items) ≡ greatest_of (map (λ t. s * t) (marks items))
 keyed_greatest s n rename before [] = refl
 keyed_greatest s n rename before (BodyItem.Time t ∷ items) = ap (greater_of (Some (s * t))) (keyed_greatest s n rename (before ++ BodyItem.Time t ∷ []) items)
 keyed_greatest s n rename before (BodyItem.Begin k ∷ items) = keyed_greatest s n rename (before ++ BodyItem.Begin k ∷ []) items
@@ -106,7 +109,8 @@ keyed_greatest s n rename before (BodyItem.Changes c ∷ items) = keyed_greatest
 -- ---- no item is later
 
 -- if the last time of an input is at most t, all its items are at times up to t
-pub own_most : (s n t : ℕ) (rename : List ℕ → List ℕ) (before items : List BodyItem) → s * time_after (before ++ items) ≤ t → AllByRecursion (λ y. y.key.time ≤ t) (each_after (keyed_after s n rename) before items)
+pub own_most : (s n t : ℕ) (rename : List ℕ → List ℕ) (before items : List BodyItem) → s * time_after (before ++ items) ≤ t
+    → AllByRecursion (λ y. y.key.time ≤ t) (each_after (keyed_after s n rename) before items)
 own_most s n t rename before [] h = tt
 own_most s n t rename before (x ∷ items) h =
     let m = mul-le-mul_left s (time_after-append before (x ∷ items)) in

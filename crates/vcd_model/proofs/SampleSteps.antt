@@ -74,7 +74,8 @@ unsettled_by : (items : List BodyItem) (t u : ℕ) → t ≤ u → is_settled it
 unsettled_by items t u le e = settled_with items t u ∙ rw (e, le-ltb u t le) refl
 
 -- of times that rise none from the first that is not below it
-pub unsettled_from : (items : List BodyItem) (t u : ℕ) (us : List ℕ) → IsStrictlyIncreasing (u ∷ us) → t ≤ u → AreSettled false items (u ∷ us) → AreSettled false (items ++ BodyItem.Time t ∷ []) (u ∷ us)
+pub unsettled_from : (items : List BodyItem) (t u : ℕ) (us : List ℕ) → IsStrictlyIncreasing (u ∷ us) → t ≤ u → AreSettled false items (u ∷ us)
+    → AreSettled false (items ++ BodyItem.Time t ∷ []) (u ∷ us)
 unsettled_from items t u [] up le h = (unsettled_by items t u le h.0, tt)
 unsettled_from items t u (v ∷ us) up le h =
     let lt = up_first u v us up in
@@ -107,11 +108,13 @@ lines_of h names items ts = flat_map (sample_lines (selected names h.declaration
 module _ (h : Header) (names : List (List ℕ)) (items : List BodyItem) (done rest : List ℕ) (settled : AreSettled true items done) (others : AreSettled false items rest) where
   pub open_is : sample_open h (done ++ rest) names items ≡ lines_of h names items done
   unfolding sample_open
-  open_is = ap (lines_of h names items) (filter-append (is_settled items) done rest ∙ rw (filter_all (is_settled items) true done settled, filter_all (is_settled items) false rest others) (append-nil done))
+  open_is = ap (lines_of h names items) (filter-append (is_settled items) done rest
+      ∙ rw (filter_all (is_settled items) true done settled, filter_all (is_settled items) false rest others) (append-nil done))
 
   pub close_is : sample_close h (done ++ rest) names items ≡ lines_of h names items rest
   unfolding sample_close
-  close_is = ap (lines_of h names items) (filter-append (λ t. not (is_settled items t)) done rest ∙ rw (filter_not (is_settled items) true done settled, filter_not (is_settled items) false rest others) refl)
+  close_is = ap (lines_of h names items) (filter-append (λ t. not (is_settled items t)) done rest
+      ∙ rw (filter_not (is_settled items) true done settled, filter_not (is_settled items) false rest others) refl)
 
   -- the lines of settled times stay
   lines_still : (x : BodyItem) → lines_of h names (items ++ x ∷ []) done ≡ lines_of h names items done
@@ -126,19 +129,22 @@ pub open_none : (h : Header) (times : List ℕ) (names : List (List ℕ)) → sa
 open_none h times names = open_is h names [] [] times tt (none_settled times)
 
 -- an item that is no timestamp: nothing is due
-pub open_same : (h : Header) (names : List (List ℕ)) (items : List BodyItem) (x : BodyItem) (done rest : List ℕ) → marks (x ∷ []) ≡ [] → AreSettled true items done → AreSettled false items rest
+pub open_same : (h : Header) (names : List (List ℕ)) (items : List BodyItem) (x : BodyItem) (done rest : List ℕ) → marks (x ∷ []) ≡ []
+    → AreSettled true items done → AreSettled false items rest
     → sample_open h (done ++ rest) names (items ++ x ∷ []) ≡ sample_open h (done ++ rest) names items
 open_same h names items x done rest e settled others =
     open_is h names (items ++ x ∷ []) done rest (all_settled_same true items x done e settled) (all_settled_same false items x rest e others)
     ∙ lines_still h names items done rest settled others x ∙ sym (open_is h names items done rest settled others)
 
 -- a timestamp: the lines of the times that it settles, with the values before it
-pub open_at_mark : (h : Header) (names : List (List ℕ)) (items : List BodyItem) (t : ℕ) (done rest : List ℕ) → AreSettled true (items ++ BodyItem.Time t ∷ []) done → AreSettled false (items ++ BodyItem.Time t ∷ []) rest
+pub open_at_mark : (h : Header) (names : List (List ℕ)) (items : List BodyItem) (t : ℕ) (done rest : List ℕ)
+    → AreSettled true (items ++ BodyItem.Time t ∷ []) done → AreSettled false (items ++ BodyItem.Time t ∷ []) rest
     → sample_open h (done ++ rest) names (items ++ BodyItem.Time t ∷ []) ≡ lines_of h names items done
 open_at_mark h names items t done rest settled others =
     open_is h names (items ++ BodyItem.Time t ∷ []) done rest settled others ∙ all_lines_at_mark (selected names h.declarations) items t done
 
-module _ (h : Header) (names : List (List ℕ)) (items : List BodyItem) (t : ℕ) (done below others : List ℕ) (settled : AreSettled true items done) (unsettled : AreSettled false items (below ++ others)) (low : AllByRecursion (λ u. u < t) below)
+module _ (h : Header) (names : List (List ℕ)) (items : List BodyItem) (t : ℕ) (done below others : List ℕ) (settled : AreSettled true items done)
+    (unsettled : AreSettled false items (below ++ others)) (low : AllByRecursion (λ u. u < t) below)
     (high : AreSettled false (items ++ BodyItem.Time t ∷ []) others) where
   pub settled_next : AreSettled true (items ++ BodyItem.Time t ∷ []) (done ++ below)
   settled_next = both done settled
@@ -163,7 +169,8 @@ last_passes P o (d ∷ done) u rest h = last_passes P (Some d) done u rest h
 last_passes P o [] u [] h = (u, refl, h.0)
 last_passes P o [] u (v ∷ rest) h = last_passes P (Some u) [] v rest h.1
 
-early_is : (names : List (List ℕ)) (items : List BodyItem) (t l : ℕ) (times : List ℕ) → last_or None times ≡ Some l → is_settled items l ≡ false → ends_early (Request.Sample times names) (BodyItem.Time t) ≡ is_settled (items ++ BodyItem.Time t ∷ []) l
+early_is : (names : List (List ℕ)) (items : List BodyItem) (t l : ℕ) (times : List ℕ) → last_or None times ≡ Some l → is_settled items l ≡ false
+    → ends_early (Request.Sample times names) (BodyItem.Time t) ≡ is_settled (items ++ BodyItem.Time t ∷ []) l
 early_is names items t l times last e = rw (ends_early, last) (sym (settled_with items t l ∙ rw e (or_none (nat_lt l t))))
   where
     or_none : (b : Bool) → (b || false) ≡ b
@@ -171,13 +178,15 @@ early_is names items t l times last e = rw (ends_early, last) (sym (settled_with
     or_none false = refl
 
 -- one that settles all times does
-pub ends_here : (names : List (List ℕ)) (items : List BodyItem) (t : ℕ) (done : List ℕ) (u : ℕ) (rest : List ℕ) → AreSettled false items (u ∷ rest) → AreSettled true (items ++ BodyItem.Time t ∷ []) (u ∷ rest)
+pub ends_here : (names : List (List ℕ)) (items : List BodyItem) (t : ℕ) (done : List ℕ) (u : ℕ) (rest : List ℕ) → AreSettled false items (u ∷ rest)
+    → AreSettled true (items ++ BodyItem.Time t ∷ []) (u ∷ rest)
     → ends_early (Request.Sample (done ++ u ∷ rest) names) (BodyItem.Time t) ≡ true
 ends_here names items t done u rest before after =
     let last = last_passes (λ l. (is_settled items l ≡ false) × (is_settled (items ++ BodyItem.Time t ∷ []) l ≡ true)) None done u rest (both (u ∷ rest) before after) in
     early_is names items t last.0 (done ++ u ∷ rest) last.1 last.2.0 ∙ last.2.1
   where
-    both : (ts : List ℕ) → AreSettled false items ts → AreSettled true (items ++ BodyItem.Time t ∷ []) ts → AllByRecursion (λ l. (is_settled items l ≡ false) × (is_settled (items ++ BodyItem.Time t ∷ []) l ≡ true)) ts
+    both : (ts : List ℕ) → AreSettled false items ts → AreSettled true (items ++ BodyItem.Time t ∷ []) ts
+        → AllByRecursion (λ l. (is_settled items l ≡ false) × (is_settled (items ++ BodyItem.Time t ∷ []) l ≡ true)) ts
     both [] b a = tt
     both (v ∷ ts) b a = ((b.0, a.0), both ts b.1 a.1)
 
@@ -202,13 +211,15 @@ goes_on_other names times x e = by_last (last_or None times) x e
 
 -- if there were some left, it does if and only if none is
 module _ (names : List (List ℕ)) (items : List BodyItem) (t : ℕ) (done : List ℕ) where
-  pub ended : (below others : List ℕ) → others ≡ [] → below ++ others ≢ [] → AreSettled false items (below ++ others) → AllByRecursion (λ u. u < t) below → ends_early (Request.Sample (done ++ (below ++ others)) names) (BodyItem.Time t) ≡ true
+  pub ended : (below others : List ℕ) → others ≡ [] → below ++ others ≢ [] → AreSettled false items (below ++ others)
+      → AllByRecursion (λ u. u < t) below → ends_early (Request.Sample (done ++ (below ++ others)) names) (BodyItem.Time t) ≡ true
   ended [] others none some unsettled low = absurd (some none)
   ended (u ∷ below) others none some unsettled low =
       ends_here names items t done u (below ++ others) unsettled
       (subst (λ l. AreSettled true (items ++ BodyItem.Time t ∷ []) (u ∷ l)) (sym (ap (λ l. below ++ l) none ∙ append-nil below)) (all_settled_by items t (u ∷ below) low))
 
-  pub not_ended : (below others : List ℕ) → others ≢ [] → AreSettled false (items ++ BodyItem.Time t ∷ []) others → ends_early (Request.Sample (done ++ (below ++ others)) names) (BodyItem.Time t) ≡ false
+  pub not_ended : (below others : List ℕ) → others ≢ [] → AreSettled false (items ++ BodyItem.Time t ∷ []) others
+      → ends_early (Request.Sample (done ++ (below ++ others)) names) (BodyItem.Time t) ≡ false
   not_ended below [] some high = absurd (some refl)
   not_ended below (o ∷ others) some high =
       ap (λ ts. ends_early (Request.Sample ts names) (BodyItem.Time t)) (sym (append_assoc done below (o ∷ others))) ∙ goes_on names items t (done ++ below) o others high

@@ -159,7 +159,8 @@ innermost ds p around e =
     let scope = Declaration.Scope s.type s.name in
     let front = reverse s.farther in
     let parts : ds ≡ front ++ scope ∷ reverse s.nearer =
-    sym (reverse-reverse ds) ∙ ap reverse s.parts ∙ reverse-append s.nearer (scope ∷ s.farther) ∙ ap (λ l. l ++ reverse s.nearer) (reverse-append (scope ∷ []) s.farther) ∙ append_assoc front (scope ∷ []) (reverse s.nearer) in
+    sym (reverse-reverse ds) ∙ ap reverse s.parts ∙ reverse-append s.nearer (scope ∷ s.farther)
+    ∙ ap (λ l. l ++ reverse s.nearer) (reverse-append (scope ∷ []) s.farther) ∙ append_assoc front (scope ∷ []) (reverse s.nearer) in
     let place : p ≡ length front = s.place ∙ sym (length-reverse s.farther) in
     let cut : take p ds ≡ front = ap (take p) parts ∙ ap (λ n. take n (front ++ scope ∷ reverse s.nearer)) place ∙ take-append_seam front (scope ∷ reverse s.nearer) in
     record {

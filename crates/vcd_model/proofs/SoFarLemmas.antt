@@ -22,7 +22,8 @@ module _ {P : Type 0} (g : Grammar P) where
   behind_is placed ts true = refl
   behind_is placed ts false = refl
 
-  pub token_step : (placed : List (Placed P)) (before : List (List ℕ)) (t : Token) (ts : List Token) (o : Option ℕ) (q : Option P) → g.fault (phrases_of placed) before t.bytes ≡ o → g.phrase (before ++ t.bytes ∷ []) ≡ q
+  pub token_step : (placed : List (Placed P)) (before : List (List ℕ)) (t : Token) (ts : List Token) (o : Option ℕ) (q : Option P)
+      → g.fault (phrases_of placed) before t.bytes ≡ o → g.phrase (before ++ t.bytes ∷ []) ≡ q
       → read_from g placed before (t ∷ ts) ≡ at_token placed before t ts o q
   token_step placed before t ts (Some n) q e f = rw (e, read_from) refl
   token_step placed before t ts None None e f = rw (e, read_from, f) refl
@@ -57,11 +58,13 @@ module _ {P : Type 0} (g : Grammar P) where
   unfolding reading_of
   so_far-nothing = refl
 
-  reads_on : (given : List Token) (placed : List (Placed P)) (before : List (List ℕ)) (ts : List Token) → IsSoFar g given placed before → reading_of g (given ++ ts) ≡ read_from g placed before ts
+  reads_on : (given : List Token) (placed : List (Placed P)) (before : List (List ℕ)) (ts : List Token) → IsSoFar g given placed before
+      → reading_of g (given ++ ts) ≡ read_from g placed before ts
   unfolding reading_of
   reads_on given placed before ts h = goes_on given [] placed [] before ts h
 
-  at_next : (given : List Token) (placed : List (Placed P)) (before : List (List ℕ)) (t : Token) (ts : List Token) (o : Option ℕ) (q : Option P) → IsSoFar g given placed before → g.fault (phrases_of placed) before t.bytes ≡ o
+  at_next : (given : List Token) (placed : List (Placed P)) (before : List (List ℕ)) (t : Token) (ts : List Token) (o : Option ℕ) (q : Option P)
+      → IsSoFar g given placed before → g.fault (phrases_of placed) before t.bytes ≡ o
       → g.phrase (before ++ t.bytes ∷ []) ≡ q → reading_of g (given ++ t ∷ ts) ≡ at_token placed before t ts o q
   at_next given placed before t ts o q h e f = reads_on given placed before (t ∷ ts) h ∙ token_step placed before t ts o q e f
 
@@ -71,17 +74,20 @@ module _ {P : Type 0} (g : Grammar P) where
   so_far-token given placed before t h e f = at_next given placed before t [] None None h e f
 
   -- a token that passes its checks, and with which a phrase is whole that others follow
-  pub so_far-phrase : (given : List Token) (placed : List (Placed P)) (before : List (List ℕ)) (t : Token) (p : P) → IsSoFar g given placed before → g.fault (phrases_of placed) before t.bytes ≡ None
+  pub so_far-phrase : (given : List Token) (placed : List (Placed P)) (before : List (List ℕ)) (t : Token) (p : P) → IsSoFar g given placed before
+      → g.fault (phrases_of placed) before t.bytes ≡ None
       → g.phrase (before ++ t.bytes ∷ []) ≡ Some p → g.is_last p ≡ false → IsSoFar g (given ++ t ∷ []) (placed ++ record { phrase = p; line = t.line } ∷ []) []
   so_far-phrase given placed before t p h e f l = at_next given placed before t [] None (Some p) h e f ∙ ap (behind_phrase (placed ++ record { phrase = p; line = t.line } ∷ []) []) l
 
   -- a token that passes its checks, and with which the last phrase of the kind is whole
-  pub whole-phrase : (given : List Token) (placed : List (Placed P)) (before : List (List ℕ)) (t : Token) (p : P) → IsSoFar g given placed before → g.fault (phrases_of placed) before t.bytes ≡ None
+  pub whole-phrase : (given : List Token) (placed : List (Placed P)) (before : List (List ℕ)) (t : Token) (p : P) → IsSoFar g given placed before
+      → g.fault (phrases_of placed) before t.bytes ≡ None
       → g.phrase (before ++ t.bytes ∷ []) ≡ Some p → g.is_last p ≡ true → IsWhole g (given ++ t ∷ []) (placed ++ record { phrase = p; line = t.line } ∷ [])
   whole-phrase given placed before t p h e f l = at_next given placed before t [] None (Some p) h e f ∙ ap (behind_phrase (placed ++ record { phrase = p; line = t.line } ∷ []) []) l
 
   -- a token with a failed check: the reading of all tokens ends there, whatever follows
-  pub faulty-token : (given : List Token) (placed : List (Placed P)) (before : List (List ℕ)) (t : Token) (more : List Token) (n : ℕ) → IsSoFar g given placed before → g.fault (phrases_of placed) before t.bytes ≡ Some n
+  pub faulty-token : (given : List Token) (placed : List (Placed P)) (before : List (List ℕ)) (t : Token) (more : List Token) (n : ℕ)
+      → IsSoFar g given placed before → g.fault (phrases_of placed) before t.bytes ≡ Some n
       → reading_of g (given ++ t ∷ more) ≡ record { placed = placed; before = before; ending = AtFault (record { number = n; line = t.line }); rest = t ∷ more }
   faulty-token given placed before t more n h e = at_next given placed before t more (Some n) (g.phrase (before ++ t.bytes ∷ [])) h e refl
 
@@ -89,15 +95,18 @@ module _ {P : Type 0} (g : Grammar P) where
 
   abbrev Stops : List Token → Type 0
   Stops xs = (placed placed' : List (Placed P)) (before : List (List ℕ)) (ys : List Token)
-      → read_from g placed before xs ≡ record { placed = placed'; before = []; ending = AtLast; rest = [] } → read_from g placed before (xs ++ ys) ≡ record { placed = placed'; before = []; ending = AtLast; rest = ys }
+      → read_from g placed before xs ≡ record { placed = placed'; before = []; ending = AtLast; rest = [] }
+      → read_from g placed before (xs ++ ys) ≡ record { placed = placed'; before = []; ending = AtLast; rest = ys }
 
   stop_behind : (xs : List Token) → Stops xs → (placed placed' : List (Placed P)) (ys : List Token) (b : Bool)
-      → behind_phrase placed xs b ≡ record { placed = placed'; before = []; ending = AtLast; rest = [] } → behind_phrase placed (xs ++ ys) b ≡ record { placed = placed'; before = []; ending = AtLast; rest = ys }
+      → behind_phrase placed xs b ≡ record { placed = placed'; before = []; ending = AtLast; rest = [] }
+      → behind_phrase placed (xs ++ ys) b ≡ record { placed = placed'; before = []; ending = AtLast; rest = ys }
   stop_behind xs more placed placed' ys true h = ap (λ (r : Reading P). record { placed = r.placed; before = []; ending = AtLast; rest = r.rest ++ ys }) h
   stop_behind xs more placed placed' ys false h = more placed placed' [] ys h
 
   stop_token : (t : Token) (xs : List Token) → Stops xs → (placed placed' : List (Placed P)) (before : List (List ℕ)) (ys : List Token) (o : Option ℕ) (q : Option P)
-      → at_token placed before t xs o q ≡ record { placed = placed'; before = []; ending = AtLast; rest = [] } → at_token placed before t (xs ++ ys) o q ≡ record { placed = placed'; before = []; ending = AtLast; rest = ys }
+      → at_token placed before t xs o q ≡ record { placed = placed'; before = []; ending = AtLast; rest = [] }
+      → at_token placed before t (xs ++ ys) o q ≡ record { placed = placed'; before = []; ending = AtLast; rest = ys }
   stop_token t xs more placed placed' before ys (Some n) q h = let bad : AtFault (record { number = n; line = t.line }) ≡ AtLast = ap (λ r. r.ending) h in cc
   stop_token t xs more placed placed' before ys None None h = more placed placed' (before ++ t.bytes ∷ []) ys h
   stop_token t xs more placed placed' before ys None (Some p) h = stop_behind xs more (placed ++ record { phrase = p; line = t.line } ∷ []) placed' ys (g.is_last p) h
@@ -109,7 +118,8 @@ module _ {P : Type 0} (g : Grammar P) where
       token_step placed before t (xs ++ ys) (g.fault (phrases_of placed) before t.bytes) (g.phrase (before ++ t.bytes ∷ [])) refl refl
       ∙ stop_token t xs (stops xs) placed placed' before ys (g.fault (phrases_of placed) before t.bytes) (g.phrase (before ++ t.bytes ∷ [])) (sym step ∙ h)
 
-  pub whole-more : (given : List Token) (placed : List (Placed P)) (more : List Token) → IsWhole g given placed → reading_of g (given ++ more) ≡ record { placed = placed; before = []; ending = AtLast; rest = more }
+  pub whole-more : (given : List Token) (placed : List (Placed P)) (more : List Token) → IsWhole g given placed
+      → reading_of g (given ++ more) ≡ record { placed = placed; before = []; ending = AtLast; rest = more }
   unfolding reading_of
   whole-more given placed more h = stops given [] placed [] more h
 
@@ -143,18 +153,23 @@ module _ {P : Type 0} (g : Grammar P) where
   last_token placed whole before inner t None (Some p) h = last_behind placed whole before inner (record { phrase = p; line = t.line }) (g.is_last p) h
 
   -- one token on
-  cut_on : (placed placed' whole : List (Placed P)) (before before' inner : List (List ℕ)) (x : Token) (xs : List Token) → read_from g placed before (x ∷ xs) ≡ read_from g placed' before' xs → AllButLast placed' before' xs whole inner → AllButLast placed before (x ∷ xs) whole inner
+  cut_on : (placed placed' whole : List (Placed P)) (before before' inner : List (List ℕ)) (x : Token) (xs : List Token)
+      → read_from g placed before (x ∷ xs) ≡ read_from g placed' before' xs → AllButLast placed' before' xs whole inner
+      → AllButLast placed before (x ∷ xs) whole inner
   cut_on placed placed' whole before before' inner x xs step a = record { earlier = a.earlier; begun = a.begun; reads = step ∙ a.reads; last = a.last }
 
-  cut_behind : (xs : List Token) → CutsLast xs → (placed whole : List (Placed P)) (before inner : List (List ℕ)) (x t : Token) (p : Placed P) (b : Bool) → read_from g placed before (x ∷ xs) ≡ behind_phrase (placed ++ p ∷ []) xs b
+  cut_behind : (xs : List Token) → CutsLast xs → (placed whole : List (Placed P)) (before inner : List (List ℕ)) (x t : Token) (p : Placed P)
+      (b : Bool) → read_from g placed before (x ∷ xs) ≡ behind_phrase (placed ++ p ∷ []) xs b
       → behind_phrase (placed ++ p ∷ []) (xs ++ t ∷ []) b ≡ record { placed = whole; before = inner; ending = AtEnd; rest = [] } → AllButLast placed before (x ∷ xs) whole inner
   cut_behind xs more placed whole before inner x t p true step h = let bad : AtLast ≡ AtEnd = ap (λ r. r.ending) h in cc
   cut_behind xs more placed whole before inner x t p false step h = cut_on placed (placed ++ p ∷ []) whole before [] inner x xs step (more (placed ++ p ∷ []) whole [] inner t h)
 
-  cut_token : (xs : List Token) → CutsLast xs → (placed whole : List (Placed P)) (before inner : List (List ℕ)) (x t : Token) (o : Option ℕ) (q : Option P) → read_from g placed before (x ∷ xs) ≡ at_token placed before x xs o q
+  cut_token : (xs : List Token) → CutsLast xs → (placed whole : List (Placed P)) (before inner : List (List ℕ)) (x t : Token) (o : Option ℕ)
+      (q : Option P) → read_from g placed before (x ∷ xs) ≡ at_token placed before x xs o q
       → at_token placed before x (xs ++ t ∷ []) o q ≡ record { placed = whole; before = inner; ending = AtEnd; rest = [] } → AllButLast placed before (x ∷ xs) whole inner
   cut_token xs more placed whole before inner x t (Some n) q step h = let bad : AtFault (record { number = n; line = x.line }) ≡ AtEnd = ap (λ r. r.ending) h in cc
-  cut_token xs more placed whole before inner x t None None step h = cut_on placed placed whole before (before ++ x.bytes ∷ []) inner x xs step (more placed whole (before ++ x.bytes ∷ []) inner t h)
+  cut_token xs more placed whole before inner x t None None step h = cut_on placed placed whole before (before ++ x.bytes ∷ []) inner x xs step
+      (more placed whole (before ++ x.bytes ∷ []) inner t h)
   cut_token xs more placed whole before inner x t None (Some p) step h = cut_behind xs more placed whole before inner x t (record { phrase = p; line = x.line }) (g.is_last p) step h
 
   cuts_last : (xs : List Token) → CutsLast xs

@@ -8,8 +8,10 @@ abbrev pub holding : Bool → List ℕ → Device
 holding failed bytes = record { held = Some bytes; failures = 0; last_failed = failed }
 
 -- a stream with these bytes, of which no write failed
-pub is-holding : (bytes all : List ℕ) (n : ℕ) (f failed : Bool) → bytes ≡ all → n ≡ 0 → f ≡ failed → record { held = Some bytes; failures = n; last_failed = f } ≡ holding failed all
-is-holding bytes all n f failed e z q = ap (λ l. record { held = Some l; failures = n; last_failed = f }) e ∙ ap (λ m. record { held = Some all; failures = m; last_failed = f }) z ∙ ap (λ b. record { held = Some all; failures = 0; last_failed = b }) q
+pub is-holding : (bytes all : List ℕ) (n : ℕ) (f failed : Bool) → bytes ≡ all → n ≡ 0 → f ≡ failed
+    → record { held = Some bytes; failures = n; last_failed = f } ≡ holding failed all
+is-holding bytes all n f failed e z q = ap (λ l. record { held = Some l; failures = n; last_failed = f }) e
+    ∙ ap (λ m. record { held = Some all; failures = m; last_failed = f }) z ∙ ap (λ b. record { held = Some all; failures = 0; last_failed = b }) q
 
 none-failed : (failed : Bool) → cond failed 0 0 ≡ 0 + 1 → ⊥
 none-failed true e = omega (arith, e)
@@ -39,8 +41,15 @@ record HasOpened (files : List MemoryFile) (input : Text) (names : List (Option 
   notes : noted after ≡ noted host ++ names
   bytes : map (λ name. bytes_among files input name) names ≡ map bytes_of inputs
 
-opened-in : (files : List MemoryFile) (input : Text) (host : Memory) (names : List (Option Text)) (inputs : List Bytes) (after : Memory) → host.files.now ≡ files → host.input.now ≡ input → Opens OpensIn host names inputs after → HasOpened files input names inputs host after
-opened-in files input host [] [] after f i o = record { files_are = ap (λ (m : Memory). m.files.now) o ∙ f; input_is = ap (λ (m : Memory). m.input.now) o ∙ i; notes = ap noted o ∙ sym (append-nil (noted host)); bytes = refl }
+opened-in : (files : List MemoryFile) (input : Text) (host : Memory) (names : List (Option Text)) (inputs : List Bytes) (after : Memory)
+    → host.files.now ≡ files → host.input.now ≡ input → Opens OpensIn host names inputs after → HasOpened files input names inputs host after
+opened-in files input host [] [] after f i o = record {
+  files_are = ap (λ (m : Memory). m.files.now) o
+      ∙ f;
+  input_is = ap (λ (m : Memory). m.input.now) o ∙ i;
+  notes = ap noted o ∙ sym (append-nil (noted host));
+  bytes = refl;
+}
 opened-in files input host [] (b ∷ inputs) after f i o = absurd o
 opened-in files input host (n ∷ names) [] after f i o = absurd o
 opened-in files input host (n ∷ names) (b ∷ inputs) after f i o =
@@ -60,7 +69,8 @@ texts-of [] = refl
 texts-of (b ∷ inputs) = ap (λ l. Some b.rest.now ∷ l) (texts-of inputs)
 
 -- inputs of which no read fails are left as they are
-all-whole : (texts : List Text) (old new : List Bytes) (inputs : List Input) → AreLeft texts (map (supply bytes_of no_failures) old) (map (supply bytes_of no_failures) new) inputs → inputs ≡ map whole texts
+all-whole : (texts : List Text) (old new : List Bytes) (inputs : List Input)
+    → AreLeft texts (map (supply bytes_of no_failures) old) (map (supply bytes_of no_failures) new) inputs → inputs ≡ map whole texts
 all-whole [] old new inputs r = r
 all-whole (t ∷ texts) [] new inputs r = absurd r
 all-whole (t ∷ texts) (b ∷ old) [] inputs r = absurd r
@@ -91,7 +101,8 @@ module _ (a b : Bool) (out_front err_front : List ℕ) where
   On Left out err status = Left (holding false out_front) (holding a out) (holding false err_front) (holding b err) status
 
   -- this was written and shown
-  was-left : (left : End) (after : Memory) (out err : List ℕ) (status : ℕ) (output message : List ℕ) → LeftAs left after out err status → out ≡ out_front ++ output → err ≡ err_front ++ message
+  was-left : (left : End) (after : Memory) (out err : List ℕ) (status : ℕ) (output message : List ℕ) → LeftAs left after out err status
+      → out ≡ out_front ++ output → err ≡ err_front ++ message
       → (left.output ≡ output) × (left.message ≡ message) × Grown left out err
   was-left left after out err status output message holds written shown =
       let o = holds.1 ∙ behind out_front out output written in
@@ -108,7 +119,8 @@ module _ (a b : Bool) (out_front err_front : List ℕ) where
 
     out-of-memory : On (Fails program (codes "out of memory")) out err status → IsOutOfMemory program left × Grown left out err
     out-of-memory fails =
-        let l = was-left left after out err status [] (shown_message program (codes "out of memory")) holds fails.0.0 (all-shown b err_front err (shown_message program (codes "out of memory")) fails.1) in
+        let l = was-left left after out err status [] (shown_message program (codes "out of memory")) holds fails.0.0
+        (all-shown b err_front err (shown_message program (codes "out of memory")) fails.1) in
         (record { output = l.0; message = l.1; status = holds.3 ∙ fails.2 }, l.2)
 
     -- the text of a parse
@@ -127,16 +139,19 @@ module _ (a b : Bool) (out_front err_front : List ℕ) where
         by_status (inr (inr three)) = (record { opened = holds.0 ∙ n; output = rw three l.0; message = rw three l.1; status = holds.3 ∙ shown.3 }, l.2)
 
   -- a step that found no file
-  missed : (files : List MemoryFile) (input : Text) (names : List (Option Text)) (inputs : List Bytes) (host next after : Memory) (name : Option Text) → HasOpened files input names inputs host next → OpensIn next name (Err Unopened) after
+  missed : (files : List MemoryFile) (input : Text) (names : List (Option Text)) (inputs : List Bytes) (host next after : Memory)
+      (name : Option Text) → HasOpened files input names inputs host next → OpensIn next name (Err Unopened) after
       → (noted after ≡ noted host ++ (names ++ name ∷ [])) × (bytes_among files input name ≡ None)
   missed files input names inputs host next after name o p = (
     p.1 ∙ ap (λ l. l ++ name ∷ []) o.notes ∙ append_assoc (noted host) names (name ∷ []),
     ap (λ fs. bytes_among fs input name) (sym o.files_are) ∙ ap (λ t. bytes_among next.files.now t name) (sym o.input_is) ∙ p.2,
   )
 
-  module _ {P J : Type 0} (p : Programs P J) (files : List MemoryFile) (input : Text) (host after : Memory) (left : End) (out err : List ℕ) (status : ℕ) (f : host.files.now ≡ files) (i : host.input.now ≡ input) (n : noted host ≡ []) (holds : LeftAs left after out err status) where
+  module _ {P J : Type 0} (p : Programs P J) (files : List MemoryFile) (input : Text) (host after : Memory) (left : End) (out err : List ℕ)
+      (status : ℕ) (f : host.files.now ≡ files) (i : host.input.now ≡ input) (n : noted host ≡ []) (holds : LeftAs left after out err status) where
     -- what words leave that were parsed
-    left-parsed : (matches : ArgMatches) (NoneKept : Type 0) → Runs p OpensIn bytes_of no_failures none_failed matches host after (holding false out_front) (holding a out) (holding false err_front) (holding b err) status NoneKept
+    left-parsed : (matches : ArgMatches) (NoneKept : Type 0) → Runs p OpensIn bytes_of no_failures none_failed matches host after
+        (holding false out_front) (holding a out) (holding false err_front) (holding b err) status NoneKept
         → (IsLeftOf p matches files input left ⊎ IsOutOfMemory p.name left) × Grown left out err
     left-parsed matches NoneKept (Runs.Refused fault is of_words same leaves) =
         let l = is-left p.name left after out err status holds [] (p.outcome matches [] []) (ap noted same ∙ n) leaves in
@@ -147,11 +162,13 @@ module _ (a b : Bool) (out_front err_front : List ℕ) where
         by_end o texts (o.bytes ∙ texts-of readers) (gives texts (texts-of readers))
       where
         by_end : HasOpened files input (p.inputs matches) readers host after → (texts : List Text) → HaveTexts files input (p.inputs matches) texts
-            → Leaves p.name (p.outcome matches (map called (p.inputs matches))) (p.reads job) texts (map (supply bytes_of no_failures) readers) (map (supply bytes_of no_failures) done) (holding false out_front) (holding a out) (holding false err_front) (holding b err) status
+            → Leaves p.name (p.outcome matches (map called (p.inputs matches))) (p.reads job) texts (map (supply bytes_of no_failures) readers)
+            (map (supply bytes_of no_failures) done) (holding false out_front) (holding a out) (holding false err_front) (holding b err) status
             → (IsLeftOf p matches files input left ⊎ IsOutOfMemory p.name left) × Grown left out err
         by_end o texts have (Leaves.WithOutcome inputs lefts read leaves) =
             let all = all-whole texts readers done inputs lefts in
-            let l = is-left p.name left after out err status holds (p.inputs matches) (p.outcome matches (map called (p.inputs matches)) (map whole texts)) (o.notes ∙ ap (λ l. l ++ p.inputs matches) n)
+            let l = is-left p.name left after out err status holds (p.inputs matches)
+            (p.outcome matches (map called (p.inputs matches)) (map whole texts)) (o.notes ∙ ap (λ l. l ++ p.inputs matches) n)
             (subst (λ l. On (IsOutcome p.name (p.outcome matches (map called (p.inputs matches)) l)) out err status) all leaves) in
             (inl (IsLeftOf.Ran job is texts have l.0), l.1)
         by_end o texts have (Leaves.NoMemory inputs lefts read same fails) = let l = out-of-memory p.name left after out err status holds fails in (inr l.0, l.1)
@@ -166,7 +183,8 @@ module _ (a b : Bool) (out_front err_front : List ℕ) where
     left-parsed matches NoneKept (Runs.NoMemory is opened fails) = let l = out-of-memory p.name left after out err status holds fails in (inr l.0, l.1)
 
     -- what any words leave
-    pub left-by : (words : List Text) (NoneKept : Type 0) → RunsOn p words OpensIn bytes_of no_failures none_failed host after (holding false out_front) (holding a out) (holding false err_front) (holding b err) status NoneKept
+    pub left-by : (words : List Text) (NoneKept : Type 0) → RunsOn p words OpensIn bytes_of no_failures none_failed host after
+        (holding false out_front) (holding a out) (holding false err_front) (holding b err) status NoneKept
         → IsLeftBy p words files input left × Grown left out err
     left-by words NoneKept (RunsOn.NoMatches why is only same (inl some)) =
         let l = is-answered p.name left after out err status holds why some.1 (ap noted same ∙ n) some.2 in
@@ -177,18 +195,27 @@ module _ (a b : Bool) (out_front err_front : List ℕ) where
         (elim l.0 [ inl parsed ↦ IsLeftBy.Parsed matches is parsed | inr none ↦ IsLeftBy.NoMemory none ], l.1)
 
 -- what is left in the end, where a flush changes nothing
-pub left-flushed : {W P J : Type 0} (p : Programs P J) (device : W → Device) (Quiet : W → Type 0) (flushes : W → Bool → W → Type 0) (words : List Text) (host after : Memory) (out err : Device) (out' : W) (err' : Device) (status : ℕ) → ((old new : W) (done : Bool) → flushes old done new → (done ≡ true) × (new ≡ old))
+pub left-flushed : {W P J : Type 0} (p : Programs P J) (device : W → Device) (Quiet : W → Type 0) (flushes : W → Bool → W → Type 0)
+    (words : List Text) (host after : Memory) (out err : Device) (out' : W) (err' : Device) (status : ℕ)
+    → ((old new : W) (done : Bool) → flushes old done new → (done ≡ true) × (new ≡ old))
     → Finishes p.name device flushes (λ now err_now n. RunsOn p words OpensIn bytes_of no_failures none_failed host after out (device now) err err_now n (Quiet now)) out' err' status
     → RunsOn p words OpensIn bytes_of no_failures none_failed host after out (device out') err err' status (Quiet out')
 left-flushed p device Quiet flushes words host after out err out' err' status flush (Finishes.Flushed before leaves flushed held same) =
     subst (λ o. RunsOn p words OpensIn bytes_of no_failures none_failed host after out (device o) err err' status (Quiet o)) (sym (flush before out' true flushed).1) leaves
-left-flushed p device Quiet flushes words host after out err out' err' status flush (Finishes.Failed before leaves machine fails held same) = let bad : false ≡ true = (flush before out' false fails).0 in cc
-left-flushed p device Quiet flushes words host after out err out' err' status flush (Finishes.Unflushed before shown was leaves below fails held same then status_is) = let bad : false ≡ true = (flush before out' false fails).0 in cc
+left-flushed p device Quiet flushes words host after out err out' err' status flush (Finishes.Failed before leaves machine fails held same) =
+    let bad : false ≡ true = (flush before out' false fails).0 in cc
+left-flushed p device Quiet flushes words host after out err out' err' status flush
+    (Finishes.Unflushed before shown was leaves below fails held same then status_is) = let bad : false ≡ true = (flush before out' false fails).0 in
+    cc
 
-pub left-in-memory : {W P J : Type 0} (p : Programs P J) (device : W → Device) (Quiet : W → Type 0) (flushes : W → Bool → W → Type 0) (words : List Text) (files : List MemoryFile) (input : Text) (host after : Memory) (left : End) (out' : W) (out err : List ℕ) (a b : Bool) (status : ℕ) (out0 err0 err1 : Device)
-    → ((old new : W) (done : Bool) → flushes old done new → (done ≡ true) × (new ≡ old)) → device out' ≡ holding a out → host.files.now ≡ files → host.input.now ≡ input → noted host ≡ [] → LeftAs a b [] [] left after out err status
+pub left-in-memory : {W P J : Type 0} (p : Programs P J) (device : W → Device) (Quiet : W → Type 0) (flushes : W → Bool → W → Type 0)
+    (words : List Text) (files : List MemoryFile) (input : Text) (host after : Memory) (left : End) (out' : W) (out err : List ℕ) (a b : Bool)
+    (status : ℕ) (out0 err0 err1 : Device)
+    → ((old new : W) (done : Bool) → flushes old done new → (done ≡ true) × (new ≡ old)) → device out' ≡ holding a out → host.files.now ≡ files
+    → host.input.now ≡ input → noted host ≡ [] → LeftAs a b [] [] left after out err status
     → out0 ≡ holding false [] → err0 ≡ holding false [] → err1 ≡ holding b err
-    → Finishes p.name device flushes (λ now err_now n. RunsOn p words OpensIn bytes_of no_failures none_failed host after out0 (device now) err0 err_now n (Quiet now)) out' err1 status → IsLeftBy p words files input left
+    → Finishes p.name device flushes (λ now err_now n. RunsOn p words OpensIn bytes_of no_failures none_failed host after out0
+    (device now) err0 err_now n (Quiet now)) out' err1 status → IsLeftBy p words files input left
 left-in-memory p device Quiet flushes words files input host after left out' out err a b status out0 err0 err1 flush is f i n holds e0 e1 e2 fin =
     let one = left-flushed p device Quiet flushes words host after out0 err0 out' err1 status flush fin in
     (left-by a b [] [] p files input host after left out err status f i n holds words (Quiet out')

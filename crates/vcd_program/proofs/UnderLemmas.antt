@@ -2,9 +2,12 @@
 use Rattle.vcd_program.proofs.Cited.{◌∷◌, [], ℕ, List, Bool, ap, inl, inr, subst, sym, Option, Result, Text, ArgMatches, Device, Opens, OpenFault, Finishes, Programs, Runs, RunsOn}
 
 -- `under host` is what a host stands over, and `Holds` says what stays true of the host
-module _ {A J H P I : Type 0} (a : Programs A J) (opens : H → Option Text → Result I OpenFault → H → Type 0) (opens_under : P → Option Text → Result I OpenFault → P → Type 0) (under_host : H → P) (Holds : H → Type 0)
-    (step : (old new : H) (name : Option Text) (result : Result I OpenFault) → Holds old → opens old name result new → opens_under (under_host old) name result (under_host new) × Holds new) where
-  opens-under : (host : H) (names : List (Option Text)) (inputs : List I) (after : H) → Holds host → Opens opens host names inputs after → Opens opens_under (under_host host) names inputs (under_host after) × Holds after
+module _ {A J H P I : Type 0} (a : Programs A J) (opens : H → Option Text → Result I OpenFault → H → Type 0) (opens_under : P → Option Text
+    → Result I OpenFault → P → Type 0) (under_host : H → P) (Holds : H → Type 0)
+    (step : (old new : H) (name : Option Text) (result : Result I OpenFault) → Holds old → opens old name result new
+    → opens_under (under_host old) name result (under_host new) × Holds new) where
+  opens-under : (host : H) (names : List (Option Text)) (inputs : List I) (after : H) → Holds host → Opens opens host names inputs after
+      → Opens opens_under (under_host host) names inputs (under_host after) × Holds after
   opens-under host [] [] after holds o = (ap under_host o, subst Holds (sym o) holds)
   opens-under host [] (i ∷ inputs) after holds o = absurd o
   opens-under host (n ∷ names) [] after holds o = absurd o
@@ -41,9 +44,11 @@ module _ {A J H P I : Type 0} (a : Programs A J) (opens : H → Option Text → 
     words-under words out out' err err' status NoneKept (RunsOn.NoMatches why is only same answers) = (RunsOn.NoMatches why is only (ap under_host same) answers, subst Holds (sym same) holds)
 
     -- the same once the output was flushed
-    pub program-under : {W : Type 0} (device : W → Device) (flushes : W → Bool → W → Type 0) (KeptNone : W → Type 0) (words : List Text) (out : Device) (out' : W) (err err' : Device) (status : ℕ)
+    pub program-under : {W : Type 0} (device : W → Device) (flushes : W → Bool → W → Type 0) (KeptNone : W → Type 0) (words : List Text)
+        (out : Device) (out' : W) (err err' : Device) (status : ℕ)
         → Finishes a.name device flushes (λ now err_now n. RunsOn a words opens rest failures last_failed host host' out (device now) err err_now n (KeptNone now)) out' err' status
-        → Finishes a.name device flushes (λ now err_now n. RunsOn a words opens_under rest failures last_failed (under_host host) (under_host host') out (device now) err err_now n (KeptNone now)) out' err' status × Holds host'
+        → Finishes a.name device flushes (λ now err_now n. RunsOn a words opens_under rest failures last_failed (under_host host)
+        (under_host host') out (device now) err err_now n (KeptNone now)) out' err' status × Holds host'
     program-under device flushes KeptNone words out out' err err' status (Finishes.Flushed before left flushed held same) =
         let r = words-under words _ _ _ _ _ _ left in
         (Finishes.Flushed before r.0 flushed held same, r.1)

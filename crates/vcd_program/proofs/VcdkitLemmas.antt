@@ -38,7 +38,8 @@ command-refused : (words : Option Words) (f : model.UseFault) → job_of words �
 unfolding command_outcome
 command-refused words f e = rw (e, command_outcome) refl
 
-command-is : (words : Option Words) (want : Want) (limit : ℕ) (names : List Text) (inputs : List Input) → job_of words ≡ Ok (record { want = want; limit = limit }) → command_outcome words names inputs ≡ outcome want limit names inputs
+command-is : (words : Option Words) (want : Want) (limit : ℕ) (names : List Text) (inputs : List Input)
+    → job_of words ≡ Ok (record { want = want; limit = limit }) → command_outcome words names inputs ≡ outcome want limit names inputs
 unfolding command_outcome
 command-is words want limit names inputs e = rw (e, command_outcome) refl
 
@@ -55,11 +56,13 @@ refusal-is matches (use_fault.BadArgument first second) e = absurd e
 refusal-is matches use_fault.OutOfMemory e = tt
 
 -- the same of what a call returned
-pub asks-are : (matches : ArgMatches) (r : Result Job UseFault) → IfOk r (λ j. AsksFor matches j.task j.limit) → IfOk r (λ j. j.chunk ≡ 65536) → IfErr r (λ fault. IsFaultOf fault (job_asked matches)) → Asks matches r
+pub asks-are : (matches : ArgMatches) (r : Result Job UseFault) → IfOk r (λ j. AsksFor matches j.task j.limit) → IfOk r (λ j. j.chunk ≡ 65536)
+    → IfErr r (λ fault. IsFaultOf fault (job_asked matches)) → Asks matches r
 asks-are matches (Ok j) asks at fault = (asks, at)
 asks-are matches (Err f) asks at fault = fault
 
-pub refusals-are : (matches : ArgMatches) (r : Result Job UseFault) → IfErr r (λ fault. IsFaultOf fault (job_asked matches)) → IfErr r (λ fault. IsRefusal fault (outcome_of matches [] []) (use_outcome fault))
+pub refusals-are : (matches : ArgMatches) (r : Result Job UseFault) → IfErr r (λ fault. IsFaultOf fault (job_asked matches))
+    → IfErr r (λ fault. IsRefusal fault (outcome_of matches [] []) (use_outcome fault))
 refusals-are matches (Ok j) fault = tt
 refusals-are matches (Err f) fault = refusal-is matches f fault
 
@@ -92,7 +95,8 @@ refusal-low use_fault.OutOfMemory = omega arith
 -- ---- the inputs
 
 -- the names of the inputs of a job are those that its matches name
-pub inputs-are : (matches : ArgMatches) (j : Job) (names : List (Option Text)) (merge : Bool) → Asks matches (Ok j) → merge ≡ is_merge j.task → names ≡ inputs_for merge matches → names ≡ inputs_asked matches
+pub inputs-are : (matches : ArgMatches) (j : Job) (names : List (Option Text)) (merge : Bool) → Asks matches (Ok j) → merge ≡ is_merge j.task
+    → names ≡ inputs_for merge matches → names ≡ inputs_asked matches
 inputs-are matches j names merge asks is e = e ∙ ap (λ m. inputs_for m matches) (is ∙ merge-same j.task) ∙ (asked-is matches (model_want j.task) j.limit asks.0).0
 
 -- they are as many as the job takes
@@ -120,26 +124,34 @@ module _ (matches : ArgMatches) (j : Job) (asks : Asks matches (Ok j)) (names : 
 -- ---- a job
 
 -- inputs that were read as much as settles them are what is left of their texts
-are-left : (settled : ℕ → List Token → Bool) (limit chunk : ℕ) (earlier : List Header) (texts : List Text) (old new : List Supply) (inputs : List Input) → AreRead settled limit chunk earlier texts old new inputs → AreLeft texts old new inputs
+are-left : (settled : ℕ → List Token → Bool) (limit chunk : ℕ) (earlier : List Header) (texts : List Text) (old new : List Supply)
+    (inputs : List Input) → AreRead settled limit chunk earlier texts old new inputs → AreLeft texts old new inputs
 are-left settled limit chunk earlier [] old new inputs r = r
 are-left settled limit chunk earlier (t ∷ texts) [] new inputs r = absurd r
 are-left settled limit chunk earlier (t ∷ texts) (s ∷ old) [] inputs r = absurd r
 are-left settled limit chunk earlier (t ∷ texts) (s ∷ old) (u ∷ new) [] r = absurd r
-are-left settled limit chunk earlier (t ∷ texts) (s ∷ old) (u ∷ new) (i ∷ inputs) r = (r.0, are-left settled limit chunk (earlier ++ header_behind earlier limit i ∷ []) texts old new inputs r.2)
+are-left settled limit chunk earlier (t ∷ texts) (s ∷ old) (u ∷ new) (i ∷ inputs) r =
+    (r.0, are-left settled limit chunk (earlier ++ header_behind earlier limit i ∷ []) texts old new inputs r.2)
 
 -- a job ends so, by the names that have to select something
-pub ends-by : (j : Job) (names : List Text) (before after : List ℕ) (last_failed : List Bool) (out out' err err' : Device) (status : ℕ) → EndsAsked (names_asked j.task) names before after last_failed out out' err err' status → EndsSo j names before after last_failed out out' err err' status
+pub ends-by : (j : Job) (names : List Text) (before after : List ℕ) (last_failed : List Bool) (out out' err err' : Device) (status : ℕ)
+    → EndsAsked (names_asked j.task) names before after last_failed out out' err err' status
+    → EndsSo j names before after last_failed out out' err err' status
 ends-by j names before after last_failed out out' err err' status ends = subst (λ l. EndsAsked l names before after last_failed out out' err err' status) (names-same j.task) ends
 
 -- a job that was run leaves what is due
 module _ (want : Want) (limit : ℕ) (names texts : List Text) (old new : List Supply) (out out' err err' : Device) (status : ℕ) where
   leaves-of : (words : Option Words) → job_of words ≡ Ok (record { want = want; limit = limit }) → HasRun want limit 65536 names texts old new out out' err err' status
-      → Leaves program_name (λ inputs. command_outcome words names inputs) (λ ended texts old new inputs out out'. WereRead want limit ended texts old new inputs out out') texts old new out out' err err' status
+      → Leaves program_name (λ inputs. command_outcome words names inputs)
+      (λ ended texts old new inputs out out'. WereRead want limit ended texts old new inputs out out') texts old new out out' err err' status
   leaves-of words e (HasRun.WithOutcome inputs read needed turns left) =
-      Leaves.WithOutcome inputs (are-left (is_settled want) limit 65536 [] texts old new inputs read) (record { read = read; needed = needed; in_turn = turns }) (subst (λ o. IsOutcome program_name o out out' err err' status) (sym (command-is words want limit names inputs e)) left)
+      Leaves.WithOutcome inputs (are-left (is_settled want) limit 65536 [] texts old new inputs read)
+      (record { read = read; needed = needed; in_turn = turns }) (subst (λ o. IsOutcome program_name o out out' err err' status)
+      (sym (command-is words want limit names inputs e)) left)
   leaves-of words e (HasRun.NoMemory inputs read needed turns same written shown status_is) =
       Leaves.NoMemory inputs (are-left is_header_over limit 65536 [] texts old new inputs read) (record { read = read; needed = needed; in_turn = turns }) same (written, shown, status_is)
 
-  pub leaves-by : (chunk : ℕ) (matches : ArgMatches) → chunk ≡ 65536 → job_of (words_used matches) ≡ Ok (record { want = want; limit = limit }) → HasRun want limit chunk names texts old new out out' err err' status
+  pub leaves-by : (chunk : ℕ) (matches : ArgMatches) → chunk ≡ 65536 → job_of (words_used matches) ≡ Ok (record { want = want; limit = limit })
+      → HasRun want limit chunk names texts old new out out' err err' status
       → Leaves program_name (outcome_of matches names) (λ ended texts old new inputs out out'. WereRead want limit ended texts old new inputs out out') texts old new out out' err err' status
   leaves-by chunk matches at e has = leaves-of (words_used matches) e (subst (λ c. HasRun want limit c names texts old new out out' err err' status) at has)

@@ -50,12 +50,20 @@ AreLeft (text ∷ texts) (s ∷ old) (t ∷ new) (i ∷ inputs) = IsLeft (whole 
 -- Over readers with these texts, of the program of this name: the outcome that is due for what is left of each; or nothing if
 -- memory ran out, and then no read failed. `Reads` says how far they were read and when, for an
 -- outcome and if memory ran out.
-pub data Leaves (program : Text) (due : List Input → Outcome) (Reads : (ended : Bool) → (texts : List Text) → (old new : List Supply) → List Input → (out out' : Device) → Type 0) (texts : List Text) (old new : List Supply) (out out' err err' : Device) (status : ℕ) : Type 0 where
-  WithOutcome : (inputs : List Input) (left : AreLeft texts old new inputs) (read : Reads true texts old new inputs out out') (leaves : IsOutcome program (due inputs) out out' err err' status) → Leaves program due Reads texts old new out out' err err' status
-  NoMemory : (inputs : List Input) (left : AreLeft texts old new inputs) (read : Reads false texts old new inputs out out') (same : NoneFailed old new) (fails : Fails program (codes "out of memory") out out' err err' status) → Leaves program due Reads texts old new out out' err err' status
+pub data Leaves (program : Text) (due : List Input → Outcome) (Reads : (ended : Bool) → (texts : List Text) → (old new : List Supply) → List Input
+    → (out out' : Device) → Type 0) (texts : List Text) (old new : List Supply) (out out' err err' : Device) (status : ℕ) : Type 0 where
+  WithOutcome : (inputs : List Input) (left : AreLeft texts old new inputs) (read : Reads true texts old new inputs out out')
+      (leaves : IsOutcome program (due inputs) out out' err err' status) → Leaves program due Reads texts old new out out' err err' status
+  NoMemory : (inputs : List Input) (left : AreLeft texts old new inputs) (read : Reads false texts old new inputs out out')
+      (same : NoneFailed old new) (fails : Fails program (codes "out of memory") out out' err err' status)
+      → Leaves program due Reads texts old new out out' err err' status
 
 -- the same for any matches that ask for the job, as far as readers and sinks describe themselves
-abbrev pub LeavesOf : {J X W E : Type 0} → (program : Text) → (asks : ArgMatches → Result J UseFault → Type 0) → (outcome : ArgMatches → List Text → List Input → Outcome) → (reads : J → Bool → List Text → (old new : List Supply) → List Input → (out out' : Device) → Type 0)
+abbrev pub LeavesOf : {J X W E : Type 0} → (program : Text) → (asks : ArgMatches → Result J UseFault → Type 0)
+    → (outcome : ArgMatches → List Text → List Input → Outcome) → (reads : J → Bool → List Text → (old new : List Supply) → List Input
+    → (out out' : Device) → Type 0)
     → Sources X → Sinks W → Sinks E → J → (names : List Text) → (old new : List X) → (out out' : W) → (err err' : E) → ℕ → Type 0
-LeavesOf program asks outcome reads s w e job names old new out out' err err' status = (matches : ArgMatches) → asks matches (Ok job) → (texts : List Text) → map s.rest old ≡ map (λ text. Some text) texts
-    → Leaves program (outcome matches names) (reads job) texts (map (supply s.rest s.failures) old) (map (supply s.rest s.failures) new) (w.device out) (w.device out') (e.device err) (e.device err') status
+LeavesOf program asks outcome reads s w e job names old new out out' err err' status = (matches : ArgMatches) → asks matches (Ok job)
+    → (texts : List Text) → map s.rest old ≡ map (λ text. Some text) texts
+    → Leaves program (outcome matches names) (reads job) texts (map (supply s.rest s.failures) old) (map (supply s.rest s.failures) new)
+    (w.device out) (w.device out') (e.device err) (e.device err') status

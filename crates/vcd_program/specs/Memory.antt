@@ -95,9 +95,13 @@ HaveTexts files input names texts = map (λ name. bytes_among files input name) 
 -- all there the outcome of the words and of their bytes. If the words ask for no job, nothing was
 -- opened; if a file is not there, those before it were.
 pub data IsLeftOf {P J : Type 0} (p : Ghosts P J) (matches : ArgMatches) (files : List MemoryFile) (input : Text) (left : End) : Type 0 where
-  Refused : (fault : UseFault) (is : p.asks matches (Err fault)) (of_words : fault ≢ use_fault.OutOfMemory) (leaves : IsLeft p.name left [] (p.outcome matches [] [])) → IsLeftOf p matches files input left
-  Ran : (job : J) (is : p.asks matches (Ok job)) (texts : List Text) (have : HaveTexts files input (p.inputs matches) texts) (leaves : IsLeft p.name left (p.inputs matches) (p.outcome matches (map called (p.inputs matches)) (map whole texts))) → IsLeftOf p matches files input left
-  Stopped : (job : J) (is : p.asks matches (Ok job)) (before after : List (Option Text)) (name : Option Text) (order : p.inputs matches ≡ before ++ name ∷ after) (texts : List Text) (have : HaveTexts files input before texts)
+  Refused : (fault : UseFault) (is : p.asks matches (Err fault)) (of_words : fault ≢ use_fault.OutOfMemory)
+      (leaves : IsLeft p.name left [] (p.outcome matches [] [])) → IsLeftOf p matches files input left
+  Ran : (job : J) (is : p.asks matches (Ok job)) (texts : List Text) (have : HaveTexts files input (p.inputs matches) texts)
+      (leaves : IsLeft p.name left (p.inputs matches) (p.outcome matches (map called (p.inputs matches)) (map whole texts)))
+      → IsLeftOf p matches files input left
+  Stopped : (job : J) (is : p.asks matches (Ok job)) (before after : List (Option Text)) (name : Option Text)
+      (order : p.inputs matches ≡ before ++ name ∷ after) (texts : List Text) (have : HaveTexts files input before texts)
       (missing : bytes_among files input name ≡ None) (leaves : IsLeft p.name left (before ++ name ∷ []) (unopened_outcome (called name))) → IsLeftOf p matches files input left
 
 -- memory ran out: no output, and a line
@@ -109,7 +113,8 @@ pub record IsOutOfMemory (program : Text) (left : End) : Type 0 where
 -- what is left of any words, the program's name first
 pub data IsLeftBy {P J : Type 0} (p : Ghosts P J) (words : List Text) (files : List MemoryFile) (input : Text) (left : End) : Type 0 where
   Parsed : (matches : ArgMatches) (is : HasMatchesOf p.app words matches) (leaves : IsLeftOf p matches files input left) → IsLeftBy p words files input left
-  NoMatches : (why : ErrorKind) (is : (why ≡ kind.OutOfMemory) ⊎ IsAmong why (fault_of p.app words)) (only : takes p.app words ≡ true → why ≡ kind.OutOfMemory) (other : why ≢ kind.OutOfMemory) (text : Text)
+  NoMatches : (why : ErrorKind) (is : (why ≡ kind.OutOfMemory) ⊎ IsAmong why (fault_of p.app words)) (only : takes p.app words ≡ true
+      → why ≡ kind.OutOfMemory) (other : why ≢ kind.OutOfMemory) (text : Text)
       (leaves : IsAnswered left why text) → IsLeftBy p words files input left
   NoMemory : (fails : IsOutOfMemory p.name left) → IsLeftBy p words files input left
 

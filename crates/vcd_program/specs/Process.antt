@@ -32,7 +32,8 @@ read_as false stream = Refused
 
 -- What is opened in a process that was `old` and is `new`: the file of this name if there is a
 -- name, otherwise standard input. That is one call, since nothing else can change a process.
-abbrev pub OpensInput : {P F I : Type 0} → (P → List ℕ → Result F Error → P → Type 0) → (P → I → P → Type 0) → (seeded : Bool) → (old : P) → Option (List ℕ) → Result (Watch (Stream F I)) OpenFault → (new : P) → Type 0
+abbrev pub OpensInput : {P F I : Type 0} → (P → List ℕ → Result F Error → P → Type 0) → (P → I → P → Type 0) → (seeded : Bool) → (old : P)
+    → Option (List ℕ) → Result (Watch (Stream F I)) OpenFault → (new : P) → Type 0
 OpensInput opens gives seeded old None (Ok watch) new = (input : _) × gives old input new × (watch.device ≡ read_as seeded (Input (record { device = input })))
 OpensInput opens gives seeded old None (Err fault) new = ⊥
 OpensInput opens gives seeded old (Some name) (Ok watch) new = (file : _) × opens old name (Ok file) new × (watch.device ≡ read_as seeded (File (record { device = file })))
@@ -44,5 +45,6 @@ abbrev pub IsHostOf : {P : Type 0} → (ghost_name : ℕ) → (seeded : Bool) �
 IsHostOf ghost_name seeded host = (host.process.ghost_name ≡ ghost_name) × (host.is_seeded ≡ seeded)
 
 -- an input is opened in the process of a host
-abbrev pub OpensOn : {P F I : Type 0} → (P → List ℕ → Result F Error → P → Type 0) → (P → I → P → Type 0) → ProcessHost P → Option (List ℕ) → Result (Watch (Stream F I)) OpenFault → ProcessHost P → Type 0
+abbrev pub OpensOn : {P F I : Type 0} → (P → List ℕ → Result F Error → P → Type 0) → (P → I → P → Type 0) → ProcessHost P → Option (List ℕ)
+    → Result (Watch (Stream F I)) OpenFault → ProcessHost P → Type 0
 OpensOn opens gives old name result new = OpensInput opens gives old.is_seeded old.process.now name result new.process.now × IsHostOf old.process.ghost_name old.is_seeded new

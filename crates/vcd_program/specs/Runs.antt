@@ -29,9 +29,13 @@ HasJob {J = J} p matches = ((job : J) × p.asks matches (Ok job)) ⊎ p.asks mat
 
 -- What a program leaves of these matches, before it flushes. `NoneKept` says that the output keeps
 -- nothing back.
-pub data Runs {P J H I : Type 0} (p : Ghosts P J) (opens : H → Option Text → Result I OpenFault → H → Type 0) (rest : I → Option (List ℕ)) (failures : I → ℕ) (last_failed : I → Bool) (matches : ArgMatches) (host host' : H) (out out' err err' : Device) (status : ℕ) (NoneKept : Type 0) : Type 0 where
+pub data Runs {P J H I : Type 0} (p : Ghosts P J) (opens : H → Option Text → Result I OpenFault → H → Type 0) (rest : I → Option (List ℕ))
+    (failures : I → ℕ) (last_failed : I → Bool) (matches : ArgMatches) (host host' : H) (out out' err err' : Device) (status : ℕ)
+    (NoneKept : Type 0) : Type 0 where
   -- the words ask for no job: no input is opened
-  Refused : (fault : UseFault) (is : p.asks matches (Err fault)) (of_words : fault ≢ OutOfMemory) (same : host' ≡ host) (leaves : IsOutcome p.name (p.outcome matches [] []) out out' err err' status) → Runs p opens rest failures last_failed matches host host' out out' err err' status NoneKept
+  Refused : (fault : UseFault) (is : p.asks matches (Err fault)) (of_words : fault ≢ OutOfMemory) (same : host' ≡ host)
+      (leaves : IsOutcome p.name (p.outcome matches [] []) out out' err err' status)
+      → Runs p opens rest failures last_failed matches host host' out out' err err' status NoneKept
   -- all inputs were opened, and the job was run over them: it leaves the outcome of the words; if a
   -- read failed, the output keeps nothing back
   Ran : (job : J) (is : p.asks matches (Ok job)) (readers after : List I) (opened : Opens opens host (p.inputs matches) readers host')
@@ -41,10 +45,13 @@ pub data Runs {P J H I : Type 0} (p : Ghosts P J) (opens : H → Option Text →
       (passed_on : map failures after ≢ map failures readers → NoneKept)
       → Runs p opens rest failures last_failed matches host host' out out' err err' status NoneKept
   -- one of them cannot be opened
-  Stopped : (job : J) (is : p.asks matches (Ok job)) (name : Option Text) (opened : OpensUpTo opens (p.inputs matches) name host host') (leaves : IsOutcome p.name (unopened_outcome (called name)) out out' err err' status)
+  Stopped : (job : J) (is : p.asks matches (Ok job)) (name : Option Text) (opened : OpensUpTo opens (p.inputs matches) name host host')
+      (leaves : IsOutcome p.name (unopened_outcome (called name)) out out' err err' status)
       → Runs p opens rest failures last_failed matches host host' out out' err err' status NoneKept
   -- memory ran out before the job was run
-  NoMemory : (is : HasJob p matches) (opened : OpensSome opens (p.inputs matches) host host') (fails : Fails p.name (codes "out of memory") out out' err err' status) → Runs p opens rest failures last_failed matches host host' out out' err err' status NoneKept
+  NoMemory : (is : HasJob p matches) (opened : OpensSome opens (p.inputs matches) host host')
+      (fails : Fails p.name (codes "out of memory") out out' err err' status)
+      → Runs p opens rest failures last_failed matches host host' out out' err err' status NoneKept
 
 -- ---- what any words leave
 
@@ -57,12 +64,17 @@ IsAnswer program why text out out' err err' status = ((parse_status_of why ≡ 0
 -- Such an answer, which is none of memory; or memory ran out, while words were parsed or for the
 -- text of the answer, and the line says so.
 abbrev pub Answers : (program : Text) → ErrorKind → (out out' err err' : Device) → ℕ → Type 0
-Answers program why out out' err err' status = ((why ≢ kind.OutOfMemory) × (text : Text) × IsAnswer program why text out out' err err' status) ⊎ Fails program (codes "out of memory") out out' err err' status
+Answers program why out out' err err' status = ((why ≢ kind.OutOfMemory) × (text : Text) × IsAnswer program why text out out' err err' status)
+    ⊎ Fails program (codes "out of memory") out out' err err' status
 
 -- what a program leaves that is run on these words, its name first, before it flushes
-pub data RunsOn {P J H I : Type 0} (p : Ghosts P J) (words : List Text) (opens : H → Option Text → Result I OpenFault → H → Type 0) (rest : I → Option (List ℕ)) (failures : I → ℕ) (last_failed : I → Bool) (host host' : H) (out out' err err' : Device) (status : ℕ) (NoneKept : Type 0) : Type 0 where
+pub data RunsOn {P J H I : Type 0} (p : Ghosts P J) (words : List Text) (opens : H → Option Text → Result I OpenFault → H → Type 0) (rest : I
+    → Option (List ℕ)) (failures : I → ℕ) (last_failed : I → Bool) (host host' : H) (out out' err err' : Device) (status : ℕ)
+    (NoneKept : Type 0) : Type 0 where
   -- what their matches ask for
-  Parsed : (matches : ArgMatches) (is : HasMatchesOf p.app words matches) (runs : Runs p opens rest failures last_failed matches host host' out out' err err' status NoneKept) → RunsOn p words opens rest failures last_failed host host' out out' err err' status NoneKept
+  Parsed : (matches : ArgMatches) (is : HasMatchesOf p.app words matches)
+      (runs : Runs p opens rest failures last_failed matches host host' out out' err err' status NoneKept)
+      → RunsOn p words opens rest failures last_failed host host' out out' err err' status NoneKept
   -- they have no matches, for the reason that the command line has for them: no input is opened
   NoMatches : (why : ErrorKind) (is : (why ≡ kind.OutOfMemory) ⊎ IsAmong why (fault_of p.app words)) (only : takes p.app words ≡ true → why ≡ kind.OutOfMemory) (same : host' ≡ host)
       (answers : Answers p.name why out out' err err' status) → RunsOn p words opens rest failures last_failed host host' out out' err err' status NoneKept
@@ -73,20 +85,28 @@ pub data RunsOn {P J H I : Type 0} (p : Ghosts P J) (words : List Text) (opens :
 abbrev pub KeepsNoneBack : {W : Type 0} → (kept_back : W → ℕ) → W → W → Type 0
 KeepsNoneBack kept_back out out' = kept_back out ≡ 0 → kept_back out' ≡ 0
 
-abbrev pub RunsMatches : {P J H I W E : Type 0} → Ghosts P J → (H → Option Text → Result I OpenFault → H → Type 0) → Sources I → Sinks W → Sinks E → ArgMatches → (host host' : H) → (out out' : W) → (err err' : E) → ℕ → Type 0
-RunsMatches p opens s w e matches host host' out out' err err' status = Runs p opens s.rest s.failures s.last_failed matches host host' (w.device out) (w.device out') (e.device err) (e.device err') status (KeepsNoneBack w.kept_back out out')
+abbrev pub RunsMatches : {P J H I W E : Type 0} → Ghosts P J → (H → Option Text → Result I OpenFault → H → Type 0) → Sources I → Sinks W → Sinks E
+    → ArgMatches → (host host' : H) → (out out' : W) → (err err' : E) → ℕ → Type 0
+RunsMatches p opens s w e matches host host' out out' err err' status = Runs p opens s.rest s.failures s.last_failed matches host host'
+    (w.device out) (w.device out') (e.device err) (e.device err') status (KeepsNoneBack w.kept_back out out')
 
-abbrev pub RunsWords : {P J H I W E : Type 0} → Ghosts P J → List Text → (H → Option Text → Result I OpenFault → H → Type 0) → Sources I → Sinks W → Sinks E → (host host' : H) → (out out' : W) → (err err' : E) → ℕ → Type 0
-RunsWords p words opens s w e host host' out out' err err' status = RunsOn p words opens s.rest s.failures s.last_failed host host' (w.device out) (w.device out') (e.device err) (e.device err') status (KeepsNoneBack w.kept_back out out')
+abbrev pub RunsWords : {P J H I W E : Type 0} → Ghosts P J → List Text → (H → Option Text → Result I OpenFault → H → Type 0) → Sources I → Sinks W
+    → Sinks E → (host host' : H) → (out out' : W) → (err err' : E) → ℕ → Type 0
+RunsWords p words opens s w e host host' out out' err err' status = RunsOn p words opens s.rest s.failures s.last_failed host host' (w.device out)
+    (w.device out') (e.device err) (e.device err') status (KeepsNoneBack w.kept_back out out')
 
 -- ---- what is left in the end
 
 -- What is left once the output `before`, with this left in it, was flushed: all of that; if the
 -- flush failed, its line is said, unless the machine's fault was said already.
-pub data Finishes {W : Type 0} (program : Text) (device : W → Device) (flushes : W → Bool → W → Type 0) (Left : (out : W) → (err : Device) → ℕ → Type 0) (out' : W) (err' : Device) (status : ℕ) : Type 0 where
-  Flushed : (before : W) (left : Left before err' status) (flushed : flushes before true out') (held : Keeps (device before).held (device out').held) (same : (device out').failures ≡ (device before).failures)
+pub data Finishes {W : Type 0} (program : Text) (device : W → Device) (flushes : W → Bool → W → Type 0) (Left : (out : W) → (err : Device) → ℕ
+    → Type 0) (out' : W) (err' : Device) (status : ℕ) : Type 0 where
+  Flushed : (before : W) (left : Left before err' status) (flushed : flushes before true out') (held : Keeps (device before).held (device out').held)
+      (same : (device out').failures ≡ (device before).failures)
       → Finishes program device flushes Left out' err' status
-  Failed : (before : W) (left : Left before err' status) (machine : 3 ≤ status) (fails : flushes before false out') (held : Keeps (device before).held (device out').held) (same : (device out').failures ≡ (device before).failures)
+  Failed : (before : W) (left : Left before err' status) (machine : 3 ≤ status) (fails : flushes before false out')
+      (held : Keeps (device before).held (device out').held) (same : (device out').failures ≡ (device before).failures)
       → Finishes program device flushes Left out' err' status
   Unflushed : (before : W) (shown : Device) (was : ℕ) (left : Left before shown was) (below : was < 3) (fails : flushes before false out') (held : Keeps (device before).held (device out').held)
-      (same : (device out').failures ≡ (device before).failures) (then : Tells program shown err' (codes "write failed")) (status_is : status ≡ 3) → Finishes program device flushes Left out' err' status
+      (same : (device out').failures ≡ (device before).failures) (then : Tells program shown err' (codes "write failed")) (status_is : status ≡ 3)
+      → Finishes program device flushes Left out' err' status

@@ -33,13 +33,17 @@ module _ (line : Line) (text : Text) (named : text ≡ string_bytes line.text) (
   pub line-written : Writes out out' (as_line text) → IsOutcome echo_name (clean_outcome (as_line (string_bytes line.text))) out out' err err 0
   line-written written = Whole (subst (λ t. Writes out out' (as_line t)) named written) (inl (appends-none err.held, refl)) refl
 
-  pub line-failed : (status : ℕ) → WritesSome out out' (as_line text) → Tells echo_name err err' (codes "write failed") → status ≡ 3 → IsOutcome echo_name (clean_outcome (as_line (string_bytes line.text))) out out' err err' status
+  pub line-failed : (status : ℕ) → WritesSome out out' (as_line text) → Tells echo_name err err' (codes "write failed") → status ≡ 3
+      → IsOutcome echo_name (clean_outcome (as_line (string_bytes line.text))) out out' err err' status
   line-failed status written shown is = Part (subst (λ t. WritesSome out out' (as_line t)) named written) shown is
 
 -- the line is the outcome, over no inputs
-pub leaves-line : {X : Type 0} (rest : X → Option (List ℕ)) (failures : X → ℕ) (line : Line) (names : List Text) (readers : List X) (matches : ArgMatches) (texts : List Text) (out out' err err' : Device) (status : ℕ) → names ≡ [] → length names ≡ length readers → Asks matches (Ok line)
+pub leaves-line : {X : Type 0} (rest : X → Option (List ℕ)) (failures : X → ℕ) (line : Line) (names : List Text) (readers : List X)
+    (matches : ArgMatches) (texts : List Text) (out out' err err' : Device) (status : ℕ) → names ≡ [] → length names ≡ length readers
+    → Asks matches (Ok line)
     → map rest readers ≡ map (λ text. Some text) texts → IsOutcome echo_name (clean_outcome (as_line (string_bytes line.text))) out out' err err' status
-    → Leaves echo_name (λ _. outcome_of (word_of matches)) (λ _ _ _ _ inputs _ _. inputs ≡ []) texts (map (supply rest failures) readers) (map (supply rest failures) readers) out out' err err' status
+    → Leaves echo_name (λ _. outcome_of (word_of matches)) (λ _ _ _ _ inputs _ _. inputs ≡ []) texts (map (supply rest failures) readers)
+    (map (supply rest failures) readers) out out' err err' status
 leaves-line rest failures line names readers matches texts out out' err err' status none many asks have left = by_readers readers texts (sym many ∙ ap length none) have
   where
     said : IsOutcome echo_name (outcome_of (word_of matches)) out out' err err' status

@@ -53,7 +53,8 @@ one-input settled limit text s t [] read = absurd read
 one-input settled limit text s t (i ∷ inputs) read = (i, ap (λ l. i ∷ l) read.2, read.0, read.1)
 
 module _ (limit : ℕ) (texts : List Text) (s t : Supply) (i : Input) (out out' : Device) where
-  keeps-up : (want : Want) (inputs : List Input) → is_merge want ≡ false → inputs ≡ i ∷ [] → AreInTurn want limit 65536 texts (s ∷ []) (t ∷ []) inputs out out' → KeepsUp (due want declarations_allowed) limit 65536 i [] s t out out'
+  keeps-up : (want : Want) (inputs : List Input) → is_merge want ≡ false → inputs ≡ i ∷ []
+      → AreInTurn want limit 65536 texts (s ∷ []) (t ∷ []) inputs out out' → KeepsUp (due want declarations_allowed) limit 65536 i [] s t out out'
   keeps-up Want.Check inputs single is turns = turns s t i refl refl is
   keeps-up Want.Listing inputs single is turns = turns s t i refl refl is
   keeps-up (Want.Pick names) inputs single is turns = turns s t i refl refl is
@@ -62,17 +63,21 @@ module _ (limit : ℕ) (texts : List Text) (s t : Supply) (i : Input) (out out' 
   keeps-up (Want.Edges names) inputs single is turns = turns s t i refl refl is
   keeps-up Want.Merge inputs single is turns = absurd cc
 
-on-turn : (limit : ℕ) (lanes : List Lane) (old new : List Supply) (lefts : List Input) (out out' : Device) → AreReadOnTurn limit 65536 (headers_in lanes) lanes old new lefts out out' → AreOnTurn limit lanes old new lefts out out'
+on-turn : (limit : ℕ) (lanes : List Lane) (old new : List Supply) (lefts : List Input) (out out' : Device)
+    → AreReadOnTurn limit 65536 (headers_in lanes) lanes old new lefts out out' → AreOnTurn limit lanes old new lefts out out'
 on-turn limit lanes old new lefts out out' (AreReadOnTurn.Unread same) = inl same
 on-turn limit lanes old new lefts out out' (AreReadOnTurn.OnTurn merged headers begins more written each) =
     inr (merged, headers, begins, more, written, λ k l s t i is_l is_s is_t is_i. elim (each k l s t i is_l is_s is_t is_i) [ inl same ↦ inl same | inr r ↦ inr (r.items, r.first, r.no_more) ])
 
 -- what the program leaves of this job over inputs with these texts
 abbrev LeavesOver : (want : Want) (limit : ℕ) → (List Input → Outcome) → (texts : List Text) → (old new : List Supply) → (out out' err err' : Device) → (status : ℕ) → Type 0
-LeavesOver want limit due_of texts old new out out' err err' status = Leaves program_name due_of (λ ended texts old new inputs out out'. WereRead want limit ended texts old new inputs out out') texts old new out out' err err' status
+LeavesOver want limit due_of texts old new out out' err err' status = Leaves program_name due_of
+    (λ ended texts old new inputs out out'. WereRead want limit ended texts old new inputs out out') texts old new out out' err err' status
 
 module _ (limit : ℕ) (due_of : List Input → Outcome) (out out' err err' : Device) (status : ℕ) where
-  over-one : (want : Want) (text : Text) (s t : Supply) → is_merge want ≡ false → LeavesOver want limit due_of (text ∷ []) (s ∷ []) (t ∷ []) out out' err err' status → OverOne want limit due_of out out' err err' status text s t
+  over-one : (want : Want) (text : Text) (s t : Supply) → is_merge want ≡ false
+      → LeavesOver want limit due_of (text ∷ []) (s ∷ []) (t ∷ []) out out' err err' status
+      → OverOne want limit due_of out out' err err' status text s t
   over-one want text s t single (Leaves.WithOutcome inputs lefts read leaves) =
       let one = one-input (is_settled want) limit text s t inputs read.read in
       let kept = keeps-up limit (text ∷ []) s t one.0 out out' want inputs single one.1 read.in_turn in
@@ -97,14 +102,23 @@ module _ (limit : ℕ) (due_of : List Input → Outcome) (out out' err err' : De
       }
 
   merged-in-turn : (texts : List Text) (old new : List Supply) (inputs : List Input) → AreMergedInTurn limit 65536 texts old new inputs out out'
-      → ((why : _) × Stops limit 65536 0 [] texts old new why) ⊎ ((lanes : List Lane) × (mid : List Supply) × AreBegun limit 65536 [] texts old mid lanes × AreOnTurn limit lanes mid new inputs out out')
+      → ((why : _) × Stops limit 65536 0 [] texts old new why) ⊎ ((lanes : List Lane) × (mid : List Supply)
+      × AreBegun limit 65536 [] texts old mid lanes × AreOnTurn limit lanes mid new inputs out out')
   merged-in-turn texts old new inputs (AreMergedInTurn.InHeaders why stops) = inl (why, stops)
   merged-in-turn texts old new inputs (AreMergedInTurn.InBodies lanes mid begun bodies) = inr (lanes, mid, begun, on-turn limit lanes mid new inputs out out' bodies)
 
-  over-many : (want : Want) (texts : List Text) (old new : List Supply) → is_merge want ≡ true → LeavesOver want limit due_of texts old new out out' err err' status → OverMany limit due_of out out' err err' status texts old new
+  over-many : (want : Want) (texts : List Text) (old new : List Supply) → is_merge want ≡ true
+      → LeavesOver want limit due_of texts old new out out' err err' status → OverMany limit due_of out out' err err' status texts old new
   over-many Want.Merge texts old new merges (Leaves.WithOutcome inputs lefts read leaves) =
       record { lefts = inputs; needed = read.needed; on_turn = merged-in-turn texts old new inputs read.in_turn; ends = inl (ends-with _ out out' err err' status leaves, read.read) }
-  over-many Want.Merge texts old new merges (Leaves.NoMemory inputs lefts read same fails) = record { lefts = inputs; needed = read.needed; on_turn = merged-in-turn texts old new inputs read.in_turn; ends = inr (fails, read.read, same) }
+  over-many Want.Merge texts old new merges (Leaves.NoMemory inputs lefts read same fails)
+      = record {
+        lefts = inputs;
+        needed = read.needed;
+        on_turn = merged-in-turn texts old new inputs read.in_turn;
+        ends = inr
+            (fails, read.read, same);
+      }
   over-many Want.Check texts old new merges leaves = absurd cc
   over-many Want.Listing texts old new merges leaves = absurd cc
   over-many (Want.Pick names) texts old new merges leaves = absurd cc
@@ -112,10 +126,13 @@ module _ (limit : ℕ) (due_of : List Input → Outcome) (out out' err err' : De
   over-many (Want.Sample times names) texts old new merges leaves = absurd cc
   over-many (Want.Edges names) texts old new merges leaves = absurd cc
 
-  over-of : (want : Want) (texts : List Text) (old new : List Supply) → LeavesOver want limit due_of texts old new out out' err err' status → Over want limit due_of out out' err err' status texts old new
+  over-of : (want : Want) (texts : List Text) (old new : List Supply) → LeavesOver want limit due_of texts old new out out' err err' status
+      → Over want limit due_of out out' err err' status texts old new
   over-of want texts old new leaves = record {
     one = λ single text s t is_text is_old is_new.
-        over-one want text s t single (subst (λ l. LeavesOver want limit due_of (text ∷ []) (s ∷ []) l out out' err err' status) is_new (subst (λ l. LeavesOver want limit due_of (text ∷ []) l new out out' err err' status) is_old (subst (λ l. LeavesOver want limit due_of l old new out out' err err' status) is_text leaves)));
+        over-one want text s t single (subst (λ l. LeavesOver want limit due_of (text ∷ []) (s ∷ []) l out out' err err' status) is_new
+        (subst (λ l. LeavesOver want limit due_of (text ∷ []) l new out out' err err' status) is_old
+        (subst (λ l. LeavesOver want limit due_of l old new out out' err err' status) is_text leaves)));
     many = λ merges. over-many want texts old new merges leaves;
   }
 
@@ -137,31 +154,49 @@ same-map f g same [] = refl
 same-map f g same (x ∷ xs) = ap (λ y. y ∷ map f xs) (same x) ∙ ap (λ l. g x ∷ l) (same-map f g same xs)
 
 -- `rest` says the same as `rest_now`
-module _ {H I : Type 0} (words : List Text) (opens : H → Option Text → Result I OpenFault → H → Type 0) (rest rest_now : I → Option (List ℕ)) (same : (x : I) → rest x ≡ rest_now x) (failures : I → ℕ)
+module _ {H I : Type 0} (words : List Text) (opens : H → Option Text → Result I OpenFault → H → Type 0) (rest rest_now : I → Option (List ℕ))
+    (same : (x : I) → rest x ≡ rest_now x) (failures : I → ℕ)
     (out out' err err' : Device) (status : ℕ) where
-  over-now : (limit : ℕ) (due_of : List Input → Outcome) (want : Want) (readers after : List I) (texts : List Text) → (map rest readers ≡ map (λ text. Some text) texts → LeavesOver want limit due_of texts (map (supply rest failures) readers) (map (supply rest failures) after) out out' err err' status)
-      → map rest_now readers ≡ map (λ text. Some text) texts → Over want limit due_of out out' err err' status texts (map (supply rest_now failures) readers) (map (supply rest_now failures) after)
+  over-now : (limit : ℕ) (due_of : List Input → Outcome) (want : Want) (readers after : List I) (texts : List Text)
+      → (map rest readers ≡ map (λ text. Some text) texts → LeavesOver want limit due_of texts (map (supply rest failures) readers)
+      (map (supply rest failures) after) out out' err err' status)
+      → map rest_now readers ≡ map (λ text. Some text) texts → Over want limit due_of out out' err err' status texts
+      (map (supply rest_now failures) readers) (map (supply rest_now failures) after)
   over-now limit due_of want readers after texts leaves have =
       let supplies = same-map (supply rest failures) (supply rest_now failures) (λ x. ap (λ r. record { rest = r; failures = failures x }) (same x)) in
       over-of limit due_of out out' err err' status want texts _ _
       (subst (λ l. LeavesOver want limit due_of texts (map (supply rest_now failures) readers) l out out' err err' status) (supplies after)
       (subst (λ l. LeavesOver want limit due_of texts l (map (supply rest failures) after) out out' err err' status) (supplies readers) (leaves (same-map rest rest_now same readers ∙ have))))
 
-  relies-of : (last_failed : I → Bool) (host host' : H) (kept kept' : ℕ) → RunsOn vcdkit_program words opens rest failures last_failed host host' out out' err err' status (kept ≡ 0 → kept' ≡ 0) → Relies words opens rest_now failures last_failed host host' out out' err err' kept kept' status
+  relies-of : (last_failed : I → Bool) (host host' : H) (kept kept' : ℕ)
+      → RunsOn vcdkit_program words opens rest failures last_failed host host' out out' err err' status (kept ≡ 0 → kept' ≡ 0)
+      → Relies words opens rest_now failures last_failed host host' out out' err err' kept kept' status
   relies-of last_failed host host' kept kept' (RunsOn.Parsed matches are (Runs.Refused fault is of_words same leaves)) =
       let refused = fault-of matches fault is of_words in
       Relies.Refused matches are refused.0 refused.1 same (ends-with _ out out' err err' status leaves)
   relies-of last_failed host host' kept kept' (RunsOn.Parsed matches are (Runs.Ran job is readers after opened ends leaves passed_on)) =
       Relies.Ran matches are (model_want job.task) job.limit is.0 readers after opened ends (λ texts. over-now job.limit _ (model_want job.task) readers after texts (leaves texts)) passed_on
-  relies-of last_failed host host' kept kept' (RunsOn.Parsed matches are (Runs.Stopped job is name opened leaves)) = Relies.Stopped matches are name opened (ends-with _ out out' err err' status leaves)
+  relies-of last_failed host host' kept kept' (RunsOn.Parsed matches are (Runs.Stopped job is name opened leaves))
+      = Relies.Stopped matches are name opened (ends-with _ out out' err err' status leaves)
   relies-of last_failed host host' kept kept' (RunsOn.Parsed matches are (Runs.NoMemory is opened fails)) = Relies.NoMemory matches are opened fails
   relies-of last_failed host host' kept kept' (RunsOn.NoMatches why is only same answers) = Relies.NoMatches why same answers
 
-ends-flushed : {W : Type 0} (device : W → Device) (flushes : W → Bool → W → Type 0) (Left Then : (out : W) → (err : Device) → ℕ → Type 0) (out' : W) (err' : Device) (status : ℕ) → ((out : W) (err : Device) (n : ℕ) → Left out err n → Then out err n)
+ends-flushed : {W : Type 0} (device : W → Device) (flushes : W → Bool → W → Type 0) (Left Then : (out : W) → (err : Device) → ℕ → Type 0) (out' : W)
+    (err' : Device) (status : ℕ) → ((out : W) (err : Device) (n : ℕ) → Left out err n → Then out err n)
     → Finishes program_name device flushes Left out' err' status → EndsFlushed device flushes Then out' err' status
 ends-flushed device flushes Left Then out' err' status so (Finishes.Flushed before left flushed held same) =
     record { before = before; shown = err'; was = status; left = so _ _ _ left; done = true; flushed = (flushed, held, same); answer = inl (refl, refl, λ failed. absurd cc) }
-ends-flushed device flushes Left Then out' err' status so (Finishes.Failed before left machine fails held same) = record { before = before; shown = err'; was = status; left = so _ _ _ left; done = false; flushed = (fails, held, same); answer = inl (refl, refl, λ failed. machine) }
+ends-flushed device flushes Left Then out' err' status so (Finishes.Failed before left machine fails held same)
+    = record {
+      before = before;
+      shown = err';
+      was = status;
+      left = so _ _ _ left;
+      done = false;
+      flushed = (fails, held, same);
+      answer = inl
+          (refl, refl, λ failed. machine);
+    }
 ends-flushed device flushes Left Then out' err' status so (Finishes.Unflushed before shown was left below fails held same then is) =
     record { before = before; shown = shown; was = was; left = so _ _ _ left; done = false; flushed = (fails, held, same); answer = inr (refl, below, then, is) }
 
@@ -170,7 +205,9 @@ same-bytes f i (File file) = refl
 same-bytes f i (Standard input) = refl
 same-bytes f i Failing = refl
 
-opens-one : {P F I B K : Type 0} (p : Ghosts P F I B K) (seeded : Bool) (process : P) (name : Option Text) (result : Result (Watch (Stream F I)) OpenFault) (process' : P) → OpensInput p.opens p.gives seeded process name result process' → OpensOne p seeded process name result process'
+opens-one : {P F I B K : Type 0} (p : Ghosts P F I B K) (seeded : Bool) (process : P) (name : Option Text)
+    (result : Result (Watch (Stream F I)) OpenFault) (process' : P) → OpensInput p.opens p.gives seeded process name result process'
+    → OpensOne p seeded process name result process'
 opens-one p true process None (Ok watch) process' o = o
 opens-one p false process None (Ok watch) process' o = o
 opens-one p seeded process None (Err fault) process' o = absurd o
@@ -179,17 +216,22 @@ opens-one p false process (Some name) (Ok watch) process' o = o
 opens-one p seeded process (Some name) (Err Unopened) process' o = o
 opens-one p seeded process (Some name) (Err OutOfMemory) process' o = o
 
-pub process-of : {P F I B K W E : Type 0} (p : Ghosts P F I B K) (f : Reads F) (i : Reads I) (w : Sinks W) (flushes : W → Bool → W → Type 0) (e : Sinks E) (sends : E → Bool → E → Type 0) (process process' : P) (out out' : W) (err err' : E) (status : ℕ)
-    → Delivers e.device sends (λ shown. RunsAs vcdkit_program p f i w flushes process process' out out' (e.device err) shown status) err' → ReliesOnProcess p f i w flushes e sends process process' out out' err err' status
+pub process-of : {P F I B K W E : Type 0} (p : Ghosts P F I B K) (f : Reads F) (i : Reads I) (w : Sinks W) (flushes : W → Bool → W → Type 0)
+    (e : Sinks E) (sends : E → Bool → E → Type 0) (process process' : P) (out out' : W) (err err' : E) (status : ℕ)
+    → Delivers e.device sends (λ shown. RunsAs vcdkit_program p f i w flushes process process' out out' (e.device err) shown status) err'
+    → ReliesOnProcess p f i w flushes e sends process process' out out' err err' status
 process-of p f i w flushes e sends process process' out out' err err' status d = by_run d.left
   where
-    by_run : RunsAs vcdkit_program p f i w flushes process process' out out' (e.device err) (e.device d.before) status → ReliesOnProcess p f i w flushes e sends process process' out out' err err' status
+    by_run : RunsAs vcdkit_program p f i w flushes process process' out out' (e.device err) (e.device d.before) status
+        → ReliesOnProcess p f i w flushes e sends process process' out out' err err' status
     by_run (RunsAs.Ran words given r) =
         let seeded = is_some r.0 in
-        let runs = (program-under vcdkit_program (OpensInput p.opens p.gives seeded) (OpensOne p seeded) (λ process. process) (λ _. Unit {0}) (λ old new name result _ o. (opens-one p seeded old name result new o, tt)) _ _ _ process process' tt
+        let runs = (program-under vcdkit_program (OpensInput p.opens p.gives seeded) (OpensOne p seeded) (λ process. process) (λ _. Unit {0})
+        (λ old new name result _ o. (opens-one p seeded old name result new o, tt)) _ _ _ process process' tt
         w.device flushes (λ now. KeepsNoneBack w.kept_back out now) words (w.device out) out' (e.device err) (e.device d.before) status r.2).0 in
         ReliesOnProcess.Ran words given r.0 r.1 d.before
         (ends-flushed w.device flushes _ _ out' (e.device d.before) status
-        (λ now err_now n left. relies-of words (OpensOne p seeded) _ (bytes_of f i) (λ watch. same-bytes f i watch.device) _ (w.device out) (w.device now) (e.device err) err_now n _ process process' (w.kept_back out) (w.kept_back now) left) runs)
+        (λ now err_now n left. relies-of words (OpensOne p seeded) _ (bytes_of f i) (λ watch. same-bytes f i watch.device) _ (w.device out)
+        (w.device now) (e.device err) err_now n _ process process' (w.kept_back out) (w.kept_back now) left) runs)
         d.done (d.flushed, d.held, d.same)
     by_run (RunsAs.NoWords fault refused same unwritten shown is) = ReliesOnProcess.NoWords fault refused same unwritten d.before shown is d.done (d.flushed, d.held, d.same)

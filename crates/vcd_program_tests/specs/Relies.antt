@@ -62,7 +62,8 @@ Says err err' message = Writes err err' (line_of message) ⊎ WritesSome err err
 
 -- with this outcome, or with a prefix of its output, if a write of the output failed
 abbrev pub EndsWith : Outcome → (out out' err err' : Device) → (status : ℕ) → Type 0
-EndsWith o out out' err err' status = (Writes out out' o.output × Says err err' o.message × (status ≡ o.status)) ⊎ (WritesSome out out' o.output × Says err err' (codes "write failed") × (status ≡ 3))
+EndsWith o out out' err err' status = (Writes out out' o.output × Says err err' o.message × (status ≡ o.status))
+    ⊎ (WritesSome out out' o.output × Says err err' (codes "write failed") × (status ≡ 3))
 
 -- without output, because memory ran out
 abbrev pub EndsWithout : (out out' err err' : Device) → (status : ℕ) → Type 0
@@ -91,10 +92,12 @@ pub record OverOne (want : Want) (limit : ℕ) (outcome_of : List Input → Outc
 -- input was read than its next item.
 abbrev pub AreOnTurn : (limit : ℕ) → List Lane → (old new : List Supply) → List Input → (out out' : Device) → Type 0
 AreOnTurn limit lanes old new lefts out out' = (new ≡ old)
-    ⊎ ((merged : List Dump) × (headers_of merged ≡ headers_in lanes) × ((k : ℕ) (l : Lane) (d : Dump) → slice_get lanes k ≡ Some l → slice_get merged k ≡ Some d → BeginsWith limit (headers_in lanes) l d.items)
+    ⊎ ((merged : List Dump) × (headers_of merged ≡ headers_in lanes)
+    × ((k : ℕ) (l : Lane) (d : Dump) → slice_get lanes k ≡ Some l → slice_get merged k ≡ Some d → BeginsWith limit (headers_in lanes) l d.items)
     × (more : List ℕ) × Appends out.held out'.held (merge_open (headers_in lanes) (merged_items merged) ++ more)
     × ((k : ℕ) (l : Lane) (s t : Supply) (i : Input) → slice_get lanes k ≡ Some l → slice_get old k ≡ Some s → slice_get new k ≡ Some t → slice_get lefts k ≡ Some i
-    → (t ≡ s) ⊎ ((items : List BodyItem) × NoneBefore limit (headers_in lanes) lanes merged k (key_after (factor (headers_in lanes) l.header) k items) × ReadsNoMore limit 65536 l items i t.rest)))
+    → (t ≡ s) ⊎ ((items : List BodyItem) × NoneBefore limit (headers_in lanes) lanes merged k
+    (key_after (factor (headers_in lanes) l.header) k items) × ReadsNoMore limit 65536 l items i t.rest)))
 
 -- a merge over inputs with these texts: the same of each input, also in view of the others, and
 -- that each was read on its turn
@@ -104,11 +107,13 @@ pub record OverMany (limit : ℕ) (outcome_of : List Input → Outcome) (out out
       → ReadsAsNeeded limit 65536 s t i [] (λ ts. is_settled_merge (slice_set (map (λ (other : Input). Seen.All (stream_of limit other)) lefts) k (Seen.First ts)))
   pub on_turn : ((why : _) × Stops limit 65536 0 [] texts old new why)
       ⊎ ((lanes : List Lane) × (mid : List Supply) × AreBegun limit 65536 [] texts old mid lanes × AreOnTurn limit lanes mid new lefts out out')
-  pub ends : (EndsWith (outcome_of lefts) out out' err err' status × AreRead (is_settled Want.Merge) limit 65536 [] texts old new lefts) ⊎ (EndsWithout out out' err err' status × AreRead is_header_over limit 65536 [] texts old new lefts × NoneFailed old new)
+  pub ends : (EndsWith (outcome_of lefts) out out' err err' status × AreRead (is_settled Want.Merge) limit 65536 [] texts old new lefts)
+      ⊎ (EndsWithout out out' err err' status × AreRead is_header_over limit 65536 [] texts old new lefts × NoneFailed old new)
 
 -- a job over inputs with these texts
 pub record Over (want : Want) (limit : ℕ) (outcome_of : List Input → Outcome) (out out' err err' : Device) (status : ℕ) (texts : List Text) (old new : List Supply) : Type 0 where
-  pub one : is_merge want ≡ false → (text : Text) (s t : Supply) → texts ≡ text ∷ [] → old ≡ s ∷ [] → new ≡ t ∷ [] → OverOne want limit outcome_of out out' err err' status text s t
+  pub one : is_merge want ≡ false → (text : Text) (s t : Supply) → texts ≡ text ∷ [] → old ≡ s ∷ [] → new ≡ t ∷ []
+      → OverOne want limit outcome_of out out' err err' status text s t
   pub many : is_merge want ≡ true → OverMany limit outcome_of out out' err err' status texts old new
 
 -- ---- a run on words
@@ -116,19 +121,30 @@ pub record Over (want : Want) (limit : ℕ) (outcome_of : List Input → Outcome
 -- Before the output is flushed, of which `kept` bytes were kept back, and now `kept'` are: which
 -- inputs were opened; over any inputs how the job ended, and which calls failed; and over inputs
 -- whose texts are known the outcome of the words. If a read failed, nothing is kept back.
-pub data Relies {H I : Type 0} (words : List Text) (opens : H → Option Text → Result I OpenFault → H → Type 0) (rest : I → Option (List ℕ)) (failures : I → ℕ) (last_failed : I → Bool) (host host' : H) (out out' err err' : Device) (kept kept' : ℕ) (status : ℕ) : Type 0 where
-  Ran : (matches : ArgMatches) (are : HasMatchesOf program_app words matches) (want : Want) (limit : ℕ) (is : job_of (words_used matches) ≡ Ok (record { want = want; limit = limit })) (readers after : List I) (opened : Opens opens host (inputs_asked matches) readers host')
-      (ends : (end : _) × EndsWell (λ n. n ≡ 0) end × CountsReads (map failures readers) (map failures after) (failure_of end) × (failures_then (writes_failed (failure_of end)) out' ≡ out.failures + writes_failed (failure_of end))
-      × (status ≡ end_status (speech_with (names_wanted want)) (map called (inputs_asked matches)) end) × Says err err' (end_message (speech_with (names_wanted want)) (map called (inputs_asked matches)) end) × EndsAtReadOf (map last_failed after) (failure_of end))
+pub data Relies {H I : Type 0} (words : List Text) (opens : H → Option Text → Result I OpenFault → H → Type 0) (rest : I → Option (List ℕ))
+    (failures : I → ℕ) (last_failed : I → Bool) (host host' : H) (out out' err err' : Device) (kept kept' : ℕ) (status : ℕ) : Type 0 where
+  Ran : (matches : ArgMatches) (are : HasMatchesOf program_app words matches) (want : Want) (limit : ℕ)
+      (is : job_of (words_used matches) ≡ Ok (record { want = want; limit = limit })) (readers after : List I)
+      (opened : Opens opens host (inputs_asked matches) readers host')
+      (ends : (end : _) × EndsWell (λ n. n ≡ 0) end × CountsReads (map failures readers) (map failures after) (failure_of end)
+      × (failures_then (writes_failed (failure_of end)) out' ≡ out.failures + writes_failed (failure_of end))
+      × (status ≡ end_status (speech_with (names_wanted want)) (map called (inputs_asked matches)) end)
+      × Says err err' (end_message (speech_with (names_wanted want)) (map called (inputs_asked matches)) end)
+      × EndsAtReadOf (map last_failed after) (failure_of end))
       (gives : (texts : List Text) → map rest readers ≡ map (λ text. Some text) texts
-      → Over want limit (command_outcome (words_used matches) (map called (inputs_asked matches))) out out' err err' status texts (map (supply rest failures) readers) (map (supply rest failures) after))
+      → Over want limit (command_outcome (words_used matches) (map called (inputs_asked matches))) out out' err err' status texts
+      (map (supply rest failures) readers) (map (supply rest failures) after))
       (passed_on : map failures after ≢ map failures readers → kept ≡ 0 → kept' ≡ 0) → Relies words opens rest failures last_failed host host' out out' err err' kept kept' status
-  Stopped : (matches : ArgMatches) (are : HasMatchesOf program_app words matches) (name : Option Text) (opened : OpensUpTo opens (inputs_asked matches) name host host') (ends : EndsWith (unopened_outcome (called name)) out out' err err' status)
+  Stopped : (matches : ArgMatches) (are : HasMatchesOf program_app words matches) (name : Option Text)
+      (opened : OpensUpTo opens (inputs_asked matches) name host host') (ends : EndsWith (unopened_outcome (called name)) out out' err err' status)
       → Relies words opens rest failures last_failed host host' out out' err err' kept kept' status
-  NoMemory : (matches : ArgMatches) (are : HasMatchesOf program_app words matches) (opened : OpensSome opens (inputs_asked matches) host host') (ends : EndsWithout out out' err err' status) → Relies words opens rest failures last_failed host host' out out' err err' kept kept' status
-  Refused : (matches : ArgMatches) (are : HasMatchesOf program_app words matches) (fault : _) (is : job_of (words_used matches) ≡ Err fault) (same : host' ≡ host) (ends : EndsWith (command_outcome (words_used matches) [] []) out out' err err' status)
+  NoMemory : (matches : ArgMatches) (are : HasMatchesOf program_app words matches) (opened : OpensSome opens (inputs_asked matches) host host')
+      (ends : EndsWithout out out' err err' status) → Relies words opens rest failures last_failed host host' out out' err err' kept kept' status
+  Refused : (matches : ArgMatches) (are : HasMatchesOf program_app words matches) (fault : _) (is : job_of (words_used matches) ≡ Err fault)
+      (same : host' ≡ host) (ends : EndsWith (command_outcome (words_used matches) [] []) out out' err err' status)
       → Relies words opens rest failures last_failed host host' out out' err err' kept kept' status
-  NoMatches : (why : ErrorKind) (same : host' ≡ host) (answers : Answers (codes "vcdkit") why out out' err err' status) → Relies words opens rest failures last_failed host host' out out' err err' kept kept' status
+  NoMatches : (why : ErrorKind) (same : host' ≡ host) (answers : Answers (codes "vcdkit") why out out' err err' status)
+      → Relies words opens rest failures last_failed host host' out out' err err' kept kept' status
 
 -- ---- a process
 
@@ -160,7 +176,8 @@ IsFlushed device flushes done before after = flushes before done after × Keeps 
 
 -- The output was flushed with this left in it. If that failed, the status is 3, and the line for it
 -- is on the error stream, unless the status was 3 before.
-pub record EndsFlushed {W : Type 0} (device : W → Device) (flushes : W → Bool → W → Type 0) (Left : (out : W) → (err : Device) → ℕ → Type 0) (out' : W) (err' : Device) (status : ℕ) : Type 0 where
+pub record EndsFlushed {W : Type 0} (device : W → Device) (flushes : W → Bool → W → Type 0) (Left : (out : W) → (err : Device) → ℕ → Type 0)
+    (out' : W) (err' : Device) (status : ℕ) : Type 0 where
   pub before : W
   pub shown : Device
   pub was : ℕ
@@ -172,10 +189,12 @@ pub record EndsFlushed {W : Type 0} (device : W → Device) (flushes : W → Boo
 -- The program ran on the arguments of the process, with random numbers if the process gives some;
 -- nothing but its inputs was opened; and output and messages were flushed. Or the process gives no
 -- arguments, and nothing but the message for that was written.
-pub data ReliesOnProcess {P F I B K W E : Type 0} (p : Ghosts P F I B K) (f : Reads F) (i : Reads I) (w : Sinks W) (flushes : W → Bool → W → Type 0) (e : Sinks E) (sends : E → Bool → E → Type 0) (process process' : P) (out out' : W) (err err' : E) (status : ℕ) : Type 0 where
+pub data ReliesOnProcess {P F I B K W E : Type 0} (p : Ghosts P F I B K) (f : Reads F) (i : Reads I) (w : Sinks W) (flushes : W → Bool → W → Type 0)
+    (e : Sinks E) (sends : E → Bool → E → Type 0) (process process' : P) (out out' : W) (err err' : E) (status : ℕ) : Type 0 where
   Ran : (words : List Text) (given : p.words process words) (seed : Option B) (seed_is : p.seeds process seed) (before : E)
       (runs : EndsFlushed w.device flushes (λ now err_now n. Relies {I = Watch (Stream F I)} words (OpensOne p (is_some seed)) (bytes_of f i) failed_calls has_just_failed
       process process' (w.device out) (w.device now) (e.device err) err_now (w.kept_back out) (w.kept_back now) n) out' (e.device before) status)
       (done : Bool) (flushed : IsFlushed e.device sends done before err') → ReliesOnProcess p f i w flushes e sends process process' out out' err err' status
-  NoWords : (fault : UseFault) (refused : p.refuses process fault) (same : process' ≡ process) (unwritten : out' ≡ out) (before : E) (shown : Says (e.device err) (e.device before) (use_outcome fault).message) (is : status ≡ (use_outcome fault).status)
+  NoWords : (fault : UseFault) (refused : p.refuses process fault) (same : process' ≡ process) (unwritten : out' ≡ out) (before : E)
+      (shown : Says (e.device err) (e.device before) (use_outcome fault).message) (is : status ≡ (use_outcome fault).status)
       (done : Bool) (flushed : IsFlushed e.device sends done before err') → ReliesOnProcess p f i w flushes e sends process process' out out' err err' status

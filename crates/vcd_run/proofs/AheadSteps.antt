@@ -22,23 +22,34 @@ use Rattle.vcd_run.specs.Run.{AheadGives, HasTaken}
 use Rattle.vcd_run.specs.Task.{EndsAhead, RunsOver}
 
 -- what the items ahead leave of a task that has come past these items
-pub come_ahead : {T X A E : Type 0} {g : Ghosts X} (keeps : T → Plan → Header → List BodyItem → Type 0) (p : Plan) (h : Header) (i : Input) (front : List Token) (items : List BodyItem) (task : T) (r : Regs) (f : Feed X g) → HasTaken keeps p h i front items task r f
-    → (a : Ahead) (task' : T) (r' : Regs) (f' : Feed X g) (out out' : Device) (n : ℕ) → longest_of a ≡ limit_of f → bytes_of a ≡ ahead_of f → GivesAhead n f f' → seen f' ≡ seen f + n → (result : Result A E) (more : List BodyItem)
+pub come_ahead : {T X A E : Type 0} {g : Ghosts X} (keeps : T → Plan → Header → List BodyItem → Type 0) (p : Plan) (h : Header) (i : Input)
+    (front : List Token) (items : List BodyItem) (task : T) (r : Regs) (f : Feed X g) → HasTaken keeps p h i front items task r f
+    → (a : Ahead) (task' : T) (r' : Regs) (f' : Feed X g) (out out' : Device) (n : ℕ) → longest_of a ≡ limit_of f → bytes_of a ≡ ahead_of f
+    → GivesAhead n f f' → seen f' ≡ seen f + n → (result : Result A E) (more : List BodyItem)
     → EndsAhead keeps p h (longest_of a) (lines_of f) (bytes_of a) n task' r' out out' result items more → AheadGives keeps p h i front items task' r' f' out out' result more
 come_ahead keeps p h i front items task r f s a task' r' f' out out' n limit bytes gives looked result more ends = by_result result ends
   where
     there : GaveAhead h.codes (longest_of a) (lines_of f) (bytes_of a) n items more → GaveAhead h.codes (limit_of f) (lines_of f) (ahead_of f) n items more
-    there gave = subst (λ (bs : List ℕ). GaveAhead h.codes (limit_of f) (lines_of f) bs n items more) bytes (subst (λ (k : ℕ). GaveAhead h.codes k (lines_of f) (bytes_of a) n items more) limit gave)
+    there gave = subst (λ (bs : List ℕ). GaveAhead h.codes (limit_of f) (lines_of f) bs n items more) bytes
+        (subst (λ (k : ℕ). GaveAhead h.codes k (lines_of f) (bytes_of a) n items more) limit gave)
 
-    by_result : {A E : Type 0} (q : Result A E) → EndsAhead keeps p h (longest_of a) (lines_of f) (bytes_of a) n task' r' out out' q items more → AheadGives keeps p h i front items task' r' f' out out' q more
+    by_result : {A E : Type 0} (q : Result A E) → EndsAhead keeps p h (longest_of a) (lines_of f) (bytes_of a) n task' r' out out' q items more
+        → AheadGives keeps p h i front items task' r' f' out out' q more
     by_result (Ok v) t = (
-      record { gave = gives h.codes i front items more r r' s.gave (there t.0) t.1; stands = t.2; on = t.3; few = let each = t.0.few in let n = s.few in omega (arith, each, n, length-append items more, looked) },
+      record {
+        gave = gives h.codes i front items more r r' s.gave (there t.0) t.1;
+        stands = t.2;
+        on = t.3;
+        few = let each = t.0.few in
+            let n = s.few in omega (arith, each, n, length-append items more, looked);
+      },
       t.4,
     )
     by_result (Err e) t = (gives h.codes i front items more r r' s.gave (there t.0) t.1, t.2)
 
 -- a task that takes nothing ahead
-pub takes_none : {T : Type 0} (keeps : T → Plan → Header → List BodyItem → Type 0) (v : HeadView) (a : Ahead) (r : Regs) (m : T) (out : Device) → RunsOver keeps v a r m m out out (record { passed = 0; regs = r; written = Ok tt })
+pub takes_none : {T : Type 0} (keeps : T → Plan → Header → List BodyItem → Type 0) (v : HeadView) (a : Ahead) (r : Regs) (m : T) (out : Device)
+    → RunsOver keeps v a r m m out out (record { passed = 0; regs = r; written = Ok tt })
 takes_none keeps v a r m out = record {
   gives = λ p h lines before views known few stands on first.
       let nil = sym (append-nil before) in (

@@ -56,7 +56,14 @@ module _ (p : Plan) (w : Ways) (kept : KeepOutput w) where
     gives_outcome (Ok Whole) (items, has, on, written, is) = record {
       rest = has.rest;
       tokens = has.tokens;
-      belongs = (items, p.opens items ++ p.closes items, ap (over_plan p w (body_items (read_body h.codes has.rest))) has.fault_is ∙ ap (λ l. over_plan p w l None) has.items_are ∙ over_clean items on, written, is);
+      belongs = (
+        items,
+        p.opens items ++ p.closes items,
+        ap (over_plan p w (body_items (read_body h.codes has.rest))) has.fault_is
+            ∙ ap (λ l. over_plan p w l None) has.items_are ∙ over_clean items on,
+        written,
+        is,
+      );
       early = ap p.ends has.items_are ∙ on;
     }
     gives_outcome (Ok Early) (items, b, ends, written, is) =
@@ -65,19 +72,42 @@ module _ (p : Plan) (w : Ways) (kept : KeepOutput w) where
         record {
           rest = b.rest;
           tokens = b.tokens;
-          belongs = (items, p.opens items, ap (λ l. over_plan p w l (body_fault_of (stream_of limit i) (read_body h.codes b.rest))) b.begins.1 ∙ over_ended (items ++ b.begins.0) _ both.0 ∙ ap w.early both.1, written, is);
+          belongs = (
+            items,
+            p.opens items,
+            ap (λ l. over_plan p w l (body_fault_of (stream_of limit i) (read_body h.codes b.rest))) b.begins.1
+                ∙ over_ended (items ++ b.begins.0) _ both.0 ∙ ap w.early both.1,
+            written,
+            is,
+          );
           early = ap p.ends b.begins.1 ∙ both.0;
         }
     gives_outcome (Err (Dump input line fault)) (items, is, other, has, on, written) = record {
       rest = has.rest;
       tokens = has.tokens;
-      belongs = (p.opens items, is, other, ap (over_plan p w (body_items (read_body h.codes has.rest))) has.fault_is ∙ ap (λ l. over_plan p w l (Some (record { number = fault; line = line }))) has.items_are ∙ over_faulty items (record { number = fault; line = line }) on, written);
+      belongs = (
+        p.opens items,
+        is,
+        other,
+        ap (over_plan p w (body_items (read_body h.codes has.rest))) has.fault_is
+            ∙ ap (λ l. over_plan p w l (Some (record { number = fault; line = line }))) has.items_are
+            ∙ over_faulty items (record { number = fault; line = line }) on,
+        written,
+      );
       early = tt;
     }
     gives_outcome (Err (Read input)) (items, line, is, has, on, written) = record {
       rest = has.rest;
       tokens = has.tokens;
-      belongs = (p.opens items, line, is, ap (over_plan p w (body_items (read_body h.codes has.rest))) has.fault_is ∙ ap (λ l. over_plan p w l (Some (record { number = 31; line = line }))) has.items_are ∙ over_faulty items (record { number = 31; line = line }) on, written);
+      belongs = (
+        p.opens items,
+        line,
+        is,
+        ap (over_plan p w (body_items (read_body h.codes has.rest))) has.fault_is
+            ∙ ap (λ l. over_plan p w l (Some (record { number = 31; line = line }))) has.items_are
+            ∙ over_faulty items (record { number = 31; line = line }) on,
+        written,
+      );
       early = tt;
     }
     gives_outcome (Err Write) (inl (items, b, some)) =
@@ -88,7 +118,8 @@ module _ (p : Plan) (w : Ways) (kept : KeepOutput w) where
         record {
           rest = b.rest;
           tokens = b.tokens;
-          belongs = subst (WritesSome out out') (sym (ap (λ l. (over_plan p w l fault).output) b.begins.1 ∙ more.1 ∙ ap (λ l. l ++ more.0) first.1 ∙ append_assoc (p.opens items) first.0 more.0)) (some-first out out' (p.opens items) (first.0 ++ more.0) some);
+          belongs = subst (WritesSome out out') (sym (ap (λ l. (over_plan p w l fault).output) b.begins.1 ∙ more.1 ∙ ap (λ l. l ++ more.0) first.1
+              ∙ append_assoc (p.opens items) first.0 more.0)) (some-first out out' (p.opens items) (first.0 ++ more.0) some);
           early = tt;
         }
     gives_outcome (Err Write) (inr (items, has, on, some)) =
@@ -96,7 +127,9 @@ module _ (p : Plan) (w : Ways) (kept : KeepOutput w) where
         record {
           rest = has.rest;
           tokens = has.tokens;
-          belongs = subst (WritesSome out out') (sym (ap (λ (o : Outcome). o.output) (ap (over_plan p w (body_items (read_body h.codes has.rest))) has.fault_is ∙ ap (λ l. over_plan p w l None) has.items_are ∙ over_clean items on) ∙ more.1)) (some-first out out' (p.opens items ++ p.closes items) more.0 some);
+          belongs = subst (WritesSome out out') (sym (ap (λ (o : Outcome). o.output)
+              (ap (over_plan p w (body_items (read_body h.codes has.rest))) has.fault_is ∙ ap (λ l. over_plan p w l None) has.items_are
+              ∙ over_clean items on) ∙ more.1)) (some-first out out' (p.opens items ++ p.closes items) more.0 some);
           early = tt;
         }
     gives_outcome (Err (Unmatched name)) given = absurd given

@@ -36,13 +36,15 @@ KeepsRest i f (Err (Read input)) = GaveOnlySeen i f
 KeepsRest i f result = Unit {0}
 
 -- after these items a step read no more than needed, and it may have written more
-pub record StepReads {X : Type 0} {g : Ghosts X} (codes : List IdCode) (i : Input) (front : List Token) (items : List BodyItem) (f' : Feed X g) (out out' : Device) (result : Result More Stop) : Type 0 where
+pub record StepReads {X : Type 0} {g : Ghosts X} (codes : List IdCode) (i : Input) (front : List Token) (items : List BodyItem) (f' : Feed X g)
+    (out out' : Device) (result : Result More Stop) : Type 0 where
   pub past : ReadsPast codes (left_of i (seen f') result) front items f'
   pub rest : KeepsRest i f' result
   pub more : List ℕ
   pub appends : Appends out.held out'.held more
 
-module _ {T X : Type 0} {g : Ghosts X} (keeps : T → Plan → Header → List BodyItem → Type 0) (told : List BodyItem → List ℕ → Type 0) (p : Plan) (h : Header) (i : Input) (front : List Token) (items : List BodyItem) (task : T) (r : Regs) (f : Feed X g) (out out' : Device) where
+module _ {T X : Type 0} {g : Ghosts X} (keeps : T → Plan → Header → List BodyItem → Type 0) (told : List BodyItem → List ℕ → Type 0) (p : Plan)
+    (h : Header) (i : Input) (front : List Token) (items : List BodyItem) (task : T) (r : Regs) (f : Feed X g) (out out' : Device) where
   to_item : (x : BodyItem) → GaveItem h.codes i front items x f r → ReadsPast h.codes i front items f
   to_item x gave = past_item h.codes i front items f x r (last_given h.codes i front items x f r gave)
 
@@ -59,7 +61,9 @@ module _ {T X : Type 0} {g : Ghosts X} (keeps : T → Plan → Header → List B
 -- ---- all of them
 
 -- what is left of the input after a step
-pub left_is : {X : Type 0} {g : Ghosts X} (i : Input) (before : Supply) (f f' : Feed X g) (r : Result More Stop) → HasNotFailed f → g.failures (source_of f) ≡ before.failures → Advances g.failures f f' (step_end r) → KeepsRest i f' r → IsLeft i before (supply_of f') (left_of i (seen f') r)
+pub left_is : {X : Type 0} {g : Ghosts X} (i : Input) (before : Supply) (f f' : Feed X g) (r : Result More Stop) → HasNotFailed f
+    → g.failures (source_of f) ≡ before.failures → Advances g.failures f f' (step_end r) → KeepsRest i f' r
+    → IsLeft i before (supply_of f') (left_of i (seen f') r)
 left_is i before f f' (Ok Again) unfailed same a rest = inl (a.same (λ x. cc) ∙ same, refl)
 left_is i before f f' (Ok (Ended done)) unfailed same a rest = inl (a.same (λ x. cc) ∙ same, refl)
 left_is i before f f' (Err (Dump input line fault)) unfailed same a rest = inl (a.same (λ x. cc) ∙ same, refl)
@@ -71,7 +75,8 @@ none_more : (n m : ℕ) → m ≡ n → m ≡ n + 0
 none_more n m e = omega arith
 
 -- how many reads failed in a step
-pub step_reads : {X : Type 0} {g : Ghosts X} (failures : X → ℕ) (old new : Feed X g) (r : Result More Stop) → HasNotFailed old → Advances failures old new (step_end r) → failures (source_of new) ≡ failures (source_of old) + reads_failed r
+pub step_reads : {X : Type 0} {g : Ghosts X} (failures : X → ℕ) (old new : Feed X g) (r : Result More Stop) → HasNotFailed old
+    → Advances failures old new (step_end r) → failures (source_of new) ≡ failures (source_of old) + reads_failed r
 step_reads failures old new (Ok Again) o a = none_more _ _ (a.same (λ x. cc))
 step_reads failures old new (Ok (Ended done)) o a = none_more _ _ (a.same (λ x. cc))
 step_reads failures old new (Err (Dump input line fault)) o a = none_more _ _ (a.same (λ x. cc))
@@ -80,7 +85,8 @@ step_reads failures old new (Err Write) o a = none_more _ _ (a.same (λ x. cc))
 step_reads failures old new (Err (Unmatched name)) o a = none_more _ _ (a.same (λ x. cc))
 
 -- a read that a step failed with was the last one of its source
-pub step_last : {X : Type 0} {g : Ghosts X} (failures : X → ℕ) (old new : Feed X g) (r : Result More Stop) → HasNotFailed old → Advances failures old new (step_end r) → EndsAtRead (g.last_failed (source_of new)) r
+pub step_last : {X : Type 0} {g : Ghosts X} (failures : X → ℕ) (old new : Feed X g) (r : Result More Stop) → HasNotFailed old
+    → Advances failures old new (step_end r) → EndsAtRead (g.last_failed (source_of new)) r
 step_last failures old new (Ok Again) o a = λ input is. absurd (cc)
 step_last failures old new (Ok (Ended done)) o a = λ input is. absurd (cc)
 step_last failures old new (Err (Dump input line fault)) o a = λ input is. absurd (cc)
@@ -106,13 +112,16 @@ module _ (p : Plan) (h : Header) (limit chunk : ℕ) (i : Input) (front : List T
   module _ {X : Type 0} {g : Ghosts X} (items : List BodyItem) (f : Feed X g) (on : p.ends items ≡ false) (same : limit_of f ≡ limit) (size : chunk_len_of f ≡ chunk) where
     -- a step from these items
     pub read_step : ReadsPast h.codes i front items f → HasRead items (supply_of f)
-    read_step past = read_past (is_settled_with p h) (due_with p h) limit chunk i front h.codes items f before (p.opens items) same size (λ ts have. still ts have) (λ ts have. ap p.opens have.1) past
+    read_step past = read_past (is_settled_with p h) (due_with p h) limit chunk i front h.codes items f before (p.opens items) same size
+        (λ ts have. still ts have) (λ ts have. ap p.opens have.1) past
       where
         still : (ts : List Token) → HaveJust h.codes items ts → is_settled_with p h ts ≡ false
         still ts have = rw (have.0, have.1) on
 
   -- nothing more was read, and a write failed
-  pub needed_before : (items : List BodyItem) (now : Supply) (begin out out' : Device) → now.failures ≡ before.failures → HasRead items now → Writes begin out (p.opens items) → (more : List ℕ) × Appends out.held out'.held more → ReadsNeeded p h limit chunk i i front before now begin out'
+  pub needed_before : (items : List BodyItem) (now : Supply) (begin out out' : Device) → now.failures ≡ before.failures → HasRead items now
+      → Writes begin out (p.opens items) → (more : List ℕ) × Appends out.held out'.held more
+      → ReadsNeeded p h limit chunk i i front before now begin out'
   needed_before items now begin out out' same read writes some = record {
     is_left = inl (same, refl);
     read = read.task;
@@ -120,8 +129,11 @@ module _ (p : Plan) (h : Header) (limit chunk : ℕ) (i : Input) (front : List T
   }
 
 -- the last step
-pub needed_last : {X : Type 0} {g : Ghosts X} (p : Plan) (h : Header) (limit chunk : ℕ) (i : Input) (front : List Token) (before : Supply) (items : List BodyItem) (f f' : Feed X g) (begin out out' : Device) (r : Result More Stop) → p.ends items ≡ false → limit_of f' ≡ limit → chunk_len_of f' ≡ chunk → HasNotFailed f → g.failures (source_of f) ≡ before.failures
-    → Advances g.failures f f' (step_end r) → Writes begin out (p.opens items) → StepReads h.codes i front items f' out out' r → ReadsNeeded p h limit chunk i (left_of i (seen f') r) front before (supply_of f') begin out'
+pub needed_last : {X : Type 0} {g : Ghosts X} (p : Plan) (h : Header) (limit chunk : ℕ) (i : Input) (front : List Token) (before : Supply)
+    (items : List BodyItem) (f f' : Feed X g) (begin out out' : Device) (r : Result More Stop) → p.ends items ≡ false → limit_of f' ≡ limit
+    → chunk_len_of f' ≡ chunk → HasNotFailed f → g.failures (source_of f) ≡ before.failures
+    → Advances g.failures f f' (step_end r) → Writes begin out (p.opens items) → StepReads h.codes i front items f' out out' r
+    → ReadsNeeded p h limit chunk i (left_of i (seen f') r) front before (supply_of f') begin out'
 needed_last p h limit chunk i front before items f f' begin out out' r on same size unfailed none a writes step =
     let left = left_of i (seen f') r in
     let read = read_step p h limit chunk left front before items f' on same size step.past in

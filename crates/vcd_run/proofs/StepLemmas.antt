@@ -45,7 +45,8 @@ pub still_written : (begin out new : Device) (text : List ℕ) → Writes begin 
 still_written begin out new text w none = subst (Writes begin new) (append-nil text) (both-written begin out new text [] w none)
 
 -- what was given comes first in the body
-pub begins_with : {X : Type 0} {g : Ghosts X} (h : Header) (i : Input) (front : List Token) (items : List BodyItem) (f : Feed X g) (r : Regs) → GaveItems h.codes i front items f r → BodyBegins h i front (limit_of f) items
+pub begins_with : {X : Type 0} {g : Ghosts X} (h : Header) (i : Input) (front : List Token) (items : List BodyItem) (f : Feed X g) (r : Regs)
+    → GaveItems h.codes i front items f r → BodyBegins h i front (limit_of f) items
 begins_with h i front items f r gave =
     let first = gave.stands.given_first in
     let b = items_begin h.codes gave.given first.0 gave.placed gave.so_far in
@@ -56,7 +57,9 @@ begins_with h i front items f r gave =
     }
 
 -- the item that was given, in the definitions' terms
-pub item_given : {X : Type 0} {g : Ghosts X} (h : Header) (i : Input) (front : List Token) (items : List BodyItem) (new : Feed X g) (item : Item) (r : Regs) → item ≢ Finish → GivesItem h.codes i front items new r item → (x : BodyItem) × IsItem h.codes (item_text new item) item x × GaveItem h.codes i front items x new r
+pub item_given : {X : Type 0} {g : Ghosts X} (h : Header) (i : Input) (front : List Token) (items : List BodyItem) (new : Feed X g) (item : Item)
+    (r : Regs) → item ≢ Finish → GivesItem h.codes i front items new r item → (x : BodyItem) × IsItem h.codes (item_text new item) item x
+    × GaveItem h.codes i front items x new r
 item_given h i front items new (Time t) r other given = (BodyItem.Time t, refl, given)
 item_given h i front items new (Begin s) r other given = (BodyItem.Begin (model_section s), refl, given)
 item_given h i front items new End r other given = (BodyItem.End, refl, given)
@@ -64,7 +67,8 @@ item_given h i front items new (Change code form) r other given = (BodyItem.Chan
 item_given h i front items new Finish r other given = absurd (other refl)
 
 -- at its end the body has just the items that were given
-pub all_given : {X : Type 0} {g : Ghosts X} (codes : List IdCode) (i : Input) (front : List Token) (items : List BodyItem) (f : Feed X g) (r : Regs) (x : Item) → x ≡ Finish → GivesItem codes i front items f r x → GaveAll codes i front items f r
+pub all_given : {X : Type 0} {g : Ghosts X} (codes : List IdCode) (i : Input) (front : List Token) (items : List BodyItem) (f : Feed X g) (r : Regs)
+    (x : Item) → x ≡ Finish → GivesItem codes i front items f r x → GaveAll codes i front items f r
 all_given codes i front items f r x is given = subst (GivesItem codes i front items f r) is given
 
 none_few : (n : ℕ) → 0 ≤ n
@@ -85,7 +89,8 @@ module _ {T X : Type 0} {g : Ghosts X} (keeps : T → Plan → Header → List B
       Gives = StepGives keeps p h i front told items task' r' f' out out'
 
       -- an item that does not end the run, one that does, and one whose output was not written
-      pub taken_on : {E : Type 0} (b : Bool) (x : BodyItem) → seen f < seen f' → b ≡ false → GaveItem h.codes i front items x f' r' → TakesOne {E = E} (keeps task' p h) told p items x out out' (Ok b) → Counts {A = Bool} {E = E} out out' (Ok b) → Gives (Ok Again)
+      pub taken_on : {E : Type 0} (b : Bool) (x : BodyItem) → seen f < seen f' → b ≡ false → GaveItem h.codes i front items x f' r'
+          → TakesOne {E = E} (keeps task' p h) told p items x out out' (Ok b) → Counts {A = Bool} {E = E} out out' (Ok b) → Gives (Ok Again)
       taken_on b x further off gave takes counts = (
         x,
         gave,
@@ -98,21 +103,27 @@ module _ {T X : Type 0} {g : Ghosts X} (keeps : T → Plan → Header → List B
         (takes.due.0, takes.due.1, (takes.due.2, counts)),
       )
 
-      pub taken_last : {E : Type 0} (b : Bool) (x : BodyItem) → b ≡ true → GaveItem h.codes i front items x f' r' → TakesOne {E = E} (keeps task' p h) told p items x out out' (Ok b) → Counts {A = Bool} {E = E} out out' (Ok b) → Gives (Ok (Ended Early))
+      pub taken_last : {E : Type 0} (b : Bool) (x : BodyItem) → b ≡ true → GaveItem h.codes i front items x f' r'
+          → TakesOne {E = E} (keeps task' p h) told p items x out out' (Ok b) → Counts {A = Bool} {E = E} out out' (Ok b) → Gives (Ok (Ended Early))
       taken_last b x over gave takes counts = (x, gave, sym takes.ends ∙ over, (takes.due.0, takes.due.1, (takes.due.2, counts)), takes.tells_all (ap (λ c. Ok c) over))
 
-      pub take_fails : {E : Type 0} (e : E) (x : BodyItem) → GaveItem h.codes i front items x f' r' → TakesOne (keeps task' p h) told p items x out out' (Err e) → Counts {A = Bool} out out' (Err e) → Gives (Err Write)
+      pub take_fails : {E : Type 0} (e : E) (x : BodyItem) → GaveItem h.codes i front items x f' r'
+          → TakesOne (keeps task' p h) told p items x out out' (Err e) → Counts {A = Bool} out out' (Err e) → Gives (Err Write)
       take_fails e x gave takes counts = inl (x, gave, (takes.due.0, takes.due.1, (takes.due.2, counts)))
 
 -- a fault, with which nothing is written
-pub stopped : {T X : Type 0} {g : Ghosts X} (keeps : T → Plan → Header → List BodyItem → Type 0) (p : Plan) (h : Header) (i : Input) (front : List Token) (told : List BodyItem → List ℕ → Type 0) (items : List BodyItem) (task : T) (r : Regs) (f : Feed X g) (out : Device) (fault : BodyFault) (line : ℕ) → line ≡ (token_of f).line
+pub stopped : {T X : Type 0} {g : Ghosts X} (keeps : T → Plan → Header → List BodyItem → Type 0) (p : Plan) (h : Header) (i : Input)
+    (front : List Token) (told : List BodyItem → List ℕ → Type 0) (items : List BodyItem) (task : T) (r : Regs) (f : Feed X g) (out : Device)
+    (fault : BodyFault) (line : ℕ) → line ≡ (token_of f).line
     → Fails h.codes i front items fault f → StepGives keeps p h i front told items task r f out out (Err (stop_of_body fault 0 line))
 stopped keeps p h i front told items task r f out ReadFailed line is fails = (refl, fails.0, fails.1, (appends-none out.held, refl))
 stopped keeps p h i front told items task r f out fault line is fails = (refl, refl, is, fails, (appends-none out.held, refl))
 
 -- ---- what a run has left that ends with a step
 
-module _ {T X : Type 0} {g : Ghosts X} (keeps : T → Plan → Header → List BodyItem → Type 0) (told : List BodyItem → List ℕ → Type 0) (p : Plan) (h : Header) (i : Input) (front : List Token) (items : List BodyItem) (task : T) (r : Regs) (f : Feed X g) (begin out out' : Device) (on : p.ends items ≡ false) (written : Writes begin out (p.opens items)) where
+module _ {T X : Type 0} {g : Ghosts X} (keeps : T → Plan → Header → List BodyItem → Type 0) (told : List BodyItem → List ℕ → Type 0) (p : Plan)
+    (h : Header) (i : Input) (front : List Token) (items : List BodyItem) (task : T) (r : Regs) (f : Feed X g) (begin out out' : Device)
+    (on : p.ends items ≡ false) (written : Writes begin out (p.opens items)) where
   abbrev Leaves : Result Done Stop → Type 0
   Leaves = BodyGives told p h i front (limit_of f) (seen f) begin out'
 
@@ -128,11 +139,17 @@ module _ {T X : Type 0} {g : Ghosts X} (keeps : T → Plan → Header → List B
       (items, first, other, rw is fails.0, on, still_written begin out out' (p.opens items) written none)
   stops (Read input) (first, fails, rest, none) =
       (items, (token_of f).line, first, fails.0, on, still_written begin out out' (p.opens items) written none)
-  stops Write (inl (x, gave, grows)) = inl (items ++ x ∷ [], begins_with h i front (items ++ x ∷ []) f r gave.gave, some_written begin out out' (p.opens items) (p.opens (items ++ x ∷ [])) written grows)
+  stops Write (inl (x, gave, grows)) = inl (
+    items ++ x ∷ [],
+    begins_with h i front (items ++ x ∷ []) f r gave.gave,
+    some_written begin out out' (p.opens items) (p.opens (items ++ x ∷ [])) written grows,
+  )
   stops Write (inr (all, some)) = inr (items, all.has, on, some-behind begin out out' (p.opens items) (p.closes items) written some)
   stops (Unmatched name) none = absurd none
 
 -- a write failed before a read
-pub pass_fails : {X : Type 0} {g : Ghosts X} (told : List BodyItem → List ℕ → Type 0) (p : Plan) (h : Header) (i : Input) (front : List Token) (items : List BodyItem) (r : Regs) (f : Feed X g) (read : ℕ) (begin out' : Device) → GaveItems h.codes i front items f r → WritesSome begin out' (p.opens items)
+pub pass_fails : {X : Type 0} {g : Ghosts X} (told : List BodyItem → List ℕ → Type 0) (p : Plan) (h : Header) (i : Input) (front : List Token)
+    (items : List BodyItem) (r : Regs) (f : Feed X g) (read : ℕ) (begin out' : Device) → GaveItems h.codes i front items f r
+    → WritesSome begin out' (p.opens items)
     → BodyGives told p h i front (limit_of f) read begin out' (Err Write)
 pass_fails told p h i front items r f read begin out' gave some = inl (items, begins_with h i front items f r gave, some)

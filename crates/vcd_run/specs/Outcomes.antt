@@ -36,14 +36,16 @@ over_plan p w items fault = cond (p.ends items) (w.early (p.opens items)) (elim 
 
 -- No item of a body takes back what was due before it, and none after those that end a run counts.
 abbrev pub IsSound : Plan → List IdCode → Type 0
-IsSound p codes = (limit : ℕ) (i : Input) (front rest : List Token) (items more : List BodyItem) → (stream_of limit i).tokens ≡ front ++ rest → body_items (read_body codes rest) ≡ items ++ more
+IsSound p codes = (limit : ℕ) (i : Input) (front rest : List Token) (items more : List BodyItem) → (stream_of limit i).tokens ≡ front ++ rest
+    → body_items (read_body codes rest) ≡ items ++ more
     → IsPrefixOf (p.opens items) (p.opens (items ++ more)) × (p.ends items ≡ true → (p.ends (items ++ more) ≡ true) × (p.opens (items ++ more) ≡ p.opens items))
 
 -- the answer and the output belong to this outcome
 abbrev pub Belongs : (told : List BodyItem → List ℕ → Type 0) → Ways → Outcome → Device → Device → Result Done Stop → Type 0
 Belongs told w o out out' (Ok Whole) = (items : List BodyItem) × (text : List ℕ) × (o ≡ w.well items text) × Writes out out' text × told items text
 Belongs told w o out out' (Ok Early) = (items : List BodyItem) × (text : List ℕ) × (o ≡ w.early text) × Writes out out' text × told items text
-Belongs told w o out out' (Err (Dump input line fault)) = (text : List ℕ) × (input ≡ 0) × ((fault == 31) ≡ false) × (o ≡ w.faulty text (record { number = fault; line = line })) × Writes out out' text
+Belongs told w o out out' (Err (Dump input line fault)) = (text : List ℕ) × (input ≡ 0) × ((fault == 31) ≡ false)
+    × (o ≡ w.faulty text (record { number = fault; line = line })) × Writes out out' text
 Belongs told w o out out' (Err (Read input)) = (text : List ℕ) × (line : ℕ) × (input ≡ 0) × (o ≡ w.faulty text (record { number = 31; line = line })) × Writes out out' text
 Belongs told w o out out' (Err Write) = WritesSome out out' o.output
 Belongs told w o out out' (Err (Unmatched name)) = ⊥
@@ -55,7 +57,8 @@ EndsAs ends (Ok Early) = ends ≡ true
 EndsAs ends (Err stop) = Unit {0}
 
 -- the outcome of this input, if these first tokens are its header
-pub record GivesOutcome (told : List BodyItem → List ℕ → Type 0) (p : Plan) (w : Ways) (h : Header) (left : Input) (front : List Token) (limit : ℕ) (out out' : Device) (result : Result Done Stop) : Type 0 where
+pub record GivesOutcome (told : List BodyItem → List ℕ → Type 0) (p : Plan) (w : Ways) (h : Header) (left : Input) (front : List Token) (limit : ℕ)
+    (out out' : Device) (result : Result Done Stop) : Type 0 where
   pub rest : List Token
   pub tokens : (stream_of limit left).tokens ≡ front ++ rest
   pub belongs : Belongs told w (over_plan p w (body_items (read_body h.codes rest)) (body_fault_of (stream_of limit left) (read_body h.codes rest))) out out' result

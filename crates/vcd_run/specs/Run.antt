@@ -37,10 +37,15 @@ pub record BodyBegins (h : Header) (i : Input) (front : List Token) (limit : ℕ
 -- What a run over this body leaves: the output of the plan for its items, up to the one that ends
 -- it, to its fault, or to the end. A failed write leaves a prefix of the output.
 abbrev pub BodyGives : (tells : List BodyItem → List ℕ → Type 0) → Plan → Header → Input → List Token → ℕ → ℕ → Device → Device → Result Done Stop → Type 0
-BodyGives tells p h i front limit read out out' (Ok Whole) = (items : List BodyItem) × BodyHas h.codes i front limit items None × (p.ends items ≡ false) × Writes out out' (p.opens items ++ p.closes items) × tells items (p.opens items ++ p.closes items)
-BodyGives tells p h i front limit read out out' (Ok Early) = (items : List BodyItem) × BodyBegins h i front limit items × (p.ends items ≡ true) × Writes out out' (p.opens items) × tells items (p.opens items)
-BodyGives tells p h i front limit read out out' (Err (Dump input line fault)) = (items : List BodyItem) × (input ≡ 0) × ((fault == 31) ≡ false) × BodyHas h.codes i front limit items (Some (record { number = fault; line = line })) × (p.ends items ≡ false) × Writes out out' (p.opens items)
-BodyGives tells p h i front limit read out out' (Err (Read input)) = (items : List BodyItem) × (line : ℕ) × (input ≡ 0) × BodyHas h.codes (failed_after read i) front limit items (Some (record { number = 31; line = line })) × (p.ends items ≡ false) × Writes out out' (p.opens items)
+BodyGives tells p h i front limit read out out' (Ok Whole) = (items : List BodyItem) × BodyHas h.codes i front limit items None
+    × (p.ends items ≡ false) × Writes out out' (p.opens items ++ p.closes items) × tells items (p.opens items ++ p.closes items)
+BodyGives tells p h i front limit read out out' (Ok Early) = (items : List BodyItem) × BodyBegins h i front limit items × (p.ends items ≡ true)
+    × Writes out out' (p.opens items) × tells items (p.opens items)
+BodyGives tells p h i front limit read out out' (Err (Dump input line fault)) = (items : List BodyItem) × (input ≡ 0) × ((fault == 31) ≡ false)
+    × BodyHas h.codes i front limit items (Some (record { number = fault; line = line })) × (p.ends items ≡ false) × Writes out out' (p.opens items)
+BodyGives tells p h i front limit read out out' (Err (Read input)) = (items : List BodyItem) × (line : ℕ) × (input ≡ 0)
+    × BodyHas h.codes (failed_after read i) front limit items (Some (record { number = 31; line = line })) × (p.ends items ≡ false)
+    × Writes out out' (p.opens items)
 BodyGives tells p h i front limit read out out' (Err Write) =
     ((items : List BodyItem) × BodyBegins h i front limit items × WritesSome out out' (p.opens items))
     ⊎ ((items : List BodyItem) × BodyHas h.codes i front limit items None × (p.ends items ≡ false) × WritesSome out out' (p.opens items ++ p.closes items))
@@ -60,10 +65,12 @@ module _ {T X : Type 0} {g : Ghosts X} (keeps : T → Plan → Header → List B
   -- what a step after these items leaves: one more item and what is due with it; the end of the
   -- body and what comes there; or a fault, with which nothing is written
   abbrev pub StepGives : (tells : List BodyItem → List ℕ → Type 0) → List BodyItem → T → Regs → Feed X g → (out out' : Device) → Result More Stop → Type 0
-  StepGives tells items task regs f out out' (Ok Again) = (x : BodyItem) × GaveItem h.codes i front items x f regs × HasTaken (items ++ x ∷ []) task regs f × Grows out out' (p.opens items) (p.opens (items ++ x ∷ []))
+  StepGives tells items task regs f out out' (Ok Again) = (x : BodyItem) × GaveItem h.codes i front items x f regs
+      × HasTaken (items ++ x ∷ []) task regs f × Grows out out' (p.opens items) (p.opens (items ++ x ∷ []))
   StepGives tells items task regs f out out' (Ok (Ended Whole)) = GaveAll h.codes i front items f regs × Writes out out' (p.closes items) × tells items (p.opens items ++ p.closes items)
   StepGives tells items task regs f out out' (Ok (Ended Early)) =
-      (x : BodyItem) × GaveItem h.codes i front items x f regs × (p.ends (items ++ x ∷ []) ≡ true) × Grows out out' (p.opens items) (p.opens (items ++ x ∷ [])) × tells (items ++ x ∷ []) (p.opens (items ++ x ∷ []))
+      (x : BodyItem) × GaveItem h.codes i front items x f regs × (p.ends (items ++ x ∷ []) ≡ true)
+      × Grows out out' (p.opens items) (p.opens (items ++ x ∷ [])) × tells (items ++ x ∷ []) (p.opens (items ++ x ∷ []))
   StepGives tells items task regs f out out' (Err (Dump input line fault)) =
       (input ≡ 0) × ((fault == 31) ≡ false) × (line ≡ (token_of f).line) × FailsOver h.codes i front items fault f × Writes out out' []
   StepGives tells items task regs f out out' (Err (Read input)) = (input ≡ 0) × FailsOver h.codes (failed_after (seen f) i) front items 31 f × GaveOnlySeen i f × Writes out out' []
@@ -79,17 +86,25 @@ module _ {T X : Type 0} {g : Ghosts X} (keeps : T → Plan → Header → List B
   AheadGives items task regs f out out' (Err e) more = GaveItems h.codes i front (items ++ more) f regs × GrowsSome out out' (p.opens items) (p.opens (items ++ more))
 
 -- the same after any items of any body
-abbrev pub Steps : {T X : Type 0} {g : Ghosts X} → (keeps : T → Plan → Header → List BodyItem → Type 0) → (tells : T → List BodyItem → List ℕ → Type 0) → HeadView → (task task' : T) → (r r' : Regs) → (f f' : Feed X g) → (out out' : Device) → Result More Stop → Type 0
-Steps keeps tells v task task' r r' f f' out out' result = (p : Plan) (h : Header) (i : Input) (front : List Token) (items : List BodyItem) → IsViewOf v h → HasTaken keeps p h i front items task r f
+abbrev pub Steps : {T X : Type 0} {g : Ghosts X} → (keeps : T → Plan → Header → List BodyItem → Type 0)
+    → (tells : T → List BodyItem → List ℕ → Type 0) → HeadView → (task task' : T) → (r r' : Regs) → (f f' : Feed X g) → (out out' : Device)
+    → Result More Stop → Type 0
+Steps keeps tells v task task' r r' f f' out out' result = (p : Plan) (h : Header) (i : Input) (front : List Token) (items : List BodyItem)
+    → IsViewOf v h → HasTaken keeps p h i front items task r f
     → StepGives keeps p h i front (tells task') items task' r' f' out out' result
 
-abbrev pub StepsAhead : {T X A E : Type 0} {g : Ghosts X} → (keeps : T → Plan → Header → List BodyItem → Type 0) → HeadView → (task task' : T) → (r r' : Regs) → (f f' : Feed X g) → (out out' : Device) → Result A E → Type 0
-StepsAhead keeps v task task' r r' f f' out out' result = (p : Plan) (h : Header) (i : Input) (front : List Token) (items : List BodyItem) → IsViewOf v h → HasTaken keeps p h i front items task r f
+abbrev pub StepsAhead : {T X A E : Type 0} {g : Ghosts X} → (keeps : T → Plan → Header → List BodyItem → Type 0) → HeadView → (task task' : T)
+    → (r r' : Regs) → (f f' : Feed X g) → (out out' : Device) → Result A E → Type 0
+StepsAhead keeps v task task' r r' f f' out out' result = (p : Plan) (h : Header) (i : Input) (front : List Token) (items : List BodyItem)
+    → IsViewOf v h → HasTaken keeps p h i front items task r f
     → (more : List BodyItem) × AheadGives keeps p h i front items task' r' f' out out' result more
 
 -- it was run to its end, from the first item on
-abbrev pub RunsOn : {T X : Type 0} {g : Ghosts X} → (keeps : T → Plan → Header → List BodyItem → Type 0) → (tells : T → List BodyItem → List ℕ → Type 0) → HeadView → (task task' : T) → (f f' : Feed X g) → (out out' : Device) → Result Done Stop → Type 0
-RunsOn keeps tells v task task' f f' out out' result = (p : Plan) (h : Header) (i : Input) (front : List Token) (begin : Device) → IsViewOf v h → HasGiven i front f → keeps task p h [] → p.ends [] ≡ false → Writes begin out (p.opens [])
+abbrev pub RunsOn : {T X : Type 0} {g : Ghosts X} → (keeps : T → Plan → Header → List BodyItem → Type 0)
+    → (tells : T → List BodyItem → List ℕ → Type 0) → HeadView → (task task' : T) → (f f' : Feed X g) → (out out' : Device) → Result Done Stop
+    → Type 0
+RunsOn keeps tells v task task' f f' out out' result = (p : Plan) (h : Header) (i : Input) (front : List Token) (begin : Device) → IsViewOf v h
+    → HasGiven i front f → keeps task p h [] → p.ends [] ≡ false → Writes begin out (p.opens [])
     → BodyGives (tells task') p h i front (limit_of f) (seen f') begin out' result
 
 -- how a step ends for the feed that it reads
@@ -140,6 +155,8 @@ pub record ReadsNeeded (p : Plan) (h : Header) (limit chunk : ℕ) (i left : Inp
   pub keeps_up : KeepsUp (due_with p h) limit chunk left front old new out out'
 
 -- a run reads no more than it needs
-abbrev pub ReadsOn : {T X : Type 0} {g : Ghosts X} → (keeps : T → Plan → Header → List BodyItem → Type 0) → HeadView → T → (f f' : Feed X g) → (out out' : Device) → Result Done Stop → Type 0
-ReadsOn keeps v task f f' out out' result = (p : Plan) (h : Header) (i : Input) (front : List Token) (begin : Device) → IsViewOf v h → HasGiven i front f → keeps task p h [] → p.ends [] ≡ false → Writes begin out (p.opens [])
+abbrev pub ReadsOn : {T X : Type 0} {g : Ghosts X} → (keeps : T → Plan → Header → List BodyItem → Type 0) → HeadView → T → (f f' : Feed X g)
+    → (out out' : Device) → Result Done Stop → Type 0
+ReadsOn keeps v task f f' out out' result = (p : Plan) (h : Header) (i : Input) (front : List Token) (begin : Device) → IsViewOf v h
+    → HasGiven i front f → keeps task p h [] → p.ends [] ≡ false → Writes begin out (p.opens [])
     → ReadsNeeded p h (limit_of f) (chunk_len_of f) i (left_of i (seen f') result) front (supply_of f) (supply_of f') begin out'

@@ -16,7 +16,8 @@ binary_long zero t = refl
 binary_long (suc n) t = ap suc (binary_long n t)
 
 -- one more digit
-pub binary_next : (ds : List ℕ) (i t : ℕ) → i < 64 → length ds ≡ 64 → take i ds ≡ take i (binary 64 t) → take (i + 1) (set ds i (48 + t / 2 ^ (63 - i) % 2)) ≡ take (i + 1) (binary 64 t)
+pub binary_next : (ds : List ℕ) (i t : ℕ) → i < 64 → length ds ≡ 64 → take i ds ≡ take i (binary 64 t)
+    → take (i + 1) (set ds i (48 + t / 2 ^ (63 - i) % 2)) ≡ take (i + 1) (binary 64 t)
 binary_next ds i t lt long so_far =
     let digit : get_or (binary 64 t) i 0 ≡ 48 + t / 2 ^ (63 - i) % 2 = binary_at 64 i t lt in
     take_more_set ds i (48 + t / 2 ^ (63 - i) % 2) (omega (arith, lt, long)) ∙ ap (λ (l : List ℕ). l ++ (48 + t / 2 ^ (63 - i) % 2) ∷ []) so_far

@@ -27,20 +27,28 @@ use Rattle.vcd_strobe.specs.declared.role.Role.{Role}
 use Rattle.vcd_strobe.specs.declared.whole.Strobe.{Strobe}
 
 -- a text that a code may have gives it a full value
-pub full_text : (f : Form) (c : Code) (text : List ℕ) (size : ℕ) → IsText f c text → c.event ≡ false → c.size ≡ size → 0 < size → IsFull size (Some (value_with size (model_form f) text))
-full_text form.Scalar c text size (d, digit, is) event same some = let l = length_extended (str_to_ascii_lowercase text) size in let m = length-map text to_ascii_lowercase in let one : length text ≡ 1 = ap length is in omega (arith, l, m, one, some)
-full_text form.Vector c text size (filled, digits, few) event same some = let l = length_extended (str_to_ascii_lowercase text) size in let m = length-map text to_ascii_lowercase in let most = few event in omega (arith, l, m, most, same)
+pub full_text : (f : Form) (c : Code) (text : List ℕ) (size : ℕ) → IsText f c text → c.event ≡ false → c.size ≡ size → 0 < size
+    → IsFull size (Some (value_with size (model_form f) text))
+full_text form.Scalar c text size (d, digit, is) event same some = let l = length_extended (str_to_ascii_lowercase text) size in
+    let m = length-map text to_ascii_lowercase in let one : length text ≡ 1 = ap length is in omega (arith, l, m, one, some)
+full_text form.Vector c text size (filled, digits, few) event same some = let l = length_extended (str_to_ascii_lowercase text) size in
+    let m = length-map text to_ascii_lowercase in let most = few event in omega (arith, l, m, most, same)
 full_text form.RealText c text size good event same some = tt
 
 -- what a role that was read needs, another reading needs
-pub unneeded_by : (roles : List Role) (code place : ℕ) (r : Role) → Some r ≡ slice_get roles code → needs r place ≡ false → (q : Role) → slice_get roles code ≡ Some q → needs q place ≡ false
+pub unneeded_by : (roles : List Role) (code place : ℕ) (r : Role) → Some r ≡ slice_get roles code → needs r place ≡ false → (q : Role)
+    → slice_get roles code ≡ Some q → needs q place ≡ false
 unneeded_by roles code place r read none q there = subst (λ (x : Role). needs x place ≡ false) (same_Some r q (read ∙ there)) none
 
 pub edges_as : (ks : List ModelClock) (items : List BodyItem) (n m : ℕ) (at other : Option ℕ) → m ≡ n → other ≡ at → EdgesStand ks items n at → EdgesStand ks items m other
 edges_as ks items n m at other e f has = subst (λ k. EdgesStand ks items k other) (sym e) (subst (λ o. EdgesStand ks items n o) (sym f) has)
 
-module _ (s s1 : Strobe) (p : _) (h : Header) (items : List BodyItem) (has : HasStrobed s p h items) (rest : s1 ≡ record s { table = s1.table }) (code to : ℕ) (a : IdCode) (f : Form) (text : List ℕ) (c : Code) (r : Role) (read : Some r ≡ slice_get s.roles.now code) (declared : slice_get h.codes code ≡ Some a) (distinct : AreDistinct h.codes) (event : a.event ≡ false)
-    (good : IsText f c text) (plain : c.event ≡ false) (size : c.size ≡ a.size) (some : 0 < a.size) (to_low : to < 4) (placed : Stands s1 h has.names (edges_in has.ks items) items) (value : in_places s1.table a.size code to ≡ Some (value_with a.size (model_form f) text)) where
+module _ (s s1 : Strobe) (p : _) (h : Header) (items : List BodyItem) (has : HasStrobed s p h items) (rest : s1 ≡ record s { table = s1.table })
+    (code to : ℕ) (a : IdCode) (f : Form) (text : List ℕ) (c : Code) (r : Role) (read : Some r ≡ slice_get s.roles.now code)
+    (declared : slice_get h.codes code ≡ Some a) (distinct : AreDistinct h.codes) (event : a.event ≡ false)
+    (good : IsText f c text) (plain : c.event ≡ false) (size : c.size ≡ a.size) (some : 0 < a.size) (to_low : to < 4)
+    (placed : Stands s1 h has.names (edges_in has.ks items) items)
+    (value : in_places s1.table a.size code to ≡ Some (value_with a.size (model_form f) text)) where
   abbrev change : Change
   change = record { code = a; form = model_form f; text = text }
 
@@ -61,4 +69,5 @@ module _ (s s1 : Strobe) (p : _) (h : Header) (items : List BodyItem) (has : Has
       let q = placed.roles_are code a declared in
       let v = q.2.values event in
       let before = ap (λ (x : Role). in_places s1.table a.size code x.now) (sym (its q.0 q.1)) ∙ v.now_is in
-      turn_is s1.places s1.table h.codes placed.places distinct items change code r.now to declared from_low to_low before value v.full (full_text f c text a.size good plain size some) s1.clocks.now has.ks clocks_placed
+      turn_is s1.places s1.table h.codes placed.places distinct items change code r.now to declared from_low to_low before value v.full
+      (full_text f c text a.size good plain size some) s1.clocks.now has.ks clocks_placed

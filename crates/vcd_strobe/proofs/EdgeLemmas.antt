@@ -29,12 +29,14 @@ there_below [] i lt = absurd (omega (arith, lt))
 there_below (x ∷ xs) zero lt = (x, refl)
 there_below (x ∷ xs) (suc i) lt = there_below xs i (omega (arith, lt))
 
-module _ (at : IdCode → ℕ → ℕ → Option Value) (lines : IdCode → Bool) (codes : List IdCode) (es : List (List BodyItem)) (items : List BodyItem) (roles : List Role) (are : AreRoles at lines codes es items roles) (low : last_time es ≤ time_after items) where
+module _ (at : IdCode → ℕ → ℕ → Option Value) (lines : IdCode → Bool) (codes : List IdCode) (es : List (List BodyItem)) (items : List BodyItem)
+    (roles : List Role) (are : AreRoles at lines codes es items roles) (low : last_time es ≤ time_after items) where
   its_listed : (i : ℕ) (r : Role) → slice_get roles i ≡ Some r → listed_at roles i ≡ is_listed r.wanted
   its_listed i r there = ap (λ o. unwrap_or (option_map (λ (r : Role). is_listed r.wanted) o) false) there
 
   -- ---- the lines
-  module _ (line : ℕ → List ℕ) (its_line : (i : ℕ) (c : IdCode) (r : Role) → slice_get codes i ≡ Some c → slice_get roles i ≡ Some r → line i ≡ role_line (at c i) c r (time_after items)) where
+  module _ (line : ℕ → List ℕ) (its_line : (i : ℕ) (c : IdCode) (r : Role) → slice_get codes i ≡ Some c → slice_get roles i ≡ Some r
+      → line i ≡ role_line (at c i) c r (time_after items)) where
     one : (i : ℕ) (c : IdCode) → slice_get codes i ≡ Some c → flat_map line (cond (listed_at roles i) (i ∷ []) []) ≡ flat_map (code_line es items) (filter lines (c ∷ []))
     one i c there = by_wanted r.0.wanted refl
       where
@@ -60,7 +62,9 @@ module _ (at : IdCode → ℕ → ℕ → Option Value) (lines : IdCode → Bool
         let c = there_below codes n (omega (arith, le)) in
         flat_map-append line (chosen (listed_at roles) n) (cond (listed_at roles n) (n ∷ []) [])
         ∙ ap₂ (λ a b. a ++ b) (front n (omega (arith, le))) (one n c.0 c.1)
-        ∙ sym (ap (λ l. flat_map (code_line es items) (filter lines l)) (take_next codes n c.0 c.1) ∙ ap (flat_map (code_line es items)) (filter-append lines (take n codes) (c.0 ∷ [])) ∙ flat_map-append (code_line es items) (filter lines (take n codes)) (filter lines (c.0 ∷ [])))
+        ∙ sym (ap (λ l. flat_map (code_line es items) (filter lines l)) (take_next codes n c.0 c.1)
+        ∙ ap (flat_map (code_line es items)) (filter-append lines (take n codes) (c.0 ∷ []))
+        ∙ flat_map-append (code_line es items) (filter lines (take n codes)) (filter lines (c.0 ∷ [])))
 
     take_whole : {X : Type 0} (xs : List X) → take (length xs) xs ≡ xs
     take_whole [] = refl
@@ -71,34 +75,52 @@ module _ (at : IdCode → ℕ → ℕ → Option Value) (lines : IdCode → Bool
     lines_are = front (length codes) (omega arith) ∙ ap (λ l. flat_map (code_line es items) (filter lines l)) (take_whole codes)
 
   -- ---- the roles after it
-  pub settles_roles : (listed : List ℕ) (roles' : List Role) → ((i : ℕ) → times i listed ≡ cond (listed_at roles i) 1 0) → SettlesEach listed (time_after items) roles roles' → AreRoles at lines codes (es ++ items ∷ []) items roles'
+  pub settles_roles : (listed : List ℕ) (roles' : List Role) → ((i : ℕ) → times i listed ≡ cond (listed_at roles i) 1 0)
+      → SettlesEach listed (time_after items) roles roles' → AreRoles at lines codes (es ++ items ∷ []) items roles'
   settles_roles listed roles' once settles i c there = by_listed (is_listed r.0.wanted) refl
     where
       r : (r : Role) × (slice_get roles i ≡ Some r) × IsRole (at c i) es items c (lines c) r
       r = are i c there
 
       now : slice_get roles' i ≡ Some (cond (nat_lt 0 (cond (is_listed r.0.wanted) 1 0)) (settle r.0 (time_after items)) r.0)
-      now = settles i ∙ ap (option_map (λ (q : Role). cond (nat_lt 0 (times i listed)) (settle q (time_after items)) q)) r.1 ∙ ap (λ n. Some (cond (nat_lt 0 n) (settle r.0 (time_after items)) r.0)) (once i ∙ ap (λ b. cond b 1 0) (its_listed i r.0 r.1))
+      now = settles i ∙ ap (option_map (λ (q : Role). cond (nat_lt 0 (times i listed)) (settle q (time_after items)) q)) r.1
+          ∙ ap (λ n. Some (cond (nat_lt 0 n) (settle r.0 (time_after items)) r.0)) (once i ∙ ap (λ b. cond b 1 0) (its_listed i r.0 r.1))
 
       by_listed : (b : Bool) → is_listed r.0.wanted ≡ b → (q : Role) × (slice_get roles' i ≡ Some q) × IsRole (at c i) (es ++ items ∷ []) items c (lines c) q
-      by_listed true e = (settle r.0 (time_after items), now ∙ ap (λ b. Some (cond (nat_lt 0 (cond b 1 0)) (settle r.0 (time_after items)) r.0)) e, role_settled (at c i) es items c (lines c) r.0 r.2 e)
+      by_listed true e = (
+        settle r.0 (time_after items),
+        now ∙ ap (λ b. Some (cond (nat_lt 0 (cond b 1 0)) (settle r.0 (time_after items)) r.0)) e,
+        role_settled (at c i) es items c (lines c) r.0 r.2 e,
+      )
       by_listed false e = (r.0, now ∙ ap (λ b. Some (cond (nat_lt 0 (cond b 1 0)) (settle r.0 (time_after items)) r.0)) e, role_past (at c i) es items c (lines c) r.0 r.2 low e)
 
 -- ---- the list
 
 -- what was sorted is the listed codes in order
-pub sorted_listed : (roles : List Role) (codes sorted : List ℕ) (count : ℕ) → AreListed roles codes count → length roles ≤ length codes → IsPermutation (take count codes) sorted → IsNonDecreasing sorted
+pub sorted_listed : (roles : List Role) (codes sorted : List ℕ) (count : ℕ) → AreListed roles codes count → length roles ≤ length codes
+    → IsPermutation (take count codes) sorted → IsNonDecreasing sorted
     → ((i : ℕ) → times i sorted ≡ cond (listed_at roles i) 1 0) × (sorted ≡ chosen (listed_at roles) (length roles))
-sorted_listed roles codes sorted count listed room moved up = (once, sorted_is (listed_at roles) (length roles) sorted up (λ i lt. once i) (λ i le. once i ∙ ap (λ b. cond b 1 0) (past_none roles codes count listed room i le)))
+sorted_listed roles codes sorted count listed room moved up = (
+  once,
+  sorted_is (listed_at roles) (length roles) sorted up (λ i lt. once i) (λ i le. once i
+      ∙ ap (λ b. cond b 1 0) (past_none roles codes count listed room i le)),
+)
   where
     once : (i : ℕ) → times i sorted ≡ cond (listed_at roles i) 1 0
     once i = sum_by-IsPermutation (λ n. cond (n == i) 1 0) (take count codes) sorted moved ∙ listed.once i
 
 -- those that stay are listed by their roles
-pub kept_listed : (roles roles' : List Role) (sorted kept : List ℕ) (count n : ℕ) (t : ℕ) → ((i : ℕ) → times i sorted ≡ cond (listed_at roles i) 1 0) → SettlesEach sorted t roles roles' → n ≤ length kept → ((i : ℕ) → times i (take n kept) ≡ cond (listed_at roles' i) (times i sorted) 0) → AreListed roles' kept n
-kept_listed roles roles' sorted kept count n t once settles within has = record { within = within; once = λ i. has i ∙ ap (λ m. cond (listed_at roles' i) m 0) (once i) ∙ by_listed i (listed_at roles i) refl (listed_at roles' i) refl }
+pub kept_listed : (roles roles' : List Role) (sorted kept : List ℕ) (count n : ℕ) (t : ℕ) → ((i : ℕ) → times i sorted ≡ cond (listed_at roles i) 1 0)
+    → SettlesEach sorted t roles roles' → n ≤ length kept → ((i : ℕ) → times i (take n kept) ≡ cond (listed_at roles' i) (times i sorted) 0)
+    → AreListed roles' kept n
+kept_listed roles roles' sorted kept count n t once settles within has = record {
+  within = within;
+  once = λ i. has i
+      ∙ ap (λ m. cond (listed_at roles' i) m 0) (once i) ∙ by_listed i (listed_at roles i) refl (listed_at roles' i) refl;
+}
   where
-    not_new : (o : Option Role) (m : ℕ) → m ≡ 0 → unwrap_or (option_map (λ (r : Role). is_listed r.wanted) o) false ≡ false → unwrap_or (option_map (λ (r : Role). is_listed r.wanted) (option_map (λ (r : Role). cond (nat_lt 0 m) (settle r t) r) o)) false ≡ false
+    not_new : (o : Option Role) (m : ℕ) → m ≡ 0 → unwrap_or (option_map (λ (r : Role). is_listed r.wanted) o) false ≡ false
+        → unwrap_or (option_map (λ (r : Role). is_listed r.wanted) (option_map (λ (r : Role). cond (nat_lt 0 m) (settle r t) r) o)) false ≡ false
     not_new None m e f = refl
     not_new (Some r) m e f = ap (λ k. is_listed (cond (nat_lt 0 k) (settle r t) r).wanted) e ∙ f
 

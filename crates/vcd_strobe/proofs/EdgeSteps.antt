@@ -37,10 +37,12 @@ turns_more ks p x b e =
 
 -- ---- what is written
 
-pub open_edge : (ks : List Clock) (h : Header) (names : List (List ℕ)) (p : List BodyItem) (x : BodyItem) → is_edge ks p x ≡ true → strobe_open ks h names (p ++ x ∷ []) ≡ strobe_open ks h names p ++ edge_text h names (edges_in ks p) p
+pub open_edge : (ks : List Clock) (h : Header) (names : List (List ℕ)) (p : List BodyItem) (x : BodyItem) → is_edge ks p x ≡ true
+    → strobe_open ks h names (p ++ x ∷ []) ≡ strobe_open ks h names p ++ edge_text h names (edges_in ks p) p
 open_edge ks h names p x e = strobe-append ks h names p (x ∷ []) ∙ ap (λ l. strobe_open ks h names p ++ l) (rw e (append-nil (edge_text h names (edges_in ks p) p)))
 
-pub open_still : (ks : List Clock) (h : Header) (names : List (List ℕ)) (p : List BodyItem) (x : BodyItem) → is_edge ks p x ≡ false → strobe_open ks h names (p ++ x ∷ []) ≡ strobe_open ks h names p
+pub open_still : (ks : List Clock) (h : Header) (names : List (List ℕ)) (p : List BodyItem) (x : BodyItem) → is_edge ks p x ≡ false
+    → strobe_open ks h names (p ++ x ∷ []) ≡ strobe_open ks h names p
 open_still ks h names p x e = strobe-append ks h names p (x ∷ []) ∙ rw e (append-nil (strobe_open ks h names p))
 
 -- ---- the last edge
@@ -93,8 +95,11 @@ module _ (ks : List Clock) (p : List BodyItem) (x : BodyItem) (count : ℕ) (las
       turns : turn_times ks (p ++ x ∷ []) ≡ turn_times ks p
       turns = turns_more ks p x false e ∙ append-nil (turn_times ks p)
 
-      by_time : (time_after p < time_after (p ++ x ∷ [])) ⊎ (time_after (p ++ x ∷ []) ≤ time_after p) → list_any (λ t. t == time_after (p ++ x ∷ [])) (turn_times ks (p ++ x ∷ [])) ≡ is_at last (time_after (p ++ x ∷ []))
-      by_time (inl later) = ap (list_any (λ t. t == time_after (p ++ x ∷ []))) turns ∙ none_at (time_after p) (time_after (p ++ x ∷ [])) (turn_times ks p) later has.past ∙ sym (not_at last (time_after p) (time_after (p ++ x ∷ [])) later has.low)
+      by_time : (time_after p < time_after (p ++ x ∷ [])) ⊎ (time_after (p ++ x ∷ []) ≤ time_after p)
+          → list_any (λ t. t == time_after (p ++ x ∷ [])) (turn_times ks (p ++ x ∷ [])) ≡ is_at last (time_after (p ++ x ∷ []))
+      by_time (inl later) = ap (list_any (λ t. t == time_after (p ++ x ∷ []))) turns
+          ∙ none_at (time_after p) (time_after (p ++ x ∷ [])) (turn_times ks p) later has.past
+          ∙ sym (not_at last (time_after p) (time_after (p ++ x ∷ [])) later has.low)
       by_time (inr same) =
           let le = forth in
           let is : time_after (p ++ x ∷ []) ≡ time_after p = omega (arith, le, same) in
@@ -113,7 +118,9 @@ module _ (ks : List Clock) (p : List BodyItem) (x : BodyItem) (count : ℕ) (las
         ∙ rw (eq-eqb (time_after p) (time_after (p ++ x ∷ [])) (sym same)) (or-true (list_any (λ t. t == time_after (p ++ x ∷ [])) (turn_times ks p)))
 
     all_past : AllByRecursion (λ t. t ≤ time_after (p ++ x ∷ [])) (turn_times ks (p ++ x ∷ []))
-    all_past = subst (AllByRecursion (λ t. t ≤ time_after (p ++ x ∷ []))) (sym times) (all_push (time_after (p ++ x ∷ [])) (time_after p) (turn_times ks p) forth (all_below (time_after p) (time_after (p ++ x ∷ [])) (turn_times ks p) forth has.past))
+    all_past = subst (AllByRecursion (λ t. t ≤ time_after (p ++ x ∷ []))) (sym times)
+        (all_push (time_after (p ++ x ∷ [])) (time_after p) (turn_times ks p) forth
+        (all_below (time_after p) (time_after (p ++ x ∷ [])) (turn_times ks p) forth has.past))
 
     -- a turn at the time of the last edge
     pub edges_again : is_at last (time_after p) ≡ true → EdgesStand ks (p ++ x ∷ []) count last
@@ -133,7 +140,8 @@ module _ (ks : List Clock) (p : List BodyItem) (x : BodyItem) (count : ℕ) (las
         let edges = edges_more ks p x true (edge_is ∙ ap not at) in
         record {
           count = ap (λ n. n + 1) has.count ∙ sym (ap length edges ∙ length-append (edges_in ks p) (p ∷ []));
-          last = sym (ap (λ es. last_or None (map time_after es)) edges ∙ ap (last_or None) (map-append time_after (edges_in ks p) (p ∷ [])) ∙ last_push (map time_after (edges_in ks p)) None (time_after p));
+          last = sym (ap (λ es. last_or None (map time_after es)) edges ∙ ap (last_or None) (map-append time_after (edges_in ks p) (p ∷ []))
+              ∙ last_push (map time_after (edges_in ks p)) None (time_after p));
           turned = any_now ∙ sym (eq-eqb (time_after p) (time_after (p ++ x ∷ [])) (sym same));
           past = all_past;
           low = forth;

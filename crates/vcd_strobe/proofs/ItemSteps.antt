@@ -45,7 +45,8 @@ module _ (s : Strobe) (h : Header) (names : List (List ℕ)) (es : List (List Bo
       let r = has.roles_are i c there in (r.0, r.1, role_other (λ place. in_places s.table c.size i place) es items c (has_lines_in h names c) r.0 r.2 x time (none c)))
 
   -- a change of one code
-  module _ (d : Change) (code : ℕ) (a : IdCode) (declared : slice_get h.codes code ≡ Some a) (gives : same_code a d.code ≡ true) (others : (i : ℕ) (c : IdCode) → slice_get h.codes i ≡ Some c → i ≢ code → gives_to c (BodyItem.Changes d) ≡ false) where
+  module _ (d : Change) (code : ℕ) (a : IdCode) (declared : slice_get h.codes code ≡ Some a) (gives : same_code a d.code ≡ true)
+      (others : (i : ℕ) (c : IdCode) → slice_get h.codes i ≡ Some c → i ≢ code → gives_to c (BodyItem.Changes d) ≡ false) where
     abbrev after : List BodyItem
     after = items ++ BodyItem.Changes d ∷ []
 
@@ -53,34 +54,56 @@ module _ (s : Strobe) (h : Header) (names : List (List ℕ)) (es : List (List Bo
     pub stands_inside : a.event ≡ true → leaves_open items ≡ true → Stands s h names es after
     stands_inside event inside = stands_with after (λ i c there. by_place i c there (cases_eq i code))
       where
-        by_place : (i : ℕ) (c : IdCode) → slice_get h.codes i ≡ Some c → (i ≡ code) ⊎ (i ≢ code) → (r : Role) × (slice_get s.roles.now i ≡ Some r) × IsRole (λ place. in_places s.table c.size i place) es after c (has_lines_in h names c) r
+        by_place : (i : ℕ) (c : IdCode) → slice_get h.codes i ≡ Some c → (i ≡ code) ⊎ (i ≢ code) → (r : Role) × (slice_get s.roles.now i ≡ Some r)
+            × IsRole (λ place. in_places s.table c.size i place) es after c (has_lines_in h names c) r
         by_place i c there (inl e) =
             let r = has.roles_are i c there in
-            let one : c ≡ a = same_Some c a (sym there ∙ ap (slice_get h.codes) e ∙ declared) in
-            (r.0, r.1, role_inside (λ place. in_places s.table c.size i place) es items c (has_lines_in h names c) r.0 r.2 (BodyItem.Changes d) (time_still items (BodyItem.Changes d) refl) (ap (λ (y : IdCode). y.event) one ∙ event) inside)
+            let one : c ≡ a = same_Some c a (sym there ∙ ap (slice_get h.codes) e ∙ declared) in (
+              r.0,
+              r.1,
+              role_inside (λ place. in_places s.table c.size i place) es items c (has_lines_in h names c) r.0 r.2 (BodyItem.Changes d)
+                  (time_still items (BodyItem.Changes d) refl) (ap (λ (y : IdCode). y.event) one ∙ event) inside,
+            )
         by_place i c there (inr apart) =
-            let r = has.roles_are i c there in
-            (r.0, r.1, role_other (λ place. in_places s.table c.size i place) es items c (has_lines_in h names c) r.0 r.2 (BodyItem.Changes d) (time_still items (BodyItem.Changes d) refl) (others i c there apart))
+            let r = has.roles_are i c there in (
+              r.0,
+              r.1,
+              role_other (λ place. in_places s.table c.size i place) es items c (has_lines_in h names c) r.0 r.2 (BodyItem.Changes d)
+                  (time_still items (BodyItem.Changes d) refl) (others i c there apart),
+            )
 
     -- with a new role of the code
-    module _ (s' : Strobe) (r q : Role) (role : slice_get s.roles.now code ≡ Some r) (wanted : q.wanted ≡ r.wanted) (places : s'.places ≡ s.places) (table : s'.table ≡ s.table) (id : s'.id ≡ s.id) (roles : s'.roles.now ≡ set s.roles.now code (enlisted q))
-        (within : s.count ≤ length s.listed.now → s'.count ≤ length s'.listed.now) (long : length s'.listed.now ≡ length s.listed.now) (more : s.count < length s.listed.now → take s'.count s'.listed.now ≡ take s.count s.listed.now ++ cond (is_idle q.wanted) (code ∷ []) []) (same : is_idle q.wanted ≡ false → take s'.count s'.listed.now ≡ take s.count s.listed.now) where
+    module _ (s' : Strobe) (r q : Role) (role : slice_get s.roles.now code ≡ Some r) (wanted : q.wanted ≡ r.wanted) (places : s'.places ≡ s.places)
+        (table : s'.table ≡ s.table) (id : s'.id ≡ s.id) (roles : s'.roles.now ≡ set s.roles.now code (enlisted q))
+        (within : s.count ≤ length s.listed.now → s'.count ≤ length s'.listed.now) (long : length s'.listed.now ≡ length s.listed.now)
+        (more : s.count < length s.listed.now → take s'.count s'.listed.now ≡ take s.count s.listed.now ++ cond (is_idle q.wanted) (code ∷ []) [])
+        (same : is_idle q.wanted ≡ false → take s'.count s'.listed.now ≡ take s.count s.listed.now) where
       new_list : AreListed s'.roles.now s'.listed.now s'.count
-      new_list = subst (λ (rs : List Role). AreListed rs s'.listed.now s'.count) (sym roles) (enlists s.roles.now s.listed.now s.count has.list (let room = has.room in let many = has.many in omega (arith, room, many)) code r q role wanted s'.listed.now s'.count long within more same)
+      new_list = subst (λ (rs : List Role). AreListed rs s'.listed.now s'.count) (sym roles)
+          (enlists s.roles.now s.listed.now s.count has.list (let room = has.room in let many = has.many in
+          omega (arith, room, many)) code r q role wanted s'.listed.now s'.count long within more same)
 
-      new_roles : IsRole (λ place. in_places s.table a.size code place) es after a (has_lines_in h names a) (enlisted q) → AreRoles (λ c i place. in_places s.table c.size i place) (has_lines_in h names) h.codes es after (set s.roles.now code (enlisted q))
+      new_roles : IsRole (λ place. in_places s.table a.size code place) es after a (has_lines_in h names a) (enlisted q)
+          → AreRoles (λ c i place. in_places s.table c.size i place) (has_lines_in h names) h.codes es after (set s.roles.now code (enlisted q))
       new_roles its i c there = by_place i c there (cases_eq i code)
         where
-          by_place : (i : ℕ) (c : IdCode) → slice_get h.codes i ≡ Some c → (i ≡ code) ⊎ (i ≢ code) → (p : Role) × (slice_get (set s.roles.now code (enlisted q)) i ≡ Some p) × IsRole (λ place. in_places s.table c.size i place) es after c (has_lines_in h names c) p
+          by_place : (i : ℕ) (c : IdCode) → slice_get h.codes i ≡ Some c → (i ≡ code) ⊎ (i ≢ code) → (p : Role)
+              × (slice_get (set s.roles.now code (enlisted q)) i ≡ Some p)
+              × IsRole (λ place. in_places s.table c.size i place) es after c (has_lines_in h names c) p
           by_place i c there (inl e) =
               let one : a ≡ c = same_Some a c (sym declared ∙ ap (slice_get h.codes) (sym e) ∙ there) in (
                 enlisted q,
                 ap (slice_get (set s.roles.now code (enlisted q))) e ∙ set_at s.roles.now code (enlisted q) (slice_get_within s.roles.now code r role),
-                subst (λ (y : IdCode). IsRole (λ place. in_places s.table y.size i place) es after y (has_lines_in h names y) (enlisted q)) one (subst (λ n. IsRole (λ place. in_places s.table a.size n place) es after a (has_lines_in h names a) (enlisted q)) (sym e) its),
+                subst (λ (y : IdCode). IsRole (λ place. in_places s.table y.size i place) es after y (has_lines_in h names y) (enlisted q)) one
+                    (subst (λ n. IsRole (λ place. in_places s.table a.size n place) es after a (has_lines_in h names a) (enlisted q)) (sym e) its),
               )
           by_place i c there (inr apart) =
-              let p = has.roles_are i c there in
-              (p.0, set_other s.roles.now code i (enlisted q) apart ∙ p.1, role_other (λ place. in_places s.table c.size i place) es items c (has_lines_in h names c) p.0 p.2 (BodyItem.Changes d) (time_still items (BodyItem.Changes d) refl) (others i c there apart))
+              let p = has.roles_are i c there in (
+                p.0,
+                set_other s.roles.now code i (enlisted q) apart ∙ p.1,
+                role_other (λ place. in_places s.table c.size i place) es items c (has_lines_in h names c) p.0 p.2 (BodyItem.Changes d)
+                    (time_still items (BodyItem.Changes d) refl) (others i c there apart),
+              )
 
       stands_set : IsRole (λ place. in_places s.table a.size code place) es after a (has_lines_in h names a) (enlisted q) → Stands s' h names es after
       stands_set its = record {
@@ -96,24 +119,39 @@ module _ (s : Strobe) (h : Header) (names : List (List ℕ)) (es : List (List Bo
       }
 
     pub its_role : (r : Role) → slice_get s.roles.now code ≡ Some r → IsRole (λ place. in_places s.table a.size code place) es items a (has_lines_in h names a) r
-    its_role r role = let p = has.roles_are code a declared in subst (IsRole (λ place. in_places s.table a.size code place) es items a (has_lines_in h names a)) (same_Some p.0 r (sym p.1 ∙ role)) p.2
+    its_role r role = let p = has.roles_are code a declared in subst
+        (IsRole (λ place. in_places s.table a.size code place) es items a (has_lines_in h names a)) (same_Some p.0 r (sym p.1 ∙ role)) p.2
 
     -- a trigger
-    pub stands_triggered : (s' : Strobe) (r : Role) (t : ℕ) → t ≡ time_after items → a.event ≡ true → leaves_open items ≡ false → last_time es ≤ time_after items → slice_get s.roles.now code ≡ Some r → s'.places ≡ s.places → s'.table ≡ s.table → s'.id ≡ s.id → s'.roles.now ≡ set s.roles.now code (enlisted (triggered r t))
-        → (s.count ≤ length s.listed.now → s'.count ≤ length s'.listed.now) → length s'.listed.now ≡ length s.listed.now → (s.count < length s.listed.now → take s'.count s'.listed.now ≡ take s.count s.listed.now ++ cond (is_idle r.wanted) (code ∷ []) []) → (is_idle r.wanted ≡ false → take s'.count s'.listed.now ≡ take s.count s.listed.now) → Stands s' h names es after
+    pub stands_triggered : (s' : Strobe) (r : Role) (t : ℕ) → t ≡ time_after items → a.event ≡ true → leaves_open items ≡ false
+        → last_time es ≤ time_after items → slice_get s.roles.now code ≡ Some r → s'.places ≡ s.places → s'.table ≡ s.table → s'.id ≡ s.id
+        → s'.roles.now ≡ set s.roles.now code (enlisted (triggered r t))
+        → (s.count ≤ length s.listed.now → s'.count ≤ length s'.listed.now) → length s'.listed.now ≡ length s.listed.now
+        → (s.count < length s.listed.now → take s'.count s'.listed.now ≡ take s.count s.listed.now ++ cond (is_idle r.wanted) (code ∷ []) [])
+        → (is_idle r.wanted ≡ false → take s'.count s'.listed.now ≡ take s.count s.listed.now) → Stands s' h names es after
     stands_triggered s' r t is event outside low role places table id roles within long more same =
         stands_set s' r (triggered r t) role refl places table id roles within long more same
-        (subst (λ u. IsRole (λ place. in_places s.table a.size code place) es after a (has_lines_in h names a) (enlisted (triggered r u))) (sym is) (role_triggered (λ place. in_places s.table a.size code place) es items a (has_lines_in h names a) r (its_role r role) d gives event outside low))
+        (subst (λ u. IsRole (λ place. in_places s.table a.size code place) es after a (has_lines_in h names a) (enlisted (triggered r u))) (sym is)
+        (role_triggered (λ place. in_places s.table a.size code place) es items a (has_lines_in h names a) r
+        (its_role r role) d gives event outside low))
 
     -- a value, in one of its places
-    pub stands_changed : (s' : Strobe) (r : Role) (t place : ℕ) (start : Bool) → t ≡ time_after items → a.event ≡ false → place < 4 → in_places s.table a.size code place ≡ Some (value_of d) → IsFull a.size (Some (value_of d)) → start ≡ (is_none (final_value items a) && is_vars (open_section items)) → slice_get s.roles.now code ≡ Some r → s'.places ≡ s.places → s'.table ≡ s.table → s'.id ≡ s.id → s'.roles.now ≡ set s.roles.now code (enlisted (changed r t place start))
-        → (s.count ≤ length s.listed.now → s'.count ≤ length s'.listed.now) → length s'.listed.now ≡ length s.listed.now → (s.count < length s.listed.now → take s'.count s'.listed.now ≡ take s.count s.listed.now ++ cond (is_idle r.wanted) (code ∷ []) []) → (is_idle r.wanted ≡ false → take s'.count s'.listed.now ≡ take s.count s.listed.now) → Stands s' h names es after
+    pub stands_changed : (s' : Strobe) (r : Role) (t place : ℕ) (start : Bool) → t ≡ time_after items → a.event ≡ false → place < 4
+        → in_places s.table a.size code place ≡ Some (value_of d) → IsFull a.size (Some (value_of d))
+        → start ≡ (is_none (final_value items a) && is_vars (open_section items)) → slice_get s.roles.now code ≡ Some r → s'.places ≡ s.places
+        → s'.table ≡ s.table → s'.id ≡ s.id → s'.roles.now ≡ set s.roles.now code (enlisted (changed r t place start))
+        → (s.count ≤ length s.listed.now → s'.count ≤ length s'.listed.now) → length s'.listed.now ≡ length s.listed.now
+        → (s.count < length s.listed.now → take s'.count s'.listed.now ≡ take s.count s.listed.now ++ cond (is_idle r.wanted) (code ∷ []) [])
+        → (is_idle r.wanted ≡ false → take s'.count s'.listed.now ≡ take s.count s.listed.now) → Stands s' h names es after
     stands_changed s' r t place start is event few value full start_is role places table id roles within long more same =
         stands_set s' r (changed r t place start) role refl places table id roles within long more same
-        (subst (λ u. IsRole (λ p. in_places s.table a.size code p) es after a (has_lines_in h names a) (enlisted (changed r u place start))) (sym is) (role_changed (λ p. in_places s.table a.size code p) es items a (has_lines_in h names a) r (its_role r role) d gives event place few value full start start_is))
+        (subst (λ u. IsRole (λ p. in_places s.table a.size code p) es after a (has_lines_in h names a) (enlisted (changed r u place start))) (sym is)
+        (role_changed (λ p. in_places s.table a.size code p) es items a (has_lines_in h names a) r
+        (its_role r role) d gives event place few value full start start_is))
 
 -- whether a change is from the start, by what the table shows and the registers
-pub start_by : (held : Held) (size : ℕ) (v : Option Value) → value_at_size size held ≡ v → (o : Option Section) (left : Option SectionKind) → option_map model_section o ≡ left → is_start (shown_as held) o ≡ (is_none v && is_vars left)
+pub start_by : (held : Held) (size : ℕ) (v : Option Value) → value_at_size size held ≡ v → (o : Option Section) (left : Option SectionKind)
+    → option_map model_section o ≡ left → is_start (shown_as held) o ≡ (is_none v && is_vars left)
 start_by Held.Unset size v e None left f = rw (sym e, sym f) refl
 start_by Held.Unset size v e (Some section.Vars) left f = rw (sym e, sym f) refl
 start_by Held.Unset size v e (Some section.Off) left f = rw (sym e, sym f) refl

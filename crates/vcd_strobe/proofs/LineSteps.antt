@@ -70,10 +70,12 @@ module _ (v : HeadView) (codes : List IdCode) (code : ℕ) (c : IdCode) (places 
   -- its declaration in the view
   pub declared_is : (i p : ℕ) (d : Code) → p < 4 → i ≡ place_of code p → Some d ≡ slice_get v.codes.now i → shown_code v.text.now d ≡ c
   declared_is i p d lt is e =
-      same_Some (shown_code v.text.now d) c (ap (option_map (shown_code v.text.now)) e ∙ sym (slice_get-map (shown_code v.text.now) v.codes.now i) ∙ ap (slice_get (codes_shown v)) is ∙ shown_there p lt)
+      same_Some (shown_code v.text.now d) c (ap (option_map (shown_code v.text.now)) e ∙ sym (slice_get-map (shown_code v.text.now) v.codes.now i)
+      ∙ ap (slice_get (codes_shown v)) is ∙ shown_there p lt)
 
   pub declared_there : (i p : ℕ) → p < 4 → i ≡ place_of code p → None ≡ slice_get v.codes.now i → ⊥
-  declared_there i p lt is e = let no = ap (option_map (shown_code v.text.now)) e ∙ sym (slice_get-map (shown_code v.text.now) v.codes.now i) ∙ ap (slice_get (codes_shown v)) is ∙ shown_there p lt in cc
+  declared_there i p lt is e = let no = ap (option_map (shown_code v.text.now)) e ∙ sym (slice_get-map (shown_code v.text.now) v.codes.now i)
+      ∙ ap (slice_get (codes_shown v)) is ∙ shown_there p lt in cc
 
 -- ---- two values
 
@@ -122,9 +124,12 @@ module _ (at : ℕ → Option Value) (c : IdCode) (r : Role) (t : ℕ) where
   value_text e = ap (λ b. cond b (cond (is_due r t) (as_line (byte "1" ∷ c.text)) []) (cond (same_state (at r.written) (at (settled r t))) [] (line_if_set c (at (settled r t))))) e
 
 -- whether two places have the same value
-pub same_places : (t : Table) (code size written before one other : ℕ) (b : Bool) → one ≡ place_of code written → other ≡ place_of code before → Decides b (value_at_size size (held_at t one) ≡ value_at_size size (held_at t other)) → same_state (in_places t size code written) (in_places t size code before) ≡ b
+pub same_places : (t : Table) (code size written before one other : ℕ) (b : Bool) → one ≡ place_of code written → other ≡ place_of code before
+    → Decides b (value_at_size size (held_at t one) ≡ value_at_size size (held_at t other))
+    → same_state (in_places t size code written) (in_places t size code before) ≡ b
 same_places t code size written before one other b e f d =
-    ap₂ (λ i j. same_state (value_at_size size (held_at t i)) (value_at_size size (held_at t j))) (sym e) (sym f) ∙ same_decided b (value_at_size size (held_at t one)) (value_at_size size (held_at t other)) d
+    ap₂ (λ i j. same_state (value_at_size size (held_at t i)) (value_at_size size (held_at t j))) (sym e) (sym f)
+    ∙ same_decided b (value_at_size size (held_at t one)) (value_at_size size (held_at t other)) d
 
 -- the line of a value in a place
 pub line_there : (cs : List IdCode) (t : Table) (i : ℕ) (c : IdCode) → slice_get cs i ≡ Some c → line_of cs t i ≡ line_if_set c (value_at_size c.size (held_at t i))

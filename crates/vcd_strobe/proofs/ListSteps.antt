@@ -49,7 +49,9 @@ module _ (codes : List ℕ) (k code t : ℕ) (old mid : List Role) (at : get_or 
   -- another code
   other : (i : ℕ) → i ≢ code → (n : Option Role) → n ≡ slice_get mid i → n ≡ option_map (λ (r : Role). cond (nat_lt 0 (times i (take (k + 1) codes))) (settle r t) r) (slice_get old i)
   other i apart n e =
-      let same : times i (take (k + 1) codes) ≡ times i (take k codes) = (let m = more i in let zero : cond {A = ℕ} (code == i) 1 0 ≡ 0 = ap (λ b. cond {A = ℕ} b 1 0) (ne_eqb code i (λ q. apart (sym q))) in omega (arith, m, zero)) in
+      let same : times i (take (k + 1) codes) ≡ times i (take k codes) = (let m = more i in
+      let zero : cond {A = ℕ} (code == i) 1 0 ≡ 0 = ap (λ b. cond {A = ℕ} b 1 0) (ne_eqb code i (λ q. apart (sym q))) in
+      omega (arith, m, zero)) in
       e ∙ done i ∙ ap (λ m. option_map (λ (r : Role). cond (nat_lt 0 m) (settle r t) r) (slice_get old i)) (sym same)
 
   -- the code itself
@@ -57,18 +59,22 @@ module _ (codes : List ℕ) (k code t : ℕ) (old mid : List Role) (at : get_or 
   itself r there = by_old (slice_get old code) refl
     where
       is_more : nat_lt 0 (times code (take (k + 1) codes)) ≡ true
-      is_more = let m = more code in let one : cond {A = ℕ} (code == code) 1 0 ≡ 1 = ap (λ b. cond {A = ℕ} b 1 0) (eq-eqb code code refl) in lt-ltb 0 (times code (take (k + 1) codes)) (omega (arith, m, one))
+      is_more = let m = more code in let one : cond {A = ℕ} (code == code) 1 0 ≡ 1 = ap (λ b. cond {A = ℕ} b 1 0) (eq-eqb code code refl) in
+          lt-ltb 0 (times code (take (k + 1) codes)) (omega (arith, m, one))
 
       by_old : (o : Option Role) → slice_get old code ≡ o → Some (settle r t) ≡ option_map (λ (r : Role). cond (nat_lt 0 (times code (take (k + 1) codes))) (settle r t) r) o
       by_old None e = let no = sym there ∙ done code ∙ ap (option_map (λ (r : Role). cond (nat_lt 0 (times code (take k codes))) (settle r t) r)) e in cc
       by_old (Some q) e =
-          let was : r ≡ cond (nat_lt 0 (times code (take k codes))) (settle q t) q = same_Some r (cond (nat_lt 0 (times code (take k codes))) (settle q t) q) (sym there ∙ done code ∙ ap (option_map (λ (r : Role). cond (nat_lt 0 (times code (take k codes))) (settle r t) r)) e) in
+          let was : r ≡ cond (nat_lt 0 (times code (take k codes))) (settle q t) q = same_Some r
+          (cond (nat_lt 0 (times code (take k codes))) (settle q t) q) (sym there ∙ done code
+          ∙ ap (option_map (λ (r : Role). cond (nat_lt 0 (times code (take k codes))) (settle r t) r)) e) in
           ap Some (ap (λ (x : Role). settle x t) was ∙ settled_again (nat_lt 0 (times code (take k codes))) q t ∙ sym (ap (λ b. cond b (settle q t) q) is_more))
 
   pub settles_next : (r : Role) → slice_get mid code ≡ Some r → SettlesEach (take (k + 1) codes) t old (set mid code (settle r t))
   settles_next r there i = by_same (cases_eq i code)
     where
-      by_same : (i ≡ code) ⊎ (i ≢ code) → slice_get (set mid code (settle r t)) i ≡ option_map (λ (r : Role). cond (nat_lt 0 (times i (take (k + 1) codes))) (settle r t) r) (slice_get old i)
+      by_same : (i ≡ code) ⊎ (i ≢ code) → slice_get (set mid code (settle r t)) i ≡ option_map
+          (λ (r : Role). cond (nat_lt 0 (times i (take (k + 1) codes))) (settle r t) r) (slice_get old i)
       by_same (inl e) = rw e (set_at mid code (settle r t) (slice_get_within mid code r there) ∙ itself r there)
       by_same (inr apart) = other i apart (slice_get (set mid code (settle r t)) i) (set_other mid code i (settle r t) apart)
 
@@ -84,11 +90,14 @@ module _ (codes : List ℕ) (k code t : ℕ) (old mid : List Role) (at : get_or 
       by_same (inr apart) = other i apart (slice_get mid i) refl
 
 -- one more of the codes was settled
-pub settles_more : (codes : List ℕ) (k t : ℕ) (old mid new : List Role) → k < length codes → SettlesEach (take k codes) t old mid → ((r : Role) → slice_get mid (get_or codes k 0) ≡ Some r → new ≡ set mid (get_or codes k 0) (settle r t)) → (length mid ≤ get_or codes k 0 → new ≡ mid)
+pub settles_more : (codes : List ℕ) (k t : ℕ) (old mid new : List Role) → k < length codes → SettlesEach (take k codes) t old mid
+    → ((r : Role) → slice_get mid (get_or codes k 0) ≡ Some r → new ≡ set mid (get_or codes k 0) (settle r t))
+    → (length mid ≤ get_or codes k 0 → new ≡ mid)
     → SettlesEach (take (k + 1) codes) t old new
 settles_more codes k t old mid new within done there past = by_case (slice_get_cases mid (get_or codes k 0)).1
   where
-    by_case : ((r : Role) × (get_or codes k 0 < length mid) × (slice_get mid (get_or codes k 0) ≡ Some r) × (get_or mid (get_or codes k 0) r ≡ r)) ⊎ ((length mid ≤ get_or codes k 0) × (slice_get mid (get_or codes k 0) ≡ None)) → SettlesEach (take (k + 1) codes) t old new
+    by_case : ((r : Role) × (get_or codes k 0 < length mid) × (slice_get mid (get_or codes k 0) ≡ Some r) × (get_or mid (get_or codes k 0) r ≡ r))
+        ⊎ ((length mid ≤ get_or codes k 0) × (slice_get mid (get_or codes k 0) ≡ None)) → SettlesEach (take (k + 1) codes) t old new
     by_case (inl at) = subst (SettlesEach (take (k + 1) codes) t old) (sym (there at.0 at.2)) (settles_next codes k (get_or codes k 0) t old mid refl within done at.0 at.2)
     by_case (inr none) = subst (SettlesEach (take (k + 1) codes) t old) (sym (past none.0)) (settles_past codes k (get_or codes k 0) t old mid refl within done none.0)
 
@@ -144,7 +153,9 @@ module _ (roles : List Role) (codes : List ℕ) (count : ℕ) (listed : AreListe
     others : (i : ℕ) → i ≢ code → listed_at (set roles code (enlisted q)) i ≡ listed_at roles i
     others i apart = ap (λ o. unwrap_or (option_map (λ (r : Role). is_listed r.wanted) o) false) (set_other roles code i (enlisted q) apart)
 
-    pub enlists : (codes' : List ℕ) (count' : ℕ) → length codes' ≡ length codes → (count ≤ length codes → count' ≤ length codes') → (count < length codes → take count' codes' ≡ take count codes ++ cond (is_idle q.wanted) (code ∷ []) []) → (is_idle q.wanted ≡ false → take count' codes' ≡ take count codes)
+    pub enlists : (codes' : List ℕ) (count' : ℕ) → length codes' ≡ length codes → (count ≤ length codes → count' ≤ length codes')
+        → (count < length codes → take count' codes' ≡ take count codes ++ cond (is_idle q.wanted) (code ∷ []) [])
+        → (is_idle q.wanted ≡ false → take count' codes' ≡ take count codes)
         → AreListed (set roles code (enlisted q)) codes' count'
     enlists codes' count' len within one none = record { within = within listed.within; once = by_wanted r.wanted refl }
       where
@@ -155,11 +166,13 @@ module _ (roles : List Role) (codes : List ℕ) (count : ℕ) (listed : AreListe
             let all : take count' codes' ≡ take count codes ++ code ∷ [] = one (has_room code low_code not_yet) ∙ ap (λ w. take count codes ++ cond (is_idle w) (code ∷ []) []) is in
             ap (times i) all ∙ times_push i code (take count codes) ∙ by_same is not_yet (cases_eq i code)
           where
-            by_same : q.wanted ≡ Idle → listed_at roles code ≡ false → (i ≡ code) ⊎ (i ≢ code) → times i (take count codes) + cond (code == i) 1 0 ≡ cond (listed_at (set roles code (enlisted q)) i) 1 0
+            by_same : q.wanted ≡ Idle → listed_at roles code ≡ false → (i ≡ code) ⊎ (i ≢ code)
+                → times i (take count codes) + cond (code == i) 1 0 ≡ cond (listed_at (set roles code (enlisted q)) i) 1 0
             by_same is not_yet (inl f) =
                 let mine : times i (take count codes) ≡ 0 = listed.once i ∙ ap (λ b. cond b 1 0) (ap (listed_at roles) f ∙ not_yet) in
                 let it : cond {A = ℕ} (code == i) 1 0 ≡ 1 = ap (λ b. cond {A = ℕ} b 1 0) (eq-eqb code i (sym f)) in
-                let yes : cond {A = ℕ} (listed_at (set roles code (enlisted q)) i) 1 0 ≡ 1 = ap (λ b. cond {A = ℕ} b 1 0) (ap (listed_at (set roles code (enlisted q))) f ∙ now_listed ∙ ap (λ w. is_listed (cond (is_idle w) Listed w)) is) in
+                let yes : cond {A = ℕ} (listed_at (set roles code (enlisted q)) i) 1 0 ≡ 1 = ap (λ b. cond {A = ℕ} b 1 0)
+                (ap (listed_at (set roles code (enlisted q))) f ∙ now_listed ∙ ap (λ w. is_listed (cond (is_idle w) Listed w)) is) in
                 omega (arith, mine, it, yes)
             by_same is not_yet (inr apart) =
                 let zero : cond {A = ℕ} (code == i) 1 0 ≡ 0 = ap (λ b. cond {A = ℕ} b 1 0) (ne_eqb code i (λ f. apart (sym f))) in
@@ -168,7 +181,8 @@ module _ (roles : List Role) (codes : List ℕ) (count : ℕ) (listed : AreListe
                 omega (arith, zero, mine, stays)
         by_wanted Listed e i = unchanged (same ∙ e) refl (sym (ap is_listed e) ∙ sym was) i
           where
-            unchanged : q.wanted ≡ Listed → is_idle Listed ≡ false → true ≡ listed_at roles code → (i : ℕ) → times i (take count' codes') ≡ cond (listed_at (set roles code (enlisted q)) i) 1 0
+            unchanged : q.wanted ≡ Listed → is_idle Listed ≡ false → true ≡ listed_at roles code → (i : ℕ)
+                → times i (take count' codes') ≡ cond (listed_at (set roles code (enlisted q)) i) 1 0
             unchanged is idle true_is i = ap (times i) (none (ap is_idle is)) ∙ listed.once i ∙ ap (λ b. cond b 1 0) (sym (by_same (cases_eq i code)))
               where
                 by_same : (i ≡ code) ⊎ (i ≢ code) → listed_at (set roles code (enlisted q)) i ≡ listed_at roles i
@@ -177,5 +191,6 @@ module _ (roles : List Role) (codes : List ℕ) (count : ℕ) (listed : AreListe
         by_wanted Never e i = ap (times i) (none (ap is_idle (same ∙ e))) ∙ listed.once i ∙ ap (λ b. cond b 1 0) (sym (by_same (cases_eq i code)))
           where
             by_same : (i ≡ code) ⊎ (i ≢ code) → listed_at (set roles code (enlisted q)) i ≡ listed_at roles i
-            by_same (inl f) = ap (listed_at (set roles code (enlisted q))) f ∙ now_listed ∙ ap (λ w. is_listed (cond (is_idle w) Listed w)) (same ∙ e) ∙ sym (was ∙ ap is_listed e) ∙ ap (listed_at roles) (sym f)
+            by_same (inl f) = ap (listed_at (set roles code (enlisted q))) f ∙ now_listed
+                ∙ ap (λ w. is_listed (cond (is_idle w) Listed w)) (same ∙ e) ∙ sym (was ∙ ap is_listed e) ∙ ap (listed_at roles) (sym f)
             by_same (inr apart) = others i apart

@@ -96,11 +96,13 @@ last_split : (m : ℕ) (xs : List ℕ) → length xs ≡ suc m → xs ≡ take m
 last_split m xs len = sym (take_all (m + 1) xs (omega (arith, len))) ∙ take_more xs m 0 (omega (arith, len))
 
 -- what does not fall, and has each number that passes once and no other, is these in order
-pub sorted_is : (f : ℕ → Bool) (n : ℕ) (xs : List ℕ) → IsNonDecreasing xs → ((i : ℕ) → i < n → times i xs ≡ cond (f i) 1 0) → ((i : ℕ) → n ≤ i → times i xs ≡ 0) → xs ≡ chosen f n
+pub sorted_is : (f : ℕ → Bool) (n : ℕ) (xs : List ℕ) → IsNonDecreasing xs → ((i : ℕ) → i < n → times i xs ≡ cond (f i) 1 0)
+    → ((i : ℕ) → n ≤ i → times i xs ≡ 0) → xs ≡ chosen f n
 sorted_is f zero xs up once none = none_there xs (λ i. none i (omega arith))
 sorted_is f (suc n) xs up once none = by_test (sorted_is f n) (f n) refl
   where
-    by_test : ((ys : List ℕ) → IsNonDecreasing ys → ((i : ℕ) → i < n → times i ys ≡ cond (f i) 1 0) → ((i : ℕ) → n ≤ i → times i ys ≡ 0) → ys ≡ chosen f n) → (b : Bool) → f n ≡ b → xs ≡ chosen f (suc n)
+    by_test : ((ys : List ℕ) → IsNonDecreasing ys → ((i : ℕ) → i < n → times i ys ≡ cond (f i) 1 0) → ((i : ℕ) → n ≤ i → times i ys ≡ 0)
+        → ys ≡ chosen f n) → (b : Bool) → f n ≡ b → xs ≡ chosen f (suc n)
     by_test front_is false e =
         let no : times n xs ≡ 0 = once n (omega arith) ∙ ap (λ b. cond {A = ℕ} b 1 0) e in
         let rest = front_is xs up (λ i lt. once i (omega (arith, lt))) (λ i le. by_bound no i (cases_eq i n) le) in
@@ -127,7 +129,8 @@ sorted_is f (suc n) xs up once none = by_test (sorted_is f n) (f n) refl
             let low : n ≤ y = (let lt = at.1 in let u = up at.0 m 0 (omega (arith, lt, len)) (omega (arith, len)) in subst (λ k. k ≤ y) at.2 u) in
             let is : y ≡ n = last_is y split low in
             let rest = front_is front (IsNonDecreasingBy-take (λ x. x) m xs up)
-            (λ i lt. let all = many i in let mine = once i (omega (arith, lt)) in let other : is_it i y ≡ 0 = ap (λ b. cond {A = ℕ} b 1 0) (ne_eqb y i (λ q. omega (arith, q, is, lt))) in omega (arith, all, mine, other))
+            (λ i lt. let all = many i in let mine = once i (omega (arith, lt)) in
+            let other : is_it i y ≡ 0 = ap (λ b. cond {A = ℕ} b 1 0) (ne_eqb y i (λ q. omega (arith, q, is, lt))) in omega (arith, all, mine, other))
             (λ i le. by_bound i y is (many i) (cases_eq i n) le) in
             split ∙ ap (λ l. l ++ y ∷ []) rest ∙ ap (λ k. chosen f n ++ k ∷ []) is ∙ ap (λ b. chosen f n ++ cond b (n ∷ []) []) (sym e)
           where
@@ -143,5 +146,6 @@ sorted_is f (suc n) xs up once none = by_test (sorted_is f n) (f n) refl
                 by_order (inr le) = omega (arith, low, le)
 
             by_bound : (i y : ℕ) → y ≡ n → times i xs ≡ times i (take m xs) + is_it i y → (i ≡ n) ⊎ (i ≢ n) → n ≤ i → times i (take m xs) ≡ 0
-            by_bound i y is all (inl same) le = let mine : times i xs ≡ 1 = ap (λ j. times j xs) same ∙ one in let it : is_it i y ≡ 1 = ap (λ b. cond {A = ℕ} b 1 0) (eq-eqb y i (omega (arith, is, same))) in omega (arith, mine, it, all)
+            by_bound i y is all (inl same) le = let mine : times i xs ≡ 1 = ap (λ j. times j xs) same ∙ one in
+                let it : is_it i y ≡ 1 = ap (λ b. cond {A = ℕ} b 1 0) (eq-eqb y i (omega (arith, is, same))) in omega (arith, mine, it, all)
             by_bound i y is all (inr d) le = let no = none i (omega (arith, d, le)) in omega (arith, no, all)

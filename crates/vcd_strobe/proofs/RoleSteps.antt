@@ -46,7 +46,8 @@ module _ (at : ℕ → Option Value) (es : List (List BodyItem)) (items : List B
           fresh = λ e. v.fresh (sym final ∙ e);
         }
 
-    triggers_same : ((from to : ℕ) → is_triggered (items ++ x ∷ []) c from to ≡ is_triggered items c from to) → HasTriggers es items c r (time_after items) → HasTriggers es (items ++ x ∷ []) c r (time_after (items ++ x ∷ []))
+    triggers_same : ((from to : ℕ) → is_triggered (items ++ x ∷ []) c from to ≡ is_triggered items c from to)
+        → HasTriggers es items c r (time_after items) → HasTriggers es (items ++ x ∷ []) c r (time_after (items ++ x ∷ []))
     triggers_same same v = subst (HasTriggers es (items ++ x ∷ []) c r) (sym time) (record {
       here = same (time_after items) (1 + time_after items) ∙ v.here;
       all = λ e. same (last_time es) (1 + time_after items) ∙ v.all e;
@@ -98,7 +99,8 @@ module _ (at : ℕ → Option Value) (es : List (List BodyItem)) (items : List B
     triggers_later : time_after items < t → HasTriggers es items c r (time_after items) → HasTriggers es after c r (time_after after)
     triggers_later lt v = subst (HasTriggers es after c r) (sym now) (record {
       here = triggered_other items (BodyItem.Time t) c t (1 + t) refl ∙ triggered_past items c t (1 + t) lt ∙ sym (not_later r.since (time_after items) t lt is.low);
-      all = λ e. triggered_other items (BodyItem.Time t) c (last_time es) (1 + t) refl ∙ triggered_up items c (last_time es) (1 + t) (1 + time_after items) (omega (arith, lt)) (omega arith) ∙ v.all e;
+      all = λ e. triggered_other items (BodyItem.Time t) c (last_time es) (1 + t) refl
+          ∙ triggered_up items c (last_time es) (1 + t) (1 + time_after items) (omega (arith, lt)) (omega arith) ∙ v.all e;
       due = λ e.
           triggered_other items (BodyItem.Time t) c (last_time es) t refl ∙ triggered_up items c (last_time es) t (1 + time_after items) lt (omega arith) ∙ v.all e
           ∙ ap (λ b. cond b r.early (is_listed r.wanted)) (sym (not_later r.since (time_after items) t lt is.low));
@@ -136,7 +138,9 @@ module _ (at : ℕ → Option Value) (es : List (List BodyItem)) (items : List B
     never_idle Never = refl
 
     -- its value
-    module _ (event : c.event ≡ false) (place : ℕ) (few : place < 4) (value : at place ≡ Some (value_of d)) (full : IsFull c.size (Some (value_of d))) (start : Bool) (start_is : start ≡ (is_none (final_value items c) && is_vars (open_section items))) where
+    module _ (event : c.event ≡ false) (place : ℕ) (few : place < 4) (value : at place ≡ Some (value_of d))
+        (full : IsFull c.size (Some (value_of d))) (start : Bool) (start_is : start ≡
+        (is_none (final_value items c) && is_vars (open_section items))) where
       abbrev next : Role
       next = enlisted (changed r (time_after items) place start)
 
@@ -207,10 +211,14 @@ module _ (at : ℕ → Option Value) (es : List (List BodyItem)) (items : List B
       lines_are = lines_stay r.wanted ∙ is.lines_are;
       values = λ e. absurd (let no = sym event ∙ e in cc);
       triggers = λ e. record {
-        here = ap (λ t. is_triggered changes c t (1 + t)) time_is ∙ triggered_now items (BodyItem.Changes d) c (time_after items) (1 + time_after items) gives outside (omega arith) (omega arith) ∙ sym (eq-eqb (time_after items) (time_after changes) (sym time_is));
-        all = λ h. ap (λ t. is_triggered changes c (last_time es) (1 + t)) time_is ∙ triggered_now items (BodyItem.Changes d) c (last_time es) (1 + time_after items) gives outside le (omega arith) ∙ sym (listed_now r.wanted (sym (lines_stay r.wanted) ∙ h));
+        here = ap (λ t. is_triggered changes c t (1 + t)) time_is ∙ triggered_now items (BodyItem.Changes d) c (time_after items)
+            (1 + time_after items) gives outside (omega arith) (omega arith) ∙ sym (eq-eqb (time_after items) (time_after changes) (sym time_is));
+        all = λ h. ap (λ t. is_triggered changes c (last_time es) (1 + t)) time_is
+            ∙ triggered_now items (BodyItem.Changes d) c (last_time es) (1 + time_after items) gives outside le (omega arith)
+            ∙ sym (listed_now r.wanted (sym (lines_stay r.wanted) ∙ h));
         due = λ h.
-            ap (λ t. is_triggered changes c (last_time es) t) time_is ∙ triggered_before items (BodyItem.Changes d) c (last_time es) (time_after items) (omega arith) ∙ (is.triggers event).due (sym (lines_stay r.wanted) ∙ h)
+            ap (λ t. is_triggered changes c (last_time es) t) time_is ∙ triggered_before items (BodyItem.Changes d) c (last_time es)
+            (time_after items) (omega arith) ∙ (is.triggers event).due (sym (lines_stay r.wanted) ∙ h)
             ∙ ap (λ b. cond b (is_due r (time_after items)) (is_listed (cond (is_idle r.wanted) Listed r.wanted))) (sym (eq-eqb (time_after items) (time_after changes) (sym time_is)));
       };
     }
@@ -256,7 +264,8 @@ module _ (at : ℕ → Option Value) (es : List (List BodyItem)) (items : List B
     triggers = λ e. let v = is.triggers e in record {
       here = v.here;
       all = λ h. ap (λ n. is_triggered items c n (1 + time_after items)) last_time_is ∙ v.here ∙ not_here e le h idle ∙ sym idle;
-      due = λ h. ap (λ n. is_triggered items c n (time_after items)) last_time_is ∙ triggered_never items c (time_after items) ∙ sym (ap (λ b. cond b r.early (is_listed r.wanted)) (not_here e le h idle) ∙ idle);
+      due = λ h. ap (λ n. is_triggered items c n (time_after items)) last_time_is ∙ triggered_never items c (time_after items)
+          ∙ sym (ap (λ b. cond b r.early (is_listed r.wanted)) (not_here e le h idle) ∙ idle);
     };
   }
     where
@@ -320,7 +329,8 @@ module _ (at : ℕ → Option Value) (es : List (List BodyItem)) (items : List B
   value_line written before = cond (same_state written before) [] (line_if_set c before)
 
   pub line_is : has_lines r.wanted ≡ true → role_line at c r (time_after items) ≡ code_line es items c
-  line_is lined = same_cond c.event (λ e. ap (λ b. cond b (as_line (byte "1" ∷ c.text)) []) (sym ((is.triggers e).due lined))) (λ e. let v = is.values e in ap₂ value_line (v.written_is lined) v.settled_is)
+  line_is lined = same_cond c.event (λ e. ap (λ b. cond b (as_line (byte "1" ∷ c.text)) []) (sym ((is.triggers e).due lined))) (λ e.
+      let v = is.values e in ap₂ value_line (v.written_is lined) v.settled_is)
     where
       same_cond : {x y x' y' : List ℕ} (b : Bool) → (b ≡ true → x ≡ x') → (b ≡ false → y ≡ y') → cond b x y ≡ cond b x' y'
       same_cond true f g = f refl

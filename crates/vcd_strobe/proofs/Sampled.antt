@@ -53,7 +53,8 @@ before_none p c a e = last_value_is c (λ u. nat_lt u a) p ∙ no_value c (λ u.
 
 -- ---- the value from the start
 
-starts_more : (c : IdCode) (p : List BodyItem) (x : BodyItem) → each_some (value_from_start c) (p ++ x ∷ []) ≡ each_some (value_from_start c) p ++ filter_map (λ o. o) (value_from_start c p x ∷ [])
+starts_more : (c : IdCode) (p : List BodyItem) (x : BodyItem)
+    → each_some (value_from_start c) (p ++ x ∷ []) ≡ each_some (value_from_start c) p ++ filter_map (λ o. o) (value_from_start c p x ∷ [])
 starts_more c p x = ap (filter_map (λ o. o)) (each_after-append (value_from_start c) [] p (x ∷ [])) ∙ filter_map-append (λ o. o) (each (value_from_start c) p) (value_from_start c p x ∷ [])
 
 abbrev first_of : List Value → Option Value
@@ -74,7 +75,9 @@ initial_same p x c e = initial_is (p ++ x ∷ []) c ∙ ap first_of (starts_more
 final_front : (c : IdCode) (p q : List BodyItem) → final_value (p ++ q) c ≡ None → final_value p c ≡ None
 final_front c p q e =
     last_value_is c (λ u. true) p
-    ∙ earlier (latest test (each_after entry_after p q)) (latest test (entries p)) (sym (last_value_is c (λ u. true) (p ++ q) ∙ ap (latest test) (entries-append p q) ∙ latest-append test (entries p) (each_after entry_after p q)) ∙ e)
+    ∙ earlier (latest test (each_after entry_after p q)) (latest test (entries p))
+    (sym (last_value_is c (λ u. true) (p ++ q) ∙ ap (latest test) (entries-append p q) ∙ latest-append test (entries p) (each_after entry_after p q))
+    ∙ e)
   where
     test : Entry → Bool
     test = gives_at c (λ u. true)
@@ -122,7 +125,8 @@ pub sampled_first : (c : IdCode) → sampled [] c ≡ None
 sampled_first c = sampled_is [] c
 
 -- one that gives the code no value at an earlier time, and none from the start
-sampled_same : (p : List BodyItem) (x : BodyItem) (c : IdCode) → time_after (p ++ x ∷ []) ≡ time_after p → gives_at c (λ u. nat_lt u (time_after p)) (entry_after p x) ≡ false → value_from_start c p x ≡ None → sampled (p ++ x ∷ []) c ≡ sampled p c
+sampled_same : (p : List BodyItem) (x : BodyItem) (c : IdCode) → time_after (p ++ x ∷ []) ≡ time_after p
+    → gives_at c (λ u. nat_lt u (time_after p)) (entry_after p x) ≡ false → value_from_start c p x ≡ None → sampled (p ++ x ∷ []) c ≡ sampled p c
 sampled_same p x c time early none =
     sampled_is (p ++ x ∷ []) c
     ∙ ap (λ t. sampled_by (value_before (p ++ x ∷ []) c t) (initial_value (p ++ x ∷ []) c)) time
@@ -157,12 +161,14 @@ sampled_stays p d c later =
     by_code false e = no_start p (BodyItem.Changes d) c e
 
 -- the first value in a `$dumpvars`
-pub sampled_start : (p : List BodyItem) (d : Change) (c : IdCode) → same_code c d.code ≡ true → final_value p c ≡ None → is_vars (open_section p) ≡ true → sampled (p ++ BodyItem.Changes d ∷ []) c ≡ Some (value_of d)
+pub sampled_start : (p : List BodyItem) (d : Change) (c : IdCode) → same_code c d.code ≡ true → final_value p c ≡ None
+    → is_vars (open_section p) ≡ true → sampled (p ++ BodyItem.Changes d ∷ []) c ≡ Some (value_of d)
 sampled_start p d c same none vars =
     sampled_is (p ++ BodyItem.Changes d ∷ []) c
     ∙ ap (λ t. sampled_by (value_before (p ++ BodyItem.Changes d ∷ []) c t) (initial_value (p ++ BodyItem.Changes d ∷ []) c)) (time_still p (BodyItem.Changes d) refl)
     ∙ ap₂ sampled_by (before_same p (BodyItem.Changes d) c (time_after p) (rw (le-ltb (time_after p) (time_after p) (omega arith), same) refl) ∙ before_none p c (time_after p) none)
-    (initial_is (p ++ BodyItem.Changes d ∷ []) c ∙ ap first_of (starts_more c p (BodyItem.Changes d) ∙ ap (λ l. l ++ filter_map (λ o. o) (value_from_start c p (BodyItem.Changes d) ∷ [])) (starts_none p c none)) ∙ rw (same, none, vars) refl)
+    (initial_is (p ++ BodyItem.Changes d ∷ []) c ∙ ap first_of (starts_more c p (BodyItem.Changes d)
+    ∙ ap (λ l. l ++ filter_map (λ o. o) (value_from_start c p (BodyItem.Changes d) ∷ [])) (starts_none p c none)) ∙ rw (same, none, vars) refl)
 
 -- ---- a timestamp
 

@@ -79,7 +79,9 @@ module _ (v : HeadView) (t : Table) (n : ℕ) (codes : List IdCode) (places : Ar
 
 -- ---- the whole
 
-module _ (s : Strobe) (bytes : ℕ) (h : Header) (names : List (List ℕ)) (ks : List ModelClock) (enough : Suffices s.places bytes (length s.listed.now) s.roles.now s.clocks.now s.id.now h names ks) (laid : IsLaidOut s.table) (gives : GivesShares s.places.codes.now bytes s.table) where
+module _ (s : Strobe) (bytes : ℕ) (h : Header) (names : List (List ℕ)) (ks : List ModelClock)
+    (enough : Suffices s.places bytes (length s.listed.now) s.roles.now s.clocks.now s.id.now h names ks) (laid : IsLaidOut s.table)
+    (gives : GivesShares s.places.codes.now bytes s.table) where
   stands_first : s.count ≡ 0 → Stands s h names [] []
   stands_first none = record {
     places = enough.places;

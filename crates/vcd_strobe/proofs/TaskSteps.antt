@@ -62,7 +62,9 @@ changes_only h distinct code d declared = record {
     by_test i c there apart false e = refl
 
 -- the view says whether a code is an event
-pub event_is : (h : Header) (code : ℕ) (a : IdCode) (b : Bool) {told : Bool} → told ≡ unwrap_or (option_map (λ (c : IdCode). c.event) (slice_get h.codes code)) false → slice_get h.codes code ≡ Some a → told ≡ b → a.event ≡ b
+pub event_is : (h : Header) (code : ℕ) (a : IdCode) (b : Bool) {told : Bool}
+    → told ≡ unwrap_or (option_map (λ (c : IdCode). c.event) (slice_get h.codes code)) false → slice_get h.codes code ≡ Some a → told ≡ b
+    → a.event ≡ b
 event_is h code a b told declared is = ap (λ (o : Option IdCode). unwrap_or (option_map (λ (c : IdCode). c.event) o) false) (sym declared) ∙ sym told ∙ is
 
 -- the registers say whether a section is open
@@ -80,7 +82,8 @@ none_passes f none [] = refl
 none_passes f none (x ∷ xs) = rw (none x, none_passes f none xs) refl
 
 -- a change of an event
-pub event_turn : (codes : List IdCode) → AreDistinct codes → (code : ℕ) (d : Change) → slice_get codes code ≡ Some d.code → d.code.event ≡ true → (items : List BodyItem) (clocks : List Clock) (ks : List ModelClock) → AreClocks codes clocks ks → is_turn ks items (BodyItem.Changes d) ≡ false
+pub event_turn : (codes : List IdCode) → AreDistinct codes → (code : ℕ) (d : Change) → slice_get codes code ≡ Some d.code → d.code.event ≡ true
+    → (items : List BodyItem) (clocks : List Clock) (ks : List ModelClock) → AreClocks codes clocks ks → is_turn ks items (BodyItem.Changes d) ≡ false
 event_turn codes distinct code d there event items [] [] are = refl
 event_turn codes distinct code d there event items [] (k ∷ ks) are = absurd are
 event_turn codes distinct code d there event items (c ∷ clocks) [] are = absurd are
@@ -129,17 +132,22 @@ module _ (s s' : Strobe) (p : Plan) (h : Header) (items : List BodyItem) (has : 
 strobe_goes : (s : Strobe) (p : Plan) (h : Header) (items : List BodyItem) → HasStrobed s p h items → (more : List BodyItem) → p.ends more ≡ false
 strobe_goes s p h items has more = ap (λ (q : Plan). q.ends more) has.by_plan
 
-pub takes_on : {E : Type 0} (s : Strobe) (p : Plan) (h : Header) (items : List BodyItem) (x : BodyItem) (out out' : Device) → DueBy (Appends out.held out'.held) (p.opens items) (p.opens (items ++ x ∷ [])) → HasStrobed s p h (items ++ x ∷ [])
+pub takes_on : {E : Type 0} (s : Strobe) (p : Plan) (h : Header) (items : List BodyItem) (x : BodyItem) (out out' : Device)
+    → DueBy (Appends out.held out'.held) (p.opens items) (p.opens (items ++ x ∷ [])) → HasStrobed s p h (items ++ x ∷ [])
     → TakesOne {E = E} (HasStrobed s p h) (λ (l : List BodyItem) (t : List ℕ). ⊤) p items x out out' (Ok false)
 takes_on s p h items x out out' due has = record { due = due; ends = sym (strobe_goes s p h (items ++ x ∷ []) has (items ++ x ∷ [])); keeps_on = λ e. has; tells_all = λ e. tt }
 
-pub takes_failed : {E : Type 0} (s : Strobe) (p : Plan) (h : Header) (items : List BodyItem) (x : BodyItem) (out out' : Device) (failed : E) → DueBy (AppendsSome out.held out'.held) (p.opens items) (p.opens (items ++ x ∷ []))
+pub takes_failed : {E : Type 0} (s : Strobe) (p : Plan) (h : Header) (items : List BodyItem) (x : BodyItem) (out out' : Device) (failed : E)
+    → DueBy (AppendsSome out.held out'.held) (p.opens items) (p.opens (items ++ x ∷ []))
     → TakesOne {E = E} (HasStrobed s p h) (λ (l : List BodyItem) (t : List ℕ). ⊤) p items x out out' (Err failed)
 takes_failed s p h items x out out' failed due = record { due = due; ends = tt; keeps_on = λ e. absurd (cc); tells_all = λ e. tt }
 
 -- an item that is no change
-pub takes_rest : {E : Type 0} (s : Strobe) (p : Plan) (h : Header) (items : List BodyItem) (has : HasStrobed s p h items) (text : List ℕ) (x : BodyItem) (one : Item) (before r : Regs) (out : Device) → AreRegsAfter (items ++ x ∷ []) r → r ≡ regs_after before one → IsItem h.codes text one x
-    → ((t : ℕ) × (one ≡ item.Time t)) ⊎ (((b : Section) × (one ≡ item.Begin b)) ⊎ ((one ≡ item.End) ⊎ (one ≡ item.Finish))) → TakesOne {E = E} (HasStrobed s p h) (λ (l : List BodyItem) (t : List ℕ). ⊤) p items x out out (Ok false)
+pub takes_rest : {E : Type 0} (s : Strobe) (p : Plan) (h : Header) (items : List BodyItem) (has : HasStrobed s p h items) (text : List ℕ)
+    (x : BodyItem) (one : Item) (before r : Regs) (out : Device) → AreRegsAfter (items ++ x ∷ []) r → r ≡ regs_after before one
+    → IsItem h.codes text one x
+    → ((t : ℕ) × (one ≡ item.Time t)) ⊎ (((b : Section) × (one ≡ item.Begin b)) ⊎ ((one ≡ item.End) ⊎ (one ≡ item.Finish)))
+    → TakesOne {E = E} (HasStrobed s p h) (λ (l : List BodyItem) (t : List ℕ). ⊤) p items x out out (Ok false)
 takes_rest {E = E} s p h items has text x one before r out known next read is = by_item is
   where
     same : SameEdges s s
@@ -160,7 +168,8 @@ takes_rest {E = E} s p h items has text x one before r out known next read is = 
         let known_as = subst (λ y. AreRegsAfter (items ++ y ∷ []) r) is known in
         let last = known_as.time_is in
         let up = time_after-append items (BodyItem.Time t ∷ []) in
-        quiet (BodyItem.Time t) (none_passes (λ k. is_turn_of k items (BodyItem.Time t)) (λ k. refl) has.ks) (stands_time s h has.names (edges_in has.ks items) items has.stands t (omega (arith, now, last, up)))
+        quiet (BodyItem.Time t) (none_passes (λ k. is_turn_of k items (BodyItem.Time t)) (λ k. refl) has.ks)
+        (stands_time s h has.names (edges_in has.ks items) items has.stands t (omega (arith, now, last, up)))
 
     other : (y : BodyItem) → time_after (items ++ y ∷ []) ≡ time_after items → ((k : ModelClock) → is_turn_of k items y ≡ false) → ((c : IdCode) → gives_to c y ≡ false) → Takes y
     other y still turn none = quiet y (none_passes (λ k. is_turn_of k items y) turn has.ks) (stands_other s h has.names (edges_in has.ks items) items has.stands y still none)

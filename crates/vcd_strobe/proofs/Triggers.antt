@@ -44,7 +44,8 @@ triggered_before p x c from to le = still p x c from to (rw (le-ltb (time_after 
     and_no false b d = refl
 
 -- a trigger
-pub triggered_now : (p : List BodyItem) (x : BodyItem) (c : IdCode) (from to : ℕ) → gives_to c x ≡ true → leaves_open p ≡ false → from ≤ time_after p → time_after p < to → is_triggered (p ++ x ∷ []) c from to ≡ true
+pub triggered_now : (p : List BodyItem) (x : BodyItem) (c : IdCode) (from to : ℕ) → gives_to c x ≡ true → leaves_open p ≡ false → from ≤ time_after p
+    → time_after p < to → is_triggered (p ++ x ∷ []) c from to ≡ true
 triggered_now p x c from to gives outside le lt = triggered_more p x c from to ∙ rw (gives, outside, le-leb from (time_after p) le, lt-ltb (time_after p) to lt) (or-true (is_triggered p c from to))
 
 -- ---- times that make no difference
@@ -61,7 +62,8 @@ all_of P Q (e ∷ es) f h = (f e h.0, all_of P Q es f h.1)
 pub triggered_up : (p : List BodyItem) (c : IdCode) (from to more : ℕ) → time_after p < to → time_after p < more → is_triggered p c from to ≡ is_triggered p c from more
 triggered_up p c from to more one other =
     agree (triggers c from to) (triggers c from more) (entries p)
-    (all_of (λ e. e.time ≤ time_after p) (λ e. triggers c from to e ≡ triggers c from more e) (entries p) (λ e le. rw (lt-ltb e.time to (omega (arith, le, one)), lt-ltb e.time more (omega (arith, le, other))) refl) (times_within [] p))
+    (all_of (λ e. e.time ≤ time_after p) (λ e. triggers c from to e ≡ triggers c from more e) (entries p)
+    (λ e le. rw (lt-ltb e.time to (omega (arith, le, one)), lt-ltb e.time more (omega (arith, le, other))) refl) (times_within [] p))
 
 none : (f : Entry → Bool) (es : List Entry) → AllByRecursion (λ e. f e ≡ false) es → list_any f es ≡ false
 none f [] h = refl
@@ -69,7 +71,8 @@ none f (e ∷ es) h = rw (h.0, none f es h.1) refl
 
 -- no time is from a time on and before it
 pub triggered_never : (p : List BodyItem) (c : IdCode) (t : ℕ) → is_triggered p c t t ≡ false
-triggered_never p c t = none (triggers c t t) (entries p) (all_of (λ e. e.time ≤ time_after p) (λ e. triggers c t t e ≡ false) (entries p) (λ e le. no e.time (gives_to c e.item) (not e.inside) (nat_le t e.time) refl) (times_within [] p))
+triggered_never p c t = none (triggers c t t) (entries p) (all_of (λ e. e.time ≤ time_after p) (λ e. triggers c t t e ≡ false) (entries p)
+    (λ e le. no e.time (gives_to c e.item) (not e.inside) (nat_le t e.time) refl) (times_within [] p))
   where
     no : (u : ℕ) (a b d : Bool) → nat_le t u ≡ d → (a && b && d && nat_lt u t) ≡ false
     no u a b false e = and_three a b (nat_lt u t)
@@ -89,7 +92,8 @@ triggered_never p c t = none (triggers c t t) (entries p) (all_of (λ e. e.time 
 pub triggered_from : (p : List BodyItem) (c : IdCode) (from later to : ℕ) → from ≤ later → is_triggered p c from to ≡ false → is_triggered p c later to ≡ false
 triggered_from p c from later to le none = all (entries p) none
   where
-    less : (a b d : Bool) (t : ℕ) (from_too : Bool) → nat_le from t ≡ from_too → (later_too : Bool) → nat_le later t ≡ later_too → (a && b && from_too && d) ≡ false → (a && b && later_too && d) ≡ false
+    less : (a b d : Bool) (t : ℕ) (from_too : Bool) → nat_le from t ≡ from_too → (later_too : Bool) → nat_le later t ≡ later_too
+        → (a && b && from_too && d) ≡ false → (a && b && later_too && d) ≡ false
     less true true true t true e true f h = h
     less true true true t true e false f h = refl
     less true true true t false e true f h = let high = leb-true later t f in let past = leb-false from t e in absurd (omega (arith, high, past, le))
@@ -107,7 +111,9 @@ triggered_from p c from later to le none = all (entries p) none
 
 -- none is after all items
 pub triggered_past : (p : List BodyItem) (c : IdCode) (from to : ℕ) → time_after p < from → is_triggered p c from to ≡ false
-triggered_past p c from to lt = none (triggers c from to) (entries p) (all_of (λ e. e.time ≤ time_after p) (λ e. triggers c from to e ≡ false) (entries p) (λ e le. rw (lt-leb from e.time (omega (arith, le, lt))) (and_no (gives_to c e.item) (not e.inside) (nat_lt e.time to))) (times_within [] p))
+triggered_past p c from to lt = none (triggers c from to) (entries p)
+    (all_of (λ e. e.time ≤ time_after p) (λ e. triggers c from to e ≡ false) (entries p)
+    (λ e le. rw (lt-leb from e.time (omega (arith, le, lt))) (and_no (gives_to c e.item) (not e.inside) (nat_lt e.time to))) (times_within [] p))
   where
     and_no : (a b d : Bool) → (a && b && false && d) ≡ false
     and_no true true d = refl

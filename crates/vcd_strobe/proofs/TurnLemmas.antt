@@ -35,7 +35,9 @@ mirrored : (ds : List ℕ) (index place : ℕ) → index + 1 + place ≡ length 
 mirrored ds index place is =
     let long = length-reverse ds in
     let other : length ds - 1 - place ≡ index = omega (arith, is) in
-    slice_get-get_or (reverse ds) place 0 (omega (arith, is, long)) ∙ ap Some (get_or-reverse ds place 0 (omega (arith, is)) ∙ ap (λ i. get_or ds i 0) other) ∙ sym (slice_get-get_or ds index 0 (omega (arith, is)))
+    slice_get-get_or (reverse ds) place 0 (omega (arith, is, long))
+    ∙ ap Some (get_or-reverse ds place 0 (omega (arith, is)) ∙ ap (λ i. get_or ds i 0) other)
+    ∙ sym (slice_get-get_or ds index 0 (omega (arith, is)))
 
 pub digit_is : (size index place d : ℕ) (v : Option Value) → IsFull size v → index + 1 + place ≡ size → has_digit place d v ≡ is_digit (digit_in v index) d
 digit_is size index place d None full is = refl
@@ -43,8 +45,11 @@ digit_is size index place d (Some (Value.Real text)) full is = refl
 digit_is size index place d (Some (Value.Bits ds)) full is =
     same_digit (slice_get (reverse ds) place) d ∙ ap (λ o. is_digit o d) (mirrored ds index place (is ∙ sym full))
 
-module _ (v : HeadView) (t : Table) (codes : List IdCode) (places : ArePlaces (codes_shown v) codes) (distinct : (i j : ℕ) (a b : IdCode) → slice_get codes i ≡ Some a → slice_get codes j ≡ Some b → same_code a b ≡ true → i ≡ j) (items : List BodyItem) (d : Change) (code from to : ℕ) (there : slice_get codes code ≡ Some d.code) (from_low : from < 4) (to_low : to < 4)
-    (before : in_places t d.code.size code from ≡ final_value items d.code) (after : in_places t d.code.size code to ≡ Some (value_of d)) (full : IsFull d.code.size (final_value items d.code)) (filled : IsFull d.code.size (Some (value_of d))) where
+module _ (v : HeadView) (t : Table) (codes : List IdCode) (places : ArePlaces (codes_shown v) codes) (distinct : (i j : ℕ) (a b : IdCode)
+    → slice_get codes i ≡ Some a → slice_get codes j ≡ Some b → same_code a b ≡ true → i ≡ j) (items : List BodyItem) (d : Change) (code from to : ℕ)
+    (there : slice_get codes code ≡ Some d.code) (from_low : from < 4) (to_low : to < 4)
+    (before : in_places t d.code.size code from ≡ final_value items d.code) (after : in_places t d.code.size code to ≡ Some (value_of d))
+    (full : IsFull d.code.size (final_value items d.code)) (filled : IsFull d.code.size (Some (value_of d))) where
   value_there : (p : ℕ) → p < 4 → value_in (codes_shown v) t (place_of code p) ≡ in_places t d.code.size code p
   value_there p lt = ap (option_and_then (λ (c : IdCode). value_at_size c.size (held_at t (place_of code p)))) (shown_there v codes code d.code places there p lt)
 
@@ -67,10 +72,16 @@ module _ (v : HeadView) (t : Table) (codes : List IdCode) (places : ArePlaces (c
           itself : same_code d.code d.code ≡ true
           itself = (bytes_eq-Decides d.code.text d.code.text).1 refl
 
-          by_falls : (b : Bool) → ((x : ℕ) → has_digit k.place x (final_value items d.code) ≡ is_digit (digit_in (final_value items d.code) c.index) x) → ((x : ℕ) → has_digit k.place x (Some (value_of d)) ≡ is_digit (digit_in (Some (value_of d)) c.index) x)
-              → goes b (digit_in (final_value items d.code) c.index) (digit_in (Some (value_of d)) c.index) ≡ (same_code d.code d.code && has_digit k.place (cond b (byte "1") (byte "0")) (final_value items d.code) && has_digit k.place (cond b (byte "0") (byte "1")) (Some (value_of d)))
-          by_falls true first last = sym (ap (λ b. b && has_digit k.place (byte "1") (final_value items d.code) && has_digit k.place (byte "0") (Some (value_of d))) itself ∙ ap₂ (λ x y. x && y) (first (byte "1")) (last (byte "0")))
-          by_falls false first last = sym (ap (λ b. b && has_digit k.place (byte "0") (final_value items d.code) && has_digit k.place (byte "1") (Some (value_of d))) itself ∙ ap₂ (λ x y. x && y) (first (byte "0")) (last (byte "1")))
+          by_falls : (b : Bool) → ((x : ℕ) → has_digit k.place x (final_value items d.code) ≡ is_digit
+              (digit_in (final_value items d.code) c.index) x) → ((x : ℕ) → has_digit k.place x (Some (value_of d)) ≡ is_digit
+              (digit_in (Some (value_of d)) c.index) x)
+              → goes b (digit_in (final_value items d.code) c.index) (digit_in (Some (value_of d)) c.index) ≡
+              (same_code d.code d.code && has_digit k.place (cond b (byte "1") (byte "0")) (final_value items d.code) && has_digit k.place
+              (cond b (byte "0") (byte "1")) (Some (value_of d)))
+          by_falls true first last = sym (ap (λ b. b && has_digit k.place (byte "1") (final_value items d.code) && has_digit k.place (byte "0")
+              (Some (value_of d))) itself ∙ ap₂ (λ x y. x && y) (first (byte "1")) (last (byte "0")))
+          by_falls false first last = sym (ap (λ b. b && has_digit k.place (byte "0") (final_value items d.code) && has_digit k.place (byte "1")
+              (Some (value_of d))) itself ∙ ap₂ (λ x y. x && y) (first (byte "0")) (last (byte "1")))
       by_code (inr apart) =
           ap (λ b. b && goes c.falls (digit_at v t code from c.index) (digit_at v t code to c.index)) (ne_eqb c.code code apart)
           ∙ sym (ap (λ b. b && has_digit k.place (digit_before k) (final_value items k.code) && has_digit k.place (digit_after k) (Some (value_of d))) (differ (same_code k.code d.code) refl))

@@ -35,7 +35,9 @@ edges_low ks items n at has = subst (λ (o : Option ℕ). unwrap_or o 0 ≤ time
     by_option None low = omega arith
     by_option (Some u) low = low
 
-module _ (s : Strobe) (h : Header) (names : List (List ℕ)) (ks : List Clock) (items : List BodyItem) (x : BodyItem) (has : Stands s h names (edges_in ks items) items) (edges : EdgesStand ks items s.edges s.last) (time : time_after (items ++ x ∷ []) ≡ time_after items) where
+module _ (s : Strobe) (h : Header) (names : List (List ℕ)) (ks : List Clock) (items : List BodyItem) (x : BodyItem)
+    (has : Stands s h names (edges_in ks items) items) (edges : EdgesStand ks items s.edges s.last)
+    (time : time_after (items ++ x ∷ []) ≡ time_after items) where
   abbrev after : List BodyItem
   after = items ++ x ∷ []
 
@@ -67,7 +69,9 @@ module _ (s : Strobe) (h : Header) (names : List (List ℕ)) (ks : List Clock) (
   turn_none out e = let n = no_edge (rw e refl) out in (n.0, (n.1, edges_still ks items x s.edges s.last edges e))
 
   -- an edge
-  pub turn_edge : {A E : Type 0} (s' : Strobe) (out out' : Device) (t : ℕ) (r : Result A E) → t ≡ time_after items → is_at s.last t ≡ false → is_turn ks items x ≡ true → length items < 2 ^ 63 → Takes out out' (edge_text h names (edges_in ks items) items) r → IfOk r (λ _. Stands s' h names (edges_in ks items ++ items ∷ []) items) → IfOk r (λ _. IsPast s s' t)
+  pub turn_edge : {A E : Type 0} (s' : Strobe) (out out' : Device) (t : ℕ) (r : Result A E) → t ≡ time_after items → is_at s.last t ≡ false
+      → is_turn ks items x ≡ true → length items < 2 ^ 63 → Takes out out' (edge_text h names (edges_in ks items) items) r
+      → IfOk r (λ _. Stands s' h names (edges_in ks items ++ items ∷ []) items) → IfOk r (λ _. IsPast s s' t)
       → TakesDue out out' (strobe_open ks h names items) (strobe_open ks h names after) r × IfOk r (λ _. Stands s' h names (edges_in ks after) items × EdgesStand ks after s'.edges s'.last)
   turn_edge {A = A} {E = E} s' out out' t r is at turn few takes stands past = ((edge_text h names (edges_in ks items) items, open_edge ks h names items x edge, takes), by_result r stands past)
     where
@@ -77,7 +81,8 @@ module _ (s : Strobe) (h : Header) (names : List (List ℕ)) (ks : List Clock) (
       edge : is_edge ks items x ≡ true
       edge = edge_is ks items x s.edges s.last edges turn time ∙ ap not at_none
 
-      by_result : (q : Result A E) → IfOk q (λ _. Stands s' h names (edges_in ks items ++ items ∷ []) items) → IfOk q (λ _. IsPast s s' t) → IfOk q (λ _. Stands s' h names (edges_in ks after) items × EdgesStand ks after s'.edges s'.last)
+      by_result : (q : Result A E) → IfOk q (λ _. Stands s' h names (edges_in ks items ++ items ∷ []) items) → IfOk q (λ _. IsPast s s' t)
+          → IfOk q (λ _. Stands s' h names (edges_in ks after) items × EdgesStand ks after s'.edges s'.last)
       by_result (Ok v) stands past = (
         subst (λ es. Stands s' h names es items) (sym (edges_more ks items x true edge)) stands,
         (let count = edges.count in

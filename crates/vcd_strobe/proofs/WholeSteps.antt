@@ -16,13 +16,16 @@ use Rattle.vcd_strobe.specs.declared.whole.Strobe.{Strobe}
 use Rattle.vcd_strobe.proofs.LineSteps.{there_below}
 use Rattle.std.proofs.lemmas.Option.{same_Some, slice_get_within}
 
-pub edge_is : (h : Header) (names : List (List ℕ)) (es : List (List BodyItem)) (items : List BodyItem) → edge_text h names es items ≡ moment_lines (time_code h).text (1 + length es) (time_after items) ++ flat_map (code_line es items) (strobe_codes h names)
+pub edge_is : (h : Header) (names : List (List ℕ)) (es : List (List BodyItem)) (items : List BodyItem)
+    → edge_text h names es items ≡ moment_lines (time_code h).text (1 + length es) (time_after items) ++ flat_map (code_line es items)
+    (strobe_codes h names)
 unfolding edge_text
 edge_is h names es items = refl
 
 module _ (s : Strobe) (h : Header) (names : List (List ℕ)) (es : List (List BodyItem)) (items : List BodyItem) (has : Stands s h names es items) (low : last_time es ≤ time_after items) where
   -- its moment
-  pub moment_is : (id : List ℕ) (number t : ℕ) → id ≡ s.id.now → number ≡ 1 + length es → t ≡ time_after items → moment_lines id number t ≡ moment_lines (time_code h).text (1 + length es) (time_after items)
+  pub moment_is : (id : List ℕ) (number t : ℕ) → id ≡ s.id.now → number ≡ 1 + length es → t ≡ time_after items
+      → moment_lines id number t ≡ moment_lines (time_code h).text (1 + length es) (time_after items)
   moment_is id number t e f g = ap (λ i. moment_lines i number t) (e ∙ has.id) ∙ ap₂ (moment_lines (time_code h).text) f g
 
   -- all codes have roles
@@ -46,11 +49,13 @@ module _ (s : Strobe) (h : Header) (names : List (List ℕ)) (es : List (List Bo
     texts_are t is =
         ap (λ u. flat_map (line_at h.codes s.table s.roles.now u) sorted) is
         ∙ ap (flat_map (line_at h.codes s.table s.roles.now (time_after items))) (in_order.1 ∙ ap (chosen (listed_at s.roles.now)) has.many)
-        ∙ lines_are (λ c code place. in_places s.table c.size code place) (has_lines_in h names) h.codes es items s.roles.now has.roles_are low (line_at h.codes s.table s.roles.now (time_after items))
+        ∙ lines_are (λ c code place. in_places s.table c.size code place) (has_lines_in h names) h.codes es items s.roles.now has.roles_are low
+        (line_at h.codes s.table s.roles.now (time_after items))
         (λ i c r there at. ap₂ (line_with s.table (time_after items) i) there at)
 
     -- what it leaves
-    pub edge_stands : (s' : Strobe) (t : ℕ) → t ≡ time_after items → s'.places ≡ s.places → s'.table ≡ s.table → s'.id ≡ s.id → SettlesListed sorted t s.roles.now s'.roles.now s.listed.now s'.listed.now s'.count → Stands s' h names (es ++ items ∷ []) items
+    pub edge_stands : (s' : Strobe) (t : ℕ) → t ≡ time_after items → s'.places ≡ s.places → s'.table ≡ s.table → s'.id ≡ s.id
+        → SettlesListed sorted t s.roles.now s'.roles.now s.listed.now s'.listed.now s'.count → Stands s' h names (es ++ items ∷ []) items
     edge_stands s' t is places table id settles =
         let settled = subst (λ u. SettlesEach sorted u s.roles.now s'.roles.now) is settles.settles in
         record {

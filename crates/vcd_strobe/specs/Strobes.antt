@@ -76,7 +76,8 @@ PutsListed v table roles roles' listed listed' count t out out' result =
 
 -- an edge at this time was put
 abbrev pub PutsEdge : {A E : Type 0} → Strobe → Strobe → ℕ → Device → Device → Result A E → Type 0
-PutsEdge s s' t out out' result = (h : Header) (names : List (List ℕ)) (es : List (List BodyItem)) (items : List BodyItem) → Stands s h names es items → t ≡ time_after items → s.edges ≡ length es → length es < 2 ^ 63 → last_time es ≤ time_after items
+PutsEdge s s' t out out' result = (h : Header) (names : List (List ℕ)) (es : List (List BodyItem)) (items : List BodyItem)
+    → Stands s h names es items → t ≡ time_after items → s.edges ≡ length es → length es < 2 ^ 63 → last_time es ≤ time_after items
     → Takes out out' (edge_text h names es items) result × IfOk result (λ _. Stands s' h names (es ++ items ∷ []) items)
 
 -- a change of the code at an index, which gives no other code anything
@@ -87,11 +88,16 @@ pub record ChangesOnly (h : Header) (code : ℕ) (a : IdCode) (d : Change) : Typ
 
 -- an event was triggered at this time
 abbrev pub Triggers : Strobe → Strobe → ℕ → ℕ → Type 0
-Triggers s s' code t = (h : Header) (names : List (List ℕ)) (es : List (List BodyItem)) (items : List BodyItem) (a : IdCode) (d : Change) → Stands s h names es items → ChangesOnly h code a d → a.event ≡ true → leaves_open items ≡ false → last_time es ≤ time_after items → t ≡ time_after items → Stands s' h names es (items ++ BodyItem.Changes d ∷ [])
+Triggers s s' code t = (h : Header) (names : List (List ℕ)) (es : List (List BodyItem)) (items : List BodyItem) (a : IdCode) (d : Change)
+    → Stands s h names es items → ChangesOnly h code a d → a.event ≡ true → leaves_open items ≡ false → last_time es ≤ time_after items
+    → t ≡ time_after items → Stands s' h names es (items ++ BodyItem.Changes d ∷ [])
 
 -- a code that is no event got the value that this place of it has
 abbrev pub TakesValue : Strobe → Strobe → Regs → ℕ → ℕ → Type 0
-TakesValue s s' r code place = (h : Header) (names : List (List ℕ)) (es : List (List BodyItem)) (items : List BodyItem) (a : IdCode) (d : Change) → Stands s h names es items → ChangesOnly h code a d → a.event ≡ false → AreRegsAfter items r → in_places s.table a.size code place ≡ Some (value_of d) → IsFull a.size (Some (value_of d)) → Stands s' h names es (items ++ BodyItem.Changes d ∷ [])
+TakesValue s s' r code place = (h : Header) (names : List (List ℕ)) (es : List (List BodyItem)) (items : List BodyItem) (a : IdCode) (d : Change)
+    → Stands s h names es items → ChangesOnly h code a d → a.event ≡ false → AreRegsAfter items r
+    → in_places s.table a.size code place ≡ Some (value_of d) → IsFull a.size (Some (value_of d))
+    → Stands s' h names es (items ++ BodyItem.Changes d ∷ [])
 
 -- a change of a code with this value before it, in this section, is from the start
 abbrev pub is_start : Shown → Option Section → Bool
@@ -105,13 +111,19 @@ is_start shown.Real o = false
 
 -- a value was set in a place of a code that is not needed
 abbrev pub SetsPlace : Strobe → Strobe → ℕ → ℕ → Form → List ℕ → Type 0
-SetsPlace s s' code place form text = (h : Header) (names : List (List ℕ)) (es : List (List BodyItem)) (items : List BodyItem) (a : IdCode) (c : Code) → Stands s h names es items → slice_get h.codes code ≡ Some a → ((r : Role) → slice_get s.roles.now code ≡ Some r → needs r place ≡ false) → IsText form c text → c.event ≡ false → c.size ≡ a.size
+SetsPlace s s' code place form text = (h : Header) (names : List (List ℕ)) (es : List (List BodyItem)) (items : List BodyItem) (a : IdCode)
+    (c : Code) → Stands s h names es items → slice_get h.codes code ≡ Some a
+    → ((r : Role) → slice_get s.roles.now code ≡ Some r → needs r place ≡ false) → IsText form c text → c.event ≡ false → c.size ≡ a.size
     → Stands s' h names es items × (in_places s'.table a.size code place ≡ Some (value_with a.size (model_form form) text))
 
 -- the edge that an item is was put, if it is one by the clocks
 abbrev pub PutsTurn : {A E : Type 0} → Strobe → Strobe → (t code from to : ℕ) → Device → Device → Result A E → Type 0
-PutsTurn s s' t code from to out out' result = (h : Header) (names : List (List ℕ)) (ks : List ModelClock) (items : List BodyItem) (x : BodyItem) → Stands s h names (edges_in ks items) items → EdgesStand ks items s.edges s.last → t ≡ time_after items → time_after (items ++ x ∷ []) ≡ time_after items → length items < 2 ^ 63 → code < 2 ^ 60 → from < 4 → to < 4 → list_any (turns_at s.places s.table code from to) s.clocks.now ≡ is_turn ks items x
-    → TakesDue out out' (strobe_open ks h names items) (strobe_open ks h names (items ++ x ∷ [])) result × IfOk result (λ _. Stands s' h names (edges_in ks (items ++ x ∷ [])) items × EdgesStand ks (items ++ x ∷ []) s'.edges s'.last)
+PutsTurn s s' t code from to out out' result = (h : Header) (names : List (List ℕ)) (ks : List ModelClock) (items : List BodyItem) (x : BodyItem)
+    → Stands s h names (edges_in ks items) items → EdgesStand ks items s.edges s.last → t ≡ time_after items
+    → time_after (items ++ x ∷ []) ≡ time_after items → length items < 2 ^ 63 → code < 2 ^ 60 → from < 4 → to < 4
+    → list_any (turns_at s.places s.table code from to) s.clocks.now ≡ is_turn ks items x
+    → TakesDue out out' (strobe_open ks h names items) (strobe_open ks h names (items ++ x ∷ [])) result
+    × IfOk result (λ _. Stands s' h names (edges_in ks (items ++ x ∷ [])) items × EdgesStand ks (items ++ x ∷ []) s'.edges s'.last)
 
 -- the edges stay
 pub record SameEdges (s s' : Strobe) : Type 0 where
@@ -149,14 +161,18 @@ AreDistinct codes = (i j : ℕ) (a b : IdCode) → slice_get codes i ≡ Some a 
 -- a change of the code at an index, which is no event, was handled
 abbrev pub TakesChange : {A E : Type 0} → Strobe → Strobe → Regs → ℕ → Form → List ℕ → Device → Device → Result A E → Type 0
 TakesChange s s' r code form text out out' result =
-    (p : Plan) (h : Header) (items : List BodyItem) (a : IdCode) (c : Code) → HasStrobed s p h items → AreRegsAfter items r → ChangesOnly h code a (record { code = a; form = model_form form; text = text }) → AreDistinct h.codes → a.event ≡ false → IsText form c text → c.event ≡ false → c.size ≡ a.size → 0 < a.size → length items < 2 ^ 63
-    → TakesDue out out' (p.opens items) (p.opens (items ++ BodyItem.Changes (record { code = a; form = model_form form; text = text }) ∷ [])) result × IfOk result (λ _. HasStrobed s' p h (items ++ BodyItem.Changes (record { code = a; form = model_form form; text = text }) ∷ []))
+    (p : Plan) (h : Header) (items : List BodyItem) (a : IdCode) (c : Code) → HasStrobed s p h items → AreRegsAfter items r
+    → ChangesOnly h code a (record { code = a; form = model_form form; text = text }) → AreDistinct h.codes → a.event ≡ false → IsText form c text
+    → c.event ≡ false → c.size ≡ a.size → 0 < a.size → length items < 2 ^ 63
+    → TakesDue out out' (p.opens items) (p.opens (items ++ BodyItem.Changes (record { code = a; form = model_form form; text = text }) ∷ [])) result
+    × IfOk result (λ _. HasStrobed s' p h (items ++ BodyItem.Changes (record { code = a; form = model_form form; text = text }) ∷ []))
 
 -- a change of the code at an index was handled
 abbrev pub TakesAny : {A E : Type 0} → HeadView → Strobe → Strobe → Regs → ℕ → Form → List ℕ → Device → Device → Result A E → Type 0
 TakesAny v s s' r code form text out out' result =
     (p : Plan) (h : Header) (items : List BodyItem) (a : IdCode) → IsViewOf v h → HasStrobed s p h items → AreRegsAfter items r → slice_get h.codes code ≡ Some a → length items < 2 ^ 63
-    → TakesDue out out' (p.opens items) (p.opens (items ++ BodyItem.Changes (record { code = a; form = model_form form; text = text }) ∷ [])) result × IfOk result (λ _. HasStrobed s' p h (items ++ BodyItem.Changes (record { code = a; form = model_form form; text = text }) ∷ []))
+    → TakesDue out out' (p.opens items) (p.opens (items ++ BodyItem.Changes (record { code = a; form = model_form form; text = text }) ∷ [])) result
+    × IfOk result (λ _. HasStrobed s' p h (items ++ BodyItem.Changes (record { code = a; form = model_form form; text = text }) ∷ []))
 
 -- a role for each code before the first item: a code has lines if a selected variable has it
 pub record AreFresh (h : Header) (names : List (List ℕ)) (roles : List Role) : Type 0 where

@@ -2,7 +2,8 @@
 use Rattle.vcd_text.proofs.Cited.{ℕ, ◌+◌, refl, ap, ◌∙◌, arith, Advances, CallEnd, GoesOn, Ghosts, Feed}
 
 -- what two parts of a reading leave of a feed
-pub advances_on : {X : Type 0} {g : Ghosts X} (failures : X → ℕ) (old mid new : Feed X g) (end : CallEnd) → Advances failures old mid GoesOn → Advances failures mid new end → Advances failures old new end
+pub advances_on : {X : Type 0} {g : Ghosts X} (failures : X → ℕ) (old mid new : Feed X g) (end : CallEnd) → Advances failures old mid GoesOn
+    → Advances failures mid new end → Advances failures old new end
 advances_on failures old mid new end a b = record {
   loans = record { source = b.loans.source ∙ a.loans.source; chunk = b.loans.chunk ∙ a.loans.chunk; token = b.loans.token ∙ a.loans.token; value = b.loans.value ∙ a.loans.value };
   limit = b.limit ∙ a.limit;
@@ -16,4 +17,14 @@ advances_on failures old mid new end a b = record {
 
 -- nothing was read
 pub advances_nowhere : {X : Type 0} {g : Ghosts X} (failures : X → ℕ) (f : Feed X g) → Advances failures f f GoesOn
-advances_nowhere failures f = record { loans = record { source = refl; chunk = refl; token = refl; value = refl }; limit = refl; chunk = refl; on = λ e. omega arith; goes = λ e o. o; failed = λ e o. cc; last = λ e o. cc; same = λ e. refl }
+advances_nowhere failures f = record {
+  loans = record { source = refl; chunk = refl; token = refl; value = refl };
+  limit = refl;
+  chunk = refl;
+  on = λ e.
+      omega arith;
+  goes = λ e o. o;
+  failed = λ e o. cc;
+  last = λ e o. cc;
+  same = λ e. refl;
+}

@@ -8,7 +8,8 @@ pub record HasRead (ds : List ℕ) (k number : ℕ) : Type 0 where
   pub small : number < 2 ^ 64
 
 -- one more
-pub read_more : (ds : List ℕ) (k number : ℕ) → k < length ds → is_ascii_digit (get_or ds k 0) ≡ true → number * 10 + (get_or ds k 0 - 48) < 2 ^ 64 → HasRead ds k number → HasRead ds (k + 1) (number * 10 + (get_or ds k 0 - 48))
+pub read_more : (ds : List ℕ) (k number : ℕ) → k < length ds → is_ascii_digit (get_or ds k 0) ≡ true → number * 10 + (get_or ds k 0 - 48) < 2 ^ 64
+    → HasRead ds k number → HasRead ds (k + 1) (number * 10 + (get_or ds k 0 - 48))
 read_more ds k number h d small r = record {
   digits = rw (take_more ds k 0 h, list_all-append) (and_from (list_all is_ascii_digit (take k ds)) _ r.digits (and_from (is_ascii_digit (get_or ds k 0)) true d refl));
   value = rw (take_more ds k 0 h) (decimal_value-push (take k ds) (get_or ds k 0) ∙ ap (λ n. n * 10 + (get_or ds k 0 - 48)) r.value);
@@ -30,7 +31,8 @@ next_value ds k number h r = rw (take_more ds k 0 h) (decimal_value-push (take k
 pub product_too_large : (ds : List ℕ) (k number : ℕ) → k < length ds → HasRead ds k number → (number * 10 < 2 ^ 64 → ⊥) → spelled_below ds ≡ None
 product_too_large ds k number h r large = let e = next_value ds k number h r in too_large ds (k + 1) (omega arith)
 
-pub sum_too_large : (ds : List ℕ) (k number digit : ℕ) → k < length ds → HasRead ds k number → digit ≡ get_or ds k 0 - 48 → (number * 10 + digit < 2 ^ 64 → ⊥) → spelled_below ds ≡ None
+pub sum_too_large : (ds : List ℕ) (k number digit : ℕ) → k < length ds → HasRead ds k number → digit ≡ get_or ds k 0 - 48
+    → (number * 10 + digit < 2 ^ 64 → ⊥) → spelled_below ds ≡ None
 sum_too_large ds k number digit h r d large = let e = next_value ds k number h r in too_large ds (k + 1) (omega arith)
 
 filled : (ds : List ℕ) → (length ds == 0) ≡ false → is_empty ds ≡ false
@@ -92,7 +94,9 @@ decimal_value-append (x ∷ xs) ys =
     let power : 10 ^ length (xs ++ ys) ≡ 10 ^ length xs * 10 ^ length ys = ap (λ n. 10 ^ n) (length-append xs ys) ∙ pow-add 10 (length xs) (length ys) in
     let rest = decimal_value-append xs ys in
     let front : (x - 48) * 10 ^ length (xs ++ ys) ≡ (x - 48) * 10 ^ length xs * 10 ^ length ys = ap (λ n. (x - 48) * n) power ∙ sym (mul_assoc (x - 48) (10 ^ length xs) (10 ^ length ys)) in
-    let both : ((x - 48) * 10 ^ length xs + decimal_value xs) * 10 ^ length ys ≡ (x - 48) * 10 ^ length xs * 10 ^ length ys + decimal_value xs * 10 ^ length ys = add-mul ((x - 48) * 10 ^ length xs) (decimal_value xs) (10 ^ length ys) in
+    let both : ((x - 48) * 10 ^ length xs + decimal_value xs) * 10 ^ length ys ≡
+    (x - 48) * 10 ^ length xs * 10 ^ length ys + decimal_value xs * 10 ^ length ys = add-mul ((x - 48) * 10 ^ length xs) (decimal_value xs)
+    (10 ^ length ys) in
     let t : (x - 48) * 10 ^ length (xs ++ ys) + decimal_value (xs ++ ys) ≡ ((x - 48) * 10 ^ length xs + decimal_value xs) * 10 ^ length ys + decimal_value ys = omega arith in t
 
 -- ---- digits in two parts
@@ -109,7 +113,8 @@ two_spelled xs ys high low power is front back =
     ap Some (sym value) ∙ sym (both xs ys h.0 l.0)
 
 -- which is small, if there are at most 16
-pub two_below : (xs ys : List ℕ) (high low power : ℕ) → power ≡ 10 ^ length ys → spelled xs ≡ Some high → spelled ys ≡ Some low → length (xs ++ ys) ≤ 16 → high * power + low < 2 ^ 64
+pub two_below : (xs ys : List ℕ) (high low power : ℕ) → power ≡ 10 ^ length ys → spelled xs ≡ Some high → spelled ys ≡ Some low
+    → length (xs ++ ys) ≤ 16 → high * power + low < 2 ^ 64
 two_below xs ys high low power is front back few =
     let all = of_spelled (xs ++ ys) (high * power + low) (sym (two_spelled xs ys high low power is front back)) in
     let below = value_below (xs ++ ys) all.0 in

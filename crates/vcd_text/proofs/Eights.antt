@@ -13,7 +13,8 @@ none_set : (v : List ℕ) → mask_l (map (λ x. not (is_ascii_digit x)) v) ≡ 
 none_set [] e = refl
 none_set (x ∷ v) e = by_test (is_ascii_digit x) (none_set v) refl e
   where
-    by_test : (b : Bool) → (mask_l (map (λ x. not (is_ascii_digit x)) v) ≡ 0 → list_all is_ascii_digit v ≡ true) → is_ascii_digit x ≡ b → cond (not (is_ascii_digit x)) 1 0 + 2 * mask_l (map (λ x. not (is_ascii_digit x)) v) ≡ 0 → list_all is_ascii_digit (x ∷ v) ≡ true
+    by_test : (b : Bool) → (mask_l (map (λ x. not (is_ascii_digit x)) v) ≡ 0 → list_all is_ascii_digit v ≡ true) → is_ascii_digit x ≡ b
+        → cond (not (is_ascii_digit x)) 1 0 + 2 * mask_l (map (λ x. not (is_ascii_digit x)) v) ≡ 0 → list_all is_ascii_digit (x ∷ v) ≡ true
     by_test true rest is none = and_from (is_ascii_digit x) (list_all is_ascii_digit v) is (rest (omega arith))
     by_test false rest is none = (let one : cond (not (is_ascii_digit x)) 1 0 ≡ 1 = ap (λ b. cond (not b) 1 0) is in absurd (not_none _ _ one none))
 
@@ -21,10 +22,14 @@ abbrev above_9 : ℕ → ℕ
 above_9 x = cond (nat_lt 9 ((x + (2 ^ 8 - 48)) % 2 ^ 8)) 255 0
 
 -- a lane is above 9 if its byte is no digit
-pub all_digits : (v : List ℕ) → length v ≡ 8 → Each1 (Fits w8) v → mask_l (map (top 7) (zip2 (λ a b. cond (nat_lt a b) 255 0) (replicate 8 9) (zip2 (λ x y. (x + (2 ^ 8 - y)) % 2 ^ 8) v (replicate 8 48)))) % 2 ^ 64 ≡ 0
+pub all_digits : (v : List ℕ) → length v ≡ 8 → Each1 (Fits w8) v
+    → mask_l (map (top 7) (zip2 (λ a b. cond (nat_lt a b) 255 0) (replicate 8 9) (zip2 (λ x y. (x + (2 ^ 8 - y)) % 2 ^ 8) v (replicate 8 48))))
+    % 2 ^ 64 ≡ 0
     → list_all is_ascii_digit v ≡ true
 all_digits v long fits none =
-    none_set v (sym (masked above_9 (λ x. not (is_ascii_digit x)) v _ (omega arith) fits (zip2_of_maps (λ a b. cond (nat_lt a b) 255 0) _ _ v (splat_is_map v 8 9 long) (zip2_splat (λ x y. (x + (2 ^ 8 - y)) % 2 ^ 8) v 8 48 long)) refl) ∙ none)
+    none_set v (sym (masked above_9 (λ x. not (is_ascii_digit x)) v _ (omega arith) fits
+    (zip2_of_maps (λ a b. cond (nat_lt a b) 255 0) _ _ v (splat_is_map v 8 9 long) (zip2_splat (λ x y. (x + (2 ^ 8 - y)) % 2 ^ 8) v 8 48 long))
+    refl) ∙ none)
 
 set_none : (v : List ℕ) → list_all is_ascii_digit v ≡ true → mask_l (map (λ x. not (is_ascii_digit x)) v) ≡ 0
 set_none [] all = refl
@@ -32,13 +37,17 @@ set_none (x ∷ v) all =
     let parts = and_parts (is_ascii_digit x) (list_all is_ascii_digit v) all in
     rw (parts.0, set_none v parts.1) refl
 
-pub no_digits : (v : List ℕ) → length v ≡ 8 → Each1 (Fits w8) v → mask_l (map (top 7) (zip2 (λ a b. cond (nat_lt a b) 255 0) (replicate 8 9) (zip2 (λ x y. (x + (2 ^ 8 - y)) % 2 ^ 8) v (replicate 8 48)))) % 2 ^ 64 ≢ 0
+pub no_digits : (v : List ℕ) → length v ≡ 8 → Each1 (Fits w8) v
+    → mask_l (map (top 7) (zip2 (λ a b. cond (nat_lt a b) 255 0) (replicate 8 9) (zip2 (λ x y. (x + (2 ^ 8 - y)) % 2 ^ 8) v (replicate 8 48))))
+    % 2 ^ 64 ≢ 0
     → list_all is_ascii_digit v ≡ false
 no_digits v long fits some = by_test (list_all is_ascii_digit v) refl
   where
     by_test : (b : Bool) → list_all is_ascii_digit v ≡ b → list_all is_ascii_digit v ≡ false
     by_test false e = e
-    by_test true e = absurd (some (masked above_9 (λ x. not (is_ascii_digit x)) v _ (omega arith) fits (zip2_of_maps (λ a b. cond (nat_lt a b) 255 0) _ _ v (splat_is_map v 8 9 long) (zip2_splat (λ x y. (x + (2 ^ 8 - y)) % 2 ^ 8) v 8 48 long)) refl ∙ set_none v e))
+    by_test true e = absurd (some (masked above_9 (λ x. not (is_ascii_digit x)) v _ (omega arith) fits
+        (zip2_of_maps (λ a b. cond (nat_lt a b) 255 0) _ _ v (splat_is_map v 8 9 long) (zip2_splat (λ x y. (x + (2 ^ 8 - y)) % 2 ^ 8) v 8 48 long))
+        refl ∙ set_none v e))
 
 lanes_are : (v : List ℕ) → list_all is_ascii_digit v ≡ true → map (λ x. (x + (2 ^ 8 - 48)) % 2 ^ 8) v ≡ map (λ x. x - 48) v
 lanes_are [] all = refl
@@ -56,7 +65,8 @@ sum_is v long = absurd (omega arith)
 
 pub lanes_value : (v : List ℕ) → length v ≡ 8 → list_all is_ascii_digit v ≡ true
     → decimal_value v ≡ fold_l (λ s x. s + x) 0 (zip2 (λ x y. x * y) (map (λ x. x) (zip2 (λ x y. (x + (2 ^ 8 - y)) % 2 ^ 8) v (replicate 8 48))) worth)
-lanes_value v long all = sum_is v long ∙ ap (λ l. fold_l (λ s x. s + x) 0 (zip2 (λ x y. x * y) (map (λ x. x) l) worth)) (sym (zip2_splat (λ x y. (x + (2 ^ 8 - y)) % 2 ^ 8) v 8 48 long ∙ lanes_are v all))
+lanes_value v long all = sum_is v long ∙ ap (λ l. fold_l (λ s x. s + x) 0 (zip2 (λ x y. x * y) (map (λ x. x) l) worth))
+    (sym (zip2_splat (λ x y. (x + (2 ^ 8 - y)) % 2 ^ 8) v 8 48 long ∙ lanes_are v all))
 
 -- ---- the last n of eight lanes, with zeros before them
 
@@ -111,7 +121,9 @@ kept_lanes (suc (suc (suc (suc (suc (suc (suc (suc zero)))))))) h = refl
 kept_lanes (suc (suc (suc (suc (suc (suc (suc (suc (suc n))))))))) h = absurd (omega arith)
 
 -- so the lanes are those of the padded bytes
-pub lanes_kept : (n : ℕ) (v : List ℕ) → n ≤ 8 → length v ≡ 8 → zip2 bit_and (zip2 (λ x y. (x + (2 ^ 8 - y)) % 2 ^ 8) v (replicate 8 48)) (take 8 (take (16 - n) (drop n KEPT))) ≡ zip2 (λ x y. (x + (2 ^ 8 - y)) % 2 ^ 8) (padded (8 - n) v) (replicate 8 48)
+pub lanes_kept : (n : ℕ) (v : List ℕ) → n ≤ 8 → length v ≡ 8
+    → zip2 bit_and (zip2 (λ x y. (x + (2 ^ 8 - y)) % 2 ^ 8) v (replicate 8 48)) (take 8 (take (16 - n) (drop n KEPT))) ≡ zip2
+    (λ x y. (x + (2 ^ 8 - y)) % 2 ^ 8) (padded (8 - n) v) (replicate 8 48)
 lanes_kept n v few long =
     ap₂ (zip2 bit_and) (zip2_splat (λ x y. (x + (2 ^ 8 - y)) % 2 ^ 8) v 8 48 long) (kept_lanes n few)
     ∙ cleared (8 - n) n v (omega arith)

@@ -49,7 +49,9 @@ module _ (limit lines d : ℕ) (bytes : List ℕ) where
 -- ---- a turn
 
 -- white space is passed over up to the first token, which is whole in the chunk
-module _ (limit lines start : ℕ) (chunk token token' : List ℕ) (p mid new : Parked) (t : Token) (order : p.at ≤ p.stop) (fits : p.stop ≤ length chunk) (white : AreWhite (slice_range chunk p.at p.stop) 0 start) (here : StandsAt limit lines (slice_range chunk p.at p.stop) start t) (none : p.size ≡ 0) (skips : Skips chunk p mid) where
+module _ (limit lines start : ℕ) (chunk token token' : List ℕ) (p mid new : Parked) (t : Token) (order : p.at ≤ p.stop)
+    (fits : p.stop ≤ length chunk) (white : AreWhite (slice_range chunk p.at p.stop) 0 start)
+    (here : StandsAt limit lines (slice_range chunk p.at p.stop) start t) (none : p.size ≡ 0) (skips : Skips chunk p mid) where
   inside : p.at + (start + length t.bytes) < p.stop
   inside = omega (arith, here.run.within, length-slice_range chunk p.at p.stop fits)
 
@@ -59,7 +61,8 @@ module _ (limit lines start : ℕ) (chunk token token' : List ℕ) (p mid new : 
   skipped_to : mid.at ≡ p.at + start
   skipped_to = to (mid.at - p.at) (ap (λ (q : Parked). q.at) skips.1) skips.0.white skips.0.after
     where
-      to : (d : ℕ) → mid.at ≡ p.at + d → ((k : ℕ) → k < d → is_white_at chunk (p.at + k) ≡ true) → (p.at + d < p.stop → is_white_at chunk (p.at + d) ≡ false) → mid.at ≡ p.at + start
+      to : (d : ℕ) → mid.at ≡ p.at + d → ((k : ℕ) → k < d → is_white_at chunk (p.at + k) ≡ true)
+          → (p.at + d < p.stop → is_white_at chunk (p.at + d) ≡ false) → mid.at ≡ p.at + start
       to d at passed after = elim (cases_order d start) [
         | inl same ↦ omega arith
         | inr (inl lt) ↦ true-false (is_white_at chunk (p.at + d)) (sym (byte d (omega (arith, inside))) ∙ white.white d (omega arith) lt) (after (omega (arith, inside)))
@@ -73,7 +76,8 @@ module _ (limit lines start : ℕ) (chunk token token' : List ℕ) (p mid new : 
     short = here.run.short;
     within = omega (arith, inside, skipped_to);
     other = λ k lt. let e : mid.at + k ≡ p.at + (start + k) = omega (arith, skipped_to) in ap (is_white_at chunk) e ∙ sym (byte (start + k) (omega (arith, inside))) ∙ here.run.other k lt;
-    white = let e : mid.at + length t.bytes ≡ p.at + (start + length t.bytes) = omega (arith, skipped_to) in ap (is_white_at chunk) e ∙ sym (byte (start + length t.bytes) inside) ∙ here.run.white;
+    white = let e : mid.at + length t.bytes ≡ p.at + (start + length t.bytes) = omega (arith, skipped_to) in
+        ap (is_white_at chunk) e ∙ sym (byte (start + length t.bytes) inside) ∙ here.run.white;
   }
 
   same_stop : (mid.stop ≡ p.stop) × (mid.size ≡ 0)
@@ -98,11 +102,18 @@ module _ (limit lines start : ℕ) (chunk token token' : List ℕ) (p mid new : 
       )
 
 -- and the others come first in what is left
-rest_first : (limit lines n d : ℕ) (chunk : List ℕ) (p new : Parked) (ts : List Token) → PassedFrom limit lines (slice_range chunk p.at p.stop) d ts n → d ≤ p.stop - p.at → new.at ≡ p.at + d → new.stop ≡ p.stop → AreFirst limit (slice_range chunk new.at new.stop) ts
+rest_first : (limit lines n d : ℕ) (chunk : List ℕ) (p new : Parked) (ts : List Token)
+    → PassedFrom limit lines (slice_range chunk p.at p.stop) d ts n → d ≤ p.stop - p.at → new.at ≡ p.at + d → new.stop ≡ p.stop
+    → AreFirst limit (slice_range chunk new.at new.stop) ts
 rest_first limit lines n d chunk p new ts w le at stop =
     let e : d ≡ d + 0 = omega arith in
     let rest = passed_after limit lines d (slice_range chunk p.at p.stop) 0 n ts (subst (λ k. PassedFrom limit lines (slice_range chunk p.at p.stop) k ts n) e w) in
-    rw (at, stop) (lines + line_feeds_in (take d (slice_range chunk p.at p.stop)), n - d, subst (λ bs. Passed limit (lines + line_feeds_in (take d (slice_range chunk p.at p.stop))) bs (n - d) ts) (slice-drop chunk p.at p.stop d le) rest)
+    rw (at, stop) (
+      lines + line_feeds_in (take d (slice_range chunk p.at p.stop)),
+      n - d,
+      subst (λ bs. Passed limit (lines + line_feeds_in (take d (slice_range chunk p.at p.stop))) bs (n - d) ts)
+          (slice-drop chunk p.at p.stop d le) rest,
+    )
 
 -- what lasts over the steps of one answer, if whole tokens lie ahead: nothing was read, and no
 -- token has begun
@@ -112,7 +123,9 @@ pub record Stays {X : Type 0} (source source' : X) (limit : ℕ) (chunk : List �
   pub first : AreFirst limit (slice_range chunk p.at p.stop) (t ∷ ts)
 
 -- so the turn is the last
-module _ {X : Type 0} (source source' : X) (limit : ℕ) (chunk token token' : List ℕ) (size : ℕ) (p mid new : Parked) (t : Token) (ts : List Token) (range : Fits p size limit) (same : length chunk ≡ size) (skips : p.size ≡ 0 → Skips chunk p mid) (s : Stays source source' limit chunk p t ts) where
+module _ {X : Type 0} (source source' : X) (limit : ℕ) (chunk token token' : List ℕ) (size : ℕ) (p mid new : Parked) (t : Token) (ts : List Token)
+    (range : Fits p size limit) (same : length chunk ≡ size) (skips : p.size ≡ 0 → Skips chunk p mid)
+    (s : Stays source source' limit chunk p t ts) where
   fits : p.stop ≤ length chunk
   fits = omega (arith, range.stop, range.end)
 

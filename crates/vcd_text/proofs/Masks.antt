@@ -48,7 +48,8 @@ module _ (p : ℕ → Bool) (xs : List ℕ) (i n mask : ℕ) (room : i + n ≤ l
   clear-is k lt none = sym (lane-is k lt) ∙ zero-is _ (sym (bit-is k) ∙ none)
 
 -- a load's mask
-pub tells : (xs : List ℕ) (i n : ℕ) (f : ℕ → ℕ) (z : List ℕ) → i + n ≤ length xs → n ≤ 64 → Each1 (Fits w8) (chunk i n xs) → z ≡ map f (chunk i n xs) → agree_below (λ x. top 7 (f x)) is_white_space 256 ≡ true
+pub tells : (xs : List ℕ) (i n : ℕ) (f : ℕ → ℕ) (z : List ℕ) → i + n ≤ length xs → n ≤ 64 → Each1 (Fits w8) (chunk i n xs) → z ≡ map f (chunk i n xs)
+    → agree_below (λ x. top 7 (f x)) is_white_space 256 ≡ true
     → TellsWhite xs i n (mask_l (map (top 7) z) % 2 ^ 64)
 tells xs i n f z room few fits e all =
     let is = masked f is_white_space (chunk i n xs) z (omega (arith, length-chunk i n xs room)) fits e all in
@@ -71,18 +72,21 @@ abbrev pub bits-of : ℕ → ℕ → White
 bits-of bits next = record { bits = bits; next = next }
 
 -- if no bit is set, the bytes before `next` are others
-pub bits-none : (chunk : List ℕ) (at stop : ℕ) (w : White) → w.bits ≡ 0 → BitsAreWhite chunk at stop w → (j : ℕ) → at ≤ j → j < w.next → is_white_space (get_or chunk j 0) ≡ false
+pub bits-none : (chunk : List ℕ) (at stop : ℕ) (w : White) → w.bits ≡ 0 → BitsAreWhite chunk at stop w → (j : ℕ) → at ≤ j → j < w.next
+    → is_white_space (get_or chunk j 0) ≡ false
 bits-none chunk at stop w e m j le lt = m.other j le lt (λ _. no_bits w.bits (j + 64 - w.next) e)
 
 -- the first set bit is where the token at `at` ends
-pub bits-before : (chunk : List ℕ) (at stop : ℕ) (w : White) (bit d : ℕ) → BitsAreWhite chunk at stop w → bit_at w.bits bit ≡ 1 → ((k : ℕ) → k < bit → bit_at w.bits k ≡ 0) → d ≡ w.next + bit - 64 - at
+pub bits-before : (chunk : List ℕ) (at stop : ℕ) (w : White) (bit d : ℕ) → BitsAreWhite chunk at stop w → bit_at w.bits bit ≡ 1
+    → ((k : ℕ) → k < bit → bit_at w.bits k ≡ 0) → d ≡ w.next + bit - 64 - at
     → (k : ℕ) → k < d → is_white_space (get_or chunk (at + k) 0) ≡ false
 bits-before chunk at stop w bit d m set below is k lt =
     let a = m.ahead bit set in
     let i = m.inside bit set in
     m.other (at + k) (omega arith) (omega arith) (λ h. below (at + k + 64 - w.next) (omega arith))
 
-pub bits-at : (chunk : List ℕ) (at stop : ℕ) (w : White) (bit d : ℕ) → BitsAreWhite chunk at stop w → bit_at w.bits bit ≡ 1 → d ≡ w.next + bit - 64 - at → is_white_space (get_or chunk (at + d) 0) ≡ true
+pub bits-at : (chunk : List ℕ) (at stop : ℕ) (w : White) (bit d : ℕ) → BitsAreWhite chunk at stop w → bit_at w.bits bit ≡ 1
+    → d ≡ w.next + bit - 64 - at → is_white_space (get_or chunk (at + d) 0) ≡ true
 bits-at chunk at stop w bit d m set is =
     let a = m.ahead bit set in
     let e : w.next + bit - 64 ≡ at + d = omega arith in
@@ -90,7 +94,8 @@ bits-at chunk at stop w bit d m set is =
 
 -- and after it come the other bits
 pub bits-on : (chunk : List ℕ) (at at' stop : ℕ) (w : White) (bit mask : ℕ) → BitsAreWhite chunk at stop w → bit_at w.bits bit ≡ 1 → ((k : ℕ) → k < bit → bit_at w.bits k ≡ 0)
-    → ((k : ℕ) → k < 64 → k ≢ bit → bit_at mask k ≡ bit_at w.bits k) → ((k : ℕ) → bit_at mask k ≡ 1 → bit_at w.bits k ≡ 1) → bit_at mask bit ≡ 0 → at' + 63 ≡ w.next + bit
+    → ((k : ℕ) → k < 64 → k ≢ bit → bit_at mask k ≡ bit_at w.bits k) → ((k : ℕ) → bit_at mask k ≡ 1 → bit_at w.bits k ≡ 1) → bit_at mask bit ≡ 0
+    → at' + 63 ≡ w.next + bit
     → BitsAreWhite chunk at' stop (bits-of mask w.next)
 bits-on chunk at at' stop w bit mask m set below kept no_more gone is =
     let a = m.ahead bit set in

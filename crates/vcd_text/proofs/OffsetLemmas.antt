@@ -37,18 +37,22 @@ module _ (rest : Option (List ℕ)) (chunk c : List ℕ) (same : length c ≡ le
   near_still : (more : List ℕ) → length more ≤ length i.bytes - looked p → (place : ℕ) → length i.bytes ≤ place + length chunk + length more → Near (length c) (Some left) place i
   near_still more le place n = let l : length left ≡ length i.bytes - looked p = length-drop (looked p) i.bytes in omega arith
 
-  halt_near : (phase : Phase) → InPhase phase limit rest chunk p i given → IfSome (halt_place limit i) (λ place. Near (length chunk) rest place i) → IfSome (halt_place limit i) (λ place. Near (length c) (Some left) place i)
+  halt_near : (phase : Phase) → InPhase phase limit rest chunk p i given → IfSome (halt_place limit i) (λ place. Near (length chunk) rest place i)
+      → IfSome (halt_place limit i) (λ place. Near (length c) (Some left) place i)
   halt_near Going h n =
       let a = h.1.place in
-      let le : length a.more ≤ length i.bytes - looked p = let e = ap length a.ahead ∙ length-append (slice_range chunk p.at p.end) a.more in let l = length-drop (looked p) i.bytes in omega arith in
+      let le : length a.more ≤ length i.bytes - looked p = let e = ap length a.ahead ∙ length-append (slice_range chunk p.at p.end) a.more in
+      let l = length-drop (looked p) i.bytes in omega arith in
       IfSome_then (halt_place limit i) n (λ place m. near_still a.more le place (subst (λ r. Near (length chunk) r place i) a.known m))
   halt_near Ended h n = no-halt limit i given (p.line_feeds + 1) (λ place. Near (length c) (Some left) place i) h.1
   halt_near (Halted halt) h n = IfSome_then (halt_place limit i) h.3 (λ place m. near place m)
 
 -- if a feed is parked, another may continue
-pub goes_on_at : (rest : Option (List ℕ)) (chunk token : List ℕ) (p : Parked) (i : Input) (given : List Token) → HasGivenParked rest chunk token p i given → HasGivenTo (length chunk) (length token) (offset_of p) i given
+pub goes_on_at : (rest : Option (List ℕ)) (chunk token : List ℕ) (p : Parked) (i : Input) (given : List Token)
+    → HasGivenParked rest chunk token p i given → HasGivenTo (length chunk) (length token) (offset_of p) i given
 goes_on_at rest chunk token p i given h c t same limit = record {
-  at = subst (λ n. InPhase (unwrap_or (phase_at (answer_number p.phase)) Going) n (Some (drop (looked p) i.bytes)) c (registers_at (offset_of p)) i given) (sym limit) (in_phase rest chunk c same (length token) p i given p.phase h.at);
+  at = subst (λ n. InPhase (unwrap_or (phase_at (answer_number p.phase)) Going) n (Some (drop (looked p) i.bytes)) c
+      (registers_at (offset_of p)) i given) (sym limit) (in_phase rest chunk c same (length token) p i given p.phase h.at);
   given_first = rw limit h.given_first;
   read_ahead = near rest chunk c same (length token) p i given (looked (registers_at (offset_of p))) (omega arith);
   near_token = λ some. absurd (some refl);

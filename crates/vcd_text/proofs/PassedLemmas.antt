@@ -10,14 +10,16 @@ use Rattle.vcd_text.proofs.WindowLemmas.{cleared}
 -- ---- one token more
 
 -- after tokens that were passed, and white space
-pub passed_on : (limit lines : ℕ) (bytes : List ℕ) (from at start : ℕ) (ts : List Token) (t : Token) → PassedFrom limit lines bytes from ts at → AreWhite bytes at start → StandsAt limit lines bytes start t → PassedFrom limit lines bytes from (ts ++ t ∷ []) (start + length t.bytes + 1)
+pub passed_on : (limit lines : ℕ) (bytes : List ℕ) (from at start : ℕ) (ts : List Token) (t : Token) → PassedFrom limit lines bytes from ts at
+    → AreWhite bytes at start → StandsAt limit lines bytes start t → PassedFrom limit lines bytes from (ts ++ t ∷ []) (start + length t.bytes + 1)
 passed_on limit lines bytes from at start [] t e w s = (start, subst (λ k. AreWhite bytes k start) e w, s, refl)
 passed_on limit lines bytes from at start (x ∷ ts) t p w s = (p.0, p.1, p.2, passed_on limit lines bytes (p.0 + length x.bytes + 1) at start ts t p.3 w s)
 
 length-run : (limit : ℕ) (bytes : List ℕ) (at n : ℕ) → IsRun limit bytes at n → length (slice_range bytes at (at + n)) ≡ n
 length-run limit bytes at n r = length-slice_range bytes at (at + n) (omega (arith, r.within)) ∙ omega arith
 
-run_stands : (limit lines : ℕ) (bytes : List ℕ) (at n : ℕ) → IsRun limit bytes at n → StandsAt limit lines bytes at (record { bytes = slice_range bytes at (at + n); line = line_ahead lines bytes at })
+run_stands : (limit lines : ℕ) (bytes : List ℕ) (at n : ℕ) → IsRun limit bytes at n
+    → StandsAt limit lines bytes at (record { bytes = slice_range bytes at (at + n); line = line_ahead lines bytes at })
 run_stands limit lines bytes at n r =
     let len = length-run limit bytes at n r in
     record {
@@ -27,7 +29,8 @@ run_stands limit lines bytes at n r =
     }
 
 -- a token that ends at this offset
-pub passed_to : (limit lines : ℕ) (bytes : List ℕ) (at start end : ℕ) (ts : List Token) → AreWhite bytes at start → start ≤ end → IsRun limit bytes start (end - start) → Passed limit lines bytes at ts
+pub passed_to : (limit lines : ℕ) (bytes : List ℕ) (at start end : ℕ) (ts : List Token) → AreWhite bytes at start → start ≤ end
+    → IsRun limit bytes start (end - start) → Passed limit lines bytes at ts
     → Passed limit lines bytes (end + 1) (ts ++ (record { bytes = slice_range bytes start end; line = line_ahead lines bytes start }) ∷ [])
 passed_to limit lines bytes at start end ts w le r p =
     let d : ℕ = end - start in
@@ -39,7 +42,8 @@ passed_to limit lines bytes at start end ts w le r p =
     subst (λ k. Passed limit lines bytes (k + 1) (ts ++ (record { bytes = slice_range bytes start k; line = line_ahead lines bytes start }) ∷ [])) e short
 
 -- a run ends at the first white byte
-pub run_is : (limit : ℕ) (bytes : List ℕ) (at d n : ℕ) → ((k : ℕ) → k < d → is_white_space (slice_index bytes (at + k)) ≡ false) → is_white_space (slice_index bytes (at + d)) ≡ true → IsRun limit bytes at n → n ≡ d
+pub run_is : (limit : ℕ) (bytes : List ℕ) (at d n : ℕ) → ((k : ℕ) → k < d → is_white_space (slice_index bytes (at + k)) ≡ false)
+    → is_white_space (slice_index bytes (at + d)) ≡ true → IsRun limit bytes at n → n ≡ d
 run_is limit bytes at d n other white r = elim (cases_order n d) [
   | inl same ↦ same
   | inr (inl lt) ↦ true-false (is_white_space (slice_index bytes (at + n))) r.white (other n lt)
@@ -96,7 +100,8 @@ module _ (limit : ℕ) (text : List ℕ) (p q lines : ℕ) (order : p ≤ q) (fi
     ends = end-of-token limit text (p + m + length t.bytes) (p + m) given begun (omega (arith, inside)) (omega (arith, s.run.some)) (λ _. white)
 
   -- after white space
-  behind-white : (m start : ℕ) (given : List Token) → AreWhite (slice_range text p q) m start → start ≤ q - p → HasLookedAt limit text (p + m) (p + m) given → HasLookedAt limit text (p + start) (p + start) given
+  behind-white : (m start : ℕ) (given : List Token) → AreWhite (slice_range text p q) m start → start ≤ q - p
+      → HasLookedAt limit text (p + m) (p + m) given → HasLookedAt limit text (p + start) (p + start) given
   behind-white m start given w le l =
       let o = w.order in
       let e : p + m + (start - m) ≡ p + start = omega arith in
@@ -107,21 +112,25 @@ module _ (limit : ℕ) (text : List ℕ) (p q lines : ℕ) (order : p ≤ q) (fi
   begins-in : (m : ℕ) (t : Token) → StandsAt limit lines (slice_range text p q) m t → m ≤ q - p
   begins-in m t s = omega (arith, s.run.within, length-slice_range text p q fits)
 
-  passed-live : (m n : ℕ) (ts given : List Token) → PassedFrom limit lines (slice_range text p q) m ts n → HasLookedAt limit text (p + m) (p + m) given → HasLookedAt limit text (p + n) (p + n) (given ++ ts)
+  passed-live : (m n : ℕ) (ts given : List Token) → PassedFrom limit lines (slice_range text p q) m ts n
+      → HasLookedAt limit text (p + m) (p + m) given → HasLookedAt limit text (p + n) (p + n) (given ++ ts)
   passed-live m n [] given e l = rw (e, append-nil) l
   passed-live m n (t ∷ ts) given w l =
       let there = behind-white m w.0 given w.1 (begins-in w.0 t w.2) l in
-      subst (λ xs. HasLookedAt limit text (p + n) (p + n) xs) (append_assoc given (t ∷ []) ts) (passed-live (w.0 + length t.bytes + 1) n ts (given ++ t ∷ []) w.3 (next-live w.0 t given w.2 there))
+      subst (λ xs. HasLookedAt limit text (p + n) (p + n) xs) (append_assoc given (t ∷ []) ts)
+      (passed-live (w.0 + length t.bytes + 1) n ts (given ++ t ∷ []) w.3 (next-live w.0 t given w.2 there))
 
   -- the last of them ends after offset p
-  passed-far : (m n : ℕ) (t : Token) (ts given : List Token) → PassedFrom limit lines (slice_range text p q) m (t ∷ ts) n → HasLookedAt limit text (p + m) (p + m) given → p ≤ end_of_tokens text (length (given ++ t ∷ ts))
+  passed-far : (m n : ℕ) (t : Token) (ts given : List Token) → PassedFrom limit lines (slice_range text p q) m (t ∷ ts) n
+      → HasLookedAt limit text (p + m) (p + m) given → p ≤ end_of_tokens text (length (given ++ t ∷ ts))
   passed-far m n t [] given w l =
       let e : length (given ++ t ∷ []) ≡ suc (length given) = simp length-append (omega arith) in
       let there = behind-white m w.0 given w.1 (begins-in w.0 t w.2) l in
       rw (e, ends w.0 t given w.2 there) (omega arith)
   passed-far m n t (u ∷ ts) given w l =
       let there = behind-white m w.0 given w.1 (begins-in w.0 t w.2) l in
-      subst (λ xs. p ≤ end_of_tokens text (length xs)) (append_assoc given (t ∷ []) (u ∷ ts)) (passed-far (w.0 + length t.bytes + 1) n u ts (given ++ t ∷ []) w.3 (next-live w.0 t given w.2 there))
+      subst (λ xs. p ≤ end_of_tokens text (length xs)) (append_assoc given (t ∷ []) (u ∷ ts))
+      (passed-far (w.0 + length t.bytes + 1) n u ts (given ++ t ∷ []) w.3 (next-live w.0 t given w.2 there))
 
 -- ---- the registers
 
@@ -153,7 +162,8 @@ gone_nowhere chunk p =
 
 -- while a feed reads, its tokens ahead are in the text
 going_ahead : (limit : ℕ) (rest : Option (List ℕ)) (chunk : List ℕ) (p : Parked) (text : List ℕ) (given : List Token) → Fits p (length chunk) limit → At limit rest chunk p text given 0
-    → (slice_range text (looked p) (looked p + (p.stop - p.at)) ≡ slice_range chunk p.at p.stop) × (looked p + (p.stop - p.at) ≤ length text) × HasLookedAt limit text (looked p + 0) (looked p + 0) given × (p.line_feeds ≡ line_feeds_in (take (looked p) text))
+    → (slice_range text (looked p) (looked p + (p.stop - p.at)) ≡ slice_range chunk p.at p.stop) × (looked p + (p.stop - p.at) ≤ length text)
+    × HasLookedAt limit text (looked p + 0) (looked p + 0) given × (p.line_feeds ≡ line_feeds_in (take (looked p) text))
 going_ahead limit rest chunk p text given f a =
     let place = a.place in
     let d : ℕ = p.stop - p.at in
@@ -166,14 +176,16 @@ going_ahead limit rest chunk p text given f a =
       place.line_feeds_are,
     )
 
-pass_nothing : (phase : Phase) (limit : ℕ) (rest : Option (List ℕ)) (chunk : List ℕ) (p : Parked) (i : Input) (given ts : List Token) (n : ℕ) → (n ≡ 0) × (ts ≡ []) → InPhase phase limit rest chunk (cleared p) i given
+pass_nothing : (phase : Phase) (limit : ℕ) (rest : Option (List ℕ)) (chunk : List ℕ) (p : Parked) (i : Input) (given ts : List Token) (n : ℕ)
+    → (n ≡ 0) × (ts ≡ []) → InPhase phase limit rest chunk (cleared p) i given
     → InPhase phase limit rest chunk (gone_on chunk p n) i (given ++ ts)
 pass_nothing phase limit rest chunk p i given ts n none st =
     let same : given ≡ given ++ ts = sym (ap (λ xs. given ++ xs) none.1 ∙ append-nil given) in
     let there : cleared p ≡ gone_on chunk p n = sym (ap (gone_on chunk p) none.0 ∙ gone_nowhere chunk p) in
     subst (λ xs. InPhase phase limit rest chunk (gone_on chunk p n) i xs) same (subst (λ r. InPhase phase limit rest chunk r i given) there st)
 
-pub pass_stands : (phase : Phase) (limit : ℕ) (rest : Option (List ℕ)) (chunk : List ℕ) (p : Parked) (i : Input) (given ts : List Token) (n : ℕ) → Fits p (length chunk) limit → Passed limit p.line_feeds (ahead_in phase chunk p) n ts → InPhase phase limit rest chunk p i given
+pub pass_stands : (phase : Phase) (limit : ℕ) (rest : Option (List ℕ)) (chunk : List ℕ) (p : Parked) (i : Input) (given ts : List Token) (n : ℕ)
+    → Fits p (length chunk) limit → Passed limit p.line_feeds (ahead_in phase chunk p) n ts → InPhase phase limit rest chunk p i given
     → InPhase phase limit rest chunk (gone_on chunk p n) i (given ++ ts)
 pass_stands Going limit rest chunk p i given ts n f w st =
     let place = st.1.place in
@@ -181,7 +193,11 @@ pass_stands Going limit rest chunk p i given ts n f w st =
     let q : ℕ = looked p + (p.stop - p.at) in
     let small : q < 2 ^ 63 = omega (arith, f.counted, f.at) in
     let there = subst (λ bs. Passed limit p.line_feeds bs n ts) (sym g.0) w in
-    let few : n ≤ p.stop - p.at = omega (arith, passed_within limit p.line_feeds (slice_range chunk p.at p.stop) 0 n ts (omega arith) w, length-slice_range chunk p.at p.stop (omega (arith, f.stop, f.end))) in
+    let few : n ≤ p.stop - p.at = omega (
+      arith,
+      passed_within limit p.line_feeds (slice_range chunk p.at p.stop) 0 n ts (omega arith) w,
+      length-slice_range chunk p.at p.stop (omega (arith, f.stop, f.end)),
+    ) in
     let live = passed-live limit i.bytes (looked p) q p.line_feeds (omega arith) g.1 small g.3 0 n ts given there g.2 in
     let far : n ≤ p.end - p.at = omega (arith, f.stop) in
     let at : p.base + (p.at + n) ≡ looked p + n = omega arith in
@@ -203,7 +219,8 @@ pass_stands Ended limit rest chunk p i given ts n f w st = pass_nothing Ended li
 pass_stands (Halted h) limit rest chunk p i given ts n f w st = pass_nothing (Halted h) limit rest chunk p i given ts n (passed_none limit p.line_feeds n ts w) st
 
 -- what was looked at before ends before the last of them
-pub pass_far : (phase : Phase) (limit : ℕ) (rest : Option (List ℕ)) (chunk : List ℕ) (p : Parked) (i : Input) (given ts : List Token) (n : ℕ) → Fits p (length chunk) limit → ts ≢ [] → Passed limit p.line_feeds (ahead_in phase chunk p) n ts → InPhase phase limit rest chunk p i given
+pub pass_far : (phase : Phase) (limit : ℕ) (rest : Option (List ℕ)) (chunk : List ℕ) (p : Parked) (i : Input) (given ts : List Token) (n : ℕ)
+    → Fits p (length chunk) limit → ts ≢ [] → Passed limit p.line_feeds (ahead_in phase chunk p) n ts → InPhase phase limit rest chunk p i given
     → looked p ≤ end_of_tokens i.bytes (length (given ++ ts))
 pass_far phase limit rest chunk p i given [] n f some w st = absurd (some refl)
 pass_far Going limit rest chunk p i given (t ∷ ts) n f some w st =
@@ -217,7 +234,8 @@ pass_far (Halted h) limit rest chunk p i given (t ∷ ts) n f some w st = absurd
 
 -- ---- the token that the first set bit ends
 
-module _ (bytes : List ℕ) (at : ℕ) (w : White) (bit : ℕ) (m : BitsAreWhite bytes at (length bytes) w) (set : bit_at w.bits bit ≡ 1) (below : (k : ℕ) → k < bit → bit_at w.bits k ≡ 0) where
+module _ (bytes : List ℕ) (at : ℕ) (w : White) (bit : ℕ) (m : BitsAreWhite bytes at (length bytes) w) (set : bit_at w.bits bit ≡ 1) (below : (k : ℕ)
+    → k < bit → bit_at w.bits k ≡ 0) where
   pub marked_run : (limit : ℕ) → w.next + bit - 64 - at ≢ 0 → w.next + bit - 64 - at ≤ limit → IsRun limit bytes at (w.next + bit - 64 - at)
   marked_run limit some short =
       let a = m.ahead bit set in
@@ -238,7 +256,9 @@ module _ (bytes : List ℕ) (at : ℕ) (w : White) (bit : ℕ) (m : BitsAreWhite
   pub marked_first : (limit start n : ℕ) → w.next + bit - 64 - at ≢ 0 → AreWhite bytes at start → IsRun limit bytes start n → n ≡ w.next + bit - 64 - at
   marked_first limit start n some front r = elim (cases_lt at start) [
     | inl lt ↦ (let e : at + 0 ≡ at = omega arith in
-        true-false (is_white_space (slice_index bytes at)) (front.white at (omega arith) lt) (subst (λ k. is_white_space (slice_index bytes k) ≡ false) e (bits-before bytes at (length bytes) w bit _ m set below refl 0 (omega arith))))
+        true-false (is_white_space (slice_index bytes at)) (front.white at (omega arith) lt)
+        (subst (λ k. is_white_space (slice_index bytes k) ≡ false) e
+        (bits-before bytes at (length bytes) w bit _ m set below refl 0 (omega arith))))
     | inr le ↦ (let o = front.order in
         let e : start ≡ at = omega arith in
         marked_only limit n (subst (λ k. IsRun limit bytes k n) e r))
@@ -253,14 +273,16 @@ run_behind limit bytes from at start n w front r = elim (cases_lt start at) [
 ]
 
 -- and ends no earlier than the first white byte after it
-pub run_past : (limit : ℕ) (bytes : List ℕ) (at next start n : ℕ) → at ≤ start → ((j : ℕ) → at ≤ j → j < next → is_white_space (slice_index bytes j) ≡ false) → IsRun limit bytes start n → next ≤ start + n
+pub run_past : (limit : ℕ) (bytes : List ℕ) (at next start n : ℕ) → at ≤ start
+    → ((j : ℕ) → at ≤ j → j < next → is_white_space (slice_index bytes j) ≡ false) → IsRun limit bytes start n → next ≤ start + n
 run_past limit bytes at next start n le other r = elim (cases_lt (start + n) next) [
   | inl lt ↦ true-false (is_white_space (slice_index bytes (start + n))) r.white (other (start + n) (omega arith) lt)
   | inr far ↦ far
 ]
 
 -- a byte that is not white is before the set bits that come next
-pub before_bits : (bytes : List ℕ) (start : ℕ) (w : White) → BitsAreWhite bytes start (length bytes) w → (start < length bytes → is_white_space (slice_index bytes start) ≡ false) → (k : ℕ) → bit_at w.bits k ≡ 1 → start + 64 < w.next + k
+pub before_bits : (bytes : List ℕ) (start : ℕ) (w : White) → BitsAreWhite bytes start (length bytes) w
+    → (start < length bytes → is_white_space (slice_index bytes start) ≡ false) → (k : ℕ) → bit_at w.bits k ≡ 1 → start + 64 < w.next + k
 before_bits bytes start w m stops k set = elim (cases_lt (start + 64) (w.next + k)) [
   | inl lt ↦ lt
   | inr le ↦ (let here : w.next + k - 64 ≡ start = omega (arith, m.ahead k set) in

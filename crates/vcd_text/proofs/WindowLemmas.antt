@@ -44,7 +44,9 @@ others-on limit rest chunk text given at end p r line_feeds d w fits le order sm
   line_feeds_are = rw (line_feeds_in-more, ahead-slice text chunk w.more p at end d w.ahead fits le, line_feeds_in-other chunk at d (omega arith) other, add-zero) w.line_feeds_are;
 }
 
-pub skip-within : (limit : ℕ) (rest : Option (List ℕ)) (chunk token : List ℕ) (p : Parked) (text : List ℕ) (given : List Token) (d : ℕ) → Fits p (length chunk) limit → p.size ≡ 0 → Whites chunk p d → Within limit rest chunk token p text given → Ready limit rest chunk token (skipped chunk p d) text given
+pub skip-within : (limit : ℕ) (rest : Option (List ℕ)) (chunk token : List ℕ) (p : Parked) (text : List ℕ) (given : List Token) (d : ℕ)
+    → Fits p (length chunk) limit → p.size ≡ 0 → Whites chunk p d → Within limit rest chunk token p text given
+    → Ready limit rest chunk token (skipped chunk p d) text given
 skip-within limit rest chunk token p text given d r empty s w =
     let zeroth : looked p - p.size ≡ looked p = omega arith in
     let old = rw zeroth at w.at.place in
@@ -62,10 +64,13 @@ skip-within limit rest chunk token p text given d r empty s w =
       begins = λ _ h. s.after h;
     }
 
-pub gathered-within : (limit : ℕ) (rest : Option (List ℕ)) (chunk token token' : List ℕ) (p : Parked) (text : List ℕ) (given : List Token) (d : ℕ) → Fits p (length chunk) limit → length token ≡ limit → Gathers chunk token token' p d → Ready limit rest chunk token p text given → Within limit rest chunk token' (gathered p d) text given
+pub gathered-within : (limit : ℕ) (rest : Option (List ℕ)) (chunk token token' : List ℕ) (p : Parked) (text : List ℕ) (given : List Token) (d : ℕ)
+    → Fits p (length chunk) limit → length token ≡ limit → Gathers chunk token token' p d → Ready limit rest chunk token p text given
+    → Within limit rest chunk token' (gathered p d) text given
 gathered-within limit rest chunk token token' p text given d r full s w =
     let begun = w.within.at.begun in
-    let on = others-on limit rest chunk text given p.at p.end (looked p) (looked p - p.size) p.line_feeds d w.within.at.place r.end (omega (arith, r.stop, s.to)) (omega (arith, r.at, r.stop)) (omega (arith, r.counted, s.to)) (omega (arith, s.room, begun)) s.other in
+    let on = others-on limit rest chunk text given p.at p.end (looked p) (looked p - p.size) p.line_feeds d w.within.at.place r.end
+    (omega (arith, r.stop, s.to)) (omega (arith, r.at, r.stop)) (omega (arith, r.counted, s.to)) (omega (arith, s.room, begun)) s.other in
     let place : p.base + (p.at + d) ≡ looked p + d = omega arith in
     let less : p.base + (p.at + d) - (p.size + d) ≡ looked p - p.size = omega arith in
     record {
@@ -103,13 +108,16 @@ true-false : (b : Bool) → b ≡ true → b ≡ false → ⊥
 true-false b t f = cc
 
 -- some bytes of it have come
-ended-some : (limit : ℕ) (rest : Option (List ℕ)) (chunk token : List ℕ) (p : Parked) (text : List ℕ) (given : List Token) (d : ℕ) → p.at + d < p.stop → is_white_space (slice_index chunk (p.at + d)) ≡ true → Ready limit rest chunk token p text given → 0 < p.size + d
+ended-some : (limit : ℕ) (rest : Option (List ℕ)) (chunk token : List ℕ) (p : Parked) (text : List ℕ) (given : List Token) (d : ℕ)
+    → p.at + d < p.stop → is_white_space (slice_index chunk (p.at + d)) ≡ true → Ready limit rest chunk token p text given → 0 < p.size + d
 ended-some limit rest chunk token p text given d lt white w = not-none (p.size + d) (λ e.
     let a : p.size ≡ 0 = omega arith in
     let b : p.at + d ≡ p.at = omega arith in
     true-false (is_white_space (slice_index chunk p.at)) (rw b at white) (w.begins a (omega arith)))
 
-pub end-at : (limit : ℕ) (rest : Option (List ℕ)) (chunk token token' : List ℕ) (p : Parked) (text : List ℕ) (given : List Token) (d : ℕ) → Fits p (length chunk) limit → length token ≡ limit → Gathers chunk token token' p d → p.at + d < p.stop → is_white_space (slice_index chunk (p.at + d)) ≡ true → Ready limit rest chunk token p text given
+pub end-at : (limit : ℕ) (rest : Option (List ℕ)) (chunk token token' : List ℕ) (p : Parked) (text : List ℕ) (given : List Token) (d : ℕ)
+    → Fits p (length chunk) limit → length token ≡ limit → Gathers chunk token token' p d → p.at + d < p.stop
+    → is_white_space (slice_index chunk (p.at + d)) ≡ true → Ready limit rest chunk token p text given
     → At limit rest chunk (ended chunk p d) text (given ++ (record { bytes = take (p.size + d) token'; line = p.line }) ∷ []) 0
 end-at limit rest chunk token token' p text given d r full s lt white w =
     let v = gathered-within limit rest chunk token token' p text given d r full s w in
@@ -136,7 +144,8 @@ at-end None more e c = cc
 at-end (Some xs) more e c = cc
 
 -- the chunk is used up, and the source gives n bytes more
-pub fill-within : (limit : ℕ) (rest rest' : Option (List ℕ)) (chunk chunk' token : List ℕ) (p : Parked) (text : List ℕ) (given : List Token) (n : ℕ) → p.end ≤ p.at → n ≤ length chunk' → Consumes rest rest' (take n chunk')
+pub fill-within : (limit : ℕ) (rest rest' : Option (List ℕ)) (chunk chunk' token : List ℕ) (p : Parked) (text : List ℕ) (given : List Token) (n : ℕ)
+    → p.end ≤ p.at → n ≤ length chunk' → Consumes rest rest' (take n chunk')
     → Within limit rest chunk token p text given → Within limit rest' chunk' token (refilled p n) text given
 fill-within limit rest None chunk chunk' token p text given n used fits consumes w = absurd (no-loss rest (take n chunk') w.at.place.more w.at.place.known consumes)
 fill-within limit rest (Some more') chunk chunk' token p text given n used fits consumes w =
@@ -162,18 +171,21 @@ fill-within limit rest (Some more') chunk chunk' token p text given n used fits 
     }
 
 -- all is looked at
-used-up : (limit : ℕ) (rest : Option (List ℕ)) (chunk text : List ℕ) (given : List Token) (at end p r line_feeds : ℕ) → AtPlace limit rest chunk text given at end p r line_feeds → end ≤ at → IsAtEnd rest → length text ≡ p
+used-up : (limit : ℕ) (rest : Option (List ℕ)) (chunk text : List ℕ) (given : List Token) (at end p r line_feeds : ℕ)
+    → AtPlace limit rest chunk text given at end p r line_feeds → end ≤ at → IsAtEnd rest → length text ≡ p
 used-up limit rest chunk text given at end p r line_feeds w used none =
     let no : end - at ≡ 0 = omega arith in
     let ahead : drop p text ≡ w.more = rw no at w.ahead in
     let nil = at-end rest w.more w.known none in
     omega (arith, length-drop p text, ap length (ahead ∙ nil), w.within)
 
-ends-by : (limit : ℕ) (i : Input) (given tokens : List Token) (halt : Option ℕ) (line m : ℕ) → stream_of limit i ≡ record { tokens = tokens; halt = halt; line = m } → tokens ≡ given → m ≡ line → Ends limit i given halt line
+ends-by : (limit : ℕ) (i : Input) (given tokens : List Token) (halt : Option ℕ) (line m : ℕ)
+    → stream_of limit i ≡ record { tokens = tokens; halt = halt; line = m } → tokens ≡ given → m ≡ line → Ends limit i given halt line
 ends-by limit i given tokens halt line m e t n = e ∙ (ap (λ ts. record { tokens = ts; halt = halt; line = m }) t ∙ ap (λ k. record { tokens = given; halt = halt; line = k }) n)
 
 -- the source has ended, and no token has begun
-pub finish-ends : (limit : ℕ) (rest : Option (List ℕ)) (chunk token : List ℕ) (p : Parked) (text : List ℕ) (given : List Token) → p.end ≤ p.at → IsAtEnd rest → p.size ≡ 0 → Within limit rest chunk token p text given
+pub finish-ends : (limit : ℕ) (rest : Option (List ℕ)) (chunk token : List ℕ) (p : Parked) (text : List ℕ) (given : List Token) → p.end ≤ p.at
+    → IsAtEnd rest → p.size ≡ 0 → Within limit rest chunk token p text given
     → Ends limit (whole text) given None (p.line_feeds + 1)
 finish-ends limit rest chunk token p text given used none empty w =
     let place = w.at.place in
@@ -181,10 +193,12 @@ finish-ends limit rest chunk token p text given used none empty w =
     let no : nat_lt (looked p - p.size) (looked p) ≡ false = let le : looked p ≤ looked p - p.size = omega arith in grind (arith, nat_tests) in
     let e = ap (λ k. line_feeds_in (take k text)) n in
     let f = place.line_feeds_are in
-    ends-by limit (whole text) given _ None (p.line_feeds + 1) _ (clean-stream limit text (looked p) (looked p - p.size) given place.live place.within n) (rw no (append-nil given)) (omega (arith, e, f))
+    ends-by limit (whole text) given _ None (p.line_feeds + 1) _
+    (clean-stream limit text (looked p) (looked p - p.size) given place.live place.within n) (rw no (append-nil given)) (omega (arith, e, f))
 
 -- the source has ended, and a token with it
-pub finish-gives : (limit : ℕ) (rest : Option (List ℕ)) (chunk token : List ℕ) (p : Parked) (text : List ℕ) (given : List Token) → p.end ≤ p.at → IsAtEnd rest → 0 < p.size → Within limit rest chunk token p text given
+pub finish-gives : (limit : ℕ) (rest : Option (List ℕ)) (chunk token : List ℕ) (p : Parked) (text : List ℕ) (given : List Token) → p.end ≤ p.at
+    → IsAtEnd rest → 0 < p.size → Within limit rest chunk token p text given
     → Ends limit (whole text) (given ++ (record { bytes = take p.size token; line = p.line }) ∷ []) None (p.line_feeds + 1)
 finish-gives limit rest chunk token p text given used none some w =
     let place = w.at.place in
@@ -194,29 +208,37 @@ finish-gives limit rest chunk token p text given used none some w =
     let token-is : token_to text (looked p - p.size) (looked p) ≡ record { bytes = take p.size token; line = p.line } = rw (w.bytes, w.line some) refl in
     let e = ap (λ k. line_feeds_in (take k text)) n in
     let f = place.line_feeds_are in
-    ends-by limit (whole text) (given ++ (record { bytes = take p.size token; line = p.line }) ∷ []) _ None (p.line_feeds + 1) _ (clean-stream limit text (looked p) (looked p - p.size) given place.live place.within n) (rw (yes, token-is) refl) (omega (arith, e, f))
+    ends-by limit (whole text) (given ++ (record { bytes = take p.size token; line = p.line }) ∷ []) _ None (p.line_feeds + 1) _
+    (clean-stream limit text (looked p) (looked p - p.size) given place.live place.within n) (rw (yes, token-is) refl) (omega (arith, e, f))
 
 -- the token is too long
-pub long-ends : (limit : ℕ) (rest : Option (List ℕ)) (chunk token : List ℕ) (p : Parked) (text : List ℕ) (given : List Token) (d : ℕ) → Fits p (length chunk) limit → p.size + d ≡ limit → p.at + d < p.stop → ((k : ℕ) → k < d + 1 → is_white_space (slice_index chunk (p.at + k)) ≡ false) → Ready limit rest chunk token p text given
+pub long-ends : (limit : ℕ) (rest : Option (List ℕ)) (chunk token : List ℕ) (p : Parked) (text : List ℕ) (given : List Token) (d : ℕ)
+    → Fits p (length chunk) limit → p.size + d ≡ limit → p.at + d < p.stop
+    → ((k : ℕ) → k < d + 1 → is_white_space (slice_index chunk (p.at + k)) ≡ false) → Ready limit rest chunk token p text given
     → Ends limit (whole text) given (Some 1) p.line
 long-ends limit rest chunk token p text given d r full lt other w =
     let begun = w.within.at.begun in
     let place = w.within.at.place in
-    let on = others-on limit rest chunk text given p.at p.end (looked p) (looked p - p.size) p.line_feeds d place r.end (omega (arith, r.stop)) (omega (arith, r.at, r.stop)) (omega (arith, r.counted)) (omega arith) (λ k h. other k (omega arith)) in
+    let on = others-on limit rest chunk text given p.at p.end (looked p) (looked p - p.size) p.line_feeds d place r.end (omega (arith, r.stop))
+    (omega (arith, r.at, r.stop)) (omega (arith, r.counted)) (omega arith) (λ k h. other k (omega arith)) in
     let byte : slice_index text (looked p + d) ≡ slice_index chunk (p.at + d) = ahead-index text chunk place.more (looked p) p.at p.end d place.ahead r.end (omega (arith, r.stop)) in
     let white : is_white_space (slice_index text (looked p + d)) ≡ false = ap is_white_space byte ∙ other d (omega arith) in
     let fits = ahead-length text chunk place.more (looked p) p.at p.end place.ahead place.within r.end in
-    ends-by limit (whole text) given given (Some 1) p.line _ (long-stream limit text (looked p + d) (looked p - p.size) given on.live on.within Clean (omega arith) (omega (arith, r.stop)) (omega (arith, r.counted)) white) refl (sym w.line)
+    ends-by limit (whole text) given given (Some 1) p.line _ (long-stream limit text (looked p + d) (looked p - p.size) given on.live on.within Clean
+    (omega arith) (omega (arith, r.stop)) (omega (arith, r.counted)) white) refl (sym w.line)
 
 -- the input is too long
-pub input-ends : (limit : ℕ) (rest : Option (List ℕ)) (chunk token : List ℕ) (p : Parked) (text : List ℕ) (given : List Token) → Fits p (length chunk) limit → p.at ≡ p.stop → p.stop < p.end → Within limit rest chunk token p text given
+pub input-ends : (limit : ℕ) (rest : Option (List ℕ)) (chunk token : List ℕ) (p : Parked) (text : List ℕ) (given : List Token)
+    → Fits p (length chunk) limit → p.at ≡ p.stop → p.stop < p.end → Within limit rest chunk token p text given
     → Ends limit (whole text) given (Some 21) (p.line_feeds + 1)
 input-ends limit rest chunk token p text given r used lt w =
     let place = w.at.place in
     let fits = ahead-length text chunk place.more (looked p) p.at p.end place.ahead place.within r.end in
     let full = r.stops lt in
     let f = place.line_feeds_are in
-    ends-by limit (whole text) given given (Some 21) (p.line_feeds + 1) _ (much-stream limit text (looked p) (looked p - p.size) given place.live place.within Clean (omega arith) (omega arith)) refl (omega (arith, f))
+    ends-by limit (whole text) given given (Some 21) (p.line_feeds + 1) _
+    (much-stream limit text (looked p) (looked p - p.size) given place.live place.within Clean (omega arith) (omega arith)) refl
+    (omega (arith, f))
 
 -- the source has failed
 pub fail-ends : (limit : ℕ) (rest : Option (List ℕ)) (chunk token : List ℕ) (p : Parked) (text : List ℕ) (given : List Token) → Within limit rest chunk token p text given
@@ -226,10 +248,13 @@ fail-ends limit rest chunk token p text given w =
     let n = length-take-le (looked p) text place.within in
     let e = ap (λ k. line_feeds_in (take k (take (looked p) text))) n ∙ ap line_feeds_in (take-take (looked p) (looked p) text (omega arith)) in
     let f = place.line_feeds_are in
-    ends-by limit (record { bytes = take (looked p) text; mark = Failed }) given given (Some 31) (p.line_feeds + 1) _ (failed-stream limit (take (looked p) text) (looked p) (looked p - p.size) given (live-take limit text (looked p) (looked p - p.size) given place.within place.live) (omega (arith, n)) n) refl (omega (arith, e, f))
+    ends-by limit (record { bytes = take (looked p) text; mark = Failed }) given given (Some 31) (p.line_feeds + 1) _
+    (failed-stream limit (take (looked p) text) (looked p) (looked p - p.size) given
+    (live-take limit text (looked p) (looked p - p.size) given place.within place.live) (omega (arith, n)) n) refl (omega (arith, e, f))
 
 -- what was read and not looked at lies in the chunk
-pub near-place : (limit : ℕ) (rest : Option (List ℕ)) (chunk text : List ℕ) (given : List Token) (at end p r line_feeds : ℕ) (mark : Mark) → AtPlace limit rest chunk text given at end p r line_feeds → Near (length chunk) rest p (record { bytes = text; mark = mark })
+pub near-place : (limit : ℕ) (rest : Option (List ℕ)) (chunk text : List ℕ) (given : List Token) (at end p r line_feeds : ℕ) (mark : Mark)
+    → AtPlace limit rest chunk text given at end p r line_feeds → Near (length chunk) rest p (record { bytes = text; mark = mark })
 near-place limit rest chunk text given at end p r line_feeds mark w =
     let slice : length (slice_range chunk at end) ≤ length chunk = simp (length-take, length-drop) (omega arith) in
     rw w.known (omega (arith, slice, length-append (slice_range chunk at end) w.more, length-drop p text, ap length w.ahead, w.within))
@@ -243,7 +268,8 @@ zero-or-more : (n : ℕ) → (n ≡ 0) ⊎ (0 < n)
 zero-or-more zero = inl refl
 zero-or-more (suc n) = inr (omega arith)
 
-pub skip-ready : (limit : ℕ) (rest : Option (List ℕ)) (chunk token : List ℕ) (old new : Parked) (text : List ℕ) (given : List Token) → Fits old (length chunk) limit → (0 < old.size → new ≡ old) → (old.size ≡ 0 → Skips chunk old new) → Within limit rest chunk token old text given
+pub skip-ready : (limit : ℕ) (rest : Option (List ℕ)) (chunk token : List ℕ) (old new : Parked) (text : List ℕ) (given : List Token)
+    → Fits old (length chunk) limit → (0 < old.size → new ≡ old) → (old.size ≡ 0 → Skips chunk old new) → Within limit rest chunk token old text given
     → Ready limit rest chunk token new text given
 skip-ready limit rest chunk token old new text given r begun skips w = elim (zero-or-more old.size) [
   | inl none ↦ rw (skips none).1 (skip-within limit rest chunk token old text given (new.at - old.at) r none (skips none).0 w)
@@ -261,21 +287,28 @@ is-whole : (i : Input) → i.mark ≡ Clean → whole i.bytes ≡ i
 is-whole i e = sym (ap (λ m. record { bytes = i.bytes; mark = m }) e)
 
 -- no halt is before what was looked at
-no-halt-within : (limit : ℕ) (rest : Option (List ℕ)) (chunk token : List ℕ) (p : Parked) (i : Input) (given : List Token) → Within limit rest chunk token p i.bytes given → NoHaltBefore limit i (looked p)
+no-halt-within : (limit : ℕ) (rest : Option (List ℕ)) (chunk token : List ℕ) (p : Parked) (i : Input) (given : List Token)
+    → Within limit rest chunk token p i.bytes given → NoHaltBefore limit i (looked p)
 no-halt-within limit rest chunk token p i given w = halts-from limit i.bytes (looked p) (looked p - p.size) given w.at.place.live w.at.place.within i.mark
 
-no-halt-cut : (limit : ℕ) (rest : Option (List ℕ)) (chunk token : List ℕ) (p : Parked) (text : List ℕ) (given : List Token) → Within limit rest chunk token p text given → NoHaltBefore limit (record { bytes = take (looked p) text; mark = Failed }) (looked p)
+no-halt-cut : (limit : ℕ) (rest : Option (List ℕ)) (chunk token : List ℕ) (p : Parked) (text : List ℕ) (given : List Token)
+    → Within limit rest chunk token p text given → NoHaltBefore limit (record { bytes = take (looked p) text; mark = Failed }) (looked p)
 no-halt-cut limit rest chunk token p text given w =
     let place = w.at.place in
-    halts-from limit (take (looked p) text) (looked p) (looked p - p.size) given (live-take limit text (looked p) (looked p - p.size) given place.within place.live) (omega (arith, length-take-le (looked p) text place.within)) Failed
+    halts-from limit (take (looked p) text) (looked p) (looked p - p.size) given
+    (live-take limit text (looked p) (looked p - p.size) given place.within place.live)
+    (omega (arith, length-take-le (looked p) text place.within)) Failed
 
 -- there is a halt, and the window is empty
-pub halted-stands : (limit : ℕ) (rest : Option (List ℕ)) (chunk token : List ℕ) (p : Parked) (i : Input) (given : List Token) (h : Halt) → p.phase ≡ Halted h → p.size ≡ 0 → Near (length chunk) rest (looked p) i → IsMarkAfter h i.mark → Ends limit i given (Some (halt_number h)) p.line → NoHaltBefore limit i (looked p)
+pub halted-stands : (limit : ℕ) (rest : Option (List ℕ)) (chunk token : List ℕ) (p : Parked) (i : Input) (given : List Token) (h : Halt)
+    → p.phase ≡ Halted h → p.size ≡ 0 → Near (length chunk) rest (looked p) i → IsMarkAfter h i.mark
+    → Ends limit i given (Some (halt_number h)) p.line → NoHaltBefore limit i (looked p)
     → HasGivenAt limit rest chunk p i given × (take p.size token ≡ []) × Ends limit i given (Some (halt_number h)) p.line
 halted-stands limit rest chunk token p i given h phase empty near marks e before = (rw phase (near, marks, e, before), rw empty refl, e)
 
 -- before the first step
-pub first-turns : (limit : ℕ) (rest : Option (List ℕ)) (chunk token : List ℕ) (p : Parked) → Fits p (length chunk) limit → p.phase ≡ Going → Turns limit (HasGivenAt limit rest chunk p) rest chunk token (length chunk) (record p { size = 0 })
+pub first-turns : (limit : ℕ) (rest : Option (List ℕ)) (chunk token : List ℕ) (p : Parked) → Fits p (length chunk) limit → p.phase ≡ Going
+    → Turns limit (HasGivenAt limit rest chunk p) rest chunk token (length chunk) (record p { size = 0 })
 first-turns limit rest chunk token p r going = record {
   fits = record { at = r.at; stop = r.stop; end = r.end; stops = r.stops; counted = r.counted; line_feeds = r.line_feeds; size = omega arith; kept = r.kept };
   going = going;
@@ -290,39 +323,52 @@ first-turns limit rest chunk token p r going = record {
       };
 }
 
-pub after-skip : (limit : ℕ) (stands : Input → List Token → Type 0) (rest : Option (List ℕ)) (chunk token : List ℕ) (size : ℕ) (old mid : Parked) → Turns limit stands rest chunk token size old → length chunk ≡ size → (0 < old.size → mid ≡ old) → (old.size ≡ 0 → Skips chunk old mid)
+pub after-skip : (limit : ℕ) (stands : Input → List Token → Type 0) (rest : Option (List ℕ)) (chunk token : List ℕ) (size : ℕ) (old mid : Parked)
+    → Turns limit stands rest chunk token size old → length chunk ≡ size → (0 < old.size → mid ≡ old) → (old.size ≡ 0 → Skips chunk old mid)
     → (i : Input) (given : List Token) → stands i given → Ready limit rest chunk token mid i.bytes given
 after-skip limit stands rest chunk token size old mid t fits begun skips i given st =
     skip-ready limit rest chunk token old mid i.bytes given (rw fits t.fits) begun skips (t.within i given st)
 
-pub whole-stands : (limit : ℕ) (rest : Option (List ℕ)) (chunk token token' : List ℕ) (mid new : Parked) (i : Input) (given : List Token) → i.mark ≡ Clean → Fits mid (length chunk) limit → length token ≡ limit → new.phase ≡ Going → Collects chunk token token' mid new Whole → Ready limit rest chunk token mid i.bytes given
+pub whole-stands : (limit : ℕ) (rest : Option (List ℕ)) (chunk token token' : List ℕ) (mid new : Parked) (i : Input) (given : List Token)
+    → i.mark ≡ Clean → Fits mid (length chunk) limit → length token ≡ limit → new.phase ≡ Going → Collects chunk token token' mid new Whole
+    → Ready limit rest chunk token mid i.bytes given
     → HasGivenAt limit rest chunk new i (given ++ (record { bytes = take new.size token'; line = new.line }) ∷ [])
 whole-stands limit rest chunk token token' mid new i given clean r full phase cs w =
-    let a : At limit rest chunk new i.bytes (given ++ (record { bytes = take new.size token'; line = new.line }) ∷ []) 0 = rw cs.4 (end-at limit rest chunk token token' mid i.bytes given cs.0 r full cs.1 cs.2 cs.3 w) in
+    let a : At limit rest chunk new i.bytes (given ++ (record { bytes = take new.size token'; line = new.line }) ∷ []) 0 = rw cs.4
+    (end-at limit rest chunk token token' mid i.bytes given cs.0 r full cs.1 cs.2 cs.3 w) in
     subst (λ q. InPhase q limit rest chunk new i (given ++ (record { bytes = take new.size token'; line = new.line }) ∷ [])) (sym phase) (clean, a)
 
-pub part-within : (limit : ℕ) (rest : Option (List ℕ)) (chunk token token' : List ℕ) (mid new : Parked) (text : List ℕ) (given : List Token) → Fits mid (length chunk) limit → length token ≡ limit → Collects chunk token token' mid new Part → Ready limit rest chunk token mid text given
+pub part-within : (limit : ℕ) (rest : Option (List ℕ)) (chunk token token' : List ℕ) (mid new : Parked) (text : List ℕ) (given : List Token)
+    → Fits mid (length chunk) limit → length token ≡ limit → Collects chunk token token' mid new Part → Ready limit rest chunk token mid text given
     → Within limit rest chunk token' new text given
 part-within limit rest chunk token token' mid new text given r full cs w =
     rw cs.1 (gathered-within limit rest chunk token token' mid text given (mid.stop - mid.at) r full cs.0 w)
 
-pub more-within : (limit : ℕ) (rest rest' : Option (List ℕ)) (chunk chunk' token : List ℕ) (old new : Parked) (text : List ℕ) (given : List Token) → old.end ≤ old.at → Fills rest rest' chunk' old new More → Within limit rest chunk token old text given
+pub more-within : (limit : ℕ) (rest rest' : Option (List ℕ)) (chunk chunk' token : List ℕ) (old new : Parked) (text : List ℕ) (given : List Token)
+    → old.end ≤ old.at → Fills rest rest' chunk' old new More → Within limit rest chunk token old text given
     → Within limit rest' chunk' token new text given
 more-within limit rest rest' chunk chunk' token old new text given used f w =
     rw f.3 (fill-within limit rest rest' chunk chunk' token old text given new.end used f.1 f.2 w)
 
-pub finish-stands : (limit : ℕ) (rest rest' : Option (List ℕ)) (chunk chunk' token : List ℕ) (old new : Parked) (i : Input) (given : List Token) (r : Next) → i.mark ≡ Clean → old.end ≤ old.at → IsAtEnd rest → Finishes old new r → Within limit rest chunk token old i.bytes given
+pub finish-stands : (limit : ℕ) (rest rest' : Option (List ℕ)) (chunk chunk' token : List ℕ) (old new : Parked) (i : Input) (given : List Token)
+    (r : Next) → i.mark ≡ Clean → old.end ≤ old.at → IsAtEnd rest → Finishes old new r → Within limit rest chunk token old i.bytes given
     → NextGives (HasGivenAt limit rest' chunk' new) limit i given (Ok r) (record { bytes = take new.size token; line = new.line }) (looked new)
 finish-stands limit rest rest' chunk chunk' token old new i given token-given clean used none f w =
     let n = used-up limit rest chunk i.bytes given old.at old.end (looked old) (looked old - old.size) old.line_feeds w.at.place used none in
-    rw f.1 (near-short (length chunk') rest' (looked old) i (omega arith), subst (λ j. Ends limit j (given ++ (record { bytes = take old.size token; line = old.line }) ∷ []) None (old.line_feeds + 1)) (is-whole i clean) (finish-gives limit rest chunk token old i.bytes given used none f.0 w), clean)
+    rw f.1 (
+      near-short (length chunk') rest' (looked old) i (omega arith),
+      subst (λ j. Ends limit j (given ++ (record { bytes = take old.size token; line = old.line }) ∷ []) None (old.line_feeds + 1))
+          (is-whole i clean) (finish-gives limit rest chunk token old i.bytes given used none f.0 w),
+      clean,
+    )
 finish-stands limit rest rest' chunk chunk' token old new i given Finish clean used none f w =
     let n = used-up limit rest chunk i.bytes given old.at old.end (looked old) (looked old - old.size) old.line_feeds w.at.place used none in
     let e = subst (λ j. Ends limit j given None (old.line_feeds + 1)) (is-whole i clean) (finish-ends limit rest chunk token old i.bytes given used none f.0 w) in
     rw f.1 ((near-short (length chunk') rest' (looked old) i (omega arith), e, clean), rw f.0 refl, e, clean)
 
 -- what is answered again after a halt
-pub again-gives : (limit : ℕ) (rest : Option (List ℕ)) (chunk token : List ℕ) (p : Parked) (i : Input) (given : List Token) (h : Halt) → p.phase ≡ Halted h → HasGivenAt limit rest chunk p i given
+pub again-gives : (limit : ℕ) (rest : Option (List ℕ)) (chunk token : List ℕ) (p : Parked) (i : Input) (given : List Token) (h : Halt)
+    → p.phase ≡ Halted h → HasGivenAt limit rest chunk p i given
     → NextGives (HasGivenAt limit rest chunk (record p { size = 0 })) limit i given (Err h) (record { bytes = []; line = p.line }) (looked p)
 again-gives limit rest chunk token p i given TokenTooLong phase st = let e = rw phase at st in (rw phase e, refl, e.2)
 again-gives limit rest chunk token p i given InputTooLong phase st = let e = rw phase at st in (rw phase e, refl, e.2)
@@ -333,7 +379,9 @@ again-gives limit rest chunk token p i given ReadFailed phase st =
     let e' = subst (λ j. Near (length chunk) rest (looked p) j × (j.mark ≡ Failed) × Ends limit j given (Some 31) p.line × NoHaltBefore limit j (looked p)) same e in
     (rw phase e', refl, e'.2)
 
-pub long-gives : (limit : ℕ) (rest : Option (List ℕ)) (chunk token token' : List ℕ) (mid new last : Parked) (i : Input) (given : List Token) (r : Halt) → i.mark ≡ Clean → Fits mid (length chunk) limit → length token ≡ limit → Collects chunk token token' mid new TooLong → Ready limit rest chunk token mid i.bytes given
+pub long-gives : (limit : ℕ) (rest : Option (List ℕ)) (chunk token token' : List ℕ) (mid new last : Parked) (i : Input) (given : List Token)
+    (r : Halt) → i.mark ≡ Clean → Fits mid (length chunk) limit → length token ≡ limit → Collects chunk token token' mid new TooLong
+    → Ready limit rest chunk token mid i.bytes given
     → r ≡ TokenTooLong → Halts TokenTooLong new last
     → NextGives (HasGivenAt limit rest chunk last) limit i given (Err r) (record { bytes = take last.size token'; line = last.line }) (looked last)
 long-gives limit rest chunk token token' mid new last i given r clean range full cs w is h =
@@ -342,17 +390,22 @@ long-gives limit rest chunk token token' mid new last i given r clean range full
     let e = long-ends limit rest chunk token mid i.bytes given (length token - mid.size) range room cs.1 cs.2 w in
     let last-is : last ≡ record mid { size = 0; phase = Halted TokenTooLong } = h ∙ rw cs.0 refl in
     let near = near-place limit rest chunk i.bytes given mid.at mid.end (looked mid) (looked mid - mid.size) mid.line_feeds i.mark w.within.at.place in
-    rw (is, last-is) (halted-stands limit rest chunk token' (record mid { size = 0; phase = Halted TokenTooLong }) i given TokenTooLong refl refl near tt (subst (λ j. Ends limit j given (Some 1) mid.line) (is-whole i clean) e) (no-halt-within limit rest chunk token mid i given w.within))
+    rw (is, last-is) (halted-stands limit rest chunk token' (record mid { size = 0; phase = Halted TokenTooLong })
+    i given TokenTooLong refl refl near tt (subst (λ j. Ends limit j given (Some 1) mid.line) (is-whole i clean) e)
+    (no-halt-within limit rest chunk token mid i given w.within))
 
-pub input-gives : (limit : ℕ) (rest : Option (List ℕ)) (chunk token : List ℕ) (old last : Parked) (i : Input) (given : List Token) (r : Halt) → i.mark ≡ Clean → Fits old (length chunk) limit → old.at ≡ old.stop → old.stop < old.end → Within limit rest chunk token old i.bytes given
+pub input-gives : (limit : ℕ) (rest : Option (List ℕ)) (chunk token : List ℕ) (old last : Parked) (i : Input) (given : List Token) (r : Halt)
+    → i.mark ≡ Clean → Fits old (length chunk) limit → old.at ≡ old.stop → old.stop < old.end → Within limit rest chunk token old i.bytes given
     → r ≡ InputTooLong → Halts InputTooLong old last
     → NextGives (HasGivenAt limit rest chunk last) limit i given (Err r) (record { bytes = take last.size token; line = last.line }) (looked last)
 input-gives limit rest chunk token old last i given r clean range used lt w is h =
     let near = near-place limit rest chunk i.bytes given old.at old.end (looked old) (looked old - old.size) old.line_feeds i.mark w.at.place in
     rw (is, h) (halted-stands limit rest chunk token (record old { size = 0; line = old.line_feeds + 1; phase = Halted InputTooLong }) i given InputTooLong refl refl near tt
-    (subst (λ j. Ends limit j given (Some 21) (old.line_feeds + 1)) (is-whole i clean) (input-ends limit rest chunk token old i.bytes given range used lt w)) (no-halt-within limit rest chunk token old i given w))
+    (subst (λ j. Ends limit j given (Some 21) (old.line_feeds + 1)) (is-whole i clean)
+    (input-ends limit rest chunk token old i.bytes given range used lt w)) (no-halt-within limit rest chunk token old i given w))
 
-pub fail-gives : (limit : ℕ) (rest rest' : Option (List ℕ)) (chunk chunk' token : List ℕ) (old mid last : Parked) (i : Input) (given : List Token) (r : Halt) → i.mark ≡ Clean → Fills rest rest' chunk' old mid fill-failed → Within limit rest chunk token old i.bytes given
+pub fail-gives : (limit : ℕ) (rest rest' : Option (List ℕ)) (chunk chunk' token : List ℕ) (old mid last : Parked) (i : Input) (given : List Token)
+    (r : Halt) → i.mark ≡ Clean → Fills rest rest' chunk' old mid fill-failed → Within limit rest chunk token old i.bytes given
     → r ≡ ReadFailed → Halts ReadFailed mid last
     → NextGives (HasGivenAt limit rest' chunk' last) limit i given (Err r) (record { bytes = take last.size token; line = last.line }) (looked last)
 fail-gives limit rest rest' chunk chunk' token old mid last i given r clean fills w is h =
@@ -361,7 +414,9 @@ fail-gives limit rest rest' chunk chunk' token old mid last i given r clean fill
     let at : failed_after (looked old) i ≡ stopped = rw clean refl in
     let last-is : last ≡ record old { size = 0; line = old.line_feeds + 1; phase = Halted ReadFailed } = h ∙ rw same refl in
     let near = near-short (length chunk') rest' (looked old) stopped (simp length-take (omega arith)) in
-    rw (is, last-is, at) (halted-stands limit rest' chunk' token (record old { size = 0; line = old.line_feeds + 1; phase = Halted ReadFailed }) stopped given ReadFailed refl refl near refl (fail-ends limit rest chunk token old i.bytes given w) (no-halt-cut limit rest chunk token old i.bytes given w))
+    rw (is, last-is, at) (halted-stands limit rest' chunk' token
+    (record old { size = 0; line = old.line_feeds + 1; phase = Halted ReadFailed }) stopped given ReadFailed refl refl near refl
+    (fail-ends limit rest chunk token old i.bytes given w) (no-halt-cut limit rest chunk token old i.bytes given w))
 
 -- the registers, if the last token is let go
 abbrev pub cleared : Parked → Parked
@@ -369,7 +424,9 @@ cleared p = record p { size = 0 }
 
 -- ---- how far was read
 
-ended-near : (limit : ℕ) (rest : Option (List ℕ)) (chunk token token' : List ℕ) (p : Parked) (i : Input) (given : List Token) (d : ℕ) → Fits p (length chunk) limit → length token ≡ limit → Gathers chunk token token' p d → p.at + d < p.stop → is_white_space (slice_index chunk (p.at + d)) ≡ true → Ready limit rest chunk token p i.bytes given
+ended-near : (limit : ℕ) (rest : Option (List ℕ)) (chunk token token' : List ℕ) (p : Parked) (i : Input) (given : List Token) (d : ℕ)
+    → Fits p (length chunk) limit → length token ≡ limit → Gathers chunk token token' p d → p.at + d < p.stop
+    → is_white_space (slice_index chunk (p.at + d)) ≡ true → Ready limit rest chunk token p i.bytes given
     → Near (length chunk) rest (end_of_tokens i.bytes (suc (length given))) i
 ended-near limit rest chunk token token' p i given d r full s lt white w =
     let v = gathered-within limit rest chunk token token' p i.bytes given d r full s w in
@@ -381,13 +438,16 @@ ended-near limit rest chunk token token' p i given d r full s lt white w =
     let end = end-of-token limit i.bytes q (q - (p.size + d)) given place.live place.within (omega (arith, v.at.begun)) (λ _. white') in
     rw end (near-place limit rest chunk i.bytes given (p.at + d) p.end q (q - (p.size + d)) p.line_feeds i.mark place)
 
-pub whole-near : (limit : ℕ) (rest : Option (List ℕ)) (chunk token token' : List ℕ) (mid new : Parked) (i : Input) (given : List Token) → Fits mid (length chunk) limit → length token ≡ limit → Collects chunk token token' mid new Whole → Ready limit rest chunk token mid i.bytes given
+pub whole-near : (limit : ℕ) (rest : Option (List ℕ)) (chunk token token' : List ℕ) (mid new : Parked) (i : Input) (given : List Token)
+    → Fits mid (length chunk) limit → length token ≡ limit → Collects chunk token token' mid new Whole
+    → Ready limit rest chunk token mid i.bytes given
     → Near (length chunk) rest (end_of_tokens i.bytes (suc (length given))) i
 whole-near limit rest chunk token token' mid new i given r full cs w = ended-near limit rest chunk token token' mid i given cs.0 r full cs.1 cs.2 cs.3 w
 
 -- ---- a token that begins at the next byte
 
-module _ (limit : ℕ) (rest : Option (List ℕ)) (chunk token token' : List ℕ) (p new : Parked) (r : Fits p (length chunk) limit) (full : length token ≡ limit) (t : TakesShort chunk token token' p new) where
+module _ (limit : ℕ) (rest : Option (List ℕ)) (chunk token token' : List ℕ) (p new : Parked) (r : Fits p (length chunk) limit)
+    (full : length token ≡ limit) (t : TakesShort chunk token token' p new) where
   -- no white space comes before it
   pub short-skips : Skips chunk (record p { size = 0 }) (begun p)
   short-skips =
@@ -408,18 +468,21 @@ module _ (limit : ℕ) (rest : Option (List ℕ)) (chunk token token' : List ℕ
 
   module _ (i : Input) (given : List Token) (st : HasGivenAt limit rest chunk p i given) where
     short-ready : Ready limit rest chunk token (begun p) i.bytes given
-    short-ready = after-skip limit (HasGivenAt limit rest chunk p) rest chunk token (length chunk) (record p { size = 0 }) (begun p) (first-turns limit rest chunk token p r t.going) refl (λ lt. absurd (omega arith)) (λ _. short-skips) i given st
+    short-ready = after-skip limit (HasGivenAt limit rest chunk p) rest chunk token (length chunk) (record p { size = 0 }) (begun p)
+        (first-turns limit rest chunk token p r t.going) refl (λ lt. absurd (omega arith)) (λ _. short-skips) i given st
 
     -- it is given
     pub short-stands : HasGivenAt limit rest chunk new i (given ++ (record { bytes = take new.size token'; line = new.line }) ∷ [])
-    short-stands = whole-stands limit rest chunk token token' (begun p) new i given ((first-turns limit rest chunk token p r t.going).clean i given st) short-begun full short-going t.collects short-ready
+    short-stands = whole-stands limit rest chunk token token' (begun p) new i given
+        ((first-turns limit rest chunk token p r t.going).clean i given st) short-begun full short-going t.collects short-ready
 
     -- and nothing was read
     pub short-near : Near (length chunk) rest (end_of_tokens i.bytes (suc (length given))) i
     short-near = whole-near limit rest chunk token token' (begun p) new i given short-begun full t.collects short-ready
 
 -- a token that ends with the input
-pub finish-near : (limit : ℕ) (rest rest' : Option (List ℕ)) (chunk chunk' token : List ℕ) (p : Parked) (i : Input) (given : List Token) → p.end ≤ p.at → IsAtEnd rest → 0 < p.size → Within limit rest chunk token p i.bytes given
+pub finish-near : (limit : ℕ) (rest rest' : Option (List ℕ)) (chunk chunk' token : List ℕ) (p : Parked) (i : Input) (given : List Token)
+    → p.end ≤ p.at → IsAtEnd rest → 0 < p.size → Within limit rest chunk token p i.bytes given
     → Near (length chunk') rest' (end_of_tokens i.bytes (suc (length given))) i
 finish-near limit rest rest' chunk chunk' token p i given used none some w =
     let place = w.at.place in
@@ -428,7 +491,8 @@ finish-near limit rest rest' chunk chunk' token p i given used none some w =
     near-short (length chunk') rest' (end_of_tokens i.bytes (suc (length given))) i (omega arith)
 
 -- if the source fails it has all that was not looked at
-pub fail-rest : (limit : ℕ) (rest rest' : Option (List ℕ)) (chunk chunk' token : List ℕ) (old mid : Parked) (i : Input) (given : List Token) → old.end ≤ old.at → Fills rest rest' chunk' old mid fill-failed → Within limit rest chunk token old i.bytes given
+pub fail-rest : (limit : ℕ) (rest rest' : Option (List ℕ)) (chunk chunk' token : List ℕ) (old mid : Parked) (i : Input) (given : List Token)
+    → old.end ≤ old.at → Fills rest rest' chunk' old mid fill-failed → Within limit rest chunk token old i.bytes given
     → HasRest rest' (looked old) i
 fail-rest limit rest rest' chunk chunk' token old mid i given used fills w =
     let place = w.at.place in
@@ -442,7 +506,8 @@ fail-rest limit rest rest' chunk chunk' token old mid i given used fills w =
     kept-rest (Some xs) (Some ys) more e k = ap Some k ∙ e
 
 -- once a read has failed the input is marked
-pub failed-marked : (limit : ℕ) (rest : Option (List ℕ)) (chunk : List ℕ) (p : Parked) (i : Input) (given : List Token) → HasGivenAt limit rest chunk p i given → p.phase ≡ Halted ReadFailed → i.mark ≡ Clean → ⊥
+pub failed-marked : (limit : ℕ) (rest : Option (List ℕ)) (chunk : List ℕ) (p : Parked) (i : Input) (given : List Token)
+    → HasGivenAt limit rest chunk p i given → p.phase ≡ Halted ReadFailed → i.mark ≡ Clean → ⊥
 failed-marked limit rest chunk p i given st phase clean =
     let e = subst (λ q. InPhase q limit rest chunk p i given) phase st in
     let marked : i.mark ≡ Failed = e.1 in

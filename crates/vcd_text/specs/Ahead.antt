@@ -39,7 +39,12 @@ start_of a token = passed_of a - length token - 1
 -- only white bytes come before it, or none, and one white byte was passed after it.
 pub record TakesToken (a a' : Ahead) (token : List ℕ) : Type 0 where
   -- whatever tokens were passed before, it was passed after them
-  pub gives : (lines : ℕ) (ts : List Token) → Passed (longest_of a) lines (bytes_of a) (passed_of a) ts → Passed (longest_of a) lines (bytes_of a) (passed_of a') (ts ++ record { bytes = token; line = line_ahead lines (bytes_of a) (start_of a' token) } ∷ [])
+  pub gives : (lines : ℕ) (ts : List Token) → Passed (longest_of a) lines (bytes_of a) (passed_of a) ts
+      → Passed (longest_of a) lines (bytes_of a) (passed_of a') (ts ++ record {
+        bytes = token;
+        line = line_ahead lines (bytes_of a)
+            (start_of a' token);
+      } ∷ [])
   pub some : 0 < length token
   pub short : length token ≤ longest_of a
   pub place : token ≡ slice_range (bytes_of a) (start_of a' token) (passed_of a' - 1)

@@ -23,7 +23,12 @@ is_white_at bytes at = is_white_space (slice_index bytes at)
 
 -- the registers after d bytes of white space
 abbrev pub skipped : List ℕ → Parked → ℕ → Parked
-skipped chunk p d = record p { at = p.at + d; line_feeds = p.line_feeds + line_feeds_in (slice_range chunk p.at (p.at + d)); line = p.line_feeds + line_feeds_in (slice_range chunk p.at (p.at + d)) + 1 }
+skipped chunk p d = record p {
+  at = p.at + d;
+  line_feeds = p.line_feeds + line_feeds_in
+      (slice_range chunk p.at (p.at + d));
+  line = p.line_feeds + line_feeds_in (slice_range chunk p.at (p.at + d)) + 1;
+}
 
 -- the registers after d bytes of a token
 abbrev pub gathered : Parked → ℕ → Parked

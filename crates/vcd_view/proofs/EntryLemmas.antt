@@ -41,16 +41,19 @@ pub entry_tells : (text : List ℕ) (codes : List Code) (e : Entry) → is_right
 entry_tells text codes e h n l = by_code (slice_get codes e.position) refl
   where
     right : says text e (slice_get codes e.position) ≡ true
-    right = sym (ap (λ b. b || (nat_le (2 ^ 63) e.key || says text e (slice_get codes e.position))) (ne_eqb e.key 0 n) ∙ ap (λ b. b || says text e (slice_get codes e.position)) (lt-leb (2 ^ 63) e.key l)) ∙ h
+    right = sym (ap (λ b. b || (nat_le (2 ^ 63) e.key || says text e (slice_get codes e.position))) (ne_eqb e.key 0 n)
+        ∙ ap (λ b. b || says text e (slice_get codes e.position)) (lt-leb (2 ^ 63) e.key l)) ∙ h
 
-    by_code : (o : Option Code) → slice_get codes e.position ≡ o → (c : Code) × (slice_get codes e.position ≡ Some c) × (e.key ≡ key_in (text_in text c.start c.len)) × (e.size_or_zero ≡ size_or_zero_of c)
+    by_code : (o : Option Code) → slice_get codes e.position ≡ o → (c : Code) × (slice_get codes e.position ≡ Some c)
+        × (e.key ≡ key_in (text_in text c.start c.len)) × (e.size_or_zero ≡ size_or_zero_of c)
     by_code None s = absurd (false≢true (sym (ap (says text e) s) ∙ right))
     by_code (Some c) s =
         let b = and_parts (e.key == key_in (text_in text c.start c.len)) (e.size_or_zero == size_or_zero_of c) (sym (ap (says text e) s) ∙ right) in
         (c, s, eqb-true _ _ b.0, eqb-true _ _ b.1)
 
 -- what the entry with a key says, which is among those that are right
-pub entry_found : (text : List ℕ) (codes : List Code) (es : List Entry) (i : ℕ) (e : Entry) (key : ℕ) → are_right text codes es ≡ true → slice_get es i ≡ Some e → (key ≡ 0 → ⊥) → key < 2 ^ 63 → e.key ≡ key
+pub entry_found : (text : List ℕ) (codes : List Code) (es : List Entry) (i : ℕ) (e : Entry) (key : ℕ) → are_right text codes es ≡ true
+    → slice_get es i ≡ Some e → (key ≡ 0 → ⊥) → key < 2 ^ 63 → e.key ≡ key
     → (c : Code) × (slice_get codes e.position ≡ Some c) × (key ≡ key_in (text_in text c.start c.len)) × (e.size_or_zero ≡ size_or_zero_of c)
 entry_found text codes es i e key h s n l k =
     let told = entry_tells text codes e (one_of_all (is_right text codes) es i e h s) (λ z. n (sym k ∙ z)) (omega (arith, k, l)) in
@@ -67,7 +70,8 @@ text_bytes text start len h = by_range (nat_le (start + len) (length text))
     by_range false = tt
 
 -- the code that an entry with the key of a short code gives has its bytes
-pub entry_at : (text : List ℕ) (codes : List Code) (es : List Entry) (t : List ℕ) (p : ℕ) → are_right text codes es ≡ true → AreBytes text → AreBytes t → key_in t ≢ 0 → HasEntry es (key_in t) p → IsAt text codes t p
+pub entry_at : (text : List ℕ) (codes : List Code) (es : List Entry) (t : List ℕ) (p : ℕ) → are_right text codes es ≡ true → AreBytes text
+    → AreBytes t → key_in t ≢ 0 → HasEntry es (key_in t) p → IsAt text codes t p
 entry_at text codes es t p right bytes a n has =
     let told = entry_found text codes es has.0 has.1 (key_in t) right has.2 n (key_below t a) has.3 in
     let same = same_key t (text_in text told.0.start told.0.len) a (text_bytes text told.0.start told.0.len bytes) told.2 (omega (arith, n)) in

@@ -36,27 +36,33 @@ texts_range front (k ∷ back) =
 pub distinct : (ks : List IdCode) (index : List ℕ) → IsIndex ks index → IsDistinct bytes_eq (map (λ (k : IdCode). k.text) ks)
 distinct ks index h =
     let texts = map (λ (k : IdCode). k.text) ks in
-    let moved : IsPermutation texts (map (code_text ks) index) = subst (λ l. IsPermutation l (map (code_text ks) index)) (texts_range [] ks) (IsPermutation-map (code_text ks) (range_with_len 0 (length ks)) index h.positions) in
-    let apart : IsDistinct bytes_eq (map (code_text ks) index) = subst (λ e. IsDistinct e (map (code_text ks) index)) (λ j x y. is_eq-slice_cmp x y j) (IsDistinct-from_sorted (slice_cmp nat_cmp) (map (code_text ks) index) h.rising) in
+    let moved : IsPermutation texts (map (code_text ks) index) = subst (λ l. IsPermutation l (map (code_text ks) index)) (texts_range [] ks)
+    (IsPermutation-map (code_text ks) (range_with_len 0 (length ks)) index h.positions) in
+    let apart : IsDistinct bytes_eq (map (code_text ks) index) = subst (λ e. IsDistinct e (map (code_text ks) index))
+    (λ j x y. is_eq-slice_cmp x y j) (IsDistinct-from_sorted (slice_cmp nat_cmp) (map (code_text ks) index) h.rising) in
     IsDistinct-IsPermutation bytes_eq bytes_flip (map (code_text ks) index) texts (IsPermutation-sym texts (map (code_text ks) index) moved) apart
 
 -- a code with this text is the first with it
-pub apart_at : (t : List ℕ) (ks : List IdCode) (p : ℕ) (k : IdCode) → AllByRecursion (λ y. bytes_eq t y ≡ false) (map (λ (x : IdCode). x.text) ks) → slice_get ks p ≡ Some k → bytes_eq t k.text ≡ false
+pub apart_at : (t : List ℕ) (ks : List IdCode) (p : ℕ) (k : IdCode) → AllByRecursion (λ y. bytes_eq t y ≡ false) (map (λ (x : IdCode). x.text) ks)
+    → slice_get ks p ≡ Some k → bytes_eq t k.text ≡ false
 apart_at t [] p k h e = absurd (none-some k e)
 apart_at t (x ∷ ks) zero k h e = subst (λ (y : IdCode). bytes_eq t y.text ≡ false) (same_Some x k e) h.0
 apart_at t (x ∷ ks) (suc p) k h e = apart_at t ks p k h.1 e
 
-pub first_with : (ks : List IdCode) (t : List ℕ) (p : ℕ) (k : IdCode) → IsDistinct bytes_eq (map (λ (x : IdCode). x.text) ks) → slice_get ks p ≡ Some k → t ≡ k.text → find (has_text t) ks ≡ Some k
+pub first_with : (ks : List IdCode) (t : List ℕ) (p : ℕ) (k : IdCode) → IsDistinct bytes_eq (map (λ (x : IdCode). x.text) ks)
+    → slice_get ks p ≡ Some k → t ≡ k.text → find (has_text t) ks ≡ Some k
 unfolding IsDistinct
 first_with [] t p k d e s = absurd (none-some k e)
 first_with (x ∷ ks) t zero k d e s = rw (ap (bytes_eq t) (ap (λ (y : IdCode). y.text) (same_Some x k e) ∙ sym s) ∙ (bytes_eq-Decides t t).1 refl) e
 first_with (x ∷ ks) t (suc p) k d e s = rw (ap (λ y. bytes_eq y x.text) s ∙ bytes_flip k.text x.text ∙ apart_at x.text ks p k d.0 e) (first_with ks t p k d.1 e s)
 
-place_with : (ks : List IdCode) (t : List ℕ) (p : ℕ) (k : IdCode) → IsDistinct bytes_eq (map (λ (x : IdCode). x.text) ks) → slice_get ks p ≡ Some k → t ≡ k.text → position_or_len (has_text t) ks ≡ p
+place_with : (ks : List IdCode) (t : List ℕ) (p : ℕ) (k : IdCode) → IsDistinct bytes_eq (map (λ (x : IdCode). x.text) ks) → slice_get ks p ≡ Some k
+    → t ≡ k.text → position_or_len (has_text t) ks ≡ p
 unfolding IsDistinct
 place_with [] t p k d e s = absurd (none-some k e)
 place_with (x ∷ ks) t zero k d e s = rw (ap (bytes_eq t) (ap (λ (y : IdCode). y.text) (same_Some x k e) ∙ sym s) ∙ (bytes_eq-Decides t t).1 refl) refl
-place_with (x ∷ ks) t (suc p) k d e s = let more = place_with ks t p k d.1 e s in rw (ap (λ y. bytes_eq y x.text) s ∙ bytes_flip k.text x.text ∙ apart_at x.text ks p k d.0 e) (omega (arith, more))
+place_with (x ∷ ks) t (suc p) k d e s = let more = place_with ks t p k d.1 e s in
+    rw (ap (λ y. bytes_eq y x.text) s ∙ bytes_flip k.text x.text ∙ apart_at x.text ks p k d.0 e) (omega (arith, more))
 
 -- a code is at the first index with its text
 pub place_is : (ks : List IdCode) (index : List ℕ) (p : ℕ) (k : IdCode) → IsIndex ks index → slice_get ks p ≡ Some k → position_or_len (has_text k.text) ks ≡ p
@@ -101,7 +107,8 @@ sorted_at (x ∷ xs) i zero d s a b = absurd (omega arith)
 sorted_at (x ∷ xs) zero (suc j) d s a b = to_all (λ y. slice_cmp nat_cmp x y ≡ Less) xs s.0 j d (omega arith)
 sorted_at (x ∷ xs) (suc i) (suc j) d s a b = sorted_at xs i j d s.1 (omega arith) (omega arith)
 
-rises : (ks : List IdCode) (index : List ℕ) (i j : ℕ) → IsIndex ks index → i < j → j < length index → slice_cmp nat_cmp (code_text ks (get_or index i 0)) (code_text ks (get_or index j 0)) ≡ Less
+rises : (ks : List IdCode) (index : List ℕ) (i j : ℕ) → IsIndex ks index → i < j → j < length index
+    → slice_cmp nat_cmp (code_text ks (get_or index i 0)) (code_text ks (get_or index j 0)) ≡ Less
 rises ks index i j h a b =
     let n = length-map index (code_text ks) in
     let l : i < length index = omega arith in
@@ -110,20 +117,24 @@ rises ks index i j h a b =
 pub between_all : (ks : List IdCode) (index t : List ℕ) → IsBetween ks index t 0 (length index)
 between_all ks index t = record { below = λ i l. absurd (omega arith); above = λ i a b. absurd (omega arith) }
 
-pub between_above : (ks : List IdCode) (index t : List ℕ) (low high m : ℕ) → IsIndex ks index → IsBetween ks index t low high → m < length index → order_at ks index t m ≡ Less → IsBetween ks index t (m + 1) high
+pub between_above : (ks : List IdCode) (index t : List ℕ) (low high m : ℕ) → IsIndex ks index → IsBetween ks index t low high → m < length index
+    → order_at ks index t m ≡ Less → IsBetween ks index t (m + 1) high
 between_above ks index t low high m h b l e = record {
   below = below_more (λ i. order_at ks index t i ≡ Less) m (λ i a. nat_list_cmp_total.trans (code_text ks (get_or index i 0)) (code_text ks (get_or index m 0)) t (rises ks index i m h a l) e) e;
   above = b.above;
 }
 
-pub between_below : (ks : List IdCode) (index t : List ℕ) (low high m : ℕ) → IsIndex ks index → IsBetween ks index t low high → order_at ks index t m ≡ Greater → IsBetween ks index t low m
+pub between_below : (ks : List IdCode) (index t : List ℕ) (low high m : ℕ) → IsIndex ks index → IsBetween ks index t low high
+    → order_at ks index t m ≡ Greater → IsBetween ks index t low m
 between_below ks index t low high m h b e = record {
   below = b.below;
   above = λ i a l. greater i (cases_lt m i) a l;
 }
   where
     greater : (i : ℕ) → (m < i) ⊎ (i ≤ m) → m ≤ i → i < length index → order_at ks index t i ≡ Greater
-    greater i (inl a) q l = nat_list_cmp_total.antisymm (code_text ks (get_or index i 0)) t ∙ ap ordering_reverse (nat_list_cmp_total.trans t (code_text ks (get_or index m 0)) (code_text ks (get_or index i 0)) (nat_list_cmp_total.antisymm t (code_text ks (get_or index m 0)) ∙ ap ordering_reverse e) (rises ks index m i h a l))
+    greater i (inl a) q l = nat_list_cmp_total.antisymm (code_text ks (get_or index i 0)) t
+        ∙ ap ordering_reverse (nat_list_cmp_total.trans t (code_text ks (get_or index m 0)) (code_text ks (get_or index i 0))
+        (nat_list_cmp_total.antisymm t (code_text ks (get_or index m 0)) ∙ ap ordering_reverse e) (rises ks index m i h a l))
     greater i (inr a) q l = let same : m ≡ i = omega arith in subst (λ x. order_at ks index t x ≡ Greater) same e
 
 apart_from : (x t : List ℕ) (o : Ordering) → slice_cmp nat_cmp x t ≡ o → is_eq o ≡ false → bytes_eq t x ≡ false
@@ -156,7 +167,8 @@ found_equal ks index t m h l e =
 -- ---- binary digits
 
 pub bits_rise : (a b : ℕ) → a ≤ b → length (digits_of 2 a) ≤ length (digits_of 2 b)
-bits_rise a b l = length-digits_of-le 2 (length (digits_of 2 b)) a (omega arith) (omega (arith, number_lt 2 (digits_of 2 b) (all_below_base_digits_of 2 b (omega arith)), number_digits_of 2 b (omega arith)))
+bits_rise a b l = length-digits_of-le 2 (length (digits_of 2 b)) a (omega arith)
+    (omega (arith, number_lt 2 (digits_of 2 b) (all_below_base_digits_of 2 b (omega arith)), number_digits_of 2 b (omega arith)))
 
 -- at most half as many have a digit less
 pub bits_of_half : (a b : ℕ) → 0 < b → a ≤ b / 2 → length (digits_of 2 a) + 1 ≤ length (digits_of 2 b)

@@ -16,7 +16,8 @@ pub at_first : (number : ℕ) (bytes : List ℕ) → length bytes ≡ 10 → SoF
 unfolding new_code
 at_first number bytes e = record { few = omega arith; room = e; small = omega arith; digits = refl }
 
-pub digit_more : (number : ℕ) (bytes : List ℕ) (rest len v : ℕ) → SoFar number bytes rest len → len < 9 → 94 ≤ rest → v ≡ rest % 94 + 33 → SoFar number (slice_set bytes len v) (rest / 94) (len + 1)
+pub digit_more : (number : ℕ) (bytes : List ℕ) (rest len v : ℕ) → SoFar number bytes rest len → len < 9 → 94 ≤ rest → v ≡ rest % 94 + 33
+    → SoFar number (slice_set bytes len v) (rest / 94) (len + 1)
 digit_more number bytes rest len v s h big is = record {
   few = omega arith;
   room = length-set bytes len v ∙ s.room;
@@ -30,7 +31,8 @@ digit_more number bytes rest len v s h big is = record {
       ap (λ n. take n (slice_set bytes len v) ++ base94 (suc (rest / 94)) (rest / 94)) one
       ∙ ap (λ l. l ++ base94 (suc (rest / 94)) (rest / 94)) (take-suc-set bytes len v (let r = s.room in omega arith))
       ∙ append_assoc (take len bytes) (v ∷ []) (base94 (suc (rest / 94)) (rest / 94))
-      ∙ ap (λ l. take len bytes ++ l) (ap (λ d. d ∷ base94 (suc (rest / 94)) (rest / 94)) digit ∙ ap (λ l. (33 + rest % 94) ∷ l) (same_room (suc (rest / 94)) rest (rest / 94) (omega arith) (omega arith)) ∙ sym opened)
+      ∙ ap (λ l. take len bytes ++ l) (ap (λ d. d ∷ base94 (suc (rest / 94)) (rest / 94)) digit
+      ∙ ap (λ l. (33 + rest % 94) ∷ l) (same_room (suc (rest / 94)) rest (rest / 94) (omega arith) (omega arith)) ∙ sym opened)
       ∙ s.digits;
 }
   where
@@ -44,7 +46,8 @@ digit_more number bytes rest len v s h big is = record {
     opened = rw (le-ltb rest 94 big) refl
 
 -- the last digit
-pub digit_last : (number : ℕ) (bytes : List ℕ) (rest len v : ℕ) → SoFar number bytes rest len → number < 2 ^ 64 → (len ≡ 9) ⊎ (rest < 94) → v ≡ rest % 94 + 33 → digits_of (record { bytes = slice_set bytes len v; len = len + 1 }) ≡ new_code number
+pub digit_last : (number : ℕ) (bytes : List ℕ) (rest len v : ℕ) → SoFar number bytes rest len → number < 2 ^ 64 → (len ≡ 9) ⊎ (rest < 94)
+    → v ≡ rest % 94 + 33 → digits_of (record { bytes = slice_set bytes len v; len = len + 1 }) ≡ new_code number
 digit_last number bytes rest len v s fits end is =
     rw (le-leb (len + 1) (length (slice_set bytes len v)) (let r = s.room in let e = length-set bytes len v in let f = s.few in omega arith))
     (ap (λ n. take n (slice_set bytes len v)) one

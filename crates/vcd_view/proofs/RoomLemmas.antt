@@ -30,10 +30,12 @@ pub same_sum : (text : List ℕ) (cs : List Code) (ks : List IdCode) → AllZip 
 same_sum text [] [] h = refl
 same_sum text [] (k ∷ ks) h = absurd h
 same_sum text (c ∷ cs) [] h = absurd h
-same_sum text (c ∷ cs) (k ∷ ks) h = sum_by-cons value_bytes c cs ∙ ap (λ n. n + sum_by value_bytes cs) (ap (λ n. max (div_ceil n 4) 64) h.0.size_is) ∙ ap (λ n. value_room k + n) (same_sum text cs ks h.1) ∙ sym (sum_by-cons value_room k ks)
+same_sum text (c ∷ cs) (k ∷ ks) h = sum_by-cons value_bytes c cs ∙ ap (λ n. n + sum_by value_bytes cs) (ap (λ n. max (div_ceil n 4) 64) h.0.size_is)
+    ∙ ap (λ n. value_room k + n) (same_sum text cs ks h.1) ∙ sym (sum_by-cons value_room k ks)
 
 -- a size is below 2 ^ 24
-room_bound : (text : List ℕ) (cs : List Code) (ks : List IdCode) → AllZip (IsCode text) cs ks → AllByRecursion (λ (k : IdCode). IsSize k.size) ks → sum_by value_bytes cs ≤ length cs * 4194304
+room_bound : (text : List ℕ) (cs : List Code) (ks : List IdCode) → AllZip (IsCode text) cs ks → AllByRecursion (λ (k : IdCode). IsSize k.size) ks
+    → sum_by value_bytes cs ≤ length cs * 4194304
 room_bound text [] [] h s = omega arith
 room_bound text [] (k ∷ ks) h s = absurd h
 room_bound text (c ∷ cs) [] h s = absurd h
@@ -57,7 +59,8 @@ is_view s h v = record {
   look_up = v.look_up;
 }
 
-pub is_room : (s : HeadShown) (h : Header) (values : ℕ) → Views s h → values ≡ sum_by value_bytes s.codes → record { values = values; slots = length s.codes; marks = length s.rows } ≡ room_of h
+pub is_room : (s : HeadShown) (h : Header) (values : ℕ) → Views s h → values ≡ sum_by value_bytes s.codes
+    → record { values = values; slots = length s.codes; marks = length s.rows } ≡ room_of h
 is_room s h values v e = λ j. record {
   values = (e ∙ same_sum s.text s.codes h.codes v.codes) j;
   slots = codes_len s.text s.codes h.codes v.codes j;
@@ -65,4 +68,5 @@ is_room s h values v e = λ j. record {
 }
 
 pub fits : (limit : ℕ) (s : HeadShown) (h : Header) (w : WindowSize) (r : RoomSize) → Views s h → AreWindows limit w → r ≡ room_of h → FitsInput limit h w (view_size s) r
-fits limit s h w r v are e = subst (λ x. FitsInput limit h w (view_size s) x) (sym e) (room_fits limit h w (view_size s) (room_of h) are (is_view s h v) (record { values = omega arith; slots = omega arith; marks = omega arith }))
+fits limit s h w r v are e = subst (λ x. FitsInput limit h w (view_size s) x) (sym e)
+    (room_fits limit h w (view_size s) (room_of h) are (is_view s h v) (record { values = omega arith; slots = omega arith; marks = omega arith }))

@@ -15,7 +15,8 @@ pub text_within : (text : List ℕ) (start len : ℕ) → start + len ≤ length
 text_within text start len h = rw (le-leb (start + len) (length text) h) refl
 
 -- each row is that of the declaration at its index
-row_among : (t : List ℕ) (cs : List IdCode) (e : List Declaration) (rs : List Row) (ds : List Declaration) (i : ℕ) (r : Row) → AreRows t cs e rs ds → slice_get rs i ≡ Some r → (d : Declaration) × (slice_get ds i ≡ Some d) × IsRow t cs (e ++ take i ds) r d
+row_among : (t : List ℕ) (cs : List IdCode) (e : List Declaration) (rs : List Row) (ds : List Declaration) (i : ℕ) (r : Row) → AreRows t cs e rs ds
+    → slice_get rs i ≡ Some r → (d : Declaration) × (slice_get ds i ≡ Some d) × IsRow t cs (e ++ take i ds) r d
 row_among t cs e [] [] i r h at = cc
 row_among t cs e [] (d ∷ ds) i r h at = absurd h
 row_among t cs e (x ∷ rs) [] i r h at = absurd h
@@ -25,11 +26,13 @@ row_among t cs e (x ∷ rs) (d ∷ ds) (suc i) r h at =
     (m.0, m.1, subst (λ l. IsRow t cs l r m.0) (append_assoc e (d ∷ []) (take i ds)) m.2)
 
 -- the declaration of a row
-pub row_at : (s : HeadShown) (h : Header) (i : ℕ) (r : Row) → Views s h → slice_get s.rows i ≡ Some r → (d : Declaration) × (slice_get h.declarations i ≡ Some d) × IsRow s.text h.codes (take i h.declarations) r d
+pub row_at : (s : HeadShown) (h : Header) (i : ℕ) (r : Row) → Views s h → slice_get s.rows i ≡ Some r → (d : Declaration)
+    × (slice_get h.declarations i ≡ Some d) × IsRow s.text h.codes (take i h.declarations) r d
 row_at s h i r v at = row_among s.text h.codes [] s.rows h.declarations i r v.rows at
 
 -- the row of a declaration
-pub row_of : (s : HeadShown) (h : Header) (i : ℕ) (r : Row) (d : Declaration) → Views s h → slice_get s.rows i ≡ Some r → slice_get h.declarations i ≡ Some d → IsRow s.text h.codes (take i h.declarations) r d
+pub row_of : (s : HeadShown) (h : Header) (i : ℕ) (r : Row) (d : Declaration) → Views s h → slice_get s.rows i ≡ Some r
+    → slice_get h.declarations i ≡ Some d → IsRow s.text h.codes (take i h.declarations) r d
 row_of s h i r d v at is =
     let m = row_at s h i r v at in
     subst (λ x. IsRow s.text h.codes (take i h.declarations) r x) (let e : m.0 ≡ d = cc in e) m.2
@@ -88,7 +91,8 @@ pub record IsVariableRow (s : HeadShown) (h : Header) (i : ℕ) (r : Row) (v : V
   pub code_is : IsCode s.text code (code_of v)
 
 -- the code that is shown at an index
-pub code_at : (t : List ℕ) (cs : List Code) (ks : List IdCode) (p : ℕ) (k : IdCode) → AllZip (IsCode t) cs ks → slice_get ks p ≡ Some k → (c : Code) × (slice_get cs p ≡ Some c) × IsCode t c k
+pub code_at : (t : List ℕ) (cs : List Code) (ks : List IdCode) (p : ℕ) (k : IdCode) → AllZip (IsCode t) cs ks → slice_get ks p ≡ Some k → (c : Code)
+    × (slice_get cs p ≡ Some c) × IsCode t c k
 code_at t [] [] p k h at = cc
 code_at t [] (y ∷ ks) p k h at = absurd h
 code_at t (c ∷ cs) [] p k h at = absurd h
@@ -96,7 +100,8 @@ code_at t (c ∷ cs) (y ∷ ks) zero k h at = let same : y ≡ k = cc in (c, ref
 code_at t (c ∷ cs) (y ∷ ks) (suc p) k h at = code_at t cs ks p k h.1 at
 
 -- the code at an index, by what is shown there
-pub code_of_shown : (t : List ℕ) (cs : List Code) (ks : List IdCode) (p : ℕ) (c : Code) → AllZip (IsCode t) cs ks → slice_get cs p ≡ Some c → (k : IdCode) × (slice_get ks p ≡ Some k) × IsCode t c k
+pub code_of_shown : (t : List ℕ) (cs : List Code) (ks : List IdCode) (p : ℕ) (c : Code) → AllZip (IsCode t) cs ks → slice_get cs p ≡ Some c
+    → (k : IdCode) × (slice_get ks p ≡ Some k) × IsCode t c k
 code_of_shown t [] [] p c h at = cc
 code_of_shown t [] (k ∷ ks) p c h at = absurd h
 code_of_shown t (x ∷ cs) [] p c h at = absurd h
@@ -119,7 +124,8 @@ bytes_are text (c ∷ list) (k ∷ cs) zero h = text_within text c.start c.len h
 bytes_are text (c ∷ list) (k ∷ cs) (suc p) h = bytes_are text list cs p h.1
 
 -- the row of a variable
-pub row_of_variable : (s : HeadShown) (h : Header) (i : ℕ) (r : Row) (v : Variable) → Views s h → slice_get s.rows i ≡ Some r → slice_get h.declarations i ≡ Some (Declaration.Var v) → IsVariableRow s h i r v
+pub row_of_variable : (s : HeadShown) (h : Header) (i : ℕ) (r : Row) (v : Variable) → Views s h → slice_get s.rows i ≡ Some r
+    → slice_get h.declarations i ≡ Some (Declaration.Var v) → IsVariableRow s h i r v
 row_of_variable s h i r v views at is =
     let own = (row_of s h i r (Declaration.Var v) views at is).own in
     let c = code_at s.text s.codes h.codes r.code (code_of v) views.codes own.2 in

@@ -35,26 +35,31 @@ has_scale None m other up up' out = absurd (unscaled m up out)
 has_scale (Some scale) m other up up' out = scaled scale other up'
 
 -- the first time has no ticks
-pub from_refused : (scale : Option ℤ) (from to : Moment) (fault : TickFault) → moment_ticks scale from true ≡ Err (tick_fault_number fault) → request_of scale (Want.Cut from to) ≡ Err (model_refusal (tick_refusal fault))
+pub from_refused : (scale : Option ℤ) (from to : Moment) (fault : TickFault) → moment_ticks scale from true ≡ Err (tick_fault_number fault)
+    → request_of scale (Want.Cut from to) ≡ Err (model_refusal (tick_refusal fault))
 unfolding request_of
 from_refused scale from to NoTimescale e = rw e refl
 from_refused scale from to OutOfRange e = let other = has_scale scale from to true false e in rw (e, other) refl
 
 -- the last time has none
-pub to_refused : (scale : Option ℤ) (from to : Moment) (a : ℕ) (fault : TickFault) → moment_ticks scale from true ≡ Ok a → moment_ticks scale to false ≡ Err (tick_fault_number fault) → request_of scale (Want.Cut from to) ≡ Err (model_refusal (tick_refusal fault))
+pub to_refused : (scale : Option ℤ) (from to : Moment) (a : ℕ) (fault : TickFault) → moment_ticks scale from true ≡ Ok a
+    → moment_ticks scale to false ≡ Err (tick_fault_number fault) → request_of scale (Want.Cut from to) ≡ Err (model_refusal (tick_refusal fault))
 unfolding request_of
 to_refused scale from to a NoTimescale e f = rw (e, f) refl
 to_refused scale from to a OutOfRange e f = rw (e, f) refl
 
 -- the first is above the last; without units the words were refused
-pub above : (scale : Option ℤ) (from to : Moment) (a b : ℕ) → (from.unit ≡ None → to.unit ≡ None → from.number ≤ to.number) → moment_ticks scale from true ≡ Ok a → moment_ticks scale to false ≡ Ok b → b < a → request_of scale (Want.Cut from to) ≡ Err model.Refusal.FromAboveTo
+pub above : (scale : Option ℤ) (from to : Moment) (a b : ℕ) → (from.unit ≡ None → to.unit ≡ None → from.number ≤ to.number)
+    → moment_ticks scale from true ≡ Ok a → moment_ticks scale to false ≡ Ok b → b < a
+    → request_of scale (Want.Cut from to) ≡ Err model.Refusal.FromAboveTo
 unfolding request_of moment_ticks
 above scale from to a b ordered e f lt = by_units from.unit to.unit refl refl
   where
     less : nat_lt b a ≡ true
     less = grind (arith, lt)
 
-    by_units : (u v : Option ℤ) → from.unit ≡ u → to.unit ≡ v → cut_request (has_unit (from ∷ to ∷ [])) (moment_ticks scale from true) (moment_ticks scale to false) ≡ Err model.Refusal.FromAboveTo
+    by_units : (u v : Option ℤ) → from.unit ≡ u → to.unit ≡ v → cut_request (has_unit (from ∷ to ∷ [])) (moment_ticks scale from true)
+        (moment_ticks scale to false) ≡ Err model.Refusal.FromAboveTo
     by_units None None h k =
         let first : Ok from.number ≡ Ok a = rw h at e in
         let last : Ok to.number ≡ Ok b = rw k at f in
@@ -66,7 +71,8 @@ above scale from to a b ordered e f lt = by_units from.unit to.unit refl refl
     by_units None (Some v) h k = rw (e, f, h, k, less) refl
 
 -- they are in order
-pub in_order : (scale : Option ℤ) (from to : Moment) (a b : ℕ) → moment_ticks scale from true ≡ Ok a → moment_ticks scale to false ≡ Ok b → a ≤ b → request_of scale (Want.Cut from to) ≡ Ok (Request.Cut a b)
+pub in_order : (scale : Option ℤ) (from to : Moment) (a b : ℕ) → moment_ticks scale from true ≡ Ok a → moment_ticks scale to false ≡ Ok b → a ≤ b
+    → request_of scale (Want.Cut from to) ≡ Ok (Request.Cut a b)
 unfolding request_of
 in_order scale from to a b e f le = by_test (has_unit (from ∷ to ∷ [])) refl
   where

@@ -104,7 +104,8 @@ so_far scale ns us p = found (take p ns) ++ all_ticks scale (drop p ns) (drop p 
 abbrev pub time_at : List ℕ → List (Option ℤ) → ℕ → ℕ → Option ℤ → Moment
 time_at ns us p n u = record { number = get_or ns p n; unit = get_or us p u }
 
-pub one_more : (scale : Option ℤ) (ns : List ℕ) (us : List (Option ℤ)) (p k n : ℕ) (u : Option ℤ) → length us ≡ length ns → p < length ns → moment_ticks scale (time_at ns us p n u) false ≡ Ok k
+pub one_more : (scale : Option ℤ) (ns : List ℕ) (us : List (Option ℤ)) (p k n : ℕ) (u : Option ℤ) → length us ≡ length ns → p < length ns
+    → moment_ticks scale (time_at ns us p n u) false ≡ Ok k
     → so_far scale ns us p ≡ so_far scale (set ns p k) us (p + 1)
 one_more scale [] us p k n u e l t = absurd (omega arith)
 one_more scale (m ∷ ns) [] p k n u e l t = absurd (omega arith)
@@ -148,7 +149,8 @@ from_place scale (m ∷ ns) [] p n u e l = absurd (omega arith)
 from_place scale (m ∷ ns) (v ∷ us) zero n u e l = refl
 from_place scale (m ∷ ns) (v ∷ us) (suc p) n u e l = from_place scale ns us p n u (omega arith) (omega arith)
 
-pub refused : (scale : Option ℤ) (ns ns' : List ℕ) (us : List (Option ℤ)) (p n : ℕ) (u : Option ℤ) (fault : TickFault) → length us ≡ length ns' → p < length ns' → moment_ticks scale (time_at ns' us p n u) false ≡ Err (tick_fault_number fault)
+pub refused : (scale : Option ℤ) (ns ns' : List ℕ) (us : List (Option ℤ)) (p n : ℕ) (u : Option ℤ) (fault : TickFault) → length us ≡ length ns'
+    → p < length ns' → moment_ticks scale (time_at ns' us p n u) false ≡ Err (tick_fault_number fault)
     → all_ticks scale ns us ≡ so_far scale ns' us p → AreRefused (all_ticks scale ns us) (tick_refusal fault)
 refused scale ns ns' us p n u fault e l t is =
     refused_at scale (time_at ns' us p n u) (times_with ns us) (take p ns') (all_ticks scale (drop (suc p) ns') (drop (suc p) us)) fault t

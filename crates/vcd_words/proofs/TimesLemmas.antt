@@ -12,11 +12,13 @@ abbrev digits_number : List ℕ → Option ℕ
 digits_number digits = cond (is_number digits) (Some (decimal_value digits)) None
 
 -- a word whose digits are a number, or none
-number_with : (digits unit : List ℕ) (b : Bool) → is_number digits ≡ b → (o : Option ℕ) → o ≡ cond b (Some (decimal_value digits)) None → (none : o ≡ None → moment_with digits unit ≡ None) × ((n : ℕ) → o ≡ Some n → moment_with digits unit ≡ with_unit n unit)
+number_with : (digits unit : List ℕ) (b : Bool) → is_number digits ≡ b → (o : Option ℕ) → o ≡ cond b (Some (decimal_value digits)) None
+    → (none : o ≡ None → moment_with digits unit ≡ None) × ((n : ℕ) → o ≡ Some n → moment_with digits unit ≡ with_unit n unit)
 number_with digits unit true is o e = (λ none. cc, λ n some. let same : decimal_value digits ≡ n = cc in rw (is, same) refl)
 number_with digits unit false is o e = (λ none. rw is refl, λ n some. cc)
 
-module _ (word digits : List ℕ) (k : ℕ) (number : Option ℕ) (count : k ≡ length (take_while is_ascii_digit word)) (front : digits ≡ take k word) (read : number ≡ digits_number digits) where
+module _ (word digits : List ℕ) (k : ℕ) (number : Option ℕ) (count : k ≡ length (take_while is_ascii_digit word)) (front : digits ≡ take k word)
+    (read : number ≡ digits_number digits) where
   digits_are : digits ≡ take_while is_ascii_digit word
   digits_are = front ∙ ap (λ n. take n word) (count ∙ length-prefix_len is_ascii_digit word)
 
@@ -29,7 +31,8 @@ module _ (word digits : List ℕ) (k : ℕ) (number : Option ℕ) (count : k ≡
 
   pub moment_is : (n : ℕ) → number ≡ Some n → moment_of word ≡ with_unit n (drop k word)
   unfolding moment_of
-  moment_is n e = (number_with (take_while is_ascii_digit word) (drop (length (take_while is_ascii_digit word)) word) (is_number (take_while is_ascii_digit word)) refl number number_is).1 n e ∙ ap (λ j. with_unit n (drop j word)) (sym count)
+  moment_is n e = (number_with (take_while is_ascii_digit word) (drop (length (take_while is_ascii_digit word)) word)
+      (is_number (take_while is_ascii_digit word)) refl number number_is).1 n e ∙ ap (λ j. with_unit n (drop j word)) (sym count)
 
 -- ---- the order of times
 
@@ -64,7 +67,8 @@ numbers-push : (ms : List Moment) (m : Moment) → map (λ (x : Moment). x.numbe
 numbers-push [] m = refl
 numbers-push (x ∷ ms) m = ap (λ l. x.number ∷ l) (numbers-push ms m)
 
-pub order_push : (ms : List Moment) (m : Moment) (o o' : TimesOrder) → IsOrderOf ms o → o'.has_unit ≡ (o.has_unit || is_some m.unit) → o'.rises ≡ (o.rises && is_above o.last m.number) → o'.last ≡ Some m.number → IsOrderOf (ms ++ m ∷ []) o'
+pub order_push : (ms : List Moment) (m : Moment) (o o' : TimesOrder) → IsOrderOf ms o → o'.has_unit ≡ (o.has_unit || is_some m.unit)
+    → o'.rises ≡ (o.rises && is_above o.last m.number) → o'.last ≡ Some m.number → IsOrderOf (ms ++ m ∷ []) o'
 order_push ms m o o' is unit rises last = record {
   has_unit_is = unit ∙ ap (λ b. b || is_some m.unit) is.has_unit_is ∙ sym (has_unit-push ms m);
   rises_is = rises ∙ ap (λ b. b && is_above o.last m.number) is.rises_is ∙ ap (λ l. do_rise (map (λ (x : Moment). x.number) ms) && is_above l m.number) is.last_is
@@ -74,20 +78,26 @@ order_push ms m o o' is unit rises last = record {
 
 -- ---- words one after the other
 
-pub times_of-push : (words : List (List ℕ)) (word : List ℕ) (ms : List Moment) (m : Moment) → model.times_of words ≡ Ok ms → model.time_of word ≡ Ok m → model.times_of (words ++ word ∷ []) ≡ Ok (ms ++ m ∷ [])
+pub times_of-push : (words : List (List ℕ)) (word : List ℕ) (ms : List Moment) (m : Moment) → model.times_of words ≡ Ok ms
+    → model.time_of word ≡ Ok m → model.times_of (words ++ word ∷ []) ≡ Ok (ms ++ m ∷ [])
 times_of-push [] word ms m e t = let none : [] ≡ ms = cc in rw (t, ← none) refl
 times_of-push (w ∷ words) word ms m e t = by_first (model.time_of w) (model.times_of words) refl refl e (λ xs h. times_of-push words word xs m h t)
   where
-    by_first : (a : Result Moment model.UseFault) (b : Result (List Moment) model.UseFault) → model.time_of w ≡ a → model.times_of words ≡ b → model.with_time a b ≡ Ok ms → ((xs : List Moment) → model.times_of words ≡ Ok xs → model.times_of (words ++ word ∷ []) ≡ Ok (xs ++ m ∷ [])) → model.with_time (model.time_of w) (model.times_of (words ++ word ∷ [])) ≡ Ok (ms ++ m ∷ [])
+    by_first : (a : Result Moment model.UseFault) (b : Result (List Moment) model.UseFault) → model.time_of w ≡ a → model.times_of words ≡ b
+        → model.with_time a b ≡ Ok ms → ((xs : List Moment) → model.times_of words ≡ Ok xs → model.times_of (words ++ word ∷ []) ≡ Ok (xs ++ m ∷ []))
+        → model.with_time (model.time_of w) (model.times_of (words ++ word ∷ [])) ≡ Ok (ms ++ m ∷ [])
     by_first (Ok x) (Ok xs) ea eb f more = let same : x ∷ xs ≡ ms = cc in rw (ea, more xs eb, ← same) refl
     by_first (Ok x) (Err y) ea eb f more = cc
     by_first (Err y) b ea eb f more = cc
 
-pub times_of-fails : (words : List (List ℕ)) (word : List ℕ) (more : List (List ℕ)) (ms : List Moment) (f : model.UseFault) → model.times_of words ≡ Ok ms → model.time_of word ≡ Err f → model.times_of (words ++ word ∷ more) ≡ Err f
+pub times_of-fails : (words : List (List ℕ)) (word : List ℕ) (more : List (List ℕ)) (ms : List Moment) (f : model.UseFault)
+    → model.times_of words ≡ Ok ms → model.time_of word ≡ Err f → model.times_of (words ++ word ∷ more) ≡ Err f
 times_of-fails [] word more ms f e t = rw t refl
 times_of-fails (w ∷ words) word more ms f e t = by_first (model.time_of w) (model.times_of words) refl refl e (λ xs h. times_of-fails words word more xs f h t)
   where
-    by_first : (a : Result Moment model.UseFault) (b : Result (List Moment) model.UseFault) → model.time_of w ≡ a → model.times_of words ≡ b → model.with_time a b ≡ Ok ms → ((xs : List Moment) → model.times_of words ≡ Ok xs → model.times_of (words ++ word ∷ more) ≡ Err f) → model.with_time (model.time_of w) (model.times_of (words ++ word ∷ more)) ≡ Err f
+    by_first : (a : Result Moment model.UseFault) (b : Result (List Moment) model.UseFault) → model.time_of w ≡ a → model.times_of words ≡ b
+        → model.with_time a b ≡ Ok ms → ((xs : List Moment) → model.times_of words ≡ Ok xs → model.times_of (words ++ word ∷ more) ≡ Err f)
+        → model.with_time (model.time_of w) (model.times_of (words ++ word ∷ more)) ≡ Err f
     by_first (Ok x) (Ok xs) ea eb h others = rw (ea, others xs eb) refl
     by_first (Ok x) (Err y) ea eb h others = cc
     by_first (Err y) b ea eb h others = cc
@@ -97,7 +107,9 @@ pub times_kept : (words : List (List ℕ)) (ms : List Moment) → model.times_of
 times_kept [] ms e = cc
 times_kept (w ∷ words) ms e = by_first (moment_of w) (model.times_of words) refl refl e (λ xs h. times_kept words xs h)
   where
-    by_first : (o : Option Moment) (b : Result (List Moment) model.UseFault) → moment_of w ≡ o → model.times_of words ≡ b → model.with_time (model.time_or w o) b ≡ Ok ms → ((xs : List Moment) → model.times_of words ≡ Ok xs → filter_map moment_of words ≡ xs) → filter_map moment_of (w ∷ words) ≡ ms
+    by_first : (o : Option Moment) (b : Result (List Moment) model.UseFault) → moment_of w ≡ o → model.times_of words ≡ b
+        → model.with_time (model.time_or w o) b ≡ Ok ms → ((xs : List Moment) → model.times_of words ≡ Ok xs → filter_map moment_of words ≡ xs)
+        → filter_map moment_of (w ∷ words) ≡ ms
     by_first (Some x) (Ok xs) eo eb h more = let same : x ∷ xs ≡ ms = cc in rw (eo, more xs eb) same
     by_first (Some x) (Err y) eo eb h more = cc
     by_first None b eo eb h more = cc
@@ -107,7 +119,8 @@ times_length : (words : List (List ℕ)) (ms : List Moment) → model.times_of w
 times_length [] ms e = let none : [] ≡ ms = cc in sym (ap length none)
 times_length (w ∷ words) ms e = by_first (model.time_of w) (model.times_of words) refl e (λ xs h. times_length words xs h)
   where
-    by_first : (a : Result Moment model.UseFault) (b : Result (List Moment) model.UseFault) → model.times_of words ≡ b → model.with_time a b ≡ Ok ms → ((xs : List Moment) → model.times_of words ≡ Ok xs → length xs ≡ length words) → length ms ≡ length (w ∷ words)
+    by_first : (a : Result Moment model.UseFault) (b : Result (List Moment) model.UseFault) → model.times_of words ≡ b → model.with_time a b ≡ Ok ms
+        → ((xs : List Moment) → model.times_of words ≡ Ok xs → length xs ≡ length words) → length ms ≡ length (w ∷ words)
     by_first (Ok x) (Ok xs) eb h more = let same : x ∷ xs ≡ ms = cc in let n = more xs eb in rw (← same) (omega arith)
     by_first (Ok x) (Err y) eb h more = cc
     by_first (Err y) b eb h more = cc
@@ -127,17 +140,22 @@ at_place : (all : List (List ℕ)) (n : ℕ) (word : List ℕ) → n < length al
 at_place all n word l e = sym (take-append-drop n all) ∙ ap (λ rest. take n all ++ rest) (drop-cons all n word l ∙ ap (λ w. w ∷ drop (suc n) all) (sym e))
 
 -- a word that is no time, after some that are times
-pub word_fails : (names all : List (List ℕ)) (n : ℕ) (word : List ℕ) (ms : List Moment) (fault : UseFault) → n < length all → word ≡ get_or all n word → model.times_of (take n all) ≡ Ok ms → IsFaultIn fault (model.time_of word) → IsFaultIn fault (model.sample_of names (model.times_of all))
+pub word_fails : (names all : List (List ℕ)) (n : ℕ) (word : List ℕ) (ms : List Moment) (fault : UseFault) → n < length all
+    → word ≡ get_or all n word → model.times_of (take n all) ≡ Ok ms → IsFaultIn fault (model.time_of word)
+    → IsFaultIn fault (model.sample_of names (model.times_of all))
 word_fails names all n word ms fault l here before h =
     fault-moves fault (model.time_of word) (model.sample_of names (model.times_of all))
-    (λ f e. ap (λ words. model.sample_of names (model.times_of words)) (at_place all n word l here) ∙ ap (model.sample_of names) (times_of-fails (take n all) word (drop (suc n) all) ms f before e)) h
+    (λ f e. ap (λ words. model.sample_of names (model.times_of words)) (at_place all n word l here)
+    ∙ ap (model.sample_of names) (times_of-fails (take n all) word (drop (suc n) all) ms f before e)) h
 
-pub sample_good : (names : List (List ℕ)) (ms : List Moment) (o : TimesOrder) → IsOrderOf ms o → (not o.has_unit && not o.rises) ≡ false → model.sample_of names (Ok ms) ≡ Ok (Want.Sample ms names)
+pub sample_good : (names : List (List ℕ)) (ms : List Moment) (o : TimesOrder) → IsOrderOf ms o → (not o.has_unit && not o.rises) ≡ false
+    → model.sample_of names (Ok ms) ≡ Ok (Want.Sample ms names)
 sample_good names ms o is e =
     let test : (not (has_unit ms) && not (do_rise (map (λ m. m.number) ms))) ≡ false = rw (← is.has_unit_is, ← is.rises_is) e in
     rw test refl
 
-pub sample_falls : (names : List (List ℕ)) (ms : List Moment) (o : TimesOrder) → IsOrderOf ms o → (not o.has_unit && not o.rises) ≡ true → model.sample_of names (Ok ms) ≡ Err model.UseFault.NotRising
+pub sample_falls : (names : List (List ℕ)) (ms : List Moment) (o : TimesOrder) → IsOrderOf ms o → (not o.has_unit && not o.rises) ≡ true
+    → model.sample_of names (Ok ms) ≡ Err model.UseFault.NotRising
 sample_falls names ms o is e =
     let test : (not (has_unit ms) && not (do_rise (map (λ m. m.number) ms))) ≡ true = rw (← is.has_unit_is, ← is.rises_is) e in
     rw test refl
@@ -147,7 +165,8 @@ has_units_is [] = refl
 has_units_is (m ∷ ms) = ap (λ b. is_some m.unit || b) (has_units_is ms)
 
 -- times that a sample may have, and that have no unit, rise
-pub good_rises : (names : List (List ℕ)) (ms : List Moment) → model.sample_of names (Ok ms) ≡ Ok (Want.Sample ms names) → has_units (map (λ (m : Moment). m.unit) ms) ≡ false → do_rise (map (λ (m : Moment). m.number) ms) ≡ true
+pub good_rises : (names : List (List ℕ)) (ms : List Moment) → model.sample_of names (Ok ms) ≡ Ok (Want.Sample ms names)
+    → has_units (map (λ (m : Moment). m.unit) ms) ≡ false → do_rise (map (λ (m : Moment). m.number) ms) ≡ true
 good_rises names ms e none = by_test (do_rise (map (λ (m : Moment). m.number) ms)) refl
   where
     plain : has_unit ms ≡ false
@@ -168,7 +187,8 @@ same_moment None m e = ap (option_map kept) e
 same_moment (Some x) m e = ap (option_map kept) e
 
 -- what is read of each time
-pub read_of_kept : {X : Type 0} (read : head.Moment → X) (words : List (List ℕ)) → map read (filter_map (λ word. option_map kept (moment_of word)) words) ≡ map (λ m. read (kept m)) (filter_map moment_of words)
+pub read_of_kept : {X : Type 0} (read : head.Moment → X) (words : List (List ℕ))
+    → map read (filter_map (λ word. option_map kept (moment_of word)) words) ≡ map (λ m. read (kept m)) (filter_map moment_of words)
 read_of_kept read [] = refl
 read_of_kept {X} read (word ∷ words) = by_first (moment_of word) (read_of_kept read words)
   where

@@ -35,15 +35,18 @@ complete-none command e = by_test (model.has_words command) refl
 
 -- ---- jobs
 
-with-words : (command : model.Command) (limit : Option Text) → model.has_words command ≡ true → model.job_of (with_limit (Some command) limit) ≡ model.job_with (model.limit_of limit) (model.want_of command)
+with-words : (command : model.Command) (limit : Option Text) → model.has_words command ≡ true
+    → model.job_of (with_limit (Some command) limit) ≡ model.job_with (model.limit_of limit) (model.want_of command)
 unfolding model.job_of
 with-words command limit h = rw h refl
 
-with-complete : (named : Option model.Command) (command : model.Command) (limit : Option Text) → complete named ≡ Some command → model.job_of (with_limit named limit) ≡ model.job_with (model.limit_of limit) (model.want_of command)
+with-complete : (named : Option model.Command) (command : model.Command) (limit : Option Text) → complete named ≡ Some command
+    → model.job_of (with_limit named limit) ≡ model.job_with (model.limit_of limit) (model.want_of command)
 with-complete named command limit e = let whole = complete-some named command e in ap (λ n. model.job_of (with_limit n limit)) whole.0 ∙ with-words command limit whole.1
 
 -- the job that words ask for, under the limit that is asked for
-pub job-is : (named : Option model.Command) (limit : Option Text) (w : Words) (wanted : model_job.Want) (n : ℕ) → Some (words_command w) ≡ complete named → model.limit_of limit ≡ Ok n → model.want_of (words_command w) ≡ Ok wanted
+pub job-is : (named : Option model.Command) (limit : Option Text) (w : Words) (wanted : model_job.Want) (n : ℕ)
+    → Some (words_command w) ≡ complete named → model.limit_of limit ≡ Ok n → model.want_of (words_command w) ≡ Ok wanted
     → model.job_of (with_limit named limit) ≡ Ok (record { want = wanted; limit = n })
 job-is named limit w wanted n e l t = with-complete named (words_command w) limit (sym e) ∙ ap₂ model.job_with l t
 
@@ -66,7 +69,8 @@ fault-in (BadArgument first second) asked e = absurd e
 fault-in OutOfMemory asked e = absurd e
 
 -- a fault of some words is one of others, where theirs are the same
-pub fault-moves : {X Y : Type 0} (fault : UseFault) (a : Result X model.UseFault) (b : Result Y model.UseFault) → ((f : model.UseFault) → a ≡ Err f → b ≡ Err f) → IsFaultIn fault a → IsFaultIn fault b
+pub fault-moves : {X Y : Type 0} (fault : UseFault) (a : Result X model.UseFault) (b : Result Y model.UseFault)
+    → ((f : model.UseFault) → a ≡ Err f → b ≡ Err f) → IsFaultIn fault a → IsFaultIn fault b
 fault-moves BadWords a b moves e = moves _ e
 fault-moves (BadLimit word) a b moves e = moves _ e
 fault-moves (BadTime word) a b moves e = moves _ e
@@ -78,13 +82,16 @@ fault-moves (BadArgument first second) a b moves e = absurd e
 fault-moves OutOfMemory a b moves e = absurd e
 
 -- a fault of the limit is the job's
-pub limit-fault : (named : Option model.Command) (limit : Option Text) (w : Words) (fault : UseFault) → Some (words_command w) ≡ complete named → IsFaultIn fault (model.limit_of limit) → IsFaultOf fault (model.job_of (with_limit named limit))
+pub limit-fault : (named : Option model.Command) (limit : Option Text) (w : Words) (fault : UseFault) → Some (words_command w) ≡ complete named
+    → IsFaultIn fault (model.limit_of limit) → IsFaultOf fault (model.job_of (with_limit named limit))
 limit-fault named limit w fault e l =
     fault-in fault (model.job_of (with_limit named limit)) (fault-moves fault (model.limit_of limit) (model.job_of (with_limit named limit))
     (λ f bad. with-complete named _ limit (sym e) ∙ ap (λ x. model.job_with x (model.want_of (words_command w))) bad) l)
 
 -- a fault of what is asked for is the job's, where the limit has none
-pub want-fault : (named : Option model.Command) (limit : Option Text) (w : Words) (n : ℕ) (fault : UseFault) → Some (words_command w) ≡ complete named → model.limit_of limit ≡ Ok n → IsFaultOf fault (model.want_of (words_command w)) → IsFaultOf fault (model.job_of (with_limit named limit))
+pub want-fault : (named : Option model.Command) (limit : Option Text) (w : Words) (n : ℕ) (fault : UseFault)
+    → Some (words_command w) ≡ complete named → model.limit_of limit ≡ Ok n → IsFaultOf fault (model.want_of (words_command w))
+    → IsFaultOf fault (model.job_of (with_limit named limit))
 want-fault named limit w n BadWords e l t = with-complete named _ limit (sym e) ∙ ap₂ model.job_with l t
 want-fault named limit w n (BadLimit word) e l t = with-complete named _ limit (sym e) ∙ ap₂ model.job_with l t
 want-fault named limit w n (BadTime word) e l t = with-complete named _ limit (sym e) ∙ ap₂ model.job_with l t
@@ -108,12 +115,14 @@ all-after None rows id e = cc
 all-after (Some u) rows id e = let same : rows ≡ u.1 = cc in ap (all_of id) same
 
 -- no names were given
-pub no-names : (found : Option (List Text)) (r : Option (Bor (List (Bor Text)))) → r ≡ None → None ≡ found → option_map (λ names. map (λ name. name.now) names.now) r ≡ some_of (unwrap_or found [])
+pub no-names : (found : Option (List Text)) (r : Option (Bor (List (Bor Text)))) → r ≡ None → None ≡ found
+    → option_map (λ names. map (λ name. name.now) names.now) r ≡ some_of (unwrap_or found [])
 no-names None r e f = rw e refl
 no-names (Some names) r e f = cc
 
 -- some names were given, or an empty list of them
-pub some-names : (found : Option (List Text)) (names : Bor (List (Bor Text))) (r : Option (Bor (List (Bor Text)))) → Some (map (λ name. name.now) names.now) ≡ found → r ≡ then_some (not (length names.now == 0)) names
+pub some-names : (found : Option (List Text)) (names : Bor (List (Bor Text))) (r : Option (Bor (List (Bor Text))))
+    → Some (map (λ name. name.now) names.now) ≡ found → r ≡ then_some (not (length names.now == 0)) names
     → option_map (λ names. map (λ name. name.now) names.now) r ≡ some_of (unwrap_or found [])
 some-names found names r f e = by_list names.now refl
   where

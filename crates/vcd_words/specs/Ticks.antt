@@ -34,4 +34,5 @@ AreRefused all why = (list_all is_ok all ≡ false) × (model.first_refusal all 
 -- over any header that the view shows, a run asks for the same with these words as before, or is
 -- refused for this reason
 abbrev pub KeepsRequest : {A : Type 0} → HeadView → (old new : model.Want) → Result A Refusal → Type 0
-KeepsRequest v old new result = (h : Header) → IsViewOf v h → MatchResult result (λ _. model.request_of h.scale new ≡ model.request_of h.scale old) (λ why. model.request_of h.scale old ≡ Err (model_refusal why))
+KeepsRequest v old new result = (h : Header) → IsViewOf v h → MatchResult result (λ _. model.request_of h.scale new ≡ model.request_of h.scale old)
+    (λ why. model.request_of h.scale old ≡ Err (model_refusal why))

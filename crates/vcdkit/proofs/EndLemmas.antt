@@ -42,7 +42,9 @@ module _ (limit chunk : ℕ) (names texts : List (List ℕ)) (old new : List Sup
   pub has_run : (end : Result Done Failure) → Ends end → Counts end → status ≡ exits end → Says end → Runs
   has_run (Ok d) e n k s =
       let o = due (Ok d) e in
-      WithOutcome e.lefts e.read e.needed e.in_turn (Whole e.leaves.1 (subst (λ (l : List ℕ). Tells program_name err err' l) (sym (ap (λ (o : Outcome). o.message) e.leaves.0)) s) (k ∙ sym (ap (λ (o : Outcome). o.status) e.leaves.0)))
+      WithOutcome e.lefts e.read e.needed e.in_turn (Whole e.leaves.1
+      (subst (λ (l : List ℕ). Tells program_name err err' l) (sym (ap (λ (o : Outcome). o.message) e.leaves.0)) s) (k
+      ∙ sym (ap (λ (o : Outcome). o.status) e.leaves.0)))
   has_run (Err (Stopped (Dump input line fault))) e n k s =
       let o = due (Err (Stopped (Dump input line fault))) e in
       let message : o.message ≡ said names [] (Err (Stopped (Dump input line fault))) = ap (λ (o : Outcome). o.message) e.leaves.0 ∙ rw (e.leaves.1, fault_outcome) refl in
@@ -51,27 +53,35 @@ module _ (limit chunk : ℕ) (names texts : List (List ℕ)) (old new : List Sup
   has_run (Err (Stopped (Read input))) e n k s =
       let o = due (Err (Stopped (Read input))) e in
       let message : o.message ≡ said names [] (Err (Stopped (Read input))) = ap (λ (o : Outcome). o.message) e.leaves.0.1 in
-      WithOutcome e.lefts e.read e.needed e.in_turn (Whole e.leaves.1 (subst (λ (l : List ℕ). Tells program_name err err' l) (sym message) s) (k ∙ sym (ap (λ (o : Outcome). o.status) e.leaves.0.1)))
+      WithOutcome e.lefts e.read e.needed e.in_turn (Whole e.leaves.1 (subst (λ (l : List ℕ). Tells program_name err err' l) (sym message) s) (k
+      ∙ sym (ap (λ (o : Outcome). o.status) e.leaves.0.1)))
   has_run (Err (Stopped Write)) e n k s = WithOutcome e.lefts e.read e.needed e.in_turn (Part e.leaves s k)
   has_run (Err (Stopped (Unmatched place))) e n k s = absurd e.leaves
   has_run (Err OutOfMemory) e n k s = NoMemory e.lefts e.read e.needed e.in_turn n e.leaves s k
 
 -- a merge that ends so
-pub merged_run : (wanted : words.Want) → is_merge wanted ≡ true → (limit chunk : ℕ) (names texts : List (List ℕ)) (old new : List Supply) (out out' err err' : Device) (status : ℕ) (end : Result Done Failure) → EndsAll limit chunk names texts old new out out' end
-    → CountsReadsOf (λ (s : Supply). s.failures) old new (failure_of end) → status ≡ exits end → Tells program_name err err' (said names (names_asked wanted) end) → HasRun (model_want wanted) limit chunk names texts old new out out' err err' status
+pub merged_run : (wanted : words.Want) → is_merge wanted ≡ true
+    → (limit chunk : ℕ) (names texts : List (List ℕ)) (old new : List Supply) (out out' err err' : Device) (status : ℕ) (end : Result Done Failure)
+    → EndsAll limit chunk names texts old new out out' end
+    → CountsReadsOf (λ (s : Supply). s.failures) old new (failure_of end) → status ≡ exits end
+    → Tells program_name err err' (said names (names_asked wanted) end)
+    → HasRun (model_want wanted) limit chunk names texts old new out out' err err' status
 merged_run wanted is limit chunk names texts old new out out' err err' status end ends counts k says =
     let merge = merge_wanted wanted is in
     subst (λ (w : Want). HasRun w limit chunk names texts old new out out' err err' status) (sym merge.0)
     (has_run limit chunk names texts old new out out' err err' status end ends counts k (subst (λ (asked : List (List ℕ)). Tells program_name err err' (said names asked end)) merge.1 says))
 
 -- the failed reads of readers are counted by what is supplied
-pub counted_reads : {X : Type 0} (rest : X → Option (List ℕ)) (failures : X → ℕ) (old new : List X) (why : Option Failure) → CountsReadsOf failures old new why → CountsReadsOf (λ (s : Supply). s.failures) (map (supply rest failures) old) (map (supply rest failures) new) why
+pub counted_reads : {X : Type 0} (rest : X → Option (List ℕ)) (failures : X → ℕ) (old new : List X) (why : Option Failure)
+    → CountsReadsOf failures old new why → CountsReadsOf (λ (s : Supply). s.failures) (map (supply rest failures) old)
+    (map (supply rest failures) new) why
 counted_reads rest failures old new why counts = rw (map_map (supply rest failures) (λ (s : Supply). s.failures) old, map_map (supply rest failures) (λ (s : Supply). s.failures) new) counts
 
 -- ---- headers that end a run
 
 -- a header has a fault
-at_fault : (want : Want) (limit : ℕ) (names : List (List ℕ)) (inputs : List Input) (place : ℕ) (f : Fault) → open_from limit [] inputs ≡ Err (place, f) → outcome want limit names inputs ≡ fault_outcome [] (name_at names place) f
+at_fault : (want : Want) (limit : ℕ) (names : List (List ℕ)) (inputs : List Input) (place : ℕ) (f : Fault)
+    → open_from limit [] inputs ≡ Err (place, f) → outcome want limit names inputs ≡ fault_outcome [] (name_at names place) f
 unfolding outcome
 at_fault want limit names inputs place f e = rw (e, outcome) refl
 
@@ -89,7 +99,8 @@ faulted o name f out e =
     (e ∙ ap (λ l. fault_outcome l name f) (sym none), subst (λ (l : List ℕ). Writes out out l) (sym none) (writes-none out))
 
 module _ (limit chunk : ℕ) (names texts : List (List ℕ)) (old new : List Supply) (out : Device) where
-  stops : (settled : ℕ → List Token → Bool) → ((most : ℕ) (ts : List Token) → is_header_over most ts ≡ false → settled most ts ≡ false) → (why : Failure) → Stops limit chunk 0 [] texts old new why → HaveStopped settled limit chunk [] texts old new why
+  stops : (settled : ℕ → List Token → Bool) → ((most : ℕ) (ts : List Token) → is_header_over most ts ≡ false → settled most ts ≡ false)
+      → (why : Failure) → Stops limit chunk 0 [] texts old new why → HaveStopped settled limit chunk [] texts old new why
   stops settled on why h = stops_read settled on limit chunk 0 [] texts old new why refl h
 
   needed : (settled : ℕ → List Token → Bool) (why : Failure) (s : HaveStopped settled limit chunk [] texts old new why) → AreNeeded Want.Merge limit chunk old new s.lefts
@@ -111,12 +122,14 @@ module _ (limit chunk : ℕ) (names texts : List (List ℕ)) (old new : List Sup
 
 -- ---- a merge after its headers
 
-merge_due : (limit : ℕ) (names : List (List ℕ)) (inputs : List Input) (opened : List Opened) → open_from limit [] inputs ≡ Ok opened → outcome Want.Merge limit names inputs ≡ merge_outcome names (dumps_of opened)
+merge_due : (limit : ℕ) (names : List (List ℕ)) (inputs : List Input) (opened : List Opened) → open_from limit [] inputs ≡ Ok opened
+    → outcome Want.Merge limit names inputs ≡ merge_outcome names (dumps_of opened)
 unfolding outcome request_of
 merge_due limit names inputs opened e = rw (e, outcome) refl
 
 -- what a merge leaves, by its outcome
-merge_leaves : (names : List (List ℕ)) (o o' : Outcome) (out out' : Device) (result : Result Done Stop) → o' ≡ o → Belongs o names out out' result → LeavesAll names o' out out' (merge_end result)
+merge_leaves : (names : List (List ℕ)) (o o' : Outcome) (out out' : Device) (result : Result Done Stop) → o' ≡ o → Belongs o names out out' result
+    → LeavesAll names o' out out' (merge_end result)
 merge_leaves names o o' out out' (Ok done.Whole) e b = subst (λ (x : Outcome). LeavesAll names x out out' (Ok done.Whole)) (sym e) b
 merge_leaves names o o' out out' (Ok done.Early) e b = absurd b
 merge_leaves names o o' out out' (Err (Dump input line fault)) e b = subst (λ (x : Outcome). LeavesAll names x out out' (Err (Stopped (Dump input line fault)))) (sym e) b
@@ -128,13 +141,29 @@ module _ (limit chunk : ℕ) (names texts : List (List ℕ)) (old mid new : List
   pub merged : (result : Result Done Stop) → Follows limit chunk lanes names mid new out out' result → EndsAll limit chunk names texts old new out out' (merge_end result)
   merged (Ok d) f =
       let r = merged_read limit chunk [] texts old mid new lanes f.lefts f.opened b f.are_left f.are_opened in
-      record { lefts = f.lefts; read = r.0; needed = merge_needed limit chunk texts old mid new lanes f.lefts f.opened b f.are_left f.are_opened f.needed; in_turn = InBodies lanes mid b f.on_turn; leaves = merge_leaves names _ (outcome Want.Merge limit names f.lefts) out out' (Ok d) (merge_due limit names f.lefts f.opened r.1) f.belongs }
+      record {
+        lefts = f.lefts;
+        read = r.0;
+        needed = merge_needed limit chunk texts old mid new lanes f.lefts f.opened b f.are_left f.are_opened f.needed;
+        in_turn = InBodies lanes mid b f.on_turn;
+        leaves = merge_leaves names _
+            (outcome Want.Merge limit names f.lefts) out out' (Ok d) (merge_due limit names f.lefts f.opened r.1) f.belongs;
+      }
   merged (Err stop) f =
       let r = merged_read limit chunk [] texts old mid new lanes f.lefts f.opened b f.are_left f.are_opened in
-      record { lefts = f.lefts; read = r.0; needed = merge_needed limit chunk texts old mid new lanes f.lefts f.opened b f.are_left f.are_opened f.needed; in_turn = InBodies lanes mid b f.on_turn; leaves = merge_leaves names _ (outcome Want.Merge limit names f.lefts) out out' (Err stop) (merge_due limit names f.lefts f.opened r.1) f.belongs }
+      record {
+        lefts = f.lefts;
+        read = r.0;
+        needed = merge_needed limit chunk texts old mid new lanes f.lefts f.opened b f.are_left f.are_opened f.needed;
+        in_turn = InBodies lanes mid b f.on_turn;
+        leaves = merge_leaves names _
+            (outcome Want.Merge limit names f.lefts) out out' (Err stop) (merge_due limit names f.lefts f.opened r.1) f.belongs;
+      }
 
 -- over readers with these texts
-pub merge_ends : {X : Type 0} (n n' limit limit1 limit2 chunk chunk1 chunk2 : ℕ) (rest : X → Option (List ℕ)) (failures : X → ℕ) (names texts : List (List ℕ)) (old mid new : List X) (heads : List Head) (seats : List Seat) (chunks tokens : List ℕ) (out out' : Device) (result : Result Done Stop)
+pub merge_ends : {X : Type 0} (n n' limit limit1 limit2 chunk chunk1 chunk2 : ℕ) (rest : X → Option (List ℕ)) (failures : X → ℕ)
+    (names texts : List (List ℕ)) (old mid new : List X) (heads : List Head) (seats : List Seat) (chunks tokens : List ℕ) (out out' : Device)
+    (result : Result Done Stop)
     → n' ≡ n → limit1 ≡ limit → limit2 ≡ limit → chunk1 ≡ chunk → chunk2 ≡ chunk
     → HaveBegun limit1 chunk1 n rest failures texts old mid heads seats chunks tokens
     → ((lanes : List Lane) (names : List (List ℕ)) → AreShown heads lanes → AreParked n' rest lanes seats mid chunks tokens
@@ -145,7 +174,8 @@ merge_ends n n' limit limit1 limit2 chunk chunk1 chunk2 rest failures names text
     let parked = subst (λ (m : ℕ). AreParked m rest b.lanes seats mid chunks tokens) (sym e) b.parked in
     let followed = follows b.lanes names b.views parked in
     let begun = subst (λ (m : ℕ). AreBegun m chunk [] texts (map f old) (map f mid) b.lanes) l1 (subst (λ (m : ℕ). AreBegun limit1 m [] texts (map f old) (map f mid) b.lanes) c1 b.begun) in
-    let due = subst (λ (m : ℕ). Follows m chunk b.lanes names (map f mid) (map f new) out out' result) l2 (subst (λ (m : ℕ). Follows limit2 m b.lanes names (map f mid) (map f new) out out' result) c2 followed) in
+    let due = subst (λ (m : ℕ). Follows m chunk b.lanes names (map f mid) (map f new) out out' result) l2
+    (subst (λ (m : ℕ). Follows limit2 m b.lanes names (map f mid) (map f new) out out' result) c2 followed) in
     merged limit chunk names texts (map f old) (map f mid) (map f new) b.lanes out out' begun result due
 
 -- ---- windows in parts
@@ -156,7 +186,8 @@ part_is n size xs some e = ap (λ m. m / n) e ∙ mul-div_cancel_left size {n = 
 part_all : (n size : ℕ) (xs : List ℕ) → 0 < n → length xs ≡ n * size → n * part_len n xs ≡ length xs
 part_all n size xs some e = ap (λ m. n * m) (part_is n size xs some e) ∙ sym e
 
-pub parts_of : (n chunk limit : ℕ) (cs ts vs : List ℕ) → 0 < n → 0 < chunk → 0 < limit → length cs ≡ n * chunk → length ts ≡ n * limit → length vs ≡ n * limit → AreParts n cs ts vs
+pub parts_of : (n chunk limit : ℕ) (cs ts vs : List ℕ) → 0 < n → 0 < chunk → 0 < limit → length cs ≡ n * chunk → length ts ≡ n * limit
+    → length vs ≡ n * limit → AreParts n cs ts vs
 parts_of n chunk limit cs ts vs some c l ec et ev = record {
   chunks_are = part_all n chunk cs some ec;
   tokens_are = part_all n limit ts some et;
@@ -168,7 +199,8 @@ parts_of n chunk limit cs ts vs some c l ec et ev = record {
 -- ---- what a merge is lent
 
 -- windows of n inputs under these limits
-pub lends_within : (n chunk limit seats : ℕ) (heads : List Head) (w : Windows) → AreLentWithin n w heads → 0 < n → chunk ≤ 65536 → length w.chunks.now ≡ n * chunk → length w.tokens.now ≡ n * limit → length w.values.now ≡ n * limit → seats ≡ n
+pub lends_within : (n chunk limit seats : ℕ) (heads : List Head) (w : Windows) → AreLentWithin n w heads → 0 < n → chunk ≤ 65536
+    → length w.chunks.now ≡ n * chunk → length w.tokens.now ≡ n * limit → length w.values.now ≡ n * limit → seats ≡ n
     → MergeIsWithinBound (part_len seats w.tokens.now) heads (windows_size w)
 lends_within n chunk limit seats heads w fits some small lc lt lv alike =
     let here = part_is n limit w.tokens.now some lt in
@@ -178,7 +210,8 @@ lends_within n chunk limit seats heads w fits some small lc lt lv alike =
 -- ---- the reads of a merge
 
 -- a read of the input that the answer names failed, and of no other
-pub counts_merge : (before mid after : List ℕ) (k : ℕ) (result : Result Done Stop) → mid ≡ before → k < length mid → after ≡ failures_with mid k result → NamesInput k result → CountsReads before after (failure_of (merge_end result))
+pub counts_merge : (before mid after : List ℕ) (k : ℕ) (result : Result Done Stop) → mid ≡ before → k < length mid
+    → after ≡ failures_with mid k result → NamesInput k result → CountsReads before after (failure_of (merge_end result))
 counts_merge before mid after k (Err (Read input)) same within e named =
     let long = ap length same in
     (omega (arith, named), e ∙ ap (λ l. slice_set l k (get_or l k 0 + 1)) same ∙ ap (λ p. slice_set before p (get_or before p 0 + 1)) (sym named))

@@ -26,10 +26,12 @@ abbrev pub ArePassed : ℕ → List Input → List Header → Type 0
 ArePassed limit pre earlier = (ss : List Seen) → headers_seen earlier ss ≡ NotWhole → headers_seen [] (known limit pre ++ ss) ≡ NotWhole
 
 -- an input whose tokens begin with those of a whole header
-seen_header : (most limit chunk : ℕ) (earlier : List Header) (i : Input) (l : Lane) (s t : Supply) (b : IsBegun most limit chunk i l s t) (seen : Seen) (rest : List Token) (ss : List Seen) → most ≡ allowed_after earlier → tokens_seen seen ≡ l.front ++ rest
+seen_header : (most limit chunk : ℕ) (earlier : List Header) (i : Input) (l : Lane) (s t : Supply) (b : IsBegun most limit chunk i l s t)
+    (seen : Seen) (rest : List Token) (ss : List Seen) → most ≡ allowed_after earlier → tokens_seen seen ≡ l.front ++ rest
     → headers_seen earlier (seen ∷ ss) ≡ seen_before (record { header = l.header; rest = rest; whole = whole_of seen }) (headers_seen (earlier ++ l.header ∷ []) ss)
 seen_header most limit chunk earlier i l s t b seen rest ss allowed tokens =
-    let reading = ap (λ (n : ℕ). reading_of (header_grammar n) (tokens_seen seen)) (sym allowed) ∙ ap (reading_of (header_grammar most)) tokens ∙ whole-more (header_grammar most) l.front b.placed rest b.whole in
+    let reading = ap (λ (n : ℕ). reading_of (header_grammar n) (tokens_seen seen)) (sym allowed) ∙ ap (reading_of (header_grammar most)) tokens
+    ∙ whole-more (header_grammar most) l.front b.placed rest b.whole in
     ap (λ (r : Reading HeaderPhrase). seen_at seen r r.ending (headers_seen (earlier ++ header_of (phrases_of r.placed) ∷ []) ss)) reading
     ∙ ap (λ (h : Header). seen_before (record { header = h; rest = rest; whole = whole_of seen }) (headers_seen (earlier ++ h ∷ []) ss)) (sym b.header_is)
 
@@ -40,33 +42,40 @@ seen_going earlier ts ss going =
     let r = reading_of (header_grammar (allowed_after earlier)) ts in
     by_ending r.ending going
   where
-    by_ending : (x : Ending) → is_over x ≡ false → seen_at (Seen.First ts) (reading_of (header_grammar (allowed_after earlier)) ts) x (headers_seen (earlier ++ header_of (phrases_of (reading_of (header_grammar (allowed_after earlier)) ts).placed) ∷ []) ss) ≡ NotWhole
+    by_ending : (x : Ending) → is_over x ≡ false → seen_at (Seen.First ts) (reading_of (header_grammar (allowed_after earlier)) ts) x
+        (headers_seen (earlier ++ header_of (phrases_of (reading_of (header_grammar (allowed_after earlier)) ts).placed) ∷ []) ss) ≡ NotWhole
     by_ending AtEnd e = refl
     by_ending x e = cc
 
 -- so nothing is settled
-going_open : (limit : ℕ) (all pre post : List Input) (i : Input) (earlier : List Header) (ts : List Token) → all ≡ pre ++ i ∷ post → ArePassed limit pre earlier → is_header_over (allowed_after earlier) ts ≡ false → settles_among limit all (length pre) ts ≡ false
+going_open : (limit : ℕ) (all pre post : List Input) (i : Input) (earlier : List Header) (ts : List Token) → all ≡ pre ++ i ∷ post
+    → ArePassed limit pre earlier → is_header_over (allowed_after earlier) ts ≡ false → settles_among limit all (length pre) ts ≡ false
 unfolding is_settled_merge
 going_open limit all pre post i earlier ts e passed going =
     ap (λ (is : List Input). settles_merge (headers_seen [] (slice_set (known limit is) (length pre) (Seen.First ts)))) e
     ∙ ap (λ (ss : List Seen). settles_merge (headers_seen [] ss)) (set_at limit pre post i (Seen.First ts))
     ∙ ap settles_merge (passed (Seen.First ts ∷ known limit post) (seen_going earlier ts (known limit post) going))
 
-pub passed_more : (limit chunk : ℕ) (pre : List Input) (earlier : List Header) (i left : Input) (l : Lane) (s t : Supply) (rest : List Token) → IsBegun (allowed_after earlier) limit chunk i l s t → (stream_of limit left).tokens ≡ l.front ++ rest → ArePassed limit pre earlier
+pub passed_more : (limit chunk : ℕ) (pre : List Input) (earlier : List Header) (i left : Input) (l : Lane) (s t : Supply) (rest : List Token)
+    → IsBegun (allowed_after earlier) limit chunk i l s t → (stream_of limit left).tokens ≡ l.front ++ rest → ArePassed limit pre earlier
     → ArePassed limit (pre ++ left ∷ []) (earlier ++ l.header ∷ [])
 passed_more limit chunk pre earlier i left l s t rest b tokens passed = λ ss none.
     ap (headers_seen []) (known_push limit pre left ss)
     ∙ passed (Seen.All (stream_of limit left) ∷ ss)
-    (seen_header (allowed_after earlier) limit chunk earlier i l s t b (Seen.All (stream_of limit left)) rest ss refl tokens ∙ ap (seen_before (record { header = l.header; rest = rest; whole = Some (stream_of limit left) })) none)
+    (seen_header (allowed_after earlier) limit chunk earlier i l s t b (Seen.All (stream_of limit left)) rest ss refl tokens
+    ∙ ap (seen_before (record { header = l.header; rest = rest; whole = Some (stream_of limit left) })) none)
 
 -- ---- headers alone
 
 -- of the inputs from this index on, no more was read than what settles a merge of all of them
 abbrev pub AreNeededFrom : (limit chunk : ℕ) → (all : List Input) → ℕ → (old new : List Supply) → List Input → Type 0
-AreNeededFrom limit chunk all n old new inputs = (k : ℕ) (s t : Supply) (i : Input) → slice_get old k ≡ Some s → slice_get new k ≡ Some t → slice_get inputs k ≡ Some i → ReadsAsNeeded limit chunk s t i [] (settles_among limit all (n + k))
+AreNeededFrom limit chunk all n old new inputs = (k : ℕ) (s t : Supply) (i : Input) → slice_get old k ≡ Some s → slice_get new k ≡ Some t
+    → slice_get inputs k ≡ Some i → ReadsAsNeeded limit chunk s t i [] (settles_among limit all (n + k))
 
 -- one more before others
-pub needed_before : (limit chunk : ℕ) (all : List Input) (n : ℕ) (s t : Supply) (i : Input) (old new : List Supply) (inputs : List Input) → ReadsAsNeeded limit chunk s t i [] (settles_among limit all n) → AreNeededFrom limit chunk all (n + 1) old new inputs → AreNeededFrom limit chunk all n (s ∷ old) (t ∷ new) (i ∷ inputs)
+pub needed_before : (limit chunk : ℕ) (all : List Input) (n : ℕ) (s t : Supply) (i : Input) (old new : List Supply) (inputs : List Input)
+    → ReadsAsNeeded limit chunk s t i [] (settles_among limit all n) → AreNeededFrom limit chunk all (n + 1) old new inputs
+    → AreNeededFrom limit chunk all n (s ∷ old) (t ∷ new) (i ∷ inputs)
 needed_before limit chunk all n s t i old new inputs one others = λ k s' t' i' a b c. by_place k s' t' i' a b c
   where
     by_place : AreNeededFrom limit chunk all n (s ∷ old) (t ∷ new) (i ∷ inputs)
@@ -92,7 +101,8 @@ module _ (limit chunk : ℕ) (all pre post : List Input) (earlier : List Header)
   going : (ts : List Token) → is_header_over (allowed_after earlier) ts ≡ false → settles_among limit all (length pre) ts ≡ false
   going ts e = going_open limit all pre post i earlier ts is passed e
 
-  pub header_needed : (old new : Supply) → ReadsAsNeeded limit chunk old new i [] (is_header_over (allowed_after earlier)) → ReadsAsNeeded limit chunk old new i [] (settles_among limit all (length pre))
+  pub header_needed : (old new : Supply) → ReadsAsNeeded limit chunk old new i [] (is_header_over (allowed_after earlier))
+      → ReadsAsNeeded limit chunk old new i [] (settles_among limit all (length pre))
   header_needed old new read = reads_for limit chunk old new i [] (is_header_over (allowed_after earlier)) (settles_among limit all (length pre)) going read
 
 pub shifted : (pre more : List Input) (i : Input) → pre ++ i ∷ more ≡ (pre ++ i ∷ []) ++ more
@@ -105,7 +115,9 @@ none_passed limit = λ ss e. e
 
 -- the headers and what is known after them
 module _ (limit chunk : ℕ) where
-  all_known : (earlier : List Header) (texts : List (List ℕ)) (old mid new : List Supply) (lanes : List Lane) (lefts : List Input) (opened : List Opened) → AreBegun limit chunk earlier texts old mid lanes → AreLeft limit chunk lanes mid new lefts → AreOpened limit lanes lefts opened
+  all_known : (earlier : List Header) (texts : List (List ℕ)) (old mid new : List Supply) (lanes : List Lane) (lefts : List Input)
+      (opened : List Opened) → AreBegun limit chunk earlier texts old mid lanes → AreLeft limit chunk lanes mid new lefts
+      → AreOpened limit lanes lefts opened
       → headers_seen earlier (known limit lefts) ≡ Whole (map known_whole opened)
   all_known earlier [] [] [] new [] lefts opened b left o = rw (left, o) refl
   all_known earlier (text ∷ texts) (s ∷ old) (t ∷ mid) (u ∷ new) (l ∷ lanes) (i ∷ lefts) (p ∷ opened) b left o =
@@ -118,8 +130,12 @@ module _ (limit chunk : ℕ) where
   all_known earlier texts old mid new lanes lefts opened b left o = absurd b
 
   -- and where of one of them these first tokens are known after its header
-  first_known : (earlier : List Header) (texts : List (List ℕ)) (old mid new : List Supply) (lanes : List Lane) (lefts : List Input) (opened : List Opened) → AreBegun limit chunk earlier texts old mid lanes → AreLeft limit chunk lanes mid new lefts → AreOpened limit lanes lefts opened
-      → (k : ℕ) (l : Lane) (ts : List Token) → slice_get lanes k ≡ Some l → headers_seen earlier (slice_set (known limit lefts) k (Seen.First (l.front ++ ts))) ≡ Whole (slice_set (map known_whole opened) k (known_first l.header ts))
+  first_known : (earlier : List Header) (texts : List (List ℕ)) (old mid new : List Supply) (lanes : List Lane) (lefts : List Input)
+      (opened : List Opened) → AreBegun limit chunk earlier texts old mid lanes → AreLeft limit chunk lanes mid new lefts
+      → AreOpened limit lanes lefts opened
+      → (k : ℕ) (l : Lane) (ts : List Token) → slice_get lanes k ≡ Some l
+      → headers_seen earlier (slice_set (known limit lefts) k (Seen.First (l.front ++ ts))) ≡ Whole
+      (slice_set (map known_whole opened) k (known_first l.header ts))
   first_known earlier [] [] [] new [] lefts opened b left o k l ts at = cc
   first_known earlier (text ∷ texts) (s ∷ old) (t ∷ mid) (u ∷ new) (m ∷ lanes) (i ∷ lefts) (p ∷ opened) b left o zero l ts at =
       let same : m ≡ l = cc in
@@ -128,7 +144,8 @@ module _ (limit chunk : ℕ) where
       ∙ ap (seen_before (known_first m.header ts)) (all_known (earlier ++ m.header ∷ []) texts old mid new lanes lefts opened b.1 left.2 o.2))
   first_known earlier (text ∷ texts) (s ∷ old) (t ∷ mid) (u ∷ new) (m ∷ lanes) (i ∷ lefts) (p ∷ opened) b left o (suc k) l ts at =
       seen_header (allowed_after earlier) limit chunk earlier (whole text) m s t b.0 (Seen.All (stream_of limit i)) p.rest (slice_set (known limit lefts) k (Seen.First (l.front ++ ts))) refl o.1
-      ∙ ap (seen_before (record { header = m.header; rest = p.rest; whole = Some (stream_of limit i) })) (first_known (earlier ++ m.header ∷ []) texts old mid new lanes lefts opened b.1 left.2 o.2 k l ts at)
+      ∙ ap (seen_before (record { header = m.header; rest = p.rest; whole = Some (stream_of limit i) }))
+      (first_known (earlier ++ m.header ∷ []) texts old mid new lanes lefts opened b.1 left.2 o.2 k l ts at)
       ∙ ap (λ (q : Opened). Whole (known_whole q ∷ slice_set (map known_whole opened) k (known_first l.header ts))) (sym o.0)
   first_known earlier (text ∷ texts) (s ∷ old) (t ∷ mid) [] (m ∷ lanes) lefts opened b left o k l ts at = absurd left
   first_known earlier (text ∷ texts) (s ∷ old) (t ∷ mid) (u ∷ new) (m ∷ lanes) [] opened b left o k l ts at = absurd left
@@ -136,29 +153,38 @@ module _ (limit chunk : ℕ) where
   first_known earlier texts old mid new lanes lefts opened b left o k l ts at = absurd b
 
 -- so the tokens after its header settle the merge
-settled_since : (limit chunk : ℕ) (texts : List (List ℕ)) (old mid new : List Supply) (lanes : List Lane) (lefts : List Input) (opened : List Opened) → AreBegun limit chunk [] texts old mid lanes → AreLeft limit chunk lanes mid new lefts → AreOpened limit lanes lefts opened
+settled_since : (limit chunk : ℕ) (texts : List (List ℕ)) (old mid new : List Supply) (lanes : List Lane) (lefts : List Input) (opened : List Opened)
+    → AreBegun limit chunk [] texts old mid lanes → AreLeft limit chunk lanes mid new lefts → AreOpened limit lanes lefts opened
     → (k : ℕ) (l : Lane) (ts : List Token) → slice_get lanes k ≡ Some l → settles_among limit lefts k (l.front ++ ts) ≡ merge.settles_among opened k l.header ts
 unfolding is_settled_merge
 settled_since limit chunk texts old mid new lanes lefts opened b left o k l ts at = ap settles_merge (first_known limit chunk [] texts old mid new lanes lefts opened b left o k l ts at)
 
 -- what was read after the headers, and with them
 module _ (limit chunk : ℕ) (all : List Input) (behind : ℕ → Header → List Token → Bool) where
-  from_headers : (pre : List Input) (earlier : List Header) (texts : List (List ℕ)) (old mid new : List Supply) (lanes : List Lane) (lefts : List Input) (opened : List Opened) → all ≡ pre ++ lefts → ArePassed limit pre earlier → AreBegun limit chunk earlier texts old mid lanes
+  from_headers : (pre : List Input) (earlier : List Header) (texts : List (List ℕ)) (old mid new : List Supply) (lanes : List Lane)
+      (lefts : List Input) (opened : List Opened) → all ≡ pre ++ lefts → ArePassed limit pre earlier
+      → AreBegun limit chunk earlier texts old mid lanes
       → AreLeft limit chunk lanes mid new lefts → AreOpened limit lanes lefts opened
-      → ((k : ℕ) (l : Lane) (t u : Supply) (i : Input) → slice_get lanes k ≡ Some l → slice_get mid k ≡ Some t → slice_get new k ≡ Some u → slice_get lefts k ≡ Some i → ReadsAsNeeded limit chunk t u i l.front (behind (length pre + k) l.header))
-      → ((k : ℕ) (l : Lane) (ts : List Token) → slice_get lanes k ≡ Some l → behind (length pre + k) l.header ts ≡ false → settles_among limit all (length pre + k) (l.front ++ ts) ≡ false) → AreNeededFrom limit chunk all (length pre) old new lefts
+      → ((k : ℕ) (l : Lane) (t u : Supply) (i : Input) → slice_get lanes k ≡ Some l → slice_get mid k ≡ Some t → slice_get new k ≡ Some u
+      → slice_get lefts k ≡ Some i → ReadsAsNeeded limit chunk t u i l.front (behind (length pre + k) l.header))
+      → ((k : ℕ) (l : Lane) (ts : List Token) → slice_get lanes k ≡ Some l → behind (length pre + k) l.header ts ≡ false
+      → settles_among limit all (length pre + k) (l.front ++ ts) ≡ false) → AreNeededFrom limit chunk all (length pre) old new lefts
   from_headers pre earlier [] [] [] new [] lefts opened is passed b left o reads since = λ k s t i a c e. cc
   from_headers pre earlier (text ∷ texts) (s ∷ old) (t ∷ mid) (u ∷ new) (l ∷ lanes) (i ∷ lefts) (p ∷ opened) is passed b left o reads since =
       let is_left = subst (λ (j : Input). IsLeft j t u i) b.0.input_is left.0 in
       let z : length pre + 0 ≡ length pre = omega arith in
       let read = subst (λ (n : ℕ). ReadsAsNeeded limit chunk t u i l.front (behind n l.header)) z (reads 0 l t u i refl refl refl refl) in
-      let own = all_read (allowed_after earlier) limit chunk (whole text) l s t b.0 (settles_among limit all (length pre)) (behind (length pre) l.header) (λ ts e. going_open limit all pre lefts i earlier ts is passed e)
+      let own = all_read (allowed_after earlier) limit chunk (whole text) l s t b.0 (settles_among limit all (length pre))
+      (behind (length pre) l.header) (λ ts e. going_open limit all pre lefts i earlier ts is passed e)
       (λ ts e. subst (λ (n : ℕ). settles_among limit all n (l.front ++ ts) ≡ false) z (since 0 l ts refl (subst (λ (n : ℕ). behind n l.header ts ≡ false) (sym z) e))) u i is_left read in
       let next = passed_more limit chunk pre earlier (whole text) i l s t p.rest b.0 o.1 passed in
       let push = length_push pre i in
       let more = from_headers (pre ++ i ∷ []) (earlier ++ l.header ∷ []) texts old mid new lanes lefts opened (is ∙ shifted pre lefts i) next b.1 left.2 o.2
-      (λ k m t' u' j a c d e. let at : length pre + suc k ≡ length (pre ++ i ∷ []) + k = omega (arith, push) in subst (λ (n : ℕ). ReadsAsNeeded limit chunk t' u' j m.front (behind n m.header)) at (reads (suc k) m t' u' j a c d e))
-      (λ k m ts a e. let at : length pre + suc k ≡ length (pre ++ i ∷ []) + k = omega (arith, push) in subst (λ (n : ℕ). settles_among limit all n (m.front ++ ts) ≡ false) at (since (suc k) m ts a (subst (λ (n : ℕ). behind n m.header ts ≡ false) (sym at) e))) in
+      (λ k m t' u' j a c d e. let at : length pre + suc k ≡ length (pre ++ i ∷ []) + k = omega (arith, push) in
+      subst (λ (n : ℕ). ReadsAsNeeded limit chunk t' u' j m.front (behind n m.header)) at (reads (suc k) m t' u' j a c d e))
+      (λ k m ts a e. let at : length pre + suc k ≡ length (pre ++ i ∷ []) + k = omega (arith, push) in
+      subst (λ (n : ℕ). settles_among limit all n (m.front ++ ts) ≡ false) at
+      (since (suc k) m ts a (subst (λ (n : ℕ). behind n m.header ts ≡ false) (sym at) e))) in
       needed_before limit chunk all (length pre) s u i old new lefts own (subst (λ (n : ℕ). AreNeededFrom limit chunk all n old new lefts) push more)
   from_headers pre earlier (text ∷ texts) (s ∷ old) (t ∷ mid) [] (l ∷ lanes) lefts opened is passed b left o reads since = absurd left
   from_headers pre earlier (text ∷ texts) (s ∷ old) (t ∷ mid) (u ∷ new) (l ∷ lanes) [] opened is passed b left o reads since = absurd left
@@ -167,10 +193,14 @@ module _ (limit chunk : ℕ) (all : List Input) (behind : ℕ → Header → Lis
 
 -- of all inputs
 pub needed_all : (limit chunk : ℕ) (old new : List Supply) (inputs : List Input) → AreNeededFrom limit chunk inputs 0 old new inputs → AreNeeded Want.Merge limit chunk old new inputs
-needed_all limit chunk old new inputs each = λ k s t i a b c. let z : 0 + k ≡ k = omega arith in subst (λ (n : ℕ). ReadsAsNeeded limit chunk s t i [] (settles_among limit inputs n)) z (each k s t i a b c)
+needed_all limit chunk old new inputs each = λ k s t i a b c. let z : 0 + k ≡ k = omega arith in
+    subst (λ (n : ℕ). ReadsAsNeeded limit chunk s t i [] (settles_among limit inputs n)) z (each k s t i a b c)
 
-pub merge_needed : (limit chunk : ℕ) (texts : List (List ℕ)) (old mid new : List Supply) (lanes : List Lane) (lefts : List Input) (opened : List Opened) → AreBegun limit chunk [] texts old mid lanes → AreLeft limit chunk lanes mid new lefts → AreOpened limit lanes lefts opened
-    → ((k : ℕ) (l : Lane) (t u : Supply) (i : Input) → slice_get lanes k ≡ Some l → slice_get mid k ≡ Some t → slice_get new k ≡ Some u → slice_get lefts k ≡ Some i → ReadsAsNeeded limit chunk t u i l.front (merge.settles_among opened k l.header))
+pub merge_needed : (limit chunk : ℕ) (texts : List (List ℕ)) (old mid new : List Supply) (lanes : List Lane) (lefts : List Input)
+    (opened : List Opened) → AreBegun limit chunk [] texts old mid lanes → AreLeft limit chunk lanes mid new lefts
+    → AreOpened limit lanes lefts opened
+    → ((k : ℕ) (l : Lane) (t u : Supply) (i : Input) → slice_get lanes k ≡ Some l → slice_get mid k ≡ Some t → slice_get new k ≡ Some u
+    → slice_get lefts k ≡ Some i → ReadsAsNeeded limit chunk t u i l.front (merge.settles_among opened k l.header))
     → AreNeeded Want.Merge limit chunk old new lefts
 merge_needed limit chunk texts old mid new lanes lefts opened b left o reads =
     needed_all limit chunk old new lefts

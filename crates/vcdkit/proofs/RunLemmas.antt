@@ -17,7 +17,8 @@ writes-none out = (appends-none out.held, refl)
 -- ---- `list`: the body is not read
 
 -- a list that was written, or in part, belongs to its outcome
-list_belongs : (limit : ℕ) (i : Input) (rest : List Token) (h : Header) (name : List ℕ) (out out' : Device) (r : Result Done Stop) → Takes out out' (list_text h) r → Counts out out' r → ((stop : Stop) → r ≡ Err stop → stop ≡ Write)
+list_belongs : (limit : ℕ) (i : Input) (rest : List Token) (h : Header) (name : List ℕ) (out out' : Device) (r : Result Done Stop)
+    → Takes out out' (list_text h) r → Counts out out' r → ((stop : Stop) → r ≡ Err stop → stop ≡ Write)
     → Belongs Request.Listing (over_dump Request.Listing name (record { header = h; stream = stream_of limit i; rest = rest })) name out out' r
 unfolding over_dump
 list_belongs limit i rest h name out out' (Ok done) t f w = (refl, (t, f))
@@ -33,7 +34,8 @@ none_listed : (items : List BodyItem) → list_any (ends_early Request.Listing) 
 none_listed [] = refl
 none_listed (x ∷ items) = none_listed items
 
-list_ends : (items : List BodyItem) (r : Result Done Stop) → MatchResult r (λ done. done ≡ Done.Whole) (λ stop. stop ≡ Write) → IfOk r (λ done. is_early done ≡ list_any (ends_early Request.Listing) items)
+list_ends : (items : List BodyItem) (r : Result Done Stop) → MatchResult r (λ done. done ≡ Done.Whole) (λ stop. stop ≡ Write)
+    → IfOk r (λ done. is_early done ≡ list_any (ends_early Request.Listing) items)
 list_ends items (Ok done) m = rw m (sym (none_listed items))
 list_ends items (Err stop) m = tt
 
@@ -42,7 +44,8 @@ list_stops h (Ok done) m = tt
 list_stops h (Err stop) m = rw m tt
 
 -- nothing is read
-list_keeps_up : (limit chunk : ℕ) (i : Input) (front : List Token) (h : Header) (before : Supply) (out out' : Device) (r : Result Done Stop) → Takes out out' (list_text h) r → KeepsUp (due_after Request.Listing h) limit chunk i front before before out out'
+list_keeps_up : (limit chunk : ℕ) (i : Input) (front : List Token) (h : Header) (before : Supply) (out out' : Device) (r : Result Done Stop)
+    → Takes out out' (list_text h) r → KeepsUp (due_after Request.Listing h) limit chunk i front before before out out'
 list_keeps_up limit chunk i front h before out out' (Ok done) t = (list_text h, t, Nothing refl)
 list_keeps_up limit chunk i front h before out out' (Err stop) t = (take t.0 (list_text h), t.1, Nothing refl)
 
@@ -51,7 +54,8 @@ pub list_reads : (n : ℕ) (r : Result Done Stop) → MatchResult r (λ done. do
 list_reads n (Ok done) m = omega arith
 list_reads n (Err stop) m = rw m (omega arith)
 
-pub list_writes : (out out' : Device) (r : Result Done Stop) → Counts out out' r → MatchResult r (λ done. done ≡ Done.Whole) (λ stop. stop ≡ Write) → failures_then (writes_failed r) out' ≡ out.failures + writes_failed r
+pub list_writes : (out out' : Device) (r : Result Done Stop) → Counts out out' r → MatchResult r (λ done. done ≡ Done.Whole) (λ stop. stop ≡ Write)
+    → failures_then (writes_failed r) out' ≡ out.failures + writes_failed r
 list_writes out out' (Ok done) f m = omega (arith, f)
 list_writes out out' (Err stop) f m = rw m f
 
@@ -88,7 +92,8 @@ pub failed_read : (before after : List ℕ) (why : Option Failure) → CountsRea
 failed_read before after (Some (Stopped (Read input))) counts more = (input, refl)
 failed_read before after why counts more = absurd (more counts)
 
-pub listed : {X : Type 0} {x : Ghosts X} (limit chunk : ℕ) (i : Input) (front : List Token) (h : Header) (name : List ℕ) (before : Supply) (old : Feed X x) (out out' : Device) (r : Result Done Stop)
+pub listed : {X : Type 0} {x : Ghosts X} (limit chunk : ℕ) (i : Input) (front : List Token) (h : Header) (name : List ℕ) (before : Supply)
+    (old : Feed X x) (out out' : Device) (r : Result Done Stop)
     → limit_of old ≡ limit → HasGiven i front old → Takes out out' (list_text h) r → Counts out out' r → MatchResult r (λ done. done ≡ Done.Whole) (λ stop. stop ≡ Write)
     → Follows Request.Listing limit chunk i front h name before before out out' r
 listed limit chunk i front h name before old out out' r l st t f answer = record {
@@ -111,7 +116,8 @@ refused_output name why = refl
 -- ---- after the header
 
 -- the answer of a task has the message and the status of its outcome
-leaves-placed : (wanted : Want) (task : Request) (o : Outcome) (name : List ℕ) (out out' : Device) (r : Result Done Stop) → names_of task ≡ names_asked wanted → Belongs task o name out out' r → Leaves (speech_of wanted) o name out out' (answer_end r)
+leaves-placed : (wanted : Want) (task : Request) (o : Outcome) (name : List ℕ) (out out' : Device) (r : Result Done Stop)
+    → names_of task ≡ names_asked wanted → Belongs task o name out out' r → Leaves (speech_of wanted) o name out out' (answer_end r)
 leaves-placed wanted task o name out out' (Ok done) same b = (ap (λ (x : Outcome). x.message) b.0, ap (λ (x : Outcome). x.status) b.0, b.1)
 leaves-placed wanted task o name out out' (Err (Dump input line fault)) same b =
     (refl, ap (λ (x : Outcome). x.message) b.1 ∙ rw (b.2, fault_outcome) refl, ap (λ (x : Outcome). x.status) b.1 ∙ rw (b.2, fault_outcome) refl, b.3)
@@ -132,7 +138,9 @@ EndsAfter wanted limit chunk i front h name old new out out' r =
     Ends (speech_of wanted) (IsAfter w limit front h name) limit chunk i name front (settled_for r (settled_by (w.course name h) h) (λ _. true)) (due_by (w.course name h) h) old new out out' r
 
 -- a task, or a list, was done
-pub followed : (wanted : Want) (task : Request) (limit chunk : ℕ) (i : Input) (front : List Token) (h : Header) (name : List ℕ) (before after : Supply) (out out' : Device) (r : Result Done Stop) → is_merge wanted ≡ false → request_of h.scale (model_want wanted) ≡ Ok task → Follows task limit chunk i front h name before after out out' r
+pub followed : (wanted : Want) (task : Request) (limit chunk : ℕ) (i : Input) (front : List Token) (h : Header) (name : List ℕ)
+    (before after : Supply) (out out' : Device) (r : Result Done Stop) → is_merge wanted ≡ false → request_of h.scale (model_want wanted) ≡ Ok task
+    → Follows task limit chunk i front h name before after out out' r
     → EndsAfter wanted limit chunk i front h name before after out out' (answer_end r)
 followed wanted task limit chunk i front h name before after out out' r one e f =
     let course : course_by (request_of h.scale (model_want wanted)) name h ≡ course_of task name h = ap (λ q. course_by q name h) e in
@@ -142,15 +150,23 @@ followed wanted task limit chunk i front h name before after out out' r one e f 
       left = f.left;
       is_left = f.is_left;
       read = subst (ReadsAsNeeded limit chunk before after f.left front) (sym (settled_placed r (settled_by (course_by (request_of h.scale (model_want wanted)) name h) h) (λ _. true)))
-          (reads_for limit chunk before after f.left front (is_settled_behind task h) (settled_by (course_by (request_of h.scale (model_want wanted)) name h) h) (λ ts u. ap (λ q. settled_by q h ts) course ∙ settled_same task name h ts ∙ u) f.read);
-      keeps_up = (up.0, up.1, reads_for limit chunk before after f.left front _ _ (λ ts u. ap (λ (text : List ℕ). nat_lt (length up.0) (length text)) (ap (λ q. due_by q h ts) course ∙ due_same task name h ts) ∙ u) up.2);
+          (reads_for limit chunk before after f.left front (is_settled_behind task h)
+          (settled_by (course_by (request_of h.scale (model_want wanted)) name h) h) (λ ts u. ap (λ q. settled_by q h ts) course
+          ∙ settled_same task name h ts ∙ u) f.read);
+      keeps_up = (
+        up.0,
+        up.1,
+        reads_for limit chunk before after f.left front _ _
+            (λ ts u. ap (λ (text : List ℕ). nat_lt (length up.0) (length text)) (ap (λ q. due_by q h ts) course ∙ due_same task name h ts) ∙ u) up.2,
+      );
       due = over_dump task name opened;
       is_due = (f.rest, f.tokens, sym (ap (λ q. over_header q opened) course ∙ over_same_dump task name opened));
       leaves = leaves-placed wanted task _ name out out' r (names_due wanted h.scale task one e) f.belongs;
     }
 
 -- an end without output, before anything was read after the header
-module _ {X : Type 0} {x : Ghosts X} (wanted : Want) (limit chunk : ℕ) (i : Input) (front : List Token) (h : Header) (name : List ℕ) (before : Supply) (feed : Feed X x) (out : Device) (l : limit_of feed ≡ limit) (st : HasGiven i front feed) where
+module _ {X : Type 0} {x : Ghosts X} (wanted : Want) (limit chunk : ℕ) (i : Input) (front : List Token) (h : Header) (name : List ℕ)
+    (before : Supply) (feed : Feed X x) (out : Device) (l : limit_of feed ≡ limit) (st : HasGiven i front feed) where
   abbrev course : Result Course Outcome
   course = course_by (request_of h.scale (model_want wanted)) name h
 
@@ -183,7 +199,11 @@ module _ {X : Type 0} {x : Ghosts X} (wanted : Want) (limit chunk : ℕ) (i : In
         keeps_up = ([], appends-none out.held, Nothing refl);
         due = due;
         is_due = (st.given_first.0, tokens, refl);
-        leaves = (ap (λ (x : Outcome). x.message) o, ap (λ (x : Outcome). x.status) o, subst (λ (l : List ℕ). Writes out out l) (sym (ap (λ (x : Outcome). x.output) o ∙ refused_output name why)) (writes-none out));
+        leaves = (
+          ap (λ (x : Outcome). x.message) o,
+          ap (λ (x : Outcome). x.status) o,
+          subst (λ (l : List ℕ). Writes out out l) (sym (ap (λ (x : Outcome). x.output) o ∙ refused_output name why)) (writes-none out),
+        );
       }
 
 -- ---- one reader
@@ -197,15 +217,19 @@ set_one (x ∷ []) y h = refl
 set_one xs y h = absurd (omega arith)
 
 -- the only reader counts its failed read
-pub counts_one : {X : Type 0} (failures : X → ℕ) (r r' : X) (why : Option Failure) → CountsRead 0 (failures r) (failures r') why → CountsReads (map failures (r ∷ [])) (map failures (r' ∷ [])) why
-counts_one failures r r' (Some (Stopped (Read input))) (first, e) = subst (λ n. CountsReads (map failures (r ∷ [])) (map failures (r' ∷ [])) (Some (Stopped (Read n)))) (sym first) (omega arith, ap (λ n. n ∷ []) e)
+pub counts_one : {X : Type 0} (failures : X → ℕ) (r r' : X) (why : Option Failure) → CountsRead 0 (failures r) (failures r') why
+    → CountsReads (map failures (r ∷ [])) (map failures (r' ∷ [])) why
+counts_one failures r r' (Some (Stopped (Read input))) (first, e) = subst
+    (λ n. CountsReads (map failures (r ∷ [])) (map failures (r' ∷ [])) (Some (Stopped (Read n)))) (sym first) (omega arith, ap (λ n. n ∷ []) e)
 counts_one failures r r' why e = ap (λ n. n ∷ []) e
 
 module _ {X : Type 0} (failures : X → ℕ) (readers readers' : List X) (r r' : X) (is : readers ≡ r ∷ []) (is' : readers' ≡ r' ∷ []) where
   pub counts_alone : (why : Option Failure) → CountsRead 0 (failures r) (failures r') why → CountsReads (map failures readers) (map failures readers') why
-  counts_alone why counts = subst (λ (l : List X). CountsReads (map failures l) (map failures readers') why) (sym is) (subst (λ (l : List X). CountsReads (map failures (r ∷ [])) (map failures l) why) (sym is') (counts_one failures r r' why counts))
+  counts_alone why counts = subst (λ (l : List X). CountsReads (map failures l) (map failures readers') why) (sym is)
+      (subst (λ (l : List X). CountsReads (map failures (r ∷ [])) (map failures l) why) (sym is') (counts_one failures r r' why counts))
 
-  pub passes_alone : {W : Type 0} (kept_back : W → ℕ) (out out' : W) → (failures r' ≢ failures r → kept_back out ≡ 0 → kept_back out' ≡ 0) → map failures readers' ≢ map failures readers → kept_back out ≡ 0 → kept_back out' ≡ 0
+  pub passes_alone : {W : Type 0} (kept_back : W → ℕ) (out out' : W) → (failures r' ≢ failures r → kept_back out ≡ 0 → kept_back out' ≡ 0)
+      → map failures readers' ≢ map failures readers → kept_back out ≡ 0 → kept_back out' ≡ 0
   passes_alone kept_back out out' one more before = one (λ same. more (ap (map failures) is' ∙ ap (λ n. n ∷ []) same ∙ sym (ap (map failures) is))) before
 
 -- a merge that is done has status 0, and one that failed answers nothing

@@ -58,7 +58,8 @@ near_if c d rest None i le near = near
 near_if c d rest (Some place) i le near = near_more c d rest place i le near
 
 module _ (a b c d : ℕ) (le : c ≤ d) where
-  needed_within : (old new : Supply) (i : Input) (front : List Token) (settled : List Token → Bool) → IsShort a b i.bytes → ReadsAsNeeded a c old new i front settled → ReadsAsNeeded b d old new i front settled
+  needed_within : (old new : Supply) (i : Input) (front : List Token) (settled : List Token → Bool) → IsShort a b i.bytes
+      → ReadsAsNeeded a c old new i front settled → ReadsAsNeeded b d old new i front settled
   needed_within old new i front settled short (Nothing same) = Nothing same
   needed_within old new i front settled short (ToToken asked last first so_far near) =
       ToToken asked last (subst (λ (s : Stream). IsPrefixOf (front ++ asked ++ last ∷ []) s.tokens) (same_stream a b i short) first) so_far (near_more c d new.rest _ i le near)
@@ -120,9 +121,14 @@ module _ (a b : ℕ) where
       ap (λ (s : Stream). opened_by earlier s (λ h. open_from a (earlier ++ h ∷ []) inputs)) (same_stream a b i short.0)
       ∙ ap (λ (o : Result (List Opened) (ℕ × Fault)). opened_by earlier (stream_of b i) (λ _. o)) (same_opened (earlier ++ header_behind earlier b i ∷ []) inputs short.1)
 
-  same_outcome : (want : Want) (names : List (List ℕ)) (inputs : List Input) → AllByRecursion (λ (i : Input). IsShort a b i.bytes) inputs → outcome want a names inputs ≡ outcome want b names inputs
+  same_outcome : (want : Want) (names : List (List ℕ)) (inputs : List Input) → AllByRecursion (λ (i : Input). IsShort a b i.bytes) inputs
+      → outcome want a names inputs ≡ outcome want b names inputs
   unfolding outcome
-  same_outcome want names inputs short = ap (λ (o : Result (List Opened) (ℕ × Fault)). elim o [ Err e ↦ fault_outcome [] (name_at names e.0) e.1 | Ok os ↦ over_opened want names os ]) (same_opened [] inputs short)
+  same_outcome want names inputs short = ap (λ (o : Result (List Opened) (ℕ × Fault)). elim o [
+    | Err e ↦ fault_outcome []
+        (name_at names e.0) e.1
+    | Ok os ↦ over_opened want names os
+  ]) (same_opened [] inputs short)
 
   same_settled : (inputs : List Input) (k : ℕ) (ts : List Token) → AllByRecursion (λ (i : Input). IsShort a b i.bytes) inputs → settles_among a inputs k ts ≡ settles_among b inputs k ts
   same_settled inputs k ts short = ap (λ (ss : List Seen). is_settled_merge (slice_set ss k (Seen.First ts))) (same_known inputs short)
@@ -175,23 +181,36 @@ module _ (a b c d : ℕ) (le : c ≤ d) where
   why_within most place left (Stopped stop) short w = absurd w
   why_within most place left OutOfMemory short w = w
 
-  stops_within : (place : ℕ) (earlier : List Header) (texts : List (List ℕ)) (old new : List Supply) (why : Failure) → AllByRecursion (IsShort a b) texts → Stops a c place earlier texts old new why → Stops b d place earlier texts old new why
+  stops_within : (place : ℕ) (earlier : List Header) (texts : List (List ℕ)) (old new : List Supply) (why : Failure)
+      → AllByRecursion (IsShort a b) texts → Stops a c place earlier texts old new why → Stops b d place earlier texts old new why
   stops_within place earlier (text ∷ texts) (s ∷ old) (t ∷ new) why short (inl h) =
       let most = allowed_after earlier in
       let left = h.0.left in
       let one = left_short a b c d le text s t left short.0 h.0.is_left in
-      inl (record { left = left; is_left = h.0.is_left; read = needed_within a b c d le s t left [] (is_header_over most) one h.0.read; is_why = why_within most place left why one h.0.is_why }, h.1, h.2)
+      inl (
+        record {
+          left = left;
+          is_left = h.0.is_left;
+          read = needed_within a b c d le s t left []
+              (is_header_over most) one h.0.read;
+          is_why = why_within most place left why one h.0.is_why;
+        },
+        h.1,
+        h.2,
+      )
   stops_within place earlier (text ∷ texts) (s ∷ old) (t ∷ new) why short (inr h) =
       inr (h.0, begun_one (allowed_after earlier) text h.0 s t short.0 h.1, stops_within (suc place) (earlier ++ h.0.header ∷ []) texts old new why short.1 h.2)
   stops_within place earlier texts old new why short stops = absurd stops
 
-  dump_within : (scale : ℕ) (h : Header) (front : List Token) (i : Input) (items : List BodyItem) (fault : Option Fault) → IsShort a b i.bytes → HasDump scale a h front i items fault → HasDump scale b h front i items fault
+  dump_within : (scale : ℕ) (h : Header) (front : List Token) (i : Input) (items : List BodyItem) (fault : Option Fault) → IsShort a b i.bytes
+      → HasDump scale a h front i items fault → HasDump scale b h front i items fault
   dump_within scale h front i items fault short n =
       let rest = n.rest in
       record {
         rest = rest;
         tokens = subst (λ (x : Stream). x.tokens ≡ front ++ rest) (same_stream a b i short) n.tokens;
-        is = subst (λ (x : Stream). dump_of scale h (body_fault_of x (read_body h.codes rest)) (read_body h.codes rest) ≡ record { header = h; items = items; fault = fault }) (same_stream a b i short) n.is;
+        is = subst (λ (x : Stream). dump_of scale h (body_fault_of x (read_body h.codes rest)) (read_body h.codes rest)
+            ≡ record { header = h; items = items; fault = fault }) (same_stream a b i short) n.is;
       }
 
   module _ (hs : List Header) (lanes : List Lane) (short_lane : (k : ℕ) (l : Lane) → slice_get lanes k ≡ Some l → IsShort a b l.input.bytes) where
@@ -199,18 +218,21 @@ module _ (a b c d : ℕ) (le : c ≤ d) where
     ended_within l items short (inl ended) = inl (dump_within (factor hs l.header) l.header l.front l.input items None short ended)
     ended_within l items short (inr later) = inr later
 
-    turn_within : (merged : List Dump) (k : ℕ) (l : Lane) (left : Input) (rest : Option (List ℕ)) → IsShort a b left.bytes → ReadOnTurn a c hs lanes merged k l left rest → ReadOnTurn b d hs lanes merged k l left rest
+    turn_within : (merged : List Dump) (k : ℕ) (l : Lane) (left : Input) (rest : Option (List ℕ)) → IsShort a b left.bytes
+        → ReadOnTurn a c hs lanes merged k l left rest → ReadOnTurn b d hs lanes merged k l left rest
     turn_within merged k l left rest short r = record {
       items = r.items;
       first = λ j m n other at_m at_n. ended_within m n.items (short_lane j m at_m) (r.first j m n other at_m at_n);
       no_more = λ old failures settled none. needed_within a b c d le old (record { rest = rest; failures = failures }) left l.front settled short (r.no_more old failures settled none);
     }
 
-    read_or_not : {P : Type 0} (merged : List Dump) (k : ℕ) (l : Lane) (left : Input) (rest : Option (List ℕ)) → IsShort a b left.bytes → P ⊎ ReadOnTurn a c hs lanes merged k l left rest → P ⊎ ReadOnTurn b d hs lanes merged k l left rest
+    read_or_not : {P : Type 0} (merged : List Dump) (k : ℕ) (l : Lane) (left : Input) (rest : Option (List ℕ)) → IsShort a b left.bytes → P
+        ⊎ ReadOnTurn a c hs lanes merged k l left rest → P ⊎ ReadOnTurn b d hs lanes merged k l left rest
     read_or_not merged k l left rest short (inl same) = inl same
     read_or_not merged k l left rest short (inr r) = inr (turn_within merged k l left rest short r)
 
-    bodies_within : (old new : List Supply) (lefts : List Input) (out out' : Device) → AllByRecursion (λ (i : Input). IsShort a b i.bytes) lefts → AreReadOnTurn a c hs lanes old new lefts out out' → AreReadOnTurn b d hs lanes old new lefts out out'
+    bodies_within : (old new : List Supply) (lefts : List Input) (out out' : Device) → AllByRecursion (λ (i : Input). IsShort a b i.bytes) lefts
+        → AreReadOnTurn a c hs lanes old new lefts out out' → AreReadOnTurn b d hs lanes old new lefts out out'
     bodies_within old new lefts out out' short (Unread same) = Unread same
     bodies_within old new lefts out out' short (OnTurn merged headers begins more written each) =
         OnTurn merged headers
@@ -218,7 +240,8 @@ module _ (a b c d : ℕ) (le : c ≤ d) where
         more written
         (λ k l s t i at_l at_s at_t at_i. read_or_not merged k l i t.rest (at_index (λ (i : Input). IsShort a b i.bytes) lefts k i short at_i) (each k l s t i at_l at_s at_t at_i))
 
-  module _ (texts : List (List ℕ)) (old new : List Supply) (inputs : List Input) (out out' : Device) (short : AllByRecursion (IsShort a b) texts) (all : AllByRecursion (λ (i : Input). IsShort a b i.bytes) inputs) where
+  module _ (texts : List (List ℕ)) (old new : List Supply) (inputs : List Input) (out out' : Device) (short : AllByRecursion (IsShort a b) texts)
+      (all : AllByRecursion (λ (i : Input). IsShort a b i.bytes) inputs) where
     merged_within : AreMergedInTurn a c texts old new inputs out out' → AreMergedInTurn b d texts old new inputs out out'
     merged_within (InHeaders why stops) = InHeaders why (stops_within 0 [] texts old new why short stops)
     merged_within (InBodies lanes mid begun bodies) =
@@ -237,7 +260,8 @@ module _ (a b c d : ℕ) (le : c ≤ d) where
 
 -- ---- a run
 
-pub run_within : (a b c d : ℕ) → c ≤ d → (want : Want) (names texts : List (List ℕ)) (old new : List Supply) (out out' err err' : Device) (status : ℕ) → AllByRecursion (IsShort a b) texts
+pub run_within : (a b c d : ℕ) → c ≤ d → (want : Want) (names texts : List (List ℕ)) (old new : List Supply) (out out' err err' : Device)
+    (status : ℕ) → AllByRecursion (IsShort a b) texts
     → HasRun want a c names texts old new out out' err err' status → HasRun want b d names texts old new out out' err err' status
 run_within a b c d le want names texts old new out out' err err' status short (WithOutcome inputs read needed turns leaves) =
     let all = lefts_short a b c d le (is_settled want) [] texts old new inputs short read in
@@ -246,7 +270,8 @@ run_within a b c d le want names texts old new out out' err err' status short (W
     (subst (λ (o : Outcome). IsOutcome program_name o out out' err err' status) (same_outcome a b want names inputs all) leaves)
 run_within a b c d le want names texts old new out out' err err' status short (NoMemory inputs read needed turns same written shown status_is) =
     let all = lefts_short a b c d le is_header_over [] texts old new inputs short read in
-    NoMemory inputs (read_within a b c d le is_header_over [] texts old new inputs short read) (all_within a b c d le old new inputs all want needed) (turns_within a b c d le texts old new inputs out out' short all want turns) same written shown status_is
+    NoMemory inputs (read_within a b c d le is_header_over [] texts old new inputs short read) (all_within a b c d le old new inputs all want needed)
+    (turns_within a b c d le texts old new inputs out out' short all want turns) same written shown status_is
 
 -- ---- readers that give few bytes
 
@@ -267,7 +292,8 @@ all_unknown [] = tt
 all_unknown (text ∷ texts) = (tt, all_unknown texts)
 
 module _ {X : Type 0} (rest : X → Option (List ℕ)) where
-  few_texts : (most : ℕ) (readers : List X) (texts : List (List ℕ)) → AllByRecursion (λ r. IfSome (rest r) (λ text. length text ≤ most)) readers → map rest readers ≡ map (λ text. Some text) texts
+  few_texts : (most : ℕ) (readers : List X) (texts : List (List ℕ)) → AllByRecursion (λ r. IfSome (rest r) (λ text. length text ≤ most)) readers
+      → map rest readers ≡ map (λ text. Some text) texts
       → AllByRecursion (λ (text : List ℕ). length text ≤ most) texts
   few_texts most [] [] all is = tt
   few_texts most (r ∷ readers) (text ∷ texts) all is =
@@ -281,7 +307,9 @@ module _ {X : Type 0} (rest : X → Option (List ℕ)) where
   texts_within None readers texts within is = all_unknown texts
   texts_within (Some most) readers texts within is = few_texts most readers texts (from_all (λ r. IfSome (rest r) (λ text. length text ≤ most)) readers within) is
 
-  pub short_texts : (longest : Option ℕ) (wide narrow : Job) (readers : List X) (texts : List (List ℕ)) → Narrows longest wide narrow → AreWithin rest longest readers → map rest readers ≡ map (λ text. Some text) texts
+  pub short_texts : (longest : Option ℕ) (wide narrow : Job) (readers : List X) (texts : List (List ℕ)) → Narrows longest wide narrow
+      → AreWithin rest longest readers → map rest readers ≡ map (λ text. Some text) texts
       → AllByRecursion (IsShort narrow.limit wide.limit) texts
   short_texts longest wide narrow readers texts n within is =
-      all_weaker (λ text. IfSome longest (λ most. length text ≤ most)) (IsShort narrow.limit wide.limit) texts (λ text few. short_text longest wide narrow text n few) (texts_within longest readers texts within is)
+      all_weaker (λ text. IfSome longest (λ most. length text ≤ most)) (IsShort narrow.limit wide.limit) texts
+      (λ text few. short_text longest wide narrow text n few) (texts_within longest readers texts within is)

@@ -31,11 +31,13 @@ cut_is units (Ok from) (Ok to) task e = by_test (units && nat_lt to from) e
 cut_is units from to task e = cc
 
 -- a sample is asked for, and its times are not refused
-at_ticks : (rises : Bool) (times : List ℕ) (names : List (List ℕ)) (task : Request) → cond rises (Err model.Refusal.NotRising) (Ok (Request.Sample times names)) ≡ Ok task → task ≡ Request.Sample times names
+at_ticks : (rises : Bool) (times : List ℕ) (names : List (List ℕ)) (task : Request)
+    → cond rises (Err model.Refusal.NotRising) (Ok (Request.Sample times names)) ≡ Ok task → task ≡ Request.Sample times names
 at_ticks true times names task e = cc
 at_ticks false times names task e = cc
 
-sample_is : (units : Bool) (ks : List (Result ℕ ℕ)) (names : List (List ℕ)) (task : Request) → model.sample_request units ks names ≡ Ok task → (times : List ℕ) × (task ≡ Request.Sample times names)
+sample_is : (units : Bool) (ks : List (Result ℕ ℕ)) (names : List (List ℕ)) (task : Request) → model.sample_request units ks names ≡ Ok task
+    → (times : List ℕ) × (task ≡ Request.Sample times names)
 sample_is units ks names task e = by_test (list_all is_ok ks) e
   where
     by_test : (b : Bool) → cond b (model.sample_at units (filter_map model.ok_of ks) names) (Err (model.first_refusal ks)) ≡ Ok task → (times : List ℕ) × (task ≡ Request.Sample times names)
@@ -48,7 +50,8 @@ module _ (wanted : Want) (names : List (List ℕ)) (o : Opened) where
   over_request task e = rw (e, model.over_opened) refl
 
   -- times are refused
-  pub over_none : (why : model.Refusal) → request_of o.header.scale (model_want wanted) ≡ Err why → model.over_opened (model_want wanted) names (o ∷ []) ≡ model.refusal_outcome (name_at names 0) why
+  pub over_none : (why : model.Refusal) → request_of o.header.scale (model_want wanted) ≡ Err why
+      → model.over_opened (model_want wanted) names (o ∷ []) ≡ model.refusal_outcome (name_at names 0) why
   over_none why e = rw (e, model.over_opened) refl
 
 -- a request that is made of one input, with these names that have to select something
@@ -85,7 +88,9 @@ asked_for wanted None one = ap (λ (r : Request). Ok r) (listing_due wanted one)
 pub names_due : (wanted : Want) (scale : Option ℤ) (task : Request) → is_merge wanted ≡ false → request_of scale (model_want wanted) ≡ Ok task → names_of task ≡ names_asked wanted
 names_due wanted scale task one e = (of_one wanted scale task one e).0
 
-pub over_one : (wanted : Want) (names : List (List ℕ)) (o : Opened) (task : Request) → is_merge wanted ≡ false → request_of o.header.scale (model_want wanted) ≡ Ok task → model.over_opened (model_want wanted) names (o ∷ []) ≡ over_dump task (name_at names 0) o
+pub over_one : (wanted : Want) (names : List (List ℕ)) (o : Opened) (task : Request) → is_merge wanted ≡ false
+    → request_of o.header.scale (model_want wanted) ≡ Ok task → model.over_opened (model_want wanted) names (o ∷ []) ≡ over_dump task
+    (name_at names 0) o
 over_one wanted names o task one e = over_request wanted names o task e ∙ (of_one wanted o.header.scale task one e).1 names o
 
 -- ---- a request over a header
@@ -161,7 +166,8 @@ module _ (wanted : Want) (one : is_merge wanted ≡ false) (limit : ℕ) (name :
   over_request_same : (o : Opened) → over_header (course_by (request_of o.header.scale asks) name o.header) o ≡ model.over_opened asks (name ∷ []) (o ∷ [])
   over_request_same o = by_request (request_of o.header.scale asks) refl
     where
-      by_request : (r : Result Request model.Refusal) → request_of o.header.scale asks ≡ r → over_header (course_by (request_of o.header.scale asks) name o.header) o ≡ model.over_opened asks (name ∷ []) (o ∷ [])
+      by_request : (r : Result Request model.Refusal) → request_of o.header.scale asks ≡ r
+          → over_header (course_by (request_of o.header.scale asks) name o.header) o ≡ model.over_opened asks (name ∷ []) (o ∷ [])
       by_request (Ok task) e = ap (λ q. over_header (course_by q name o.header) o) e ∙ over_same_dump task name o ∙ sym (over_one wanted (name ∷ []) o task one e)
       by_request (Err why) e = ap (λ q. over_header (course_by q name o.header) o) e ∙ sym (over_none wanted (name ∷ []) o why e)
 
@@ -181,29 +187,52 @@ module _ (wanted : Want) (one : is_merge wanted ≡ false) (limit chunk : ℕ) (
       → HasRun (model_want wanted) limit chunk (name ∷ []) (text ∷ []) (s ∷ []) (t ∷ []) out out' err err' status
   ran name text s t (JobRun.WithOutcome left is_left read up leaves) =
       let w = model_want wanted in
-      WithOutcome (left ∷ []) (is_left, reads_for limit chunk s t left [] _ (is_settled w declarations_allowed) (λ ts e. sym (settled_is w name declarations_allowed ts) ∙ e) read, refl) (none_others wanted limit chunk _ _ _ one)
-      (one_in_turn wanted limit chunk (text ∷ []) _ _ _ out out' one (one_keeps_up w limit chunk s t left out out'
-      (up.0, up.1, reads_for limit chunk s t left [] _ (is_more_due (due w declarations_allowed) (length up.0)) (λ ts e. ap (λ (l : List ℕ). nat_lt (length up.0) (length l)) (sym (due_is w name declarations_allowed ts)) ∙ e) up.2)))
+      WithOutcome (left ∷ []) (
+        is_left,
+        reads_for limit chunk s t left [] _ (is_settled w declarations_allowed)
+            (λ ts e. sym (settled_is w name declarations_allowed ts) ∙ e) read,
+        refl,
+      ) (none_others wanted limit chunk _ _ _ one)
+      (one_in_turn wanted limit chunk (text ∷ []) _ _ _ out out' one (one_keeps_up w limit chunk s t left out out' (
+        up.0,
+        up.1,
+        reads_for limit chunk s t left [] _ (is_more_due (due w declarations_allowed) (length up.0))
+            (λ ts e. ap (λ (l : List ℕ). nat_lt (length up.0) (length l)) (sym (due_is w name declarations_allowed ts)) ∙ e) up.2,
+      )))
       (subst (λ (o : Outcome). IsOutcome program_name o out out' err err' status) (outcome_is wanted one limit name left) leaves)
   ran name text s t (JobRun.NoMemory left is_left read up same written shown status_is) =
       let w = model_want wanted in
       NoMemory (left ∷ []) (is_left, read, refl) (none_others wanted limit chunk _ _ _ one)
-      (one_in_turn wanted limit chunk (text ∷ []) _ _ _ out out' one (one_keeps_up w limit chunk s t left out out'
-      (up.0, up.1, reads_for limit chunk s t left [] _ (is_more_due (due w declarations_allowed) (length up.0)) (λ ts e. ap (λ (l : List ℕ). nat_lt (length up.0) (length l)) (sym (due_is w name declarations_allowed ts)) ∙ e) up.2)))
+      (one_in_turn wanted limit chunk (text ∷ []) _ _ _ out out' one (one_keeps_up w limit chunk s t left out out' (
+        up.0,
+        up.1,
+        reads_for limit chunk s t left [] _ (is_more_due (due w declarations_allowed) (length up.0))
+            (λ ts e. ap (λ (l : List ℕ). nat_lt (length up.0) (length l)) (sym (due_is w name declarations_allowed ts)) ∙ e) up.2,
+      )))
       (ap (λ n. n ∷ []) same) written shown status_is
 
   -- over the only one of these readers
-  pub ran_one : {X : Type 0} (rest : X → Option (List ℕ)) (failures : X → ℕ) (r r' : X) (names : List (List ℕ)) (readers readers' : List X) → readers ≡ r ∷ [] → readers' ≡ r' ∷ [] → length names ≡ 1
-      → ((text : List ℕ) → rest r ≡ Some text → JobRun program_name (work_of (model_want wanted)) limit chunk (name_at names 0) text (supply rest failures r) (supply rest failures r') out out' err err' status)
-      → (texts : List (List ℕ)) → map rest readers ≡ map (λ text. Some text) texts → HasRun (model_want wanted) limit chunk names texts (map (supply rest failures) readers) (map (supply rest failures) readers') out out' err err' status
+  pub ran_one : {X : Type 0} (rest : X → Option (List ℕ)) (failures : X → ℕ) (r r' : X) (names : List (List ℕ)) (readers readers' : List X)
+      → readers ≡ r ∷ [] → readers' ≡ r' ∷ [] → length names ≡ 1
+      → ((text : List ℕ) → rest r ≡ Some text → JobRun program_name (work_of (model_want wanted)) limit chunk (name_at names 0) text
+      (supply rest failures r) (supply rest failures r') out out' err err' status)
+      → (texts : List (List ℕ)) → map rest readers ≡ map (λ text. Some text) texts
+      → HasRun (model_want wanted) limit chunk names texts (map (supply rest failures) readers)
+      (map (supply rest failures) readers') out out' err err' status
   ran_one {X} rest failures r r' names readers readers' is is' many runs texts known = by_names names many runs
     where
-      by_texts : (name : List ℕ) → ((text : List ℕ) → rest r ≡ Some text → JobRun program_name (work_of (model_want wanted)) limit chunk name text (supply rest failures r) (supply rest failures r') out out' err err' status)
-          → (texts : List (List ℕ)) → map rest (r ∷ []) ≡ map (λ text. Some text) texts → HasRun (model_want wanted) limit chunk (name ∷ []) texts (map (supply rest failures) (r ∷ [])) (map (supply rest failures) (r' ∷ [])) out out' err err' status
+      by_texts : (name : List ℕ) → ((text : List ℕ) → rest r ≡ Some text
+          → JobRun program_name (work_of (model_want wanted)) limit chunk name text (supply rest failures r)
+          (supply rest failures r') out out' err err' status)
+          → (texts : List (List ℕ)) → map rest (r ∷ []) ≡ map (λ text. Some text) texts
+          → HasRun (model_want wanted) limit chunk (name ∷ []) texts (map (supply rest failures) (r ∷ []))
+          (map (supply rest failures) (r' ∷ [])) out out' err err' status
       by_texts name given (text ∷ []) e = ran name text (supply rest failures r) (supply rest failures r') (given text (cc))
       by_texts name given texts e = absurd (cc)
 
-      by_names : (names : List (List ℕ)) → length names ≡ 1 → ((text : List ℕ) → rest r ≡ Some text → JobRun program_name (work_of (model_want wanted)) limit chunk (name_at names 0) text (supply rest failures r) (supply rest failures r') out out' err err' status)
+      by_names : (names : List (List ℕ)) → length names ≡ 1 → ((text : List ℕ) → rest r ≡ Some text
+          → JobRun program_name (work_of (model_want wanted)) limit chunk (name_at names 0) text (supply rest failures r)
+          (supply rest failures r') out out' err err' status)
           → HasRun (model_want wanted) limit chunk names texts (map (supply rest failures) readers) (map (supply rest failures) readers') out out' err err' status
       by_names (name ∷ []) n given =
           subst (λ (l : List X). HasRun (model_want wanted) limit chunk (name ∷ []) texts (map (supply rest failures) l) (map (supply rest failures) readers') out out' err err' status) (sym is)

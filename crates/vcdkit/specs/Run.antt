@@ -29,7 +29,8 @@ AreRead settled limit chunk earlier (text ∷ texts) (s ∷ old) (t ∷ new) (i 
 -- write leaves a prefix of it; if memory ran out it leaves nothing.
 abbrev pub LeavesAll : (names : List (List ℕ)) → Outcome → Device → Device → Result Done Failure → Type 0
 LeavesAll names o out out' (Ok done) = (o ≡ clean_outcome o.output) × Writes out out' o.output
-LeavesAll names o out out' (Err (Stopped (Dump input line fault))) = (o ≡ fault_outcome o.output (name_at names input) (record { number = fault; line = line })) × ((fault == 31) ≡ false) × Writes out out' o.output
+LeavesAll names o out out' (Err (Stopped (Dump input line fault))) =
+    (o ≡ fault_outcome o.output (name_at names input) (record { number = fault; line = line })) × ((fault == 31) ≡ false) × Writes out out' o.output
 LeavesAll names o out out' (Err (Stopped (Read input))) = ((line : ℕ) × (o ≡ fault_outcome o.output (name_at names input) (record { number = 31; line = line }))) × Writes out out' o.output
 LeavesAll names o out out' (Err (Stopped Write)) = WritesSome out out' o.output
 LeavesAll names o out out' (Err (Stopped stop)) = ⊥
@@ -46,18 +47,22 @@ settles_among limit inputs k ts = is_settled_merge (slice_set (known limit input
 -- of each input of a merge no more was read than what settles the merge, and a chunk, even if all
 -- of the others are known
 abbrev pub AreNeeded : model.Want → (limit chunk : ℕ) → (old new : List Supply) → List Input → Type 0
-AreNeeded model.Want.Merge limit chunk old new inputs = (k : ℕ) (s t : Supply) (i : Input) → slice_get old k ≡ Some s → slice_get new k ≡ Some t → slice_get inputs k ≡ Some i → ReadsAsNeeded limit chunk s t i [] (settles_among limit inputs k)
+AreNeeded model.Want.Merge limit chunk old new inputs = (k : ℕ) (s t : Supply) (i : Input) → slice_get old k ≡ Some s → slice_get new k ≡ Some t
+    → slice_get inputs k ≡ Some i → ReadsAsNeeded limit chunk s t i [] (settles_among limit inputs k)
 AreNeeded want limit chunk old new inputs = Unit {0}
 
 -- How the inputs of a merge were read: their headers one after the other, up to one that ended the
 -- merge, and nothing of those after it; or all of the headers, and then each body only on its turn.
 pub data AreMergedInTurn (limit chunk : ℕ) (texts : List (List ℕ)) (old new : List Supply) (inputs : List Input) (out out' : Device) : Type 0 where
   InHeaders : (why : Failure) (stops : Stops limit chunk 0 [] texts old new why) → AreMergedInTurn limit chunk texts old new inputs out out'
-  InBodies : (lanes : List Lane) (mid : List Supply) (begun : AreBegun limit chunk [] texts old mid lanes) (bodies : AreReadOnTurn limit chunk (headers_in lanes) lanes mid new inputs out out') → AreMergedInTurn limit chunk texts old new inputs out out'
+  InBodies : (lanes : List Lane) (mid : List Supply) (begun : AreBegun limit chunk [] texts old mid lanes)
+      (bodies : AreReadOnTurn limit chunk (headers_in lanes) lanes mid new inputs out out')
+      → AreMergedInTurn limit chunk texts old new inputs out out'
 
 -- the output of any other job keeps up with the reads of its one input
 abbrev pub OneKeepsUp : model.Want → (limit chunk : ℕ) → (old new : List Supply) → List Input → (out out' : Device) → Type 0
-OneKeepsUp want limit chunk old new inputs out out' = (s t : Supply) (i : Input) → old ≡ s ∷ [] → new ≡ t ∷ [] → inputs ≡ i ∷ [] → KeepsUp (due want declarations_allowed) limit chunk i [] s t out out'
+OneKeepsUp want limit chunk old new inputs out out' = (s t : Supply) (i : Input) → old ≡ s ∷ [] → new ≡ t ∷ [] → inputs ≡ i ∷ []
+    → KeepsUp (due want declarations_allowed) limit chunk i [] s t out out'
 
 -- no read of a job runs ahead of its output
 abbrev pub AreInTurn : model.Want → (limit chunk : ℕ) → List (List ℕ) → (old new : List Supply) → List Input → (out out' : Device) → Type 0
@@ -80,8 +85,13 @@ NoneFailed old new = map (λ (s : Supply). s.failures) new ≡ map (λ (s : Supp
 -- how a job ends over readers with these texts
 pub data HasRun (want : model.Want) (limit chunk : ℕ) (names texts : List (List ℕ)) (old new : List Supply) (out out' err err' : Device) (status : ℕ) : Type 0 where
   -- with the outcome of its inputs
-  WithOutcome : (inputs : List Input) (read : AreRead (is_settled want) limit chunk [] texts old new inputs) (needed : AreNeeded want limit chunk old new inputs) (in_turn : AreInTurn want limit chunk texts old new inputs out out') (leaves : IsOutcome program_name (model.outcome want limit names inputs) out out' err err' status)
+  WithOutcome : (inputs : List Input) (read : AreRead (is_settled want) limit chunk [] texts old new inputs)
+      (needed : AreNeeded want limit chunk old new inputs) (in_turn : AreInTurn want limit chunk texts old new inputs out out')
+      (leaves : IsOutcome program_name (model.outcome want limit names inputs) out out' err err' status)
       → HasRun want limit chunk names texts old new out out' err err' status
   -- without output, if memory ran out and no read failed; no more was read than the headers
-  NoMemory : (inputs : List Input) (read : AreRead is_header_over limit chunk [] texts old new inputs) (needed : AreNeeded want limit chunk old new inputs) (in_turn : AreInTurn want limit chunk texts old new inputs out out') (same : NoneFailed old new) (written : Writes out out' []) (shown : Tells program_name err err' (codes "out of memory")) (status_is : status ≡ 3)
+  NoMemory : (inputs : List Input) (read : AreRead is_header_over limit chunk [] texts old new inputs)
+      (needed : AreNeeded want limit chunk old new inputs) (in_turn : AreInTurn want limit chunk texts old new inputs out out')
+      (same : NoneFailed old new) (written : Writes out out' []) (shown : Tells program_name err err' (codes "out of memory"))
+      (status_is : status ≡ 3)
       → HasRun want limit chunk names texts old new out out' err err' status

@@ -17,7 +17,8 @@ use Rattle.vcd_compare.specs.declared.whole.Room.{Room}
 use Rattle.vcdkit_compare.specs.Bound.{lists_count, pairs_bound, pairs_count, table_room}
 use Rattle.vcdkit_compare.specs.Calls.{IsRoomFor}
 
-module _ (limit chunk : ℕ) (v : HeadView) (h : Header) (ps : Pairs) (r : Room) (q : Asked) (ns : List Names) (le : chunk ≤ 65536) (views : IsViewOf v h) (room : IsRoomFor v ps r) (are : ArePairs ps h q ns) (few : AreFew ps h q ns) where
+module _ (limit chunk : ℕ) (v : HeadView) (h : Header) (ps : Pairs) (r : Room) (q : Asked) (ns : List Names) (le : chunk ≤ 65536)
+    (views : IsViewOf v h) (room : IsRoomFor v ps r) (are : ArePairs ps h q ns) (few : AreFew ps h q ns) where
   abbrev windows : WindowSize
   windows = record { chunk = chunk; token = limit; value = limit }
 

@@ -83,7 +83,8 @@ module _ (job : Comparing) (count : ℕ) (mid out' : Device) where
   added (Err stop) end (is, same) = ([], subst (λ (d : Device). Appends mid.held d.held []) (sym same) (appends-none mid.held))
 
 -- an output that keeps up still does with more bytes
-more_kept : (due : List Token → List ℕ) (limit chunk : ℕ) (i : Input) (front : List Token) (old new : Supply) (out mid out' : Device) → KeepsUp due limit chunk i front old new out mid → Adds mid out' → KeepsUp due limit chunk i front old new out out'
+more_kept : (due : List Token → List ℕ) (limit chunk : ℕ) (i : Input) (front : List Token) (old new : Supply) (out mid out' : Device)
+    → KeepsUp due limit chunk i front old new out mid → Adds mid out' → KeepsUp due limit chunk i front old new out out'
 more_kept due limit chunk i front old new out mid out' up more = (
   up.0 ++ more.0,
   appends-twice out.held mid.held out'.held up.0 more.0 up.1 more.1,
@@ -106,7 +107,8 @@ module _ (job : Comparing) (h : Header) (name : List ℕ) (ps : Pairs) (are : Ar
   pairs = length ps.rows.items
 
   -- a status is that of the outcome of these lines, and the count is its last line
-  status_leaves : (o : Outcome) (lines : List ℕ) (differs : Bool) (n : ℕ) (out mid out' : Device) → o ≡ answer_in q h ns lines → differs ≡ not (is_empty lines) → Writes out mid lines → n ≡ cond (differs || pairs == 0) 1 0 → Writes mid out' (count_line pairs)
+  status_leaves : (o : Outcome) (lines : List ℕ) (differs : Bool) (n : ℕ) (out mid out' : Device) → o ≡ answer_in q h ns lines
+      → differs ≡ not (is_empty lines) → Writes out mid lines → n ≡ cond (differs || pairs == 0) 1 0 → Writes mid out' (count_line pairs)
       → Leaves (speech_in job) o name out out' (Ok (Status n))
   status_leaves o lines differs n out mid out' is tells first n_is last =
       let all : o ≡ record { output = lines ++ count_line pairs; message = []; status = cond (differs || pairs == 0) 1 0 } = is ∙ answers_give_outcomes q h ns ps lines differs are tells in (
@@ -116,7 +118,8 @@ module _ (job : Comparing) (h : Header) (name : List ℕ) (ps : Pairs) (are : Ar
       )
 
   -- a failed write of the count leaves a prefix
-  part_leaves : (o : Outcome) (lines : List ℕ) (differs : Bool) (out mid out' : Device) → o ≡ answer_in q h ns lines → differs ≡ not (is_empty lines) → Writes out mid lines → WritesSome mid out' (count_line pairs) → WritesSome out out' o.output
+  part_leaves : (o : Outcome) (lines : List ℕ) (differs : Bool) (out mid out' : Device) → o ≡ answer_in q h ns lines → differs ≡ not (is_empty lines)
+      → Writes out mid lines → WritesSome mid out' (count_line pairs) → WritesSome out out' o.output
   part_leaves o lines differs out mid out' is tells first last =
       let all : o ≡ record { output = lines ++ count_line pairs; message = []; status = cond (differs || pairs == 0) 1 0 } = is ∙ answers_give_outcomes q h ns ps lines differs are tells in
       subst (λ (l : List ℕ). WritesSome out out' l) (sym (ap (λ (x : Outcome). x.output) all)) (some-behind out mid out' lines (count_line pairs) first last)
@@ -135,22 +138,27 @@ module _ (job : Comparing) (h : Header) (name : List ℕ) (ps : Pairs) (are : Ar
     abbrev left_as : Result (Answer Refusal) Failure → Type 0
     left_as end = Leaves (speech_in job) o name out out' end
 
-    answer_leaves : (answer : Compared) (d : Done) (end : Result (Answer Refusal) Failure) → answer.done ≡ d → ways_belong answer d → Finishes job.asked answer pairs mid out' end → left_as end
+    answer_leaves : (answer : Compared) (d : Done) (end : Result (Answer Refusal) Failure) → answer.done ≡ d → ways_belong answer d
+        → Finishes job.asked answer pairs mid out' end → left_as end
     answer_leaves answer Whole (Ok (Status n)) done (items, lines, is, written, told) (on, n_is, more) =
-        let not_late : nat_lt (time_after items) job.asked.from ≡ false = ap (λ t. nat_lt t job.asked.from) (sym told.1) ∙ sym (ap (λ d. is_whole d && nat_lt answer.last job.asked.from) done) ∙ on in
+        let not_late : nat_lt (time_after items) job.asked.from ≡ false = ap (λ t. nat_lt t job.asked.from) (sym told.1)
+        ∙ sym (ap (λ d. is_whole d && nat_lt answer.last job.asked.from) done) ∙ on in
         status_leaves o lines answer.differs n out mid out' (is ∙ on_time (time_after items) job.asked.from lines not_late) told.0 written n_is more
     answer_leaves answer Early (Ok (Status n)) done (items, lines, is, written, told) (on, n_is, more) = status_leaves o lines answer.differs n out mid out' is told.0 written n_is more
     answer_leaves answer Whole (Ok (Refused (Late t))) done (items, lines, is, written, told) (late_is, t_is, same) =
-        let ends : nat_lt (time_after items) job.asked.from ≡ true = ap (λ t. nat_lt t job.asked.from) (sym told.1) ∙ sym (ap (λ d. is_whole d && nat_lt answer.last job.asked.from) done) ∙ late_is in
+        let ends : nat_lt (time_after items) job.asked.from ≡ true = ap (λ t. nat_lt t job.asked.from) (sym told.1)
+        ∙ sym (ap (λ d. is_whole d && nat_lt answer.last job.asked.from) done) ∙ late_is in
         let all : o ≡ late job.asked.from (time_after items) lines = is ∙ too_late (time_after items) job.asked.from lines ends in (
           ap (λ (x : Outcome). x.message) all ∙ ap (λ n. (late job.asked.from n lines).message) (sym told.1 ∙ sym t_is),
           ap (λ (x : Outcome). x.status) all,
           subst (λ (d : Device). Writes out d o.output) (sym same) (subst (λ (l : List ℕ). Writes out mid l) (sym (ap (λ (x : Outcome). x.output) all)) written),
         )
-    answer_leaves answer Early (Ok (Refused (Late t))) done b (late_is, t_is, same) = let never : false ≡ true = sym (ap (λ d. is_whole d && nat_lt answer.last job.asked.from) done) ∙ late_is in absurd (cc)
+    answer_leaves answer Early (Ok (Refused (Late t))) done b (late_is, t_is, same) =
+        let never : false ≡ true = sym (ap (λ d. is_whole d && nat_lt answer.last job.asked.from) done) ∙ late_is in absurd (cc)
     answer_leaves answer d (Ok (Refused (Unselected f))) done b given = absurd given
     answer_leaves answer Whole (Err (Stopped Write)) done (items, lines, is, written, told) (on, some) =
-        let not_late : nat_lt (time_after items) job.asked.from ≡ false = ap (λ t. nat_lt t job.asked.from) (sym told.1) ∙ sym (ap (λ d. is_whole d && nat_lt answer.last job.asked.from) done) ∙ on in
+        let not_late : nat_lt (time_after items) job.asked.from ≡ false = ap (λ t. nat_lt t job.asked.from) (sym told.1)
+        ∙ sym (ap (λ d. is_whole d && nat_lt answer.last job.asked.from) done) ∙ on in
         part_leaves o lines answer.differs out mid out' (is ∙ on_time (time_after items) job.asked.from lines not_late) told.0 written some
     answer_leaves answer Early (Err (Stopped Write)) done (items, lines, is, written, told) (on, some) = part_leaves o lines answer.differs out mid out' is told.0 written some
     answer_leaves answer d (Err (Stopped (Dump input line f))) done b given = absurd given
@@ -176,14 +184,17 @@ module _ (job : Comparing) (h : Header) (name : List ℕ) (ps : Pairs) (are : Ar
     stop_leaves Write some same = subst (λ (d : Device). WritesSome out d o.output) (sym same) some
     stop_leaves (Unmatched place) given same = absurd given
 
-  leaves : (r : Result Compared Stop) (end : Result (Answer Refusal) Failure) (o : Outcome) (out mid out' : Device) → Belongs (Told r) (ways_of q h ns name) o out mid (done_of r) → EndsWith job pairs r mid out' end → Leaves (speech_in job) o name out out' end
+  leaves : (r : Result Compared Stop) (end : Result (Answer Refusal) Failure) (o : Outcome) (out mid out' : Device)
+      → Belongs (Told r) (ways_of q h ns name) o out mid (done_of r) → EndsWith job pairs r mid out' end → Leaves (speech_in job) o name out out' end
   leaves (Ok answer) end o out mid out' belongs finishes = answer_leaves o out mid out' answer answer.done end refl belongs finishes
-  leaves (Err stop) end o out mid out' belongs (is, same) = subst (λ (e : Result (Answer Refusal) Failure). Leaves (speech_in job) o name out out' e) (sym is) (stop_leaves o out mid out' stop belongs same)
+  leaves (Err stop) end o out mid out' belongs (is, same) = subst (λ (e : Result (Answer Refusal) Failure). Leaves (speech_in job) o name out out' e)
+      (sym is) (stop_leaves o out mid out' stop belongs same)
 
 -- ---- a run over a body
 
 -- what settles it
-settled_placed : (job : Comparing) (count : ℕ) (mid out' : Device) (r : Result Compared Stop) (end : Result (Answer Refusal) Failure) (run header : List Token → Bool) → EndsWith job count r mid out' end → settled_for end run header ≡ run
+settled_placed : (job : Comparing) (count : ℕ) (mid out' : Device) (r : Result Compared Stop) (end : Result (Answer Refusal) Failure)
+    (run header : List Token → Bool) → EndsWith job count r mid out' end → settled_for end run header ≡ run
 settled_placed job count mid out' (Ok answer) (Ok end) run header given = refl
 settled_placed job count mid out' (Ok answer) (Err (Stopped stop)) run header given = refl
 settled_placed job count mid out' (Ok answer) (Err OutOfMemory) run header given = absurd given
@@ -193,7 +204,8 @@ settled_placed job count mid out' (Err Write) end run header (is, same) = ap (λ
 settled_placed job count mid out' (Err (Unmatched place)) end run header (is, same) = ap (λ (e : Result (Answer Refusal) Failure). settled_for e run header) is
 
 -- a comparison of the pairs was run, and answered
-pub compared : (job : Comparing) (limit chunk read : ℕ) (i : Input) (front : List Token) (h : Header) (name : List ℕ) (ps : Pairs) (before after : Supply) (out mid out' : Device) (r : Result Compared Stop) (end : Result (Answer Refusal) Failure) → HasPairsOf job h ps
+pub compared : (job : Comparing) (limit chunk read : ℕ) (i : Input) (front : List Token) (h : Header) (name : List ℕ) (ps : Pairs)
+    (before after : Supply) (out mid out' : Device) (r : Result Compared Stop) (end : Result (Answer Refusal) Failure) → HasPairsOf job h ps
     → BodyGives (Told r) (plan_within (query_of job) h (outermost (names_of job))) h i front limit read out mid (done_of r)
     → ReadsNeeded (plan_within (query_of job) h (outermost (names_of job))) h limit chunk i (left_of i read r) front before after out mid
     → EndsWith job (length ps.rows.items) r mid out' end
@@ -209,12 +221,18 @@ compared job limit chunk read i front h name ps before after out mid out' r end 
     let tokens : (stream_of limit left).tokens ≡ front ++ given.rest = ap (λ (l : Input). (stream_of limit l).tokens) (sym (left_same i read r)) ∙ given.tokens in
     let o : Outcome = over_header (Ok c) opened in
     let planned_is = over_course q name ns opened ∙ sym (planned q name ns h (stream_of limit left) given.rest) in
-    let belongs : Belongs (Told r) (ways_of q h ns name) o out mid (done_of r) = subst (λ (x : Outcome). Belongs (Told r) (ways_of q h ns name) x out mid (done_of r)) (sym planned_is) (subst (λ (l : Input). Belongs (Told r) (ways_of q h ns name) (over_plan (plan_within q h ns) (ways_of q h ns name) (body_items (read_body h.codes given.rest)) (body_fault_of (stream_of limit l) (read_body h.codes given.rest))) out mid (done_of r)) (left_same i read r) given.belongs) in
-    let up : KeepsUp (due_by (Ok c) h) limit chunk left front before after out out' = more_kept (due_by (Ok c) h) limit chunk left front before after out mid out' needed.keeps_up (added job (length ps.rows.items) mid out' r end ended) in
+    let belongs : Belongs (Told r) (ways_of q h ns name) o out mid (done_of r) = subst
+    (λ (x : Outcome). Belongs (Told r) (ways_of q h ns name) x out mid (done_of r)) (sym planned_is)
+    (subst (λ (l : Input). Belongs (Told r) (ways_of q h ns name)
+    (over_plan (plan_within q h ns) (ways_of q h ns name) (body_items (read_body h.codes given.rest))
+    (body_fault_of (stream_of limit l) (read_body h.codes given.rest))) out mid (done_of r)) (left_same i read r) given.belongs) in
+    let up : KeepsUp (due_by (Ok c) h) limit chunk left front before after out out' = more_kept
+    (due_by (Ok c) h) limit chunk left front before after out mid out' needed.keeps_up (added job (length ps.rows.items) mid out' r end ended) in
     record {
       left = left;
       is_left = needed.is_left;
-      read = subst (ReadsAsNeeded limit chunk before after left front) (sym (settled_placed job (length ps.rows.items) mid out' r end _ _ ended)) (subst (λ k. ReadsAsNeeded limit chunk before after left front (settled_by k h)) (sym course) needed.read);
+      read = subst (ReadsAsNeeded limit chunk before after left front) (sym (settled_placed job (length ps.rows.items) mid out' r end _ _ ended))
+          (subst (λ k. ReadsAsNeeded limit chunk before after left front (settled_by k h)) (sym course) needed.read);
       keeps_up = subst (λ k. KeepsUp (due_by k h) limit chunk left front before after out out') (sym course) up;
       due = o;
       is_due = (given.rest, tokens, sym (ap (λ k. over_header k opened) course));
@@ -223,7 +241,8 @@ compared job limit chunk read i front h name ps before after out mid out' r end 
 
 -- ---- an end without output, before anything was read after the header
 
-module _ {X : Type 0} {x : Ghosts X} (job : Comparing) (limit chunk : ℕ) (i : Input) (front : List Token) (h : Header) (name : List ℕ) (before : Supply) (feed : Feed X x) (out : Device) (l : limit_of feed ≡ limit) (st : HasGiven i front feed) where
+module _ {X : Type 0} {x : Ghosts X} (job : Comparing) (limit chunk : ℕ) (i : Input) (front : List Token) (h : Header) (name : List ℕ)
+    (before : Supply) (feed : Feed X x) (out : Device) (l : limit_of feed ≡ limit) (st : HasGiven i front feed) where
   abbrev opened_here : Opened
   opened_here = record { header = h; stream = stream_of limit i; rest = st.given_first.0 }
 
@@ -246,7 +265,8 @@ module _ {X : Type 0} {x : Ghosts X} (job : Comparing) (limit chunk : ℕ) (i : 
   }
 
   -- a name selects nothing
-  unselected_ends : (f : PairsFault) (one : List ℕ) → unselected (query_of job) h (names_of job) ≡ Some one → name_of job f ≡ one → EndsAfter job limit chunk i front h name before before out out (Ok (Refused (Unselected f)))
+  unselected_ends : (f : PairsFault) (one : List ℕ) → unselected (query_of job) h (names_of job) ≡ Some one → name_of job f ≡ one
+      → EndsAfter job limit chunk i front h name before before out out (Ok (Refused (Unselected f)))
   unselected_ends f one found named =
       let course : (work_in job).course name h ≡ Err (refused one) = ap (λ u. course_if u (query_of job) (names_of job) name h) found in
       let o : due_here ≡ refused one = ap (λ k. over_header k opened_here) course in
@@ -257,7 +277,11 @@ module _ {X : Type 0} {x : Ghosts X} (job : Comparing) (limit chunk : ℕ) (i : 
         keeps_up = ([], appends-none out.held, Nothing refl);
         due = due_here;
         is_due = (st.given_first.0, tokens_here, refl);
-        leaves = (ap (λ (x : Outcome). x.message) o ∙ ap (λ n. (refused n).message) (sym named), ap (λ (x : Outcome). x.status) o, subst (λ (l : List ℕ). Writes out out l) (sym (ap (λ (x : Outcome). x.output) o)) (writes-none out));
+        leaves = (
+          ap (λ (x : Outcome). x.message) o ∙ ap (λ n. (refused n).message) (sym named),
+          ap (λ (x : Outcome). x.status) o,
+          subst (λ (l : List ℕ). Writes out out l) (sym (ap (λ (x : Outcome). x.output) o)) (writes-none out),
+        );
       }
 
   -- there are no pairs

@@ -11,15 +11,19 @@ use Rattle.vcdkit_compare.specs.declared.job.Refusal.{Refusal}
 use Rattle.vcdkit_compare.specs.declared.job.Refusal.TheVariants.{Late, Unselected}
 
 -- a name that selects nothing
-pub as-unselected : (d d' : Device) (name : List ℕ) (r : Result Unit WriteFailed) → Puts d d' (codes "vcdkit-compare: " ++ (name ++ (codes ": selects nothing" ++ 10 ∷ []))) r → Puts d d' (program_line program_name (refused name).message) r
+pub as-unselected : (d d' : Device) (name : List ℕ) (r : Result Unit WriteFailed)
+    → Puts d d' (codes "vcdkit-compare: " ++ (name ++ (codes ": selects nothing" ++ 10 ∷ []))) r
+    → Puts d d' (program_line program_name (refused name).message) r
 as-unselected d d' name r p = subst (λ l. Puts d d' l r) (sym (ap (λ l. codes "vcdkit-compare: " ++ l) (append_assoc name (codes ": selects nothing") (10 ∷ [])))) p
 
 -- a first time after the last one
 pub as-late : (d d' : Device) (from last : ℕ) (r : Result Unit WriteFailed)
-    → Puts d d' (codes "vcdkit-compare: --from: " ++ (decimal from ++ (codes " is after the end of the dump, " ++ (decimal last ++ 10 ∷ [])))) r → Puts d d' (program_line program_name (late from last []).message) r
+    → Puts d d' (codes "vcdkit-compare: --from: " ++ (decimal from ++ (codes " is after the end of the dump, " ++ (decimal last ++ 10 ∷ [])))) r
+    → Puts d d' (program_line program_name (late from last []).message) r
 as-late d d' from last r p =
     let middle = codes " is after the end of the dump, " in
-    subst (λ l. Puts d d' l r) (sym (ap (λ l. codes "vcdkit-compare: --from: " ++ l) (append_assoc (decimal from ++ middle) (decimal last) (10 ∷ []) ∙ append_assoc (decimal from) middle (decimal last ++ 10 ∷ [])))) p
+    subst (λ l. Puts d d' l r) (sym (ap (λ l. codes "vcdkit-compare: --from: " ++ l) (append_assoc (decimal from ++ middle) (decimal last) (10 ∷ [])
+    ∙ append_assoc (decimal from) middle (decimal last ++ 10 ∷ [])))) p
 
 -- each refusal is said by a line, with status 2
 pub refusal-line : (job : Comparing) (why : Refusal) → shown_message program_name (refusal_of job why).message ≡ program_line program_name (refusal_of job why).message

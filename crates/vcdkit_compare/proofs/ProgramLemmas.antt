@@ -76,11 +76,14 @@ module _ (job : Comparing) (name : List ℕ) (most : ℕ) (ts : List Token) wher
       by_end r AtEnd = refl
       by_end r AtLast = let h = header_of (phrases_of r.placed) in due_if job name h r.rest (unselected (query_of job) h (names_of job))
 
-keeps_any : (job : Comparing) (name : List ℕ) (i : Input) (old new : Supply) (out out' : Device) → KeepsUp (due_of (work_in job) name declarations_allowed) 1048576 65536 i [] old new out out' → KeepsUp (due_of (work_in job) [] declarations_allowed) 1048576 65536 i [] old new out out'
+keeps_any : (job : Comparing) (name : List ℕ) (i : Input) (old new : Supply) (out out' : Device)
+    → KeepsUp (due_of (work_in job) name declarations_allowed) 1048576 65536 i [] old new out out'
+    → KeepsUp (due_of (work_in job) [] declarations_allowed) 1048576 65536 i [] old new out out'
 keeps_any job name i old new out out' up = (
   up.0,
   up.1,
-  reads_for 1048576 65536 old new i [] _ (is_more_due (due_of (work_in job) [] declarations_allowed) (length up.0)) (λ ts e. ap (λ (l : List ℕ). nat_lt (length up.0) (length l)) (sym (due_any job name declarations_allowed ts)) ∙ e) up.2,
+  reads_for 1048576 65536 old new i [] _ (is_more_due (due_of (work_in job) [] declarations_allowed) (length up.0))
+      (λ ts e. ap (λ (l : List ℕ). nat_lt (length up.0) (length l)) (sym (due_any job name declarations_allowed ts)) ∙ e) up.2,
 )
 
 -- ---- a run
@@ -93,17 +96,24 @@ module _ (job : Comparing) (matches : ArgMatches) (asks : Asks matches (Ok job))
   outcome-is : (left : Input) → outcome_of matches names (left ∷ []) ≡ job_outcome (work_in job) 1048576 (name_at names 0) left
   outcome-is left = ap (λ r. outcome_if r names (left ∷ [])) asks ∙ sym (work_is_comparison (query_of job) 1048576 (names_of job) (name_at names 0) left)
 
-  leaves-one : (text : List ℕ) (s t : Supply) → HasRun program_name (work_in job) 1048576 65536 (name_at names 0) text s t out out' err err' status → LeavesAll (text ∷ []) (s ∷ []) (t ∷ [])
+  leaves-one : (text : List ℕ) (s t : Supply) → HasRun program_name (work_in job) 1048576 65536 (name_at names 0) text s t out out' err err' status
+      → LeavesAll (text ∷ []) (s ∷ []) (t ∷ [])
   leaves-one text s t (WithOutcome left is_left read up leaves) =
       Leaves.WithOutcome (left ∷ []) (is_left, refl)
-      (record { read = reads_for 1048576 65536 s t left [] _ (settled_of (work_in job) [] declarations_allowed) (λ ts e. sym (settled_any job (name_at names 0) declarations_allowed ts) ∙ e) read; keeps_up = keeps_any job (name_at names 0) left s t out out' up })
+      (record {
+        read = reads_for 1048576 65536 s t left [] _ (settled_of (work_in job) [] declarations_allowed)
+            (λ ts e. sym (settled_any job (name_at names 0) declarations_allowed ts) ∙ e) read;
+        keeps_up = keeps_any job
+            (name_at names 0) left s t out out' up;
+      })
       (subst (λ (o : Outcome). IsOutcome program_name o out out' err err' status) (sym (outcome-is left)) leaves)
   leaves-one text s t (NoMemory left is_left read up same written shown status_is) =
       Leaves.NoMemory (left ∷ []) (is_left, refl) (record { read = read; keeps_up = keeps_any job (name_at names 0) left s t out out' up }) (ap (λ n. n ∷ []) same) (written, shown, status_is)
 
   -- over the only one of these readers
   pub leaves-alone : {X : Type 0} (rest : X → Option (List ℕ)) (failures : X → ℕ) (r r' : X) (readers readers' : List X) → readers ≡ r ∷ [] → readers' ≡ r' ∷ []
-      → ((text : List ℕ) → rest r ≡ Some text → HasRun program_name (work_in job) 1048576 65536 (name_at names 0) text (supply rest failures r) (supply rest failures r') out out' err err' status)
+      → ((text : List ℕ) → rest r ≡ Some text → HasRun program_name (work_in job) 1048576 65536 (name_at names 0) text (supply rest failures r)
+      (supply rest failures r') out out' err err' status)
       → (texts : List Text) → map rest readers ≡ map (λ text. Some text) texts → LeavesAll texts (map (supply rest failures) readers) (map (supply rest failures) readers')
   leaves-alone {X} rest failures r r' readers readers' is is' runs texts known =
       subst (λ (l : List X). LeavesAll texts (map (supply rest failures) l) (map (supply rest failures) readers')) (sym is)

@@ -20,7 +20,8 @@ use Rattle.vcdkit_compare.specs.Work.{WorkIsComparison, course_if, course_of, wa
 module _ (q : Asked) (name : List ℕ) where
   -- the outcome of a dump whose header is read is that of its plan
   pub planned : (ns : List Names) (h : Header) (stream : Stream) (rest : List Token)
-      → over_plan (plan_within q h ns) (ways_of q h ns name) (body_items (read_body h.codes rest)) (body_fault_of stream (read_body h.codes rest)) ≡ from_dump q ns name (record { header = h; stream = stream; rest = rest })
+      → over_plan (plan_within q h ns) (ways_of q h ns name) (body_items (read_body h.codes rest)) (body_fault_of stream (read_body h.codes rest))
+      ≡ from_dump q ns name (record { header = h; stream = stream; rest = rest })
   unfolding from_dump body_of over_plan
   planned ns h stream rest = refl
 
@@ -28,7 +29,8 @@ module _ (q : Asked) (name : List ℕ) where
   unfolding from_dump body_of over_plan
   over_course ns o = refl
 
-  over_same : (ns : List Names) (o : Opened) (found : Option (List ℕ)) → over_header (course_if found q ns name o.header) o ≡ elim found [ Some one ↦ refused one | None ↦ from_dump q (outermost ns) name o ]
+  over_same : (ns : List Names) (o : Opened) (found : Option (List ℕ))
+      → over_header (course_if found q ns name o.header) o ≡ elim found [ Some one ↦ refused one | None ↦ from_dump q (outermost ns) name o ]
   over_same ns o (Some one) = refl
   over_same ns o None = over_course (outermost ns) o
 

@@ -41,4 +41,6 @@ lists_count r = 9 * length r.triggers.now + length r.flags.now + 8 * length r.cl
 abbrev pub IsLentWithin : {X : Type 0} {g : Ghosts X} → Feed X g → HeadView → Pairs → Room → Asked → List Names → Type 0
 IsLentWithin feed view ps room q ns =
     (h : Header) → IsViewOf view h
-    → window_count (record { chunk = chunk_len_of feed; token = limit_of feed; value = limit_of feed }) + view_count (view_size (parts view)) + room_count (table_room room) + 512 + pairs_count ps + lists_count room ≤ input_bound (limit_of feed) h + pairs_bound q h ns
+    → window_count (record { chunk = chunk_len_of feed; token = limit_of feed; value = limit_of feed }) + view_count
+    (view_size (parts view)) + room_count (table_room room) + 512 + pairs_count ps + lists_count room ≤ input_bound
+    (limit_of feed) h + pairs_bound q h ns

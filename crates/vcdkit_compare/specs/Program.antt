@@ -49,7 +49,8 @@ outcome_of matches names inputs = outcome_if (comparing_asked matches) names inp
 -- of the input failed, its last one; likewise for a write.
 abbrev pub EndsSo : Comparing → (names : List Text) → (before after : List ℕ) → (last_failed : List Bool) → (out out' err err' : Device) → (status : ℕ) → Type 0
 EndsSo job names before after last_failed out out' err err' status =
-    (end : Result (Answer Refusal) Failure) × Answers (λ n. n ≤ 1) end × CountsReads before after (failure_of end) × (failures_then (writes_failed (failure_of end)) out' ≡ out.failures + writes_failed (failure_of end))
+    (end : Result (Answer Refusal) Failure) × Answers (λ n. n ≤ 1) end × CountsReads before after (failure_of end)
+    × (failures_then (writes_failed (failure_of end)) out' ≡ out.failures + writes_failed (failure_of end))
     × (status ≡ end_status (speech_in job) names end) × Tells program_name err err' (end_message (speech_in job) names end) × EndsAtReadOf last_failed (failure_of end)
 
 -- which first tokens settle a run, whatever the name of its input; if memory ran out, those that

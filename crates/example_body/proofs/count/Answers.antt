@@ -31,7 +31,8 @@ returns-then-eq g c =
 pub items-preserved : goal.items-preserved
 items-preserved g c = (
   advances_on g.S.Source.failures c.args.feed.now c.items.feed c.next_item.new.feed CallEnd.GoesOn c.items.invariant.0 c.in_ok-item.ensures.advances,
-  rw c.with-forms.ensures (counted_most c.items.forms c.in_ok-item.item (seen c.items.feed) (seen c.next_item.new.feed) c.items.invariant.1 (c.in_ok-item.ensures.progress (λ is. let same : c.eq.result ≡ true = search rules in absurd (not_both c.eq.result same c.if-eq.false)))),
+  rw c.with-forms.ensures (counted_most c.items.forms c.in_ok-item.item (seen c.items.feed) (seen c.next_item.new.feed) c.items.invariant.1
+      (c.in_ok-item.ensures.progress (λ is. let same : c.eq.result ≡ true = search rules in absurd (not_both c.eq.result same c.if-eq.false)))),
   λ h i front views stands.
       let s = c.items.invariant.2 h i front views stands in
       let gives = c.in_ok-item.ensures.reads h i front s.0 views s.1 in

@@ -17,6 +17,7 @@ returns g c = record {
       let head = c.in_ok-head.ensures.reads (whole text) stands in
       let limit : limit_of c.read_head.new.feed ≡ 65536 = c.in_ok-head.ensures.lengths.0 ∙ omega (arith, c.in_ok-token.ensures.len, c.deref_mut-2.ensures.len, c.new-feed.ensures.begins.limit) in
       let views = subst (λ (s : HeadShown). Views s (header_of (phrases_of head.placed))) (sym c.view.ensures) head.views in
-      let counts = subst (λ (n : ℕ). IfOk c.count.result (BodyCounts (header_of (phrases_of head.placed)).codes (whole text) head.given n)) limit (c.count.ensures.reads (header_of (phrases_of head.placed)) (whole text) head.given views head.stands) in
+      let counts = subst (λ (n : ℕ). IfOk c.count.result (BodyCounts (header_of (phrases_of head.placed)).codes (whole text) head.given n)) limit
+      (c.count.ensures.reads (header_of (phrases_of head.placed)) (whole text) head.given views head.stands) in
       dump_counts text head.given head.placed c.count.result head.whole counts;
 }

@@ -6,7 +6,8 @@ pub returns : goal.returns
 returns c = found_all c.find_sized.result (λ found is.
     let t = c.args.token.now in
     let code = c.args.code.now in
-    let finds : (h : Header) → IsViewOf c.args.view h → Finds h.codes code (Some found.position) = λ h v. subst (λ (o : Option Found). Finds h.codes code (option_map (λ f. f.position) o)) is (c.find_sized.ensures.found h v) in
+    let finds : (h : Header) → IsViewOf c.args.view h → Finds h.codes code (Some found.position) = λ h v. subst
+    (λ (o : Option Found). Finds h.codes code (option_map (λ f. f.position) o)) is (c.find_sized.ensures.found h v) in
     let x = subst (λ (o : Option Found). IfSome o (IsSized c.args.view.codes.now)) is c.find_sized.ensures.sized in
     let n = ap length c.in-Ok.ensures.text in
     let some = c.in-Ok.ensures.few.0 in

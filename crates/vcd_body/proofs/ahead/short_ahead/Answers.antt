@@ -8,4 +8,8 @@ short_code-requires g c = record { begins = scalar_begins c.in_ok-opening.openin
 pub returns-clause-takes : goal.returns-clause-takes
 returns-clause-takes g c = λ r.
     let o = c.in_ok-opening.opening in
-    rw (c.change_of.ensures, c.begin_of-at.ensures) (scalar_takes c.args.view c.args.ahead.now _ r o c.in_ok-found.found _ c.in_ok-opening.ensures.opens (inl c.in-Bit.is) c.in_ok-found.ensures c.first_byte_of-text.ensures _ c.bytes.ensures _ c.passed.ensures.passed)
+    rw (
+      c.change_of.ensures,
+      c.begin_of-at.ensures,
+    ) (scalar_takes c.args.view c.args.ahead.now _ r o c.in_ok-found.found _ c.in_ok-opening.ensures.opens
+    (inl c.in-Bit.is) c.in_ok-found.ensures c.first_byte_of-text.ensures _ c.bytes.ensures _ c.passed.ensures.passed)

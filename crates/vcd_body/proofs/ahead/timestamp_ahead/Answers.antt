@@ -21,7 +21,11 @@ returns-in-Ok-clause-takes c = λ a v o.
     rw (m.item, m.text, m.size, m.begin, m.positions.0, m.bits, m.binary) (record {
       gives = λ h limit lines bytes before items v over k g.
           let one = passes_same limit (longest_of a) lines bytes (bytes_of a) from to (start_of c.args.ahead token) token over.0 over.1 (taken.gives lines) g.tokens g.passed in
-          mark_taken h.codes limit lines bytes before items from regs g k _ time (line_ahead lines bytes (start_of c.args.ahead token)) token less one (λ earlier e. subst (λ (n : ℕ). Passes h.codes earlier token (BodyItem.Time n) × (time_after (items_of earlier) ≤ n)) digits.1 (time_passes h.codes earlier token (subst (λ (f : PhraseKind). Begins token f) c.requires.kind o.begins) regs e (time_whole (drop 1 token) time digits.0 digits.1 digits.2) may.outside late));
+          mark_taken h.codes limit lines bytes before items from regs g k _ time
+          (line_ahead lines bytes (start_of c.args.ahead token)) token less one
+          (λ earlier e. subst (λ (n : ℕ). Passes h.codes earlier token (BodyItem.Time n) × (time_after (items_of earlier) ≤ n)) digits.1
+          (time_passes h.codes earlier token (subst (λ (f : PhraseKind). Begins token f) c.requires.kind o.begins) regs e
+          (time_whole (drop 1 token) time digits.0 digits.1 digits.2) may.outside late));
       passes = λ limit lines bytes ts over p.
           let t : Token = record { bytes = token; line = line_ahead lines bytes (start_of c.args.ahead token) } in
           (t ∷ [], passes_same limit (longest_of a) lines bytes (bytes_of a) from to (start_of c.args.ahead token) token over.0 over.1 (taken.gives lines) ts p);

@@ -36,14 +36,16 @@ returns-clause-takes c = λ a r v.
       gives = λ h limit lines bytes before items views over k g.
           let line = line_ahead lines bytes (start_of mid token) in
           let one = passes_same limit (longest_of a) lines bytes (bytes_of a) (passed_of a) (passed_of mid) (start_of mid token) token over.0 over.1 (o.gives lines) g.tokens g.passed in
-          let two = passes_same limit (longest_of mid) lines bytes (bytes_of mid) (passed_of mid) (passed_of new) (start_of new code) code (o.same.1 ∙ over.0) (o.same.0 ∙ over.1) (m.gives lines) (g.tokens ++ record { bytes = token; line = line } ∷ []) one in
+          let two = passes_same limit (longest_of mid) lines bytes (bytes_of mid) (passed_of mid) (passed_of new) (start_of new code) code (o.same.1
+          ∙ over.0) (o.same.0 ∙ over.1) (m.gives lines) (g.tokens ++ record { bytes = token; line = line } ∷ []) one in
           let s = c.in_ok-found.ensures.code h views in
           both_taken h.codes limit lines bytes before items (passed_of a) r g k form.Vector (passed_of new) _ line _ token code _ less two text s.0 s.1 s.2;
       passes = λ limit lines bytes ts over p.
           let t : Token = record { bytes = token; line = line_ahead lines bytes (start_of mid token) } in
           let u : Token = record { bytes = code; line = line_ahead lines bytes (start_of new code) } in
           let one = passes_same limit (longest_of a) lines bytes (bytes_of a) (passed_of a) (passed_of mid) (start_of mid token) token over.0 over.1 (o.gives lines) ts p in
-          let two = passes_same limit (longest_of mid) lines bytes (bytes_of mid) (passed_of mid) (passed_of new) (start_of new code) code (o.same.1 ∙ over.0) (o.same.0 ∙ over.1) (m.gives lines) (ts ++ t ∷ []) one in
+          let two = passes_same limit (longest_of mid) lines bytes (bytes_of mid) (passed_of mid) (passed_of new) (start_of new code) code (o.same.1
+          ∙ over.0) (o.same.0 ∙ over.1) (m.gives lines) (ts ++ t ∷ []) one in
           (t ∷ u ∷ [], subst (Passed limit lines bytes (passed_of new)) (append_assoc ts (t ∷ []) (u ∷ [])) two);
       sound = rw text c.in_ok-found.ensures.sound;
       scanned = tt;
@@ -53,7 +55,12 @@ returns-clause-takes c = λ a r v.
       bytes = c.bytes.ensures;
       before = begins_after bytes (passed_of a) (passed_of mid) token first;
       ends = c.passed.ensures.passed;
-      spelled = rw (c.bytes.ensures ∙ m.same.0 ∙ o.same.0, c.passed.ensures.passed) (code, both_there bytes (bytes_of mid) _ _ _ token _ _ begins.0 begins.1 begins.3 text o.same.0 begun second, c.in_ok-found.ensures.names, both_places bytes (bytes_of mid) _ _ _ token _ _ begins.0 begins.1 begins.3 text o.same.0 begun second);
+      spelled = rw (c.bytes.ensures ∙ m.same.0 ∙ o.same.0, c.passed.ensures.passed) (
+        code,
+        both_there bytes (bytes_of mid) _ _ _ token _ _ begins.0 begins.1 begins.3 text o.same.0 begun second,
+        c.in_ok-found.ensures.names,
+        both_places bytes (bytes_of mid) _ _ _ token _ _ begins.0 begins.1 begins.3 text o.same.0 begun second,
+      );
       further = less;
       within = subst (λ (bs : _). passed_of new ≤ length bs) (sym m.same.0) m.within;
       same = (m.same.0 ∙ o.same.0, m.same.1 ∙ o.same.1);

@@ -9,7 +9,8 @@ pub returns : goal.returns
 returns c =
     let l = c.args.digits.now in
     let e = c.saturating_sub.ensures in
-    same_lead c.saturating_sub.result (get_or l 0 0) l (omega (arith, e, c.same_as_first.ensures.few)) (λ j le. by_place j (omega (arith, e, le)) (cases_lt j c.same_as_first.result)) (c.type_inv.digits 0).fits c.if-digits-eq49.false
+    same_lead c.saturating_sub.result (get_or l 0 0) l (omega (arith, e, c.same_as_first.ensures.few))
+    (λ j le. by_place j (omega (arith, e, le)) (cases_lt j c.same_as_first.result)) (c.type_inv.digits 0).fits c.if-digits-eq49.false
   where
     by_place : (j : ℕ) → j ≤ c.same_as_first.result - 1 → (j < c.same_as_first.result) ⊎ (c.same_as_first.result ≤ j) → get_or c.args.digits.now j 0 ≡ get_or c.args.digits.now 0 0
     by_place j le (inl less) = c.same_as_first.ensures.same j less

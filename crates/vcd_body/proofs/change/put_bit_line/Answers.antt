@@ -11,11 +11,13 @@ returns-in_err-put g c =
     let p = err_from_is_err_and c.from_residual-in_err-put.result c.from_residual-in_err-put.ensures.1 in
     let digits = g.D.Digits.digits c.args.digits in
     let id = c.args.id.now in
-    rw p.1 (some-behind (g.W.Sink.device _) (g.W.Sink.device _) (g.W.Sink.device _) digits (id ++ 10 ∷ []) c.in_ok-put_from.ensures (some-first (g.W.Sink.device _) (g.W.Sink.device _) id (10 ∷ []) c.in_err-put.ensures))
+    rw p.1 (some-behind (g.W.Sink.device _) (g.W.Sink.device _) (g.W.Sink.device _) digits (id ++ 10 ∷ []) c.in_ok-put_from.ensures
+    (some-first (g.W.Sink.device _) (g.W.Sink.device _) id (10 ∷ []) c.in_err-put.ensures))
 
 pub returns : goal.returns
 returns g c =
     let digits = g.D.Digits.digits c.args.digits in
     let id = c.args.id.now in
     let result = c.put-2.result in
-    puts-twice (g.W.Sink.device _) (g.W.Sink.device _) (g.W.Sink.device _) digits (id ++ 10 ∷ []) result c.in_ok-put_from.ensures (puts-twice (g.W.Sink.device _) (g.W.Sink.device _) (g.W.Sink.device _) id (10 ∷ []) result c.in_ok-put.ensures c.put-2.ensures)
+    puts-twice (g.W.Sink.device _) (g.W.Sink.device _) (g.W.Sink.device _) digits (id ++ 10 ∷ []) result c.in_ok-put_from.ensures
+    (puts-twice (g.W.Sink.device _) (g.W.Sink.device _) (g.W.Sink.device _) id (10 ∷ []) result c.in_ok-put.ensures c.put-2.ensures)

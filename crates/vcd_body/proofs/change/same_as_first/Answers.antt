@@ -9,5 +9,6 @@ returns-clause-same c =
     let marked = c.first_marked-at.ensures.marked in
     λ k less. elim (cases_lt k at) [
       | inl before ↦ in_block IsSame (c.first_marked-at.ensures.before k before) (λ i none j few. let z = bit_at-zero j in search rules)
-      | inr late ↦ behind IsSame at c.clear_bits.result (λ j few. let z = c.clear_bits.ensures.clear j few in let f : j < 32 = omega (arith, few, c.clear_bits.ensures.less) in search rules) k late less
+      | inr late ↦ behind IsSame at c.clear_bits.result (λ j few. let z = c.clear_bits.ensures.clear j few in
+          let f : j < 32 = omega (arith, few, c.clear_bits.ensures.less) in search rules) k late less
     ]

@@ -13,7 +13,8 @@ returns-in-Some-clause-held c = λ view h items x views good read held.
     let has = subst (HasBits c.args.item c.args.text.now) c.in-Some.is c.requires.bits in
     let laid = held.values.laid in
     let set = c.set_value.ensures in
-    bits_hold view h c.args.table.now c.set_value.new.self items c.args.item c.args.text.now c.in-Some.bits c.in-Change.code c.in-Change.form x views held c.in-Change.is has good read (set.as_text laid) (set.sets.keeps.laid laid) (set.value laid)
+    bits_hold view h c.args.table.now c.set_value.new.self items c.args.item c.args.text.now c.in-Some.bits c.in-Change.code c.in-Change.form x views held c.in-Change.is has good read
+    (set.as_text laid) (set.sets.keeps.laid laid) (set.value laid)
 
 pub returns-in-None-clause-held : goal.returns-in-None-clause-held
 returns-in-None-clause-held c = text_holds c.args.item c.in-Change.code c.in-Change.form c.args.text.now c.args.text.now c.args.table.now c.set.new.self

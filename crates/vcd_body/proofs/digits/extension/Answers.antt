@@ -6,4 +6,5 @@ pub returns-then-count-eq0 : goal.returns-then-count-eq0
 returns-then-count-eq0 g c = none_extended (g.D.Digits.digits c.args.digits) (omega (arith, c.count.ensures, c.if-count-eq0.true))
 
 pub returns : goal.returns
-returns g c = c.extension_of.ensures ∙ ap (λ d. extension (d ∷ [])) c.digit.ensures ∙ sym (extension_at (g.D.Digits.digits c.args.digits) 0 (omega (arith, c.count.ensures, c.if-count-eq0.false)))
+returns g c = c.extension_of.ensures ∙ ap (λ d. extension (d ∷ [])) c.digit.ensures
+    ∙ sym (extension_at (g.D.Digits.digits c.args.digits) 0 (omega (arith, c.count.ensures, c.if-count-eq0.false)))

@@ -29,7 +29,14 @@ returns-in-Scalar-clause-line c =
     let within = bit_within c.args.scanned.bytes.now c.args.scanned.begin c.args.scanned.end text there.0 there.1 in
     λ v h x spelled known sized views i.
     let s = subst (IsSpelledAs v c.args.scanned) same (spelled (some_size _ _ c.in_ok-size.ensures.told)) in
-    let k = of_sized v h views c.in-Change.code c.args.scanned.size_or_zero (subst (λ it. IsSizedItem v.codes.now it c.args.scanned.size_or_zero) same (sized (some_size _ _ c.in_ok-size.ensures.told))) (λ z. absurd (omega (arith, size, z))) form.Scalar text s.0 c.args.scanned.bytes.now c.args.scanned.begin c.args.scanned.end c.args.scanned.at c.args.scanned.code_at s.2 s.3 x (subst (λ it. IsItem h.codes text it x) same i) in
+    let k = of_sized v h views c.in-Change.code c.args.scanned.size_or_zero
+    (subst (λ it. IsSizedItem v.codes.now it c.args.scanned.size_or_zero) same (sized (some_size _ _ c.in_ok-size.ensures.told)))
+    (λ z. absurd (omega (
+      arith,
+      size,
+      z,
+    ))) form.Scalar text s.0 c.args.scanned.bytes.now c.args.scanned.begin c.args.scanned.end c.args.scanned.at c.args.scanned.code_at s.2 s.3 x
+    (subst (λ it. IsItem h.codes text it x) same i) in
     ap (λ l. l ++ 10 ∷ []) (without_none c.args.scanned.bytes.now c.args.scanned.begin (c.args.scanned.end - 1) (omega arith)
     ∙ c.is_bit_line.ensures c.if-is_bit_line.true text s.0 s.1 s.3.ends)
     ∙ append_assoc (str_to_ascii_lowercase text) s.0 (10 ∷ [])
@@ -57,7 +64,14 @@ returns-in_default-form-clause-line c =
     if_some_more c.left_out_of_text.result (λ n p. (
     λ v h x spelled known sized views i.
     let s = subst (IsSpelledAs v c.args.scanned) same (spelled (some_size _ _ c.in_ok-size.ensures.told)) in
-    let k = of_sized v h views c.in-Change.code c.args.scanned.size_or_zero (subst (λ it. IsSizedItem v.codes.now it c.args.scanned.size_or_zero) same (sized (some_size _ _ c.in_ok-size.ensures.told))) (λ z. absurd (omega (arith, size, z))) c.in-Change.form text s.0 c.args.scanned.bytes.now c.args.scanned.begin c.args.scanned.end c.args.scanned.at c.args.scanned.code_at s.2 s.3 x (subst (λ it. IsItem h.codes text it x) same i) in
+    let k = of_sized v h views c.in-Change.code c.args.scanned.size_or_zero
+    (subst (λ it. IsSizedItem v.codes.now it c.args.scanned.size_or_zero) same (sized (some_size _ _ c.in_ok-size.ensures.told)))
+    (λ z. absurd (omega (
+      arith,
+      size,
+      z,
+    ))) c.in-Change.form text s.0 c.args.scanned.bytes.now c.args.scanned.begin c.args.scanned.end c.args.scanned.at c.args.scanned.code_at s.2 s.3 x
+    (subst (λ it. IsItem h.codes text it x) same i) in
     ap (λ l. l ++ 10 ∷ []) (p.4 s.0 s.1 s.3.ends known)
     ∙ append_assoc p.1 (32 ∷ s.0) (10 ∷ [])
     ∙ sym (p.3 s.0)
@@ -65,7 +79,8 @@ returns-in_default-form-clause-line c =
     ∙ sym (ap item_line k.1)
     )) c.left_out_of_text.ensures
   where
-    line_of : (c : IdCode) (code : List ℕ) (size most : ℕ) (f : Form) (text : List ℕ) → c.text ≡ code → size ≡ most → c.size ≡ most → c.event ≡ false → line_under code size false f text ≡ item_line (BodyItem.Changes (record { code = c; form = model_form f; text = text }))
+    line_of : (c : IdCode) (code : List ℕ) (size most : ℕ) (f : Form) (text : List ℕ) → c.text ≡ code → size ≡ most → c.size ≡ most → c.event ≡ false
+        → line_under code size false f text ≡ item_line (BodyItem.Changes (record { code = c; form = model_form f; text = text }))
     line_of c code size most form.Scalar text name told is none = rw (sym name, told, sym is, none) refl
     line_of c code size most form.Vector text name told is none = rw (sym name, told, sym is, none) refl
     line_of c code size most form.RealText text name told is none = rw (sym name, none) refl

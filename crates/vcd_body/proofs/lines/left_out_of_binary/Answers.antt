@@ -8,7 +8,8 @@ returns-then-n-le32 c =
     let k = c.clear_bits.result in
     let z = c.clear_bits.ensures in
     let less = z.less in
-    let there : (j : ℕ) → j < length l → slice_index l j ≡ slice_index c.args.bytes.now (c.args.at + j) = λ j few. byte_there l c.args.bytes.now c.args.at (length l) j few c.requires.position in (
+    let there : (j : ℕ) → j < length l → slice_index l j ≡ slice_index c.args.bytes.now
+    (c.args.at + j) = λ j few. byte_there l c.args.bytes.now c.args.at (length l) j few c.requires.position in (
       omega (arith, less),
       λ two. short_behind_zeros k l less
           (λ j few. there j (omega (arith, few, less)) ∙ c.others_32.ensures.same j (omega (arith, few, less)) (z.clear j few))
@@ -23,7 +24,8 @@ returns-then-n-eq64 c =
     let z = c.clear_bits-then-n-eq64.ensures in
     let less = z.less in
     let all = c.if-n-eq64.true in
-    let there : (j : ℕ) → j < length l → slice_index l j ≡ slice_index c.args.bytes.now (c.args.at + j) = λ j few. byte_there l c.args.bytes.now c.args.at (length l) j few c.requires.position in (
+    let there : (j : ℕ) → j < length l → slice_index l j ≡ slice_index c.args.bytes.now
+    (c.args.at + j) = λ j few. byte_there l c.args.bytes.now c.args.at (length l) j few c.requires.position in (
       omega (arith, less, all),
       λ two. short_behind_zeros k l (omega (arith, less, all))
           (λ j few. there j (omega (arith, few, less, all)) ∙ c.others_64.ensures.same j (omega (arith, few, less)) (z.clear j few))

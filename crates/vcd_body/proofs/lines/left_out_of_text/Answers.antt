@@ -9,7 +9,9 @@ returns-in-Vector c =
     let size : 1 < c.args.size = c.if-size-gt1.true in
     let there = subst (λ f. HasChange bytes c.args.scanned.begin c.args.scanned.end f text c.requires.0) c.in-Vector.is c.requires.1 in
     let within = text_within bytes c.args.scanned.begin c.args.scanned.end text c.requires.0 there in
-    subst (λ f. IfSome c.left_out_of_vector.result (LeavesText bytes c.args.scanned.begin c.args.scanned.end c.args.size f text c.args.scanned.binary c.args.scanned.code_at)) (sym c.in-Vector.is) (if_some_more c.left_out_of_vector.result (λ k p. let few = p.0 in (
+    subst (λ f. IfSome c.left_out_of_vector.result
+    (LeavesText bytes c.args.scanned.begin c.args.scanned.end c.args.size f text c.args.scanned.binary c.args.scanned.code_at))
+    (sym c.in-Vector.is) (if_some_more c.left_out_of_vector.result (λ k p. let few = p.0 in (
       omega arith,
       98 ∷ short (extend (str_to_ascii_lowercase text) c.args.size),
       omega arith,

@@ -10,6 +10,7 @@ returns c =
       p.0,
       λ code t long known size.
           let within = text_within bytes c.args.from c.args.to text code t in
-          shortest_line bytes c.args.from (c.args.to - 1) k 98 text (32 ∷ code) (short (extend (str_to_ascii_lowercase text) size)) (omega arith) p.0 (p.1 known size) (c.has_one_blank.ensures.line c.if-not-has_one_blank.false code t long),
+          shortest_line bytes c.args.from (c.args.to - 1) k 98 text (32 ∷ code) (short (extend (str_to_ascii_lowercase text) size)) (omega arith) p.0
+          (p.1 known size) (c.has_one_blank.ensures.line c.if-not-has_one_blank.false code t long),
     ))
     c.left_out_of.ensures

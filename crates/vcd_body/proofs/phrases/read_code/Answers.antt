@@ -5,7 +5,8 @@ use Rattle.vcd_body.proofs.phrases.read_code.Goals as goal
 pub returns-in_err-next_inner-clause-reads : goal.returns-in_err-next_inner-clause-reads
 returns-in_err-next_inner-clause-reads g c =
     let p = err_from_is_err_and c.from_residual.result c.from_residual.ensures.1 in
-    rw (p.1, p.2) (λ h i front placed first v asks r. c.in_err-next_inner.ensures.reads h.codes i front placed first [] (kept h.codes i front placed (first ∷ []) c.args.feed.now c.keep.new.self c.keep.ensures.still.stands r))
+    rw (p.1, p.2) (λ h i front placed first v asks r. c.in_err-next_inner.ensures.reads h.codes i front placed first []
+    (kept h.codes i front placed (first ∷ []) c.args.feed.now c.keep.new.self c.keep.ensures.still.stands r))
 
 pub returns-in-None-clause-reads : goal.returns-in-None-clause-reads
 returns-in-None-clause-reads g c = λ h i front placed first v asks r.

@@ -27,7 +27,8 @@ returns-then-not-may_have_digits-clause-reads g c = λ h i front placed v l.
     let x = c.in_ok-found.ensures.sized in
     refused_at h.codes i front placed (t ∷ []) c.read_code.new.feed 17
     (too_wide h.codes (phrases_of placed) t c.requires.begins (token_of c.read_code.new.feed).bytes k.0 k.2
-    (same_room (parts c.args.view) h v c.in_ok-found.found.position k.0 x.0 (length (drop 1 t)) false k.1 x.1 (ap (λ m. x.0.event || nat_le m x.0.size) n ∙ sym (c.may_have_digits.ensures x.0 x.1) ∙ c.if-not-may_have_digits.true))) k.3
+    (same_room (parts c.args.view) h v c.in_ok-found.found.position k.0 x.0 (length (drop 1 t)) false k.1 x.1
+    (ap (λ m. x.0.event || nat_le m x.0.size) n ∙ sym (c.may_have_digits.ensures x.0 x.1) ∙ c.if-not-may_have_digits.true))) k.3
 
 pub returns-clause-reads : goal.returns-clause-reads
 returns-clause-reads g c = λ h i front placed v l.
@@ -37,7 +38,8 @@ returns-clause-reads g c = λ h i front placed v l.
     let n = ap length (sym (c.rest_of-2.ensures ∙ ap (drop 1) (c.value.ensures ∙ c.in_ok-found.ensures.value))) in
     let x = c.in_ok-found.ensures.sized in
     vector_read h.codes i front placed c.read_code.new.feed t c.requires.begins c.in_ok-found.found.position c.in_ok-found.ensures.value k
-    (same_room (parts c.args.view) h v c.in_ok-found.found.position k.0 x.0 (length (drop 1 t)) true k.1 x.1 (ap (λ m. x.0.event || nat_le m x.0.size) n ∙ sym (c.may_have_digits.ensures x.0 x.1) ∙ c.if-not-may_have_digits.false))
+    (same_room (parts c.args.view) h v c.in_ok-found.found.position k.0 x.0 (length (drop 1 t)) true k.1 x.1
+    (ap (λ m. x.0.event || nat_le m x.0.size) n ∙ sym (c.may_have_digits.ensures x.0 x.1) ∙ c.if-not-may_have_digits.false))
 
 pub returns-clause-sound : goal.returns-clause-sound
 returns-clause-sound g c =
@@ -47,4 +49,6 @@ returns-clause-sound g c =
     let some = d.0 in
     let long = ap length same in
     let x = c.in_ok-found.ensures.sized in
-    vector_sound c.args.view.codes.now (drop 1 (value_of c.read_code.new.feed)) c.in_ok-found.found.position x.0 x.1 (omega (arith, some, long)) (ap (list_all is_value_digit) same ∙ d.1) (ap (λ m. x.0.event || nat_le m x.0.size) n ∙ sym (c.may_have_digits.ensures x.0 x.1) ∙ c.if-not-may_have_digits.false)
+    vector_sound c.args.view.codes.now (drop 1 (value_of c.read_code.new.feed)) c.in_ok-found.found.position x.0 x.1 (omega (arith, some, long))
+    (ap (list_all is_value_digit) same ∙ d.1) (ap (λ m. x.0.event || nat_le m x.0.size) n ∙ sym (c.may_have_digits.ensures x.0 x.1)
+    ∙ c.if-not-may_have_digits.false)

@@ -6,8 +6,11 @@ pub after_first-code-requires : goal.after_first-code-requires
 after_first-code-requires c = let b = c.requires.begins in some_of _ _ _ b.3
 
 pub returns-then-is_empty-clause-refuses : goal.returns-then-is_empty-clause-refuses
-returns-then-is_empty-clause-refuses c = λ h earlier v.
-    (λ x. cc, no_code h.codes earlier c.args.token.now c.requires.begins (empty (drop 1 c.args.token.now) (ap (λ l. length l == 0) (sym c.after_first-code.ensures) ∙ sym c.is_empty.ensures ∙ c.if-is_empty.true)))
+returns-then-is_empty-clause-refuses c = λ h earlier v. (
+  λ x. cc,
+  no_code h.codes earlier c.args.token.now c.requires.begins
+      (empty (drop 1 c.args.token.now) (ap (λ l. length l == 0) (sym c.after_first-code.ensures) ∙ sym c.is_empty.ensures ∙ c.if-is_empty.true)),
+)
 
 pub returns-in-Some-clause-finds : goal.returns-in-Some-clause-finds
 returns-in-Some-clause-finds c =
@@ -26,5 +29,8 @@ returns-in-Some-clause-finds c =
 
 pub returns-in-None-clause-refuses : goal.returns-in-None-clause-refuses
 returns-in-None-clause-refuses c = λ h earlier v.
-    let f = subst (λ t. Finds h.codes t None) c.after_first-code.ensures (c.in-None.ensures.found h v) in
-    (λ x. cc, unknown_code h.codes earlier c.args.token.now c.requires.begins (filled (drop 1 c.args.token.now) (ap (λ l. length l == 0) (sym c.after_first-code.ensures) ∙ sym c.is_empty.ensures ∙ c.if-is_empty.false)) f)
+    let f = subst (λ t. Finds h.codes t None) c.after_first-code.ensures (c.in-None.ensures.found h v) in (
+      λ x. cc,
+      unknown_code h.codes earlier c.args.token.now c.requires.begins
+          (filled (drop 1 c.args.token.now) (ap (λ l. length l == 0) (sym c.after_first-code.ensures) ∙ sym c.is_empty.ensures ∙ c.if-is_empty.false)) f,
+    )

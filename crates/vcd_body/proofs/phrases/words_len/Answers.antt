@@ -24,5 +24,9 @@ words-preserved c =
 pub returns : goal.returns
 returns c = λ lines.
     let inv = c.words.invariant in
-    let so_far = inv.2 lines in
-    (so_far.0, so_far.1, subst (λ n. Passed (longest_of c.args.ahead) lines (bytes_of c.args.ahead) n so_far.0) (ap passed_of (sym (c.word_ahead.ensures.none c.in_default.is)) ∙ sym c.passed.ensures.passed) so_far.2)
+    let so_far = inv.2 lines in (
+      so_far.0,
+      so_far.1,
+      subst (λ n. Passed (longest_of c.args.ahead) lines (bytes_of c.args.ahead) n so_far.0)
+          (ap passed_of (sym (c.word_ahead.ensures.none c.in_default.is)) ∙ sym c.passed.ensures.passed) so_far.2,
+    )

@@ -16,7 +16,8 @@ returns-in_default g c =
     let id = id_text c.args.id in
     let line = vector_line c.args.text.now id c.args.size c.args.event c.args.form size event form in
     let rest = drop-map to_ascii_lowercase c.needless.result c.args.text.now ∙ c.needless.ensures.rest c.args.size in
-    subst (λ l. Puts (g.W.Sink.device c.args.w.now) (g.W.Sink.device c.put_vector.new.w) l c.put_vector.result) (ap (λ ds. 98 ∷ ds ++ (32 ∷ id ++ 10 ∷ [])) rest ∙ sym line) c.put_vector.ensures
+    subst (λ l. Puts (g.W.Sink.device c.args.w.now) (g.W.Sink.device c.put_vector.new.w) l c.put_vector.result)
+    (ap (λ ds. 98 ∷ ds ++ (32 ∷ id ++ 10 ∷ [])) rest ∙ sym line) c.put_vector.ensures
 
 pub returns-in_default-2 : goal.returns-in_default-2
 returns-in_default-2 g c = c.put_nonvector_under.ensures c.args.size (c.is_vector.ensures.other c.if-is_vector.false)

@@ -11,11 +11,13 @@ returns-in_err-put_from g c =
     let p = err_from_is_err_and c.from_residual-in_err-put_from.result c.from_residual-in_err-put_from.ensures.1 in
     let digits = drop c.args.from (g.D.Digits.digits c.args.digits) in
     let end = 32 ∷ id_text c.args.id ++ 10 ∷ [] in
-    rw p.1 (some-behind (g.W.Sink.device _) (g.W.Sink.device _) (g.W.Sink.device _) (98 ∷ []) (digits ++ end) c.in_ok-put.ensures (some-first (g.W.Sink.device _) (g.W.Sink.device _) digits end c.in_err-put_from.ensures))
+    rw p.1 (some-behind (g.W.Sink.device _) (g.W.Sink.device _) (g.W.Sink.device _) (98 ∷ []) (digits ++ end) c.in_ok-put.ensures
+    (some-first (g.W.Sink.device _) (g.W.Sink.device _) digits end c.in_err-put_from.ensures))
 
 pub returns : goal.returns
 returns g c =
     let digits = drop c.args.from (g.D.Digits.digits c.args.digits) in
     let end = 32 ∷ id_text c.args.id ++ 10 ∷ [] in
     let result = c.put_code_under.result in
-    puts-twice (g.W.Sink.device _) (g.W.Sink.device _) (g.W.Sink.device _) (98 ∷ []) (digits ++ end) result c.in_ok-put.ensures (puts-twice (g.W.Sink.device _) (g.W.Sink.device _) (g.W.Sink.device _) digits end result c.in_ok-put_from.ensures c.put_code_under.ensures)
+    puts-twice (g.W.Sink.device _) (g.W.Sink.device _) (g.W.Sink.device _) (98 ∷ []) (digits ++ end) result c.in_ok-put.ensures
+    (puts-twice (g.W.Sink.device _) (g.W.Sink.device _) (g.W.Sink.device _) digits end result c.in_ok-put_from.ensures c.put_code_under.ensures)

@@ -10,7 +10,8 @@ pub returns-in_err-next_token-clause-reads : goal.returns-in_err-next_token-clau
 returns-in_err-next_token-clause-reads g c =
     let p = err_from_is_err_and c.from_residual.result c.from_residual.ensures.1 in
     rw (p.1, p.2) (λ h i front items v s.
-    given.fault_given h.codes i front items s.placed _ c.next_token.new.feed s.items_are (c.in_err-next_token.ensures.reads h.codes i front s.placed [] (given.reads_of h.codes i front items c.args.feed.now c.args.regs.now s)))
+    given.fault_given h.codes i front items s.placed _ c.next_token.new.feed s.items_are
+    (c.in_err-next_token.ensures.reads h.codes i front s.placed [] (given.reads_of h.codes i front items c.args.feed.now c.args.regs.now s)))
 
 pub returns-then-is_some-clause-reads : goal.returns-then-is_some-clause-reads
 returns-then-is_some-clause-reads g c = λ h i front items v s.
@@ -26,44 +27,53 @@ pub returns-in_err-scalar_code-in-Bit-clause-reads : goal.returns-in_err-scalar_
 returns-in_err-scalar_code-in-Bit-clause-reads g c =
     let p = err_from_is_err_and c.from_residual-in_err-scalar_code-in-Bit.result c.from_residual-in_err-scalar_code-in-Bit.ensures.1 in
     rw (p.1, p.2) (λ h i front items v s.
-    let b = given.begun_at h.codes i front items c.args.feed.now c.next_token.new.feed c.args.regs.now c.in_ok-next_token.field-0 c.if-not-branch.false s (c.in_ok-next_token.ensures.reads h.codes i front s.placed [] (given.reads_of h.codes i front items c.args.feed.now c.args.regs.now s)) in
-    given.refused_own h.codes i front items c.next_token.new.feed c.args.regs.now c.token-token.result.now _ b c.token-token.ensures (c.in_err-scalar_code-in-Bit.ensures.refuses h (phrases_of b.placed) v))
+    let b = given.begun_at h.codes i front items c.args.feed.now c.next_token.new.feed c.args.regs.now c.in_ok-next_token.field-0 c.if-not-branch.false s
+    (c.in_ok-next_token.ensures.reads h.codes i front s.placed [] (given.reads_of h.codes i front items c.args.feed.now c.args.regs.now s)) in
+    given.refused_own h.codes i front items c.next_token.new.feed c.args.regs.now c.token-token.result.now _ b c.token-token.ensures
+    (c.in_err-scalar_code-in-Bit.ensures.refuses h (phrases_of b.placed) v))
 
 pub returns-in_err-read_timestamp-in-Timestamp-clause-reads : goal.returns-in_err-read_timestamp-in-Timestamp-clause-reads
 returns-in_err-read_timestamp-in-Timestamp-clause-reads g c =
     let p = err_from_is_err_and c.from_residual-in_err-read_timestamp-in-Timestamp.result c.from_residual-in_err-read_timestamp-in-Timestamp.ensures.1 in
     rw (p.1, p.2) (λ h i front items v s.
-    let b = given.begun_at h.codes i front items c.args.feed.now c.next_token.new.feed c.args.regs.now c.in_ok-next_token.field-0 c.if-not-branch.false s (c.in_ok-next_token.ensures.reads h.codes i front s.placed [] (given.reads_of h.codes i front items c.args.feed.now c.args.regs.now s)) in
+    let b = given.begun_at h.codes i front items c.args.feed.now c.next_token.new.feed c.args.regs.now c.in_ok-next_token.field-0 c.if-not-branch.false s
+    (c.in_ok-next_token.ensures.reads h.codes i front s.placed [] (given.reads_of h.codes i front items c.args.feed.now c.args.regs.now s)) in
     given.refused_own h.codes i front items c.next_token.new.feed c.args.regs.now c.token-token.result.now _ b c.token-token.ensures
     (c.in_err-read_timestamp-in-Timestamp.ensures.time h.codes (phrases_of b.placed) (given.known_so_far h.codes i front items c.next_token.new.feed c.args.regs.now b)))
 
 pub returns-in_ok-scalar_code-in-Bit-clause-reads : goal.returns-in_ok-scalar_code-in-Bit-clause-reads
 returns-in_ok-scalar_code-in-Bit-clause-reads g c = λ h i front items v s.
-    let b = given.begun_at h.codes i front items c.args.feed.now c.next_token.new.feed c.args.regs.now c.in_ok-next_token.field-0 c.if-not-branch.false s (c.in_ok-next_token.ensures.reads h.codes i front s.placed [] (given.reads_of h.codes i front items c.args.feed.now c.args.regs.now s)) in
+    let b = given.begun_at h.codes i front items c.args.feed.now c.next_token.new.feed c.args.regs.now c.in_ok-next_token.field-0 c.if-not-branch.false s
+    (c.in_ok-next_token.ensures.reads h.codes i front s.placed [] (given.reads_of h.codes i front items c.args.feed.now c.args.regs.now s)) in
     let k = c.in_ok-scalar_code-in-Bit.ensures.finds.code h (phrases_of b.placed) v in
     (k.0, k.1, given.scalar_given h.codes i front items c.next_token.new.feed c.args.regs.now c.token-token.result.now k.0 b c.token-token.ensures k.2)
 
 pub returns-in_ok-read_vector-in-Vector-clause-reads : goal.returns-in_ok-read_vector-in-Vector-clause-reads
 returns-in_ok-read_vector-in-Vector-clause-reads g c = λ h i front items v s.
-    let b = given.begun_at h.codes i front items c.args.feed.now c.next_token.new.feed c.args.regs.now c.in_ok-next_token.field-0 c.if-not-branch.false s (c.in_ok-next_token.ensures.reads h.codes i front s.placed [] (given.reads_of h.codes i front items c.args.feed.now c.args.regs.now s)) in
+    let b = given.begun_at h.codes i front items c.args.feed.now c.next_token.new.feed c.args.regs.now c.in_ok-next_token.field-0 c.if-not-branch.false s
+    (c.in_ok-next_token.ensures.reads h.codes i front s.placed [] (given.reads_of h.codes i front items c.args.feed.now c.args.regs.now s)) in
     let k = c.in_ok-read_vector-in-Vector.ensures.reads h i front b.placed v b.looks in
     (k.0, k.1, given.change_given h.codes i front items c.next_token.new.feed c.read_vector.new.feed c.args.regs.now _ b k.2)
 
 pub returns-in_ok-read_real-in-Real-clause-reads : goal.returns-in_ok-read_real-in-Real-clause-reads
 returns-in_ok-read_real-in-Real-clause-reads g c = λ h i front items v s.
-    let b = given.begun_at h.codes i front items c.args.feed.now c.next_token.new.feed c.args.regs.now c.in_ok-next_token.field-0 c.if-not-branch.false s (c.in_ok-next_token.ensures.reads h.codes i front s.placed [] (given.reads_of h.codes i front items c.args.feed.now c.args.regs.now s)) in
+    let b = given.begun_at h.codes i front items c.args.feed.now c.next_token.new.feed c.args.regs.now c.in_ok-next_token.field-0 c.if-not-branch.false s
+    (c.in_ok-next_token.ensures.reads h.codes i front s.placed [] (given.reads_of h.codes i front items c.args.feed.now c.args.regs.now s)) in
     let k = c.in_ok-read_real-in-Real.ensures.reads h i front b.placed v b.looks in
     (k.0, k.1, given.change_given h.codes i front items c.next_token.new.feed c.read_real.new.feed c.args.regs.now _ b k.2)
 
 pub returns-in_ok-read_timestamp-in-Timestamp-clause-reads : goal.returns-in_ok-read_timestamp-in-Timestamp-clause-reads
 returns-in_ok-read_timestamp-in-Timestamp-clause-reads g c = λ h i front items v s.
-    let b = given.begun_at h.codes i front items c.args.feed.now c.next_token.new.feed c.args.regs.now c.in_ok-next_token.field-0 c.if-not-branch.false s (c.in_ok-next_token.ensures.reads h.codes i front s.placed [] (given.reads_of h.codes i front items c.args.feed.now c.args.regs.now s)) in
-    rw c.in_ok-read_timestamp-in-Timestamp.ensures.regs (given.time_given h.codes i front items c.next_token.new.feed c.args.regs.now c.token-token.result.now c.in_ok-read_timestamp-in-Timestamp.field-0 b c.token-token.ensures
+    let b = given.begun_at h.codes i front items c.args.feed.now c.next_token.new.feed c.args.regs.now c.in_ok-next_token.field-0 c.if-not-branch.false s
+    (c.in_ok-next_token.ensures.reads h.codes i front s.placed [] (given.reads_of h.codes i front items c.args.feed.now c.args.regs.now s)) in
+    rw c.in_ok-read_timestamp-in-Timestamp.ensures.regs
+    (given.time_given h.codes i front items c.next_token.new.feed c.args.regs.now c.token-token.result.now c.in_ok-read_timestamp-in-Timestamp.field-0 b c.token-token.ensures
     (c.in_ok-read_timestamp-in-Timestamp.ensures.time h.codes (phrases_of b.placed) (given.known_so_far h.codes i front items c.next_token.new.feed c.args.regs.now b)))
 
 pub returns-in-Other-clause-reads : goal.returns-in-Other-clause-reads
 returns-in-Other-clause-reads g c = λ h i front items v s.
-    let b = given.begun_at h.codes i front items c.args.feed.now c.next_token.new.feed c.args.regs.now c.in_ok-next_token.field-0 c.if-not-branch.false s (c.in_ok-next_token.ensures.reads h.codes i front s.placed [] (given.reads_of h.codes i front items c.args.feed.now c.args.regs.now s)) in
+    let b = given.begun_at h.codes i front items c.args.feed.now c.next_token.new.feed c.args.regs.now c.in_ok-next_token.field-0 c.if-not-branch.false s
+    (c.in_ok-next_token.ensures.reads h.codes i front s.placed [] (given.reads_of h.codes i front items c.args.feed.now c.args.regs.now s)) in
     c.read_command.ensures.reads h.codes i front items b
 
 pub returns-in-Other-clause-sound : goal.returns-in-Other-clause-sound

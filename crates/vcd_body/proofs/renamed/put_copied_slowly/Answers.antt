@@ -7,7 +7,8 @@ returns-in_err-put g c =
     let bytes = c.args.bytes.now in
     let first = slice_range bytes c.args.from (c.args.from + 1) in
     let rest = slice_range bytes (c.args.from + 1 + c.args.left_out) c.args.end in
-    rw p.1 (some-first (g.W.Sink.device _) (g.W.Sink.device _) (first ++ rest) (32 ∷ new_code c.args.number ++ 10 ∷ []) (some-first (g.W.Sink.device _) (g.W.Sink.device _) first rest c.in_err-put.ensures))
+    rw p.1 (some-first (g.W.Sink.device _) (g.W.Sink.device _) (first ++ rest) (32 ∷ new_code c.args.number ++ 10 ∷ [])
+    (some-first (g.W.Sink.device _) (g.W.Sink.device _) first rest c.in_err-put.ensures))
 
 pub returns-in_err-put-2 : goal.returns-in_err-put-2
 returns-in_err-put-2 g c =
@@ -15,7 +16,8 @@ returns-in_err-put-2 g c =
     let bytes = c.args.bytes.now in
     let first = slice_range bytes c.args.from (c.args.from + 1) in
     let rest = slice_range bytes (c.args.from + 1 + c.args.left_out) c.args.end in
-    rw p.1 (some-first (g.W.Sink.device _) (g.W.Sink.device _) (first ++ rest) (32 ∷ new_code c.args.number ++ 10 ∷ []) (some-behind (g.W.Sink.device _) (g.W.Sink.device _) (g.W.Sink.device _) first rest c.in_ok-put.ensures c.in_err-put-2.ensures))
+    rw p.1 (some-first (g.W.Sink.device _) (g.W.Sink.device _) (first ++ rest) (32 ∷ new_code c.args.number ++ 10 ∷ [])
+    (some-behind (g.W.Sink.device _) (g.W.Sink.device _) (g.W.Sink.device _) first rest c.in_ok-put.ensures c.in_err-put-2.ensures))
 
 pub returns : goal.returns
 returns g c =

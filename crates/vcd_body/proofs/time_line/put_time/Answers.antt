@@ -9,5 +9,6 @@ returns g c =
     let start = c.write_digits-start.result in
     let buf = c.write_digits-start.new.buf in
     let long = c.write_digits-start.ensures.start in
-    let all : take (20 - start) (slice_range buf start 84) ≡ decimal c.args.time = take-take (20 - start) (84 - start) (drop start buf) (omega arith) ∙ ap (take (20 - start)) c.write_digits-start.ensures.written ∙ take_at (decimal c.args.time) _ (20 - start) (omega (arith, long)) in
+    let all : take (20 - start) (slice_range buf start 84) ≡ decimal c.args.time = take-take (20 - start) (84 - start) (drop start buf) (omega arith)
+    ∙ ap (take (20 - start)) c.write_digits-start.ensures.written ∙ take_at (decimal c.args.time) _ (20 - start) (omega (arith, long)) in
     subst (λ l. Puts (g.W.Sink.device c.args.out.now) (g.W.Sink.device c.put_parts.new.w) (35 ∷ l ++ 10 ∷ []) c.put_parts.result) all c.put_parts.ensures

@@ -17,8 +17,11 @@ returns-in-Err-InputTooLong-clause-reads g c = λ codes i front placed before r.
 pub returns-in-Err-ReadFailed-clause-reads : goal.returns-in-Err-ReadFailed-clause-reads
 returns-in-Err-ReadFailed-clause-reads g c = λ codes i front placed before r.
     let e = rw c.in-Err-ReadFailed.field-0-is at c.in-Err-ReadFailed.ensures in
-    let n = e.gives i (front ++ r.given) r.stands in
-    (halted_at codes (failed_after (seen c.next.new.self) i) front placed (limit_of c.args.feed.now) r.given before 31 c.next.new.self e.advances.limit r.so_far n.2 n.0, e.left refl i (front ++ r.given) r.stands)
+    let n = e.gives i (front ++ r.given) r.stands in (
+      halted_at codes (failed_after (seen c.next.new.self) i) front placed
+          (limit_of c.args.feed.now) r.given before 31 c.next.new.self e.advances.limit r.so_far n.2 n.0,
+      e.left refl i (front ++ r.given) r.stands,
+    )
 
 pub returns-in-Ok-Token-clause-ahead : goal.returns-in-Ok-Token-clause-ahead
 returns-in-Ok-Token-clause-ahead g c = λ t ts w. (refl, (c.in-Ok-Token.ensures.ahead t ts w).1)

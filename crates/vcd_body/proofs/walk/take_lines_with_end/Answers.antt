@@ -20,7 +20,12 @@ returns-in_default g c =
 pub returns-then-is_over : goal.returns-then-is_over
 returns-then-is_over g c =
     let ended : c.take_shorts-shorts.result.ended ≡ Ok false = search rules in
-    rw c.ended_at-then-is_over.ensures (_, walks_further _ _ _ _ _ _ _ (Ok false) c.lines.invariant.come (rw ended at c.take_shorts-shorts.ensures), (c.in-Some.ensures _), sym c.is_over.ensures ∙ c.if-is_over.true)
+    rw c.ended_at-then-is_over.ensures (
+      _,
+      walks_further _ _ _ _ _ _ _ (Ok false) c.lines.invariant.come (rw ended at c.take_shorts-shorts.ensures),
+      (c.in-Some.ensures _),
+      sym c.is_over.ensures ∙ c.if-is_over.true,
+    )
 
 pub lines-preserved : goal.lines-preserved
 lines-preserved g c =

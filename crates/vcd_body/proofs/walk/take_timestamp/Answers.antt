@@ -6,7 +6,8 @@ pub take_timestamp-requires-clause-item : goal.take_timestamp-requires-clause-it
 take_timestamp-requires-clause-item g c = (_, _, c.in_ok-timestamp.ensures.takes c.args.ahead.now c.args.view c.requires.opens)
 
 pub take_timestamp-requires-clause-stands : goal.take_timestamp-requires-clause-stands
-take_timestamp-requires-clause-stands g c = stands_there g.V.Visit.takes g.V.Visit.stands _ _ _ _ _ (c.in_ok-timestamp.ensures.takes c.args.ahead.now c.args.view c.requires.opens) _ _ c.requires.stands
+take_timestamp-requires-clause-stands g c = stands_there g.V.Visit.takes g.V.Visit.stands _ _ _ _ _
+    (c.in_ok-timestamp.ensures.takes c.args.ahead.now c.args.view c.requires.opens) _ _ c.requires.stands
 
 pub returns : goal.returns
 returns g c = λ out.

@@ -5,7 +5,8 @@ use Rattle.vcd_body.proofs.walk.walk_ahead.Goals as goal
 use Rattle.vcd_body.proofs.walk.walk_ahead.Goals.{After-passed, After-walk_items-items, then-at_lines+else-not-can_go_on, else-at_lines, then-lines_next, else-lines_next}
 
 -- where the walk is before it takes items one by one
-come_to_items : (g : Over) (c : After-walk_items-items g) → HasCome g.V.Visit.takes g.V.Visit.stands g.V.Visit.over c.args.view (stage_at c.args.ahead c.args.regs c.args.visit c.args.command.now (g.W.Sink.device c.args.out.now))
+come_to_items : (g : Over) (c : After-walk_items-items g) → HasCome g.V.Visit.takes g.V.Visit.stands g.V.Visit.over c.args.view
+    (stage_at c.args.ahead c.args.regs c.args.visit c.args.command.now (g.W.Sink.device c.args.out.now))
     (stage_at c.if-at_lines.ahead c.if-at_lines.regs c.if-at_lines.visit c.if-at_lines.command (g.W.Sink.device c.if-at_lines.out))
 come_to_items g c = elim c.if-at_lines.branch [
   | then-at_lines+else-not-can_go_on w ↦
@@ -15,8 +16,12 @@ come_to_items g c = elim c.if-at_lines.branch [
 ]
 
 -- where it is after them, if it began there: at lines of two bytes, or past comments
-come_past_items : (g : Over) (c : After-passed g) (begin : Stage _ _) → HasCome g.V.Visit.takes g.V.Visit.stands g.V.Visit.over c.args.view begin (stage_at c.if-at_lines.ahead c.if-at_lines.regs c.if-at_lines.visit c.if-at_lines.command (g.W.Sink.device c.if-at_lines.out))
-    → HasCome g.V.Visit.takes g.V.Visit.stands g.V.Visit.over c.args.view begin (stage_at c.if-lines_next.past c.walk_items-items.result.0.regs c.walk_items-items.result.0.visit c.walk_items-items.new.command (g.W.Sink.device c.walk_items-items.new.out))
+come_past_items : (g : Over) (c : After-passed g) (begin : Stage _ _)
+    → HasCome g.V.Visit.takes g.V.Visit.stands g.V.Visit.over c.args.view begin
+    (stage_at c.if-at_lines.ahead c.if-at_lines.regs c.if-at_lines.visit c.if-at_lines.command (g.W.Sink.device c.if-at_lines.out))
+    → HasCome g.V.Visit.takes g.V.Visit.stands g.V.Visit.over c.args.view begin
+    (stage_at c.if-lines_next.past c.walk_items-items.result.0.regs c.walk_items-items.result.0.visit c.walk_items-items.new.command
+    (g.W.Sink.device c.walk_items-items.new.out))
 come_past_items g c begin to_items =
     let ended : c.walk_items-items.result.0.ended ≡ Ok false = search rules in
     let come = walks_further _ _ _ _ _ _ _ (Ok false) to_items (rw ended at c.walk_items-items.ensures.walks) in

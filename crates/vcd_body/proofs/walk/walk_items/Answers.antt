@@ -7,7 +7,10 @@ items-init g c = record { come = come_begins _ _ _ _ _ c.requires.stands c.requi
 
 pub returns-in_default-clause-walks : goal.returns-in_default-clause-walks
 returns-in_default-clause-walks g c =
-    let come : HasCome g.V.Visit.takes g.V.Visit.stands g.V.Visit.over c.args.view (stage_at c.args.ahead c.args.regs c.args.visit c.args.command.now (g.W.Sink.device c.args.out.now)) (stage_at c.take_any.new.ahead c.take_any.new.regs c.take_any.new.visit c.take_any.new.command (g.W.Sink.device c.take_any.new.out)) = rw c.in_default.ensures.next c.items.invariant.come in
+    let come : HasCome g.V.Visit.takes g.V.Visit.stands g.V.Visit.over c.args.view
+    (stage_at c.args.ahead c.args.regs c.args.visit c.args.command.now (g.W.Sink.device c.args.out.now))
+    (stage_at c.take_any.new.ahead c.take_any.new.regs c.take_any.new.visit c.take_any.new.command (g.W.Sink.device c.take_any.new.out))
+    = rw c.in_default.ensures.next c.items.invariant.come in
     rw c.ended_at.ensures (come_past _ _ _ _ _ _ _ come (same_place _ _ c.forget.ensures))
 
 pub returns-in-Err-clause-walks : goal.returns-in-Err-clause-walks
@@ -17,7 +20,8 @@ pub returns-then-is_over-clause-walks : goal.returns-then-is_over-clause-walks
 returns-then-is_over-clause-walks g c = rw c.ended_at-then-is_over.ensures (_, c.items.invariant.come, (rw c.in-Ok.is at c.in-Some.ensures.next), sym c.is_over.ensures ∙ c.if-is_over.true)
 
 pub returns-then-two_short_lines_come-clause-walks : goal.returns-then-two_short_lines_come-clause-walks
-returns-then-two_short_lines_come-clause-walks g c = rw c.ended_at-then-two_short_lines_come.ensures (come_on _ _ _ _ _ _ _ c.items.invariant.come (rw c.in-Ok.is at c.in-Some.ensures.next) (sym c.is_over.ensures ∙ c.if-is_over.false))
+returns-then-two_short_lines_come-clause-walks g c = rw c.ended_at-then-two_short_lines_come.ensures
+    (come_on _ _ _ _ _ _ _ c.items.invariant.come (rw c.in-Ok.is at c.in-Some.ensures.next) (sym c.is_over.ensures ∙ c.if-is_over.false))
 
 pub returns-then-two_short_lines_come-clause-lines : goal.returns-then-two_short_lines_come-clause-lines
 returns-then-two_short_lines_come-clause-lines g c = λ _. rw c.ended_at-then-two_short_lines_come.ensures (sym c.is_over.ensures ∙ c.if-is_over.false)

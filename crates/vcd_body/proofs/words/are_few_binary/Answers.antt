@@ -9,9 +9,24 @@ loop-digit-preserved c = λ small k less.
     let d = get_or c.args.digits.now at 0 in
     let inside : at < length c.args.digits.now = omega arith in
     let fit = c.type_inv.digits at in
-    let low : 48 ≤ d = elim c.if-largest-above.branch [ then-largest-above w ↦ omega (arith, w.largest-is, w.if-largest-above, small, fit) | else-largest-above w ↦ omega (arith, w.largest-is, w.if-largest-above, small, fit) ] in
-    let high : d ≤ 49 = elim c.if-largest-above.branch [ then-largest-above w ↦ omega (arith, w.largest-is, w.if-largest-above, small, fit) | else-largest-above w ↦ omega (arith, w.largest-is, w.if-largest-above, small, fit) ] in
-    let before : c.loop-digit.largest ≤ 1 = elim c.if-largest-above.branch [ then-largest-above w ↦ omega (arith, w.largest-is, w.if-largest-above, small, fit) | else-largest-above w ↦ omega (arith, w.largest-is, w.if-largest-above, small, fit) ] in
+    let low : 48 ≤ d = elim c.if-largest-above.branch [
+      | then-largest-above w ↦ omega
+          (arith, w.largest-is, w.if-largest-above, small, fit)
+      | else-largest-above w ↦ omega
+          (arith, w.largest-is, w.if-largest-above, small, fit)
+    ] in
+    let high : d ≤ 49 = elim c.if-largest-above.branch [
+      | then-largest-above w ↦ omega
+          (arith, w.largest-is, w.if-largest-above, small, fit)
+      | else-largest-above w ↦ omega
+          (arith, w.largest-is, w.if-largest-above, small, fit)
+    ] in
+    let before : c.loop-digit.largest ≤ 1 = elim c.if-largest-above.branch [
+      | then-largest-above w ↦ omega
+          (arith, w.largest-is, w.if-largest-above, small, fit)
+      | else-largest-above w ↦ omega
+          (arith, w.largest-is, w.if-largest-above, small, fit)
+    ] in
     elim (cases_lt k at) [
       | inl earlier ↦ c.loop-digit.invariant before k earlier
       | inr late ↦ (let same : at ≡ k = omega arith in subst (λ j. IsBinaryAt c.args.digits.now j) same (two_of d low high))

@@ -17,7 +17,8 @@ loop-digit-preserved c =
     let i = c.loop-digit.digit-index in
     let lt : i < length last = omega arith in (
       c.with_digit-ones.ensures ∙ ap (λ (n : ℕ). 2 * n + cond (is_one (get_or last i 0)) 1 0) c.loop-digit.invariant.0 ∙ sym (number_one_more is_one last i lt),
-      c.with_digit-all.ensures ∙ ap (λ b. 2 * c.loop-digit.known + cond b 1 0) c.is_known.ensures ∙ ap (λ (n : ℕ). 2 * n + cond (is_known (get_or last i 0)) 1 0) c.loop-digit.invariant.1 ∙ sym (number_one_more is_known last i lt),
+      c.with_digit-all.ensures ∙ ap (λ b. 2 * c.loop-digit.known + cond b 1 0) c.is_known.ensures
+          ∙ ap (λ (n : ℕ). 2 * n + cond (is_known (get_or last i 0)) 1 0) c.loop-digit.invariant.1 ∙ sym (number_one_more is_known last i lt),
     )
 
 pub known_in_all-known-requires : goal.known_in_all-known-requires

@@ -12,8 +12,10 @@ returns-in-Ok-clause-finds c = λ h dump front items code views gave at.
     record {
       more = s.more;
       rows_are = s.rows_are;
-      ends = rw (c.status_of.ensures, c.place_of-reading.ensures) (ends_well c.args.limit h.codes (whole dump) front (items ++ s.more) f c.collect_rows-ended.new.regs c.collect_rows-ended.new.count c.collect_rows-ended.new.rows c.in-Ok.filled _ ends limit refl
-          (λ all. is_after c.args.limit h.codes (whole dump) front (items ++ s.more) f c.collect_rows-ended.new.regs c.offset.result c.requires.some all limit chunk c.offset.ensures.given c.offset.ensures.comes));
+      ends = rw (c.status_of.ensures, c.place_of-reading.ensures) (ends_well c.args.limit h.codes (whole dump) front
+          (items ++ s.more) f c.collect_rows-ended.new.regs c.collect_rows-ended.new.count c.collect_rows-ended.new.rows c.in-Ok.filled _ ends limit refl
+          (λ all. is_after c.args.limit h.codes (whole dump) front (items ++ s.more)
+          f c.collect_rows-ended.new.regs c.offset.result c.requires.some all limit chunk c.offset.ensures.given c.offset.ensures.comes));
     }
 
 pub returns-in-Err-clause-finds : goal.returns-in-Err-clause-finds
@@ -23,11 +25,17 @@ returns-in-Err-clause-finds c = λ h dump front items code views gave at.
     let fails = subst (EndsSo h.codes (whole dump) front (items ++ s.more) f c.collect_rows-ended.new.regs c.collect_rows-ended.new.count c.collect_rows-ended.new.rows) c.in-Err.is s.ends in
     let limit : limit_of f ≡ c.args.limit = c.collect_rows-ended.ensures.advances.limit ∙ c.requires.lengths.0 in
     let has = body_fault_is f (whole dump) h.codes front (items ++ s.more) c.in-Err.fault
-    (λ e. let more = c.collect_rows-ended.ensures.advances.failed (ap call_end (c.in-Err.is ∙ ap (λ (x : BodyFault). Err x) e)) (has_not_failed c.args.feed.now dump (front ++ gave.given) gave.stands) in absurd (omega arith)) fails in
+    (λ e. let more = c.collect_rows-ended.ensures.advances.failed (ap call_end (c.in-Err.is ∙ ap (λ (x : BodyFault). Err x) e))
+    (has_not_failed c.args.feed.now dump (front ++ gave.given) gave.stands) in absurd (omega arith)) fails in
     let number : c.from-reading.result ≡ fault_number c.in-Err.fault = omega arith in
     let told = some_fault (fault_number c.in-Err.fault) c.from-reading.result (token_of f).line c.line-reading.result number c.line-reading.ensures in
     record {
       more = s.more;
       rows_are = s.rows_are;
-      ends = inr (inl (refl, subst (BodyHas h.codes (whole dump) front c.args.limit (items ++ s.more)) told (subst (λ (n : ℕ). BodyHas h.codes (whole dump) front n (items ++ s.more) (Some (record { number = fault_number c.in-Err.fault; line = (token_of f).line }))) limit has)));
+      ends = inr (inl (
+        refl,
+        subst (BodyHas h.codes (whole dump) front c.args.limit (items ++ s.more)) told
+            (subst (λ (n : ℕ). BodyHas h.codes (whole dump) front n (items ++ s.more)
+            (Some (record { number = fault_number c.in-Err.fault; line = (token_of f).line }))) limit has),
+      ));
     }

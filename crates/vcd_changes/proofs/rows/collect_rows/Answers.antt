@@ -30,22 +30,35 @@ returns-then-eq g c =
       reads = λ h i front items code views gave at.
           let t = c.items.invariant.2 h i front items code views gave at in
           let s = filled_ahead code.text h.codes i front items t.0 _ _ _ _ t.2 (c.collect_ahead.ensures.reads h i front (items ++ t.0) code views t.1 at) in
-          record { more = s.0; rows_are = s.2; ends = subst (GivesItem h.codes i front (items ++ s.0) c.next_item.new.feed c.next_item.new.regs) is (c.in_ok-item.ensures.reads h i front (items ++ s.0) views s.1) };
+          record {
+            more = s.0;
+            rows_are = s.2;
+            ends = subst (GivesItem h.codes i front (items ++ s.0) c.next_item.new.feed c.next_item.new.regs) is
+                (c.in_ok-item.ensures.reads h i front (items ++ s.0) views s.1);
+          };
       most = c.collect_ahead.ensures.most;
-      advances = advances_on g.S.Source.failures c.args.feed.now c.collect_ahead.new.feed c.next_item.new.feed CallEnd.GoesOn (advances_on g.S.Source.failures c.args.feed.now c.items.feed c.collect_ahead.new.feed CallEnd.GoesOn c.items.invariant.0 c.collect_ahead.ensures.advances) c.in_ok-item.ensures.advances;
+      advances = advances_on g.S.Source.failures c.args.feed.now c.collect_ahead.new.feed c.next_item.new.feed CallEnd.GoesOn
+          (advances_on g.S.Source.failures c.args.feed.now c.items.feed c.collect_ahead.new.feed CallEnd.GoesOn c.items.invariant.0 c.collect_ahead.ensures.advances)
+          c.in_ok-item.ensures.advances;
     }
 
 pub items-preserved : goal.items-preserved
 items-preserved g c = (
-  advances_on g.S.Source.failures c.args.feed.now c.collect_ahead.new.feed c.next_item.new.feed CallEnd.GoesOn (advances_on g.S.Source.failures c.args.feed.now c.items.feed c.collect_ahead.new.feed CallEnd.GoesOn c.items.invariant.0 c.collect_ahead.ensures.advances) c.in_ok-item.ensures.advances,
+  advances_on g.S.Source.failures c.args.feed.now c.collect_ahead.new.feed c.next_item.new.feed CallEnd.GoesOn
+      (advances_on g.S.Source.failures c.args.feed.now c.items.feed c.collect_ahead.new.feed CallEnd.GoesOn c.items.invariant.0 c.collect_ahead.ensures.advances)
+      c.in_ok-item.ensures.advances,
   c.add_row.ensures.most,
   λ h i front items code views gave at.
       let a = c.items.invariant.2 h i front items code views gave at in
       let s = filled_ahead code.text h.codes i front items a.0 _ _ _ _ a.2 (c.collect_ahead.ensures.reads h i front (items ++ a.0) code views a.1 at) in
       let gives = c.in_ok-item.ensures.reads h i front (items ++ s.0) views s.1 in
-      let t = taken h.codes _ views.index c.args.index code at i front (items ++ s.0) c.next_item.new.feed c.next_item.new.regs c.in_ok-item.item gives (λ is. let same : c.eq.result ≡ true = search rules in not_both c.eq.result same c.if-eq.false) in (
+      let t = taken h.codes _ views.index c.args.index code at i front
+      (items ++ s.0) c.next_item.new.feed c.next_item.new.regs c.in_ok-item.item gives (λ is. let same : c.eq.result ≡ true = search rules in
+      not_both c.eq.result same c.if-eq.false) in (
         s.0 ++ t.0 ∷ [],
         subst (λ (l : List BodyItem). GaveItems h.codes i front l c.next_item.new.feed c.next_item.new.regs) (append_assoc items s.0 (t.0 ∷ [])) t.1,
-        filled_more code.text items s.0 (t.0 ∷ []) (take c.collect_ahead.result c.collect_ahead.new.rows) (row_added c.args.index c.next_item.new.regs.time (item_text c.next_item.new.feed c.in_ok-item.item) c.in_ok-item.item) s.2 t.2 ∙ ap (λ l. rows_of code.text items ++ l) (sym c.add_row.ensures.rows),
+        filled_more code.text items s.0 (t.0 ∷ []) (take c.collect_ahead.result c.collect_ahead.new.rows)
+            (row_added c.args.index c.next_item.new.regs.time (item_text c.next_item.new.feed c.in_ok-item.item) c.in_ok-item.item) s.2 t.2
+            ∙ ap (λ l. rows_of code.text items ++ l) (sym c.add_row.ensures.rows),
       ),
 )

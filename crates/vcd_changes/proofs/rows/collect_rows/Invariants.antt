@@ -9,7 +9,8 @@ use Rattle.vcd_changes.proofs.rows.collect_rows.Given as goal
 abbrev pub invariant-items : goal.invariant-items
 invariant-items g l = Advances g.S.Source.failures l.fn.feed l.feed CallEnd.GoesOn
     × (l.count ≤ length l.rows)
-    × ((h : Header) (i : Input) (front : List Token) (items : List BodyItem) (code : IdCode) → IsViewOf l.view h → GaveItems h.codes i front items l.fn.feed l.fn.regs → slice_get h.codes l.index ≡ Some code
+    × ((h : Header) (i : Input) (front : List Token) (items : List BodyItem) (code : IdCode) → IsViewOf l.view h
+    → GaveItems h.codes i front items l.fn.feed l.fn.regs → slice_get h.codes l.index ≡ Some code
     → ((more : List BodyItem) × GaveItems h.codes i front (items ++ more) l.feed l.regs × (rows_of code.text (items ++ more) ≡ rows_of code.text items ++ take l.count l.rows)))
 
 abbrev pub decreases-items : goal.decreases-items

@@ -7,7 +7,8 @@ invariant-ends l = record {
   count : l.count ≡ differing l.flags.bytes.now;
   listed : AreListed l.flags.bytes.now l.flags.classes.now l.flags.listed;
   many : length l.flags.bytes.now ≡ length l.fn.flags.bytes.now;
-  marks : (h : Header) (exceptions : List (List ℕ)) (ns : List Names) (items : List BodyItem) (x : BodyItem) (a : IdCode) → GivesNew l.view l.current l.code l.at l.fn.flags.bytes.now h exceptions ns items x a
+  marks : (h : Header) (exceptions : List (List ℕ)) (ns : List Names) (items : List BodyItem) (x : BodyItem) (a : IdCode)
+      → GivesNew l.view l.current l.code l.at l.fn.flags.bytes.now h exceptions ns items x a
       → AreMarked l.current.pairs.now h (model_asked l.current.asked exceptions) items (items ++ x ∷ []) l.code l.left l.flags.bytes.now;
 }
 

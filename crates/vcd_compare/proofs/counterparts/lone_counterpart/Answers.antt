@@ -17,4 +17,6 @@ returns-in-Some c = λ q h n texts j v finds nth at.
     let own = c.only_at-own.ensures h texts v.path finds.are number in
     let other = c.in-Some.ensures h n texts v.path finds.are place in
     subst (IsFound h (without_range h n v)) (sym c.index_if.ensures)
-    (lone_both h v (only_at (all_named h) v.path) (only_at (all_named h) (replaced n v.path)) c.only_at-own.result c.in-Some.other c.lacks_range-lacks.result c.lacks_range.result own other (c.lacks_range-lacks.ensures h texts v finds.are nth) (c.lacks_range.ensures h texts other.0 finds.are other.2))
+    (lone_both h v (only_at (all_named h) v.path) (only_at (all_named h) (replaced n v.path))
+    c.only_at-own.result c.in-Some.other c.lacks_range-lacks.result c.lacks_range.result own other
+    (c.lacks_range-lacks.ensures h texts v finds.are nth) (c.lacks_range.ensures h texts other.0 finds.are other.2))

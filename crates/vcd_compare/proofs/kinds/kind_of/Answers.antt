@@ -17,7 +17,8 @@ pub returns-then-eq-2 : goal.returns-then-eq-2
 returns-then-eq-2 c = λ h v view at.
     let word = c.type_of-word.ensures h (Declaration.Var v) view at in
     is_shortreal v (sym (c.eq.ensures ∙ (λ z. bytes_eq (word z) (c.as_slice.ensures z))) ∙ c.if-eq.false)
-    (sym (c.starts_with.ensures.value ∙ (λ z. starts_with nat_eq (word z) (codes "real"))) ∙ c.if-starts_with.false) (sym (c.eq-2.ensures ∙ (λ z. bytes_eq (word z) (c.as_slice-2.ensures z))) ∙ c.if-eq-2.true)
+    (sym (c.starts_with.ensures.value ∙ (λ z. starts_with nat_eq (word z) (codes "real"))) ∙ c.if-starts_with.false)
+    (sym (c.eq-2.ensures ∙ (λ z. bytes_eq (word z) (c.as_slice-2.ensures z))) ∙ c.if-eq-2.true)
 
 pub returns-in-Some : goal.returns-in-Some
 returns-in-Some c = λ h v view at.
@@ -27,7 +28,8 @@ returns-in-Some c = λ h v view at.
     let same : c.in-Some.code ≡ m.0 = same_Some c.in-Some.code m.0 (sym c.in-Some.is ∙ c.code_at.ensures ∙ m.1) in
     ap Kind.Digits (ap (λ x. x.size) same ∙ m.2.size_is)
     ∙ is_digits v (sym (c.eq.ensures ∙ (λ z. bytes_eq (word z) (c.as_slice.ensures z))) ∙ c.if-eq.false)
-    (sym (c.starts_with.ensures.value ∙ (λ z. starts_with nat_eq (word z) (codes "real"))) ∙ c.if-starts_with.false) (sym (c.eq-2.ensures ∙ (λ z. bytes_eq (word z) (c.as_slice-2.ensures z))) ∙ c.if-eq-2.false)
+    (sym (c.starts_with.ensures.value ∙ (λ z. starts_with nat_eq (word z) (codes "real"))) ∙ c.if-starts_with.false)
+    (sym (c.eq-2.ensures ∙ (λ z. bytes_eq (word z) (c.as_slice-2.ensures z))) ∙ c.if-eq-2.false)
 
 pub returns-in-None : goal.returns-in-None
 returns-in-None c = λ h v view at.

@@ -20,13 +20,16 @@ returns c = λ h q ns pairs.
       | then-is_empty-2 w ↦
           elim c.if-is_empty.branch [
             | then-is_empty v ↦
-                ap not (w.result-is ∙ w.is_empty-then-is_empty-2.ensures ∙ sym (head ∙ last_of _ _ _ (sym c.is_empty.ensures ∙ v.if-is_empty.true) (sym v.is_empty-then-is_empty.ensures ∙ sym v.value-is ∙ w.if-is_empty-2.true)))
+                ap not (w.result-is ∙ w.is_empty-then-is_empty-2.ensures ∙ sym (head
+                ∙ last_of _ _ _ (sym c.is_empty.ensures ∙ v.if-is_empty.true) (sym v.is_empty-then-is_empty.ensures ∙ sym v.value-is
+                ∙ w.if-is_empty-2.true)))
             | else-is_empty v ↦ let no = sym w.if-is_empty-2.true ∙ v.value-is ∙ v.if-is_empty.false in absurd (cc)
           ]
       | else-is_empty-2 w ↦
           elim c.if-is_empty.branch [
             | then-is_empty v ↦
-                ap not (w.result-is ∙ w.if-is_empty-2.false ∙ sym (head ∙ second_fails _ _ _ (sym c.is_empty.ensures ∙ v.if-is_empty.true) (sym v.is_empty-then-is_empty.ensures ∙ sym v.value-is ∙ w.if-is_empty-2.false)))
+                ap not (w.result-is ∙ w.if-is_empty-2.false ∙ sym (head ∙ second_fails _ _ _ (sym c.is_empty.ensures ∙ v.if-is_empty.true)
+                (sym v.is_empty-then-is_empty.ensures ∙ sym v.value-is ∙ w.if-is_empty-2.false)))
             | else-is_empty v ↦ ap not (w.result-is ∙ w.if-is_empty-2.false ∙ sym (head ∙ first_fails _ _ _ (sym c.is_empty.ensures ∙ v.if-is_empty.false)))
           ]
     ]

@@ -20,4 +20,5 @@ loop-row-preserved g c = record {
 pub returns : goal.returns
 returns g c = counted (search rules) (λ h vs views all.
     let long = AllZip-long (IsNamedAt h) c.args.rows.now vs all in
-    subst (λ (l : List Named). Appends (g.W.Sink.device c.args.out.now).held (g.W.Sink.device c.loop-row.out).held (alone_lines c.args.letter.now l)) (take_all c.loop-row.row-index vs (omega (arith, c.loop-row-test.false, long))) (c.loop-row.invariant.lines h vs views all))
+    subst (λ (l : List Named). Appends (g.W.Sink.device c.args.out.now).held (g.W.Sink.device c.loop-row.out).held (alone_lines c.args.letter.now l))
+    (take_all c.loop-row.row-index vs (omega (arith, c.loop-row-test.false, long))) (c.loop-row.invariant.lines h vs views all))

@@ -21,4 +21,5 @@ returns-else-is_triggered g c = counted (search rules) (λ h items a views curre
     let event = event_is h.codes c.args.code a true there (sym c.if-not-is_event.false ∙ c.is_event.ensures.event h views) in
     let last = current.triggers c.args.code a there event in
     let is = triggered_now c.args.view c.args.current.now h items views current c.args.code a there c.args.time late event ∙ sym (c.is_triggered.ensures last.0 last.1) ∙ c.if-is_triggered.false in
-    subst (λ (l : List ℕ). Takes (g.W.Sink.device c.args.out.now) (g.W.Sink.device c.put-else-is_triggered.new.w) l c.put-else-is_triggered.result) (event_shown items a c.args.time false event is) c.put-else-is_triggered.ensures.0)
+    subst (λ (l : List ℕ). Takes (g.W.Sink.device c.args.out.now) (g.W.Sink.device c.put-else-is_triggered.new.w) l c.put-else-is_triggered.result)
+    (event_shown items a c.args.time false event is) c.put-else-is_triggered.ensures.0)

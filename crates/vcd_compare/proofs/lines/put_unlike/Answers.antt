@@ -20,4 +20,5 @@ loop-unlike-preserved g c = record {
 pub returns : goal.returns
 returns g c = counted (search rules) (λ h ps views all.
     let long = AllZip-long (IsUnlikeAt h) c.args.rows.now ps all in
-    subst (λ (l : List Pair). Appends (g.W.Sink.device c.args.out.now).held (g.W.Sink.device c.loop-unlike.out).held (unlike_lines l)) (take_all c.loop-unlike.unlike-index ps (omega (arith, c.loop-unlike-test.false, long))) (c.loop-unlike.invariant.lines h ps views all))
+    subst (λ (l : List Pair). Appends (g.W.Sink.device c.args.out.now).held (g.W.Sink.device c.loop-unlike.out).held (unlike_lines l))
+    (take_all c.loop-unlike.unlike-index ps (omega (arith, c.loop-unlike-test.false, long))) (c.loop-unlike.invariant.lines h ps views all))

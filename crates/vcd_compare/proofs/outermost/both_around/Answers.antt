@@ -26,4 +26,5 @@ returns-clause-around c = λ texts n has is.
     let pair = c.args.pair in
     let one = c.node_at-one.result in
     let other = c.node_at-other.result in
-    around_both parts nodes texts has pair n one other (consists parts nodes texts has pair.0 n.0 one is.0 c.node_at-one.ensures) (consists parts nodes texts has pair.1 n.1 other is.1 c.node_at-other.ensures) c.if-one-eq0.false c.if-other-eq0.false c.if-part-last.false
+    around_both parts nodes texts has pair n one other (consists parts nodes texts has pair.0 n.0 one is.0 c.node_at-one.ensures)
+    (consists parts nodes texts has pair.1 n.1 other is.1 c.node_at-other.ensures) c.if-one-eq0.false c.if-other-eq0.false c.if-part-last.false

@@ -25,4 +25,6 @@ returns c = λ texts ns has zip.
     let all = c.in_ok-all.ensures texts ns has.apart zip in
     let len = same_len (AreNumbersOf texts) c.in_ok-all.all.keys (firsts ns) all.0 in
     let same = ap length c.as_slice-pair-items.ensures.keys in
-    subst (AllZip (AreNumbersOf texts) c.loop-pair.outermost.items) (ap (filter (is_out ns)) (take_all c.loop-pair.pair-index (firsts ns) (omega (arith, len, same, c.loop-pair-test.false))) ∙ outermost_is ns) (c.loop-pair.invariant texts ns has zip)
+    subst (AllZip (AreNumbersOf texts) c.loop-pair.outermost.items)
+    (ap (filter (is_out ns)) (take_all c.loop-pair.pair-index (firsts ns) (omega (arith, len, same, c.loop-pair-test.false))) ∙ outermost_is ns)
+    (c.loop-pair.invariant texts ns has zip)

@@ -16,8 +16,11 @@ loop-index-preserved c = λ q h n texts others finds selected all.
     let next : AloneBefore q h n others c.if-is_none.alone.items (suc i) = elim c.if-is_none.branch [
       | then-is_none+in_ok-push w ↦
           let row = named_row h rows index w.number_at.result v.0 finds.are.rows v.2 (w.number_at.ensures ∙ ap (λ (l : List ℕ). get_or l index 0) w.deref.ensures.value) in
-          subst (λ a. AloneBefore q h n others a (suc i)) (sym (ap (λ (a : Vec ℕ). a.items) w.alone-is ∙ w.in_ok-push.ensures.items)) (alone_one q h n others old i w.number_at.result v.0 c.counterpart_of.result v.1 place (ap not (c.is_none.ensures ∙ ap not w.if-is_none.true)) row s)
-      | else-is_none w ↦ subst (λ a. AloneBefore q h n others a (suc i)) (sym (ap (λ (a : Vec ℕ). a.items) w.alone-is)) (alone_same q h n others old i v.0 c.counterpart_of.result v.1 place (ap not (c.is_none.ensures ∙ ap not w.if-is_none.false)) s)
+          subst (λ a. AloneBefore q h n others a (suc i)) (sym (ap (λ (a : Vec ℕ). a.items) w.alone-is ∙ w.in_ok-push.ensures.items))
+          (alone_one q h n others old i w.number_at.result v.0 c.counterpart_of.result v.1 place
+          (ap not (c.is_none.ensures ∙ ap not w.if-is_none.true)) row s)
+      | else-is_none w ↦ subst (λ a. AloneBefore q h n others a (suc i)) (sym (ap (λ (a : Vec ℕ). a.items) w.alone-is))
+          (alone_same q h n others old i v.0 c.counterpart_of.result v.1 place (ap not (c.is_none.ensures ∙ ap not w.if-is_none.false)) s)
     ] in
     subst (AloneBefore q h n others c.if-is_none.alone.items) (sym (add-one i)) next
 

@@ -7,8 +7,11 @@ returns-then-not-is_same_kind c = λ h p compared other_kinds ones others view a
     let old = c.args.pairs.now in
     let new : Pairs = record { rows = old.rows; ends = old.ends; classes = old.classes; last = old.last; alone_one = old.alone_one; alone_other = old.alone_other; unlike = c.push.new.self } in
     let rows : UnlikeRows = record { one = c.args.one; ranged = c.args.ranged; other = c.args.other } in
-    let fits : is_fit p ≡ false = sym (fits_as p _ _ c.is_same_kind.result (c.kind_of.ensures h p.one view at.at.declared) (c.kind_of-2.ensures h p.other view other) c.is_same_kind.ensures) ∙ c.if-not-is_same_kind.true in
-    kind_apart c.args.keys.now.keys h compared other_kinds ones others new p fits (held_unlike c.args.keys.now.keys h compared other_kinds ones others old c.push.new.self rows p c.in_ok-push.ensures.items (record { at = at; other = other }) s)
+    let fits : is_fit p ≡ false = sym (fits_as p _ _ c.is_same_kind.result (c.kind_of.ensures h p.one view at.at.declared)
+    (c.kind_of-2.ensures h p.other view other) c.is_same_kind.ensures) ∙ c.if-not-is_same_kind.true in
+    kind_apart c.args.keys.now.keys h compared other_kinds ones others new p fits
+    (held_unlike c.args.keys.now.keys h compared other_kinds ones others old c.push.new.self rows p c.in_ok-push.ensures.items
+    (record { at = at; other = other }) s)
 
 pub returns : goal.returns
 returns c = λ h p compared other_kinds ones others view at other s.
@@ -21,9 +24,12 @@ returns c = λ h p compared other_kinds ones others view at other s.
     let below_two = slice_get_within h.codes c.code_of-2.result (code_of p.other) two in
     let room = s.holds.codes in
     let e = c.in_ok-class.ensures (omega (arith, below_one, room)) (omega (arith, below_two, room)) s.has in
-    let fits : is_fit p ≡ true = sym (fits_as p _ _ c.is_same_kind.result (c.kind_of.ensures h p.one view at.at.declared) (c.kind_of-2.ensures h p.other view other) c.is_same_kind.ensures) ∙ c.if-not-is_same_kind.false in
+    let fits : is_fit p ≡ true = sym (fits_as p _ _ c.is_same_kind.result (c.kind_of.ensures h p.one view at.at.declared)
+    (c.kind_of-2.ensures h p.other view other) c.is_same_kind.ensures) ∙ c.if-not-is_same_kind.false in
     kind_same keys h compared other_kinds ones others new p fits (record {
-      holds = pair_more h old new c.args.keys.now.keys keys (c.code_of.result, c.code_of-2.result) c.args.one c.args.ranged c.in_ok-class.class p compared other_kinds ones others s.holds e s.count (sym c.len-pairs.ensures.len) c.in_ok-push-2.ensures.items refl refl refl at fits one two;
+      holds = pair_more h old new c.args.keys.now.keys keys (c.code_of.result, c.code_of-2.result)
+          c.args.one c.args.ranged c.in_ok-class.class p compared other_kinds ones others s.holds e s.count
+          (sym c.len-pairs.ensures.len) c.in_ok-push-2.ensures.items refl refl refl at fits one two;
       has = e.has;
       count = sym c.len-pairs.ensures.len;
     })

@@ -23,6 +23,7 @@ returns-clause-numbered c = λ h q view except.
       are = c.in_ok-variables.ensures h texts view (subst (λ l. AreNumbered h texts l (length h.declarations)) (sym c.deref.ensures.value) rows.2) has.apart (has.len ∙ sym c.len.ensures.len);
       names = zip_stays entered rows.0 numbers ns (zip_stays known left.0 numbers ns named.2);
       below = subst (λ ts. AreNamedBelow ts (both_names ns) bound) (sym joined)
-          (subst (λ n. AreNamedBelow (known ++ (left.0 ++ rows.0)) (both_names ns) (n + 1)) (named.1.len ∙ sym c.len-named.ensures.len) (named_below known (left.0 ++ rows.0) numbers ns (subst AreApart joined has.apart) named.2));
+          (subst (λ n. AreNamedBelow (known ++ (left.0 ++ rows.0)) (both_names ns) (n + 1)) (named.1.len ∙ sym c.len-named.ensures.len)
+          (named_below known (left.0 ++ rows.0) numbers ns (subst AreApart joined has.apart) named.2));
       exceptions = subst (AllZip (IsNumberOf texts) c.in_ok-exceptions.exceptions.items) (sym except) (texts_stay entered rows.0 c.in_ok-exceptions.exceptions.items es left.2);
     }

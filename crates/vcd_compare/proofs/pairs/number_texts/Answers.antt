@@ -14,6 +14,8 @@ loop-text-preserved c = λ known has.
     let e = c.loop-text.invariant known has in
     let a = subst (λ t. EntersPath (known ++ e.0) new t c.in_ok-enter_path.field-0) c.deref.ensures.value (c.in_ok-enter_path.ensures (known ++ e.0) e.1 (omega arith)) in
     let next : items_in (take (i + 1) texts) ≡ items_in (take i texts) ++ text.items ∷ [] =
-    ap items_in (take_more texts i text (omega arith) ∙ ap (λ (x : Vec ℕ). take i texts ++ x ∷ []) (sym c.text-item.is)) ∙ map-append (λ (t : Vec ℕ). t.items) (take i texts) (text ∷ []) in
+    ap items_in (take_more texts i text (omega arith) ∙ ap (λ (x : Vec ℕ). take i texts ++ x ∷ []) (sym c.text-item.is))
+    ∙ map-append (λ (t : Vec ℕ). t.items) (take i texts) (text ∷ []) in
     subst (λ l. EntersTexts known new l c.push.new.self.items) (sym next)
-    (subst (EntersTexts known new (items_in (take i texts) ++ text.items ∷ [])) (sym {A = List ℕ} c.in_ok-push.ensures.items) (texts_more known c.loop-text.paths new (items_in (take i texts)) c.loop-text.numbers.items text.items c.in_ok-enter_path.field-0 e a))
+    (subst (EntersTexts known new (items_in (take i texts) ++ text.items ∷ [])) (sym {A = List ℕ} c.in_ok-push.ensures.items)
+    (texts_more known c.loop-text.paths new (items_in (take i texts)) c.loop-text.numbers.items text.items c.in_ok-enter_path.field-0 e a))

@@ -27,7 +27,13 @@ loop-one-preserved c = λ q h ns texts view ready zip.
     let more = c.in_ok-add_pairs.ensures q h n.0 texts (compared_in q h before) (unlike_in q h before) (flat_map (alone_in q h) before) others view finds selected s.1 in
     let turned_selected = listed_variables paths vs lists q h ns texts ready (turned n.0) key.1 n.2.1 named.1 c.list_at-selected-in-loop-one.result.now c.list_at-selected-in-loop-one.ensures in
     let turned_placed = c.in_ok-place_paths-2.ensures q h (turned n.0) texts ready.has ready.are n.2.1 n.2.0 turned_selected placed.0 in
-    let turned_finds : FindPlaces q h (turned n.0) texts vs c.deref-in-loop-one.result.now = record { apart = ready.has.apart; are = ready.are; placed = subst (ArePlaces q h (turned n.0) texts) (sym c.deref-in-loop-one.ensures.value) turned_placed.1 } in
+    let turned_finds : FindPlaces q h
+    (turned n.0) texts vs c.deref-in-loop-one.result.now = record {
+      apart = ready.has.apart;
+      are = ready.are;
+      placed = subst
+          (ArePlaces q h (turned n.0) texts) (sym c.deref-in-loop-one.ensures.value) turned_placed.1;
+    } in
     let alone = c.in_ok-add_alone.ensures q h (turned n.0) texts others turned_finds turned_selected more.holds.alone_other in
     let new : Pairs = record c.add_pairs.new.pairs { alone_other = c.add_alone.new.alone } in (
       turned_placed.0,
@@ -39,4 +45,5 @@ returns c = λ q h ns texts view ready zip.
     let s = (c.loop-one.invariant q h ns texts view ready zip).1 in
     let len = same_len (AreNumbersOf texts) c.args.numbers.now ns zip in
     let past : length ns ≤ c.loop-one.one-index = omega (arith, len, c.loop-one-test.false) in
-    (subst (λ l. HasPairs c.loop-one.keys.keys c.loop-one.pairs h (compared_in q h l) (unlike_in q h l) (flat_map (alone_in q h) l) (flat_map (λ m. alone_in q h (turned m)) l)) (take_all c.loop-one.one-index ns past) s).holds
+    (subst (λ l. HasPairs c.loop-one.keys.keys c.loop-one.pairs h (compared_in q h l) (unlike_in q h l) (flat_map (alone_in q h) l)
+    (flat_map (λ m. alone_in q h (turned m)) l)) (take_all c.loop-one.one-index ns past) s).holds

@@ -22,7 +22,8 @@ loop-index-preserved c =
     let last = c.loop-index.last in
     let earlier = c.loop-index.earlier in
     let long = length-map rows (λ (r : PairRow). r.class) in
-    let next = linked_next (classes_of rows) last earlier index class (class_at rows index c.loop-index-test.true) (omega (arith, long, c.requires.room, c.loop-index.invariant.1)) c.loop-index.invariant.2 in (
+    let next = linked_next (classes_of rows) last earlier index class (class_at rows index c.loop-index-test.true)
+    (omega (arith, long, c.requires.room, c.loop-index.invariant.1)) c.loop-index.invariant.2 in (
       ap length c.put_at-in-loop-index.ensures ∙ length-set last class (index + 1) ∙ c.loop-index.invariant.0,
       ap length c.put_at.ensures ∙ length-set earlier index c.number_at.result ∙ c.loop-index.invariant.1,
       subst (λ (l : List ℕ). AreLinkedRows (classes_of rows) (index + 1) l c.put_at.new.numbers) (sym c.put_at-in-loop-index.ensures)

@@ -10,7 +10,8 @@ pub rows-init : goal.rows-init
 rows-init c = (
   refl,
   λ classes passes linked low room past none due.
-      let is : IsLastRow classes (length classes) c.args.class c.number_at-left.result = subst (IsLastRow classes (length classes) c.args.class) (sym c.number_at-left.ensures) (linked.from c.args.class low) in
+      let is : IsLastRow classes (length classes) c.args.class c.number_at-left.result = subst (IsLastRow classes (length classes) c.args.class)
+      (sym c.number_at-left.ensures) (linked.from c.args.class low) in
       (class_first classes c.args.class passes c.args.due.now c.args.count c.number_at-left.result is due, λ i e. is.is i e),
 )
 

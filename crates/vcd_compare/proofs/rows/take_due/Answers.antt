@@ -16,7 +16,8 @@ loop-index-preserved c =
     let other = c.requires.after in
     let is = c.take_flag.ensures.flags in
     let class_is : class ≡ candidate fits classes c.loop-index.index = elim c.if-fits-2.branch [
-      | then-fits-2 w ↦ w.class-is ∙ ap (λ (l : List ℕ). get_or l c.loop-index.index 0) s.classes ∙ ap (λ b. candidate b classes c.loop-index.index) (sym (le-leb c.args.flags.now.listed (length classes) w.if-fits-2.true))
+      | then-fits-2 w ↦ w.class-is ∙ ap (λ (l : List ℕ). get_or l c.loop-index.index 0) s.classes
+          ∙ ap (λ b. candidate b classes c.loop-index.index) (sym (le-leb c.args.flags.now.listed (length classes) w.if-fits-2.true))
       | else-fits-2 w ↦ w.class-is ∙ ap (λ b. candidate b classes c.loop-index.index) (sym (le-not c.args.flags.now.listed (length classes) w.if-fits-2.false))
     ] in
     record {
@@ -24,10 +25,11 @@ loop-index-preserved c =
       classes = s.classes;
       len = c.if-take_flag.auto.due ∙ s.len;
       each = λ k. subst (λ (l : List ℕ). (get_or l k 0 ≡ get_or old k 0) ⊎ ((get_or old k 0 ≡ 1) × (get_or l k 0 ≡ after))) (sym is) (each_next bytes [] class after other old s.each k);
-      done = λ i lt. subst (λ (l : List ℕ). get_or l (candidate fits classes i) 0 ≢ 1) (sym is) (not_one_next bytes [] class after other (candidate fits classes i) (elim (cases_eq i c.loop-index.index) [
-        | inl e ↦ inr (ap (candidate fits classes) e ∙ sym class_is)
-        | inr d ↦ inl (s.done i (omega (arith, lt, d)))
-      ]));
+      done = λ i lt. subst (λ (l : List ℕ). get_or l (candidate fits classes i) 0 ≢ 1) (sym is)
+          (not_one_next bytes [] class after other (candidate fits classes i) (elim (cases_eq i c.loop-index.index) [
+            | inl e ↦ inr (ap (candidate fits classes) e ∙ sym class_is)
+            | inr d ↦ inl (s.done i (omega (arith, lt, d)))
+          ]));
       due = λ cs linked room enough.
           let was = s.due cs linked room enough in
           let none = not_twice bytes cs class after other old s.each in
@@ -41,13 +43,15 @@ loop-index-preserved c =
                 let low = low_one bytes class one in
                 subst (λ (d : List ℕ). AreDue d c.if-take_flag.count (λ i. was_flagged old bytes cs i || (get_or bytes class 0 == 1 && is_of cs class i))) (sym w.due-is)
                 (subst (λ (n : ℕ). AreDue w.put_class-count.new.due n (λ i. was_flagged old bytes cs i || (get_or bytes class 0 == 1 && is_of cs class i))) (sym w.count-is)
-                (due_as w.put_class-count.new.due w.put_class-count.result (λ i. was_flagged old bytes cs i || is_of cs class i) _ (λ i. ap (λ b. was_flagged old bytes cs i || (b && is_of cs class i)) (sym flagged))
+                (due_as w.put_class-count.new.due w.put_class-count.result (λ i. was_flagged old bytes cs i || is_of cs class i) _
+                (λ i. ap (λ b. was_flagged old bytes cs i || (b && is_of cs class i)) (sym flagged))
                 (w.put_class-count.ensures.due cs (was_flagged old bytes cs) linked (omega (arith, low, room, s.many)) (omega (arith, enough, s.len)) past (none one) was)))
             | else-take_flag w ↦
                 let other : (get_or bytes class 0 == 1) ≡ false = sym c.take_flag.ensures.is ∙ w.if-take_flag.false in
                 subst (λ (d : List ℕ). AreDue d c.if-take_flag.count (λ i. was_flagged old bytes cs i || (get_or bytes class 0 == 1 && is_of cs class i))) (sym w.due-is)
                 (subst (λ (n : ℕ). AreDue c.loop-index.due n (λ i. was_flagged old bytes cs i || (get_or bytes class 0 == 1 && is_of cs class i))) (sym w.count-is)
-                (due_as c.loop-index.due c.loop-index.count (was_flagged old bytes cs) _ (λ i. sym (ap (λ b. was_flagged old bytes cs i || (b && is_of cs class i)) other ∙ or-false (was_flagged old bytes cs i))) was))
+                (due_as c.loop-index.due c.loop-index.count (was_flagged old bytes cs) _
+                (λ i. sym (ap (λ b. was_flagged old bytes cs i || (b && is_of cs class i)) other ∙ or-false (was_flagged old bytes cs i))) was))
           ]));
     }
 
@@ -60,7 +64,8 @@ returns-clause-settled c =
       | then-fits w ↦ w.many-is ∙ ap (λ b. cond b flags.listed (length flags.bytes.now)) (sym (le-leb flags.listed (length flags.classes.now) w.if-fits.true))
       | else-fits w ↦ w.many-is ∙ ap (λ b. cond b flags.listed (length flags.bytes.now)) (sym (le-not flags.listed (length flags.classes.now) w.if-fits.false))
     ] in
-    all_settled flags.bytes.now c.loop-index.flags.bytes.now flags.classes.now flags.listed c.args.after fits refl c.requires.listed c.requires.after s.each (λ i lt. s.done i (omega (arith, lt, c.loop-index-test.false, many)))
+    all_settled flags.bytes.now c.loop-index.flags.bytes.now flags.classes.now flags.listed c.args.after fits refl c.requires.listed c.requires.after s.each
+    (λ i lt. s.done i (omega (arith, lt, c.loop-index-test.false, many)))
 
 pub returns-clause-due : goal.returns-clause-due
 returns-clause-due c = λ cs linked room enough.

@@ -11,5 +11,6 @@ invariant-loop-index l = record {
   len : length l.due ≡ length l.fn.due;
   each : (k : ℕ) → (get_or l.flags.bytes.now k 0 ≡ get_or l.fn.flags.bytes.now k 0) ⊎ ((get_or l.fn.flags.bytes.now k 0 ≡ 1) × (get_or l.flags.bytes.now k 0 ≡ l.after));
   done : (i : ℕ) → i < l.index → get_or l.flags.bytes.now (candidate l.fits l.fn.flags.classes.now i) 0 ≢ 1;
-  due : (cs : List ℕ) → AreLinkedRows cs (length cs) l.links.last.now l.links.earlier.now → length l.fn.flags.bytes.now ≤ length l.links.last.now → length cs ≤ length l.fn.due → AreDue l.due l.count (was_flagged l.fn.flags.bytes.now l.flags.bytes.now cs);
+  due : (cs : List ℕ) → AreLinkedRows cs (length cs) l.links.last.now l.links.earlier.now → length l.fn.flags.bytes.now ≤ length l.links.last.now
+      → length cs ≤ length l.fn.due → AreDue l.due l.count (was_flagged l.fn.flags.bytes.now l.flags.bytes.now cs);
 }

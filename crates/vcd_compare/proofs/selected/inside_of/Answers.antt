@@ -11,7 +11,8 @@ loop-index-preserved c = λ texts names es has near left within below.
     let room = subst (AreNamedBelow texts names) (sym s.0) below in
     let put = c.in_ok-put_inside.ensures texts names es has near left (within i item at) room in (
       put.len ∙ s.0,
-      subst (λ j. AreInside texts names es items j c.put_inside.new.lists.items) (sym (add-one i)) (λ m w number one. put.each m w number one ∙ ap (λ l. l ++ cond (is_inside texts es w item) (i ∷ []) []) (s.1 m w number one)),
+      subst (λ j. AreInside texts names es items j c.put_inside.new.lists.items) (sym (add-one i)) (λ m w number one. put.each m w number one
+          ∙ ap (λ l. l ++ cond (is_inside texts es w item) (i ∷ []) []) (s.1 m w number one)),
     )
 
 pub returns : goal.returns

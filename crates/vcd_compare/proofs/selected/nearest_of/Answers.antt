@@ -13,7 +13,9 @@ loop-index-preserved c = λ texts names has all.
     let node = get_or nodes i (0, 0) in
     let at = slice_get-get_or nodes i (0, 0) (omega (arith, c.len-index-end.ensures.len)) in
     let mark = get_or marks (suc i) false in
-    let is_mark = λ (t : List ℕ) (text : slice_get texts i ≡ Some t). c.in_ok-marks.ensures (suc i) (omega (arith, c.len-index-end.ensures.len, c.len.ensures.len)) ∙ marked_is texts (suc i) t c.args.numbers.now names has.apart (i, refl, text) all in
+    let is_mark = λ (t : List ℕ) (text : slice_get texts i ≡ Some t). c.in_ok-marks.ensures (suc i)
+    (omega (arith, c.len-index-end.ensures.len, c.len.ensures.len))
+    ∙ marked_is texts (suc i) t c.args.numbers.now names has.apart (i, refl, text) all in
     let number : c.nearest_at-number.result ≡ cond mark (suc i) (get_or nearest node.0 0) = c.nearest_at-number.ensures
     ∙ ap (λ (n : ℕ). cond (get_or c.deref.result.now n false) n (get_or c.deref-in-loop-index.result.now (get_or c.as_slice.result.now i (0, 0)).0 0)) (add-one i)
     ∙ ap (λ (l : List Bool). cond (get_or l (suc i) false) (suc i) (get_or c.deref-in-loop-index.result.now (get_or c.as_slice.result.now i (0, 0)).0 0)) c.deref.ensures.value

@@ -10,4 +10,5 @@ returns-in_ok-push c =
     let lists = c.args.lists.now.items in
     let at = c.args.at in
     let v = c.index_mut.ensures.value in
-    map-set items_of lists at c.push.new.self ∙ ap (set (lists_in lists) at) (c.in_ok-push.ensures.items ∙ ap (λ l. l ++ c.args.number ∷ []) (ap items_of v ∙ sym (get_or-map items_of lists at c.index_mut.result.now [] (omega arith))))
+    map-set items_of lists at c.push.new.self ∙ ap (set (lists_in lists) at) (c.in_ok-push.ensures.items
+    ∙ ap (λ l. l ++ c.args.number ∷ []) (ap items_of v ∙ sym (get_or-map items_of lists at c.index_mut.result.now [] (omega arith))))

@@ -9,4 +9,5 @@ returns c = ok_then c.inside_of.result _ _ (λ lists inside texts es ns has belo
     let left = c.in_ok-left_out.ensures texts es has exceptions in
     let keys_in = subst (λ l. AreWithin l (length texts)) (sym c.deref-4.ensures.value) keys in
     subst (λ l. AreInside texts (both_names ns) es l (length l) lists.items) c.deref-4.ensures.value
-    (inside texts (both_names ns) es has (subst (AreNearest texts (both_names ns) (length texts)) (sym c.deref-2.ensures.value) near) (subst (AreNearest texts es (length texts)) (sym c.deref-3.ensures.value) left) keys_in below)) c.inside_of.ensures
+    (inside texts (both_names ns) es has (subst (AreNearest texts (both_names ns) (length texts)) (sym c.deref-2.ensures.value) near)
+    (subst (AreNearest texts es (length texts)) (sym c.deref-3.ensures.value) left) keys_in below)) c.inside_of.ensures

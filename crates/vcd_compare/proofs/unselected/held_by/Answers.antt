@@ -7,7 +7,8 @@ use Rattle.vcd_compare.specs.Unselected.{AreMarkedUp}
 pub loop-path-init : goal.loop-path-init
 loop-path-init c = λ texts has within.
     let count = c.len.result in
-    subst (AreMarkedUp texts []) (sym (c.in_ok-held.ensures.items_if_clones_equal (λ y e. e) ∙ ap (λ n. replicate n false) (add-one count))) (marked_none texts count (has.len ∙ sym c.len.ensures.len))
+    subst (AreMarkedUp texts []) (sym (c.in_ok-held.ensures.items_if_clones_equal (λ y e. e) ∙ ap (λ n. replicate n false) (add-one count)))
+    (marked_none texts count (has.len ∙ sym c.len.ensures.len))
 
 pub loop-path-preserved : goal.loop-path-preserved
 loop-path-preserved c = λ texts has within.
@@ -26,4 +27,5 @@ returns c = λ h texts has are.
     let paths = c.args.variables.now.paths.items in
     let marked = c.loop-path.invariant texts has (paths_within h texts c.args.variables.now are) in
     let len = ap length c.deref-path-items.ensures.value in
-    held_by_all h texts paths c.loop-path.held.items are.paths (subst (λ l. AreMarkedUp texts l c.loop-path.held.items) (take_all c.loop-path.path-index paths (omega (arith, len, c.loop-path-test.false))) marked)
+    held_by_all h texts paths c.loop-path.held.items are.paths (subst (λ l. AreMarkedUp texts l c.loop-path.held.items)
+    (take_all c.loop-path.path-index paths (omega (arith, len, c.loop-path-test.false))) marked)

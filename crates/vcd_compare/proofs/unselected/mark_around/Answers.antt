@@ -8,12 +8,17 @@ loop-number-init c = λ texts has within. marking_first texts c.args.from c.args
 pub loop-number-preserved : goal.loop-number-preserved
 loop-number-preserved c = λ texts has within.
     let number = c.loop-number.number in
-    marking_next (texts_in c.args.paths.now.parts) c.args.paths.now.nodes.keys texts has c.args.from within c.args.held.now.items number c.min-number.result c.loop-number.held.items _ (λ e. omega (arith, e, c.loop-number-test.true)) (omega arith) refl
+    marking_next (texts_in c.args.paths.now.parts)
+    c.args.paths.now.nodes.keys texts has c.args.from within c.args.held.now.items number c.min-number.result c.loop-number.held.items _
+    (λ e. omega (arith, e, c.loop-number-test.true)) (omega arith) refl
     (c.min-number.ensures ∙ ap (λ (n : ℕ × ℕ). min n.0 (number - 1)) c.node_at-around.ensures) (c.loop-number.invariant texts has within)
 
 pub returns-else-not-is_held : goal.returns-else-not-is_held
 returns-else-not-is_held c = λ texts before has within marked.
-    marking_met (texts_in c.args.paths.now.parts) c.args.paths.now.nodes.keys texts has c.args.from within c.args.held.now.items before c.loop-number.number c.loop-number.held.items marked (c.loop-number.invariant texts has within) (ap (λ (l : List Bool). get_or l c.loop-number.number false) (sym c.deref.ensures.value) ∙ sym c.is_held.ensures ∙ c.if-not-is_held.false)
+    marking_met (texts_in c.args.paths.now.parts)
+    c.args.paths.now.nodes.keys texts has c.args.from within c.args.held.now.items before c.loop-number.number c.loop-number.held.items marked
+    (c.loop-number.invariant texts has within) (ap (λ (l : List Bool). get_or l c.loop-number.number false) (sym c.deref.ensures.value)
+    ∙ sym c.is_held.ensures ∙ c.if-not-is_held.false)
 
 pub returns-else-number-len : goal.returns-else-number-len
 returns-else-number-len c = λ texts before has within marked.
@@ -25,4 +30,6 @@ returns-else-number-len c = λ texts before has within marked.
 
 pub returns-after-loop-number : goal.returns-after-loop-number
 returns-after-loop-number c = λ texts before has within marked.
-    marking_top (texts_in c.args.paths.now.parts) c.args.paths.now.nodes.keys texts has c.args.from within c.args.held.now.items before c.loop-number.number c.loop-number.held.items marked (c.loop-number.invariant texts has within) (omega (arith, c.loop-number-test.false))
+    marking_top (texts_in c.args.paths.now.parts)
+    c.args.paths.now.nodes.keys texts has c.args.from within c.args.held.now.items before c.loop-number.number c.loop-number.held.items marked
+    (c.loop-number.invariant texts has within) (omega (arith, c.loop-number-test.false))

@@ -8,7 +8,9 @@ loop-index-preserved c = λ h es texts held zip.
     let i = c.loop-index.index in
     let number = get_or c.args.exceptions.now i 0 in
     let e = zip_from (IsNumberOf texts) c.args.exceptions.now es i number zip (slice_get-get_or c.args.exceptions.now i 0 c.loop-index-test.true) in
-    subst (λ j. first_unheld h (take j es) ≡ None) (sym (add-one i)) (exception_held h es i e.0 e.1 (c.loop-index.invariant h es texts held zip) (sym (held number e.0 e.2) ∙ sym c.is_held.ensures ∙ c.if-not-is_held.false))
+    subst (λ j. first_unheld h (take j es) ≡ None) (sym (add-one i))
+    (exception_held h es i e.0 e.1 (c.loop-index.invariant h es texts held zip) (sym (held number e.0 e.2) ∙ sym c.is_held.ensures
+    ∙ c.if-not-is_held.false))
 
 pub returns-then-not-is_held-clause-faults : goal.returns-then-not-is_held-clause-faults
 returns-then-not-is_held-clause-faults c = λ q h ns texts held zip none.

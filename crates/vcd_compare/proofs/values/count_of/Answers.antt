@@ -17,5 +17,6 @@ pub returns-in-None : goal.returns-in-None
 returns-in-None c = λ ds laid value.
     let t = c.args.table.now in
     let v = c.args.view in
-    let none = ap (option_and_then (λ (d : IdCode). value_at_size d.size (held_at t c.args.code))) (slice_get-map (shown_code v.text.now) v.codes.now c.args.code ∙ ap (option_map (shown_code v.text.now)) (sym c.in-None.ensures)) in
+    let none = ap (option_and_then (λ (d : IdCode). value_at_size d.size (held_at t c.args.code)))
+    (slice_get-map (shown_code v.text.now) v.codes.now c.args.code ∙ ap (option_map (shown_code v.text.now)) (sym c.in-None.ensures)) in
     let no = sym none ∙ value in cc

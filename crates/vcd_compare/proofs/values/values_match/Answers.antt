@@ -10,7 +10,9 @@ returns-in-Bits-get c = λ k d laid there its.
     let other = held_at t c.args.other in
     let first = sym c.get.ensures ∙ c.in-Unset.is in
     let second = sym c.get-in-Unset.ensures ∙ c.in-Bits-get.is in
-    let values = ap (λ (o : Option Value). match r o (value_in (codes_shown c.args.view) t c.args.other)) (value_there c.args.view t c.args.one k there) ∙ ap (λ (o : Option Value). match r (value_at_size k.size one) o) (value_there c.args.view t c.args.other d its) in
+    let values = ap (λ (o : Option Value). match r o (value_in (codes_shown c.args.view) t c.args.other))
+    (value_there c.args.view t c.args.one k there) ∙ ap (λ (o : Option Value). match r (value_at_size k.size one) o)
+    (value_there c.args.view t c.args.other d its) in
     sym (values ∙ unset_some r k.size d.size one other _ first second (λ e. cc))
 
 pub returns-in-Real-get : goal.returns-in-Real-get
@@ -21,7 +23,9 @@ returns-in-Real-get c = λ k d laid there its.
     let other = held_at t c.args.other in
     let first = sym c.get.ensures ∙ c.in-Unset.is in
     let second = sym c.get-in-Unset.ensures ∙ c.in-Real-get.is in
-    let values = ap (λ (o : Option Value). match r o (value_in (codes_shown c.args.view) t c.args.other)) (value_there c.args.view t c.args.one k there) ∙ ap (λ (o : Option Value). match r (value_at_size k.size one) o) (value_there c.args.view t c.args.other d its) in
+    let values = ap (λ (o : Option Value). match r o (value_in (codes_shown c.args.view) t c.args.other))
+    (value_there c.args.view t c.args.one k there) ∙ ap (λ (o : Option Value). match r (value_at_size k.size one) o)
+    (value_there c.args.view t c.args.other d its) in
     sym (values ∙ unset_some r k.size d.size one other _ first second (λ e. cc))
 
 pub returns-in-Unset-get-2 : goal.returns-in-Unset-get-2
@@ -32,7 +36,9 @@ returns-in-Unset-get-2 c = λ k d laid there its.
     let other = held_at t c.args.other in
     let first = sym c.get.ensures ∙ c.in-Bits.is in
     let second = sym c.get-in-Bits.ensures ∙ c.in-Unset-get-2.is in
-    let values = ap (λ (o : Option Value). match r o (value_in (codes_shown c.args.view) t c.args.other)) (value_there c.args.view t c.args.one k there) ∙ ap (λ (o : Option Value). match r (value_at_size k.size one) o) (value_there c.args.view t c.args.other d its) in
+    let values = ap (λ (o : Option Value). match r o (value_in (codes_shown c.args.view) t c.args.other))
+    (value_there c.args.view t c.args.one k there) ∙ ap (λ (o : Option Value). match r (value_at_size k.size one) o)
+    (value_there c.args.view t c.args.other d its) in
     sym (values ∙ some_unset r k.size d.size one other _ first second (λ e. cc))
 
 pub returns-in-Unset-get-3 : goal.returns-in-Unset-get-3
@@ -43,7 +49,9 @@ returns-in-Unset-get-3 c = λ k d laid there its.
     let other = held_at t c.args.other in
     let first = sym c.get.ensures ∙ c.in-Real.is in
     let second = sym c.get-in-Real.ensures ∙ c.in-Unset-get-3.is in
-    let values = ap (λ (o : Option Value). match r o (value_in (codes_shown c.args.view) t c.args.other)) (value_there c.args.view t c.args.one k there) ∙ ap (λ (o : Option Value). match r (value_at_size k.size one) o) (value_there c.args.view t c.args.other d its) in
+    let values = ap (λ (o : Option Value). match r o (value_in (codes_shown c.args.view) t c.args.other))
+    (value_there c.args.view t c.args.one k there) ∙ ap (λ (o : Option Value). match r (value_at_size k.size one) o)
+    (value_there c.args.view t c.args.other d its) in
     sym (values ∙ some_unset r k.size d.size one other _ first second (λ e. cc))
 
 pub returns-in-Bits-get-2 : goal.returns-in-Bits-get-2
@@ -54,7 +62,9 @@ returns-in-Bits-get-2 c = λ k d laid there its.
     let other = held_at t c.args.other in
     let first = sym c.get.ensures ∙ c.in-Bits.is in
     let second = sym c.get-in-Bits.ensures ∙ c.in-Bits-get-2.is in
-    let values = ap (λ (o : Option Value). match r o (value_in (codes_shown c.args.view) t c.args.other)) (value_there c.args.view t c.args.one k there) ∙ ap (λ (o : Option Value). match r (value_at_size k.size one) o) (value_there c.args.view t c.args.other d its) in
+    let values = ap (λ (o : Option Value). match r o (value_in (codes_shown c.args.view) t c.args.other))
+    (value_there c.args.view t c.args.one k there) ∙ ap (λ (o : Option Value). match r (value_at_size k.size one) o)
+    (value_there c.args.view t c.args.other d its) in
     let (ds, a) = bits_there k.size one first in
     let (es, b) = bits_there d.size other second in
     c.all_match.ensures ds es laid (value_there c.args.view t c.args.one k there ∙ a) (value_there c.args.view t c.args.other d its ∙ b)
@@ -68,7 +78,9 @@ returns-in-Real-get-2 c = λ k d laid there its.
     let other = held_at t c.args.other in
     let first = sym c.get.ensures ∙ c.in-Bits.is in
     let second = sym c.get-in-Bits.ensures ∙ c.in-Real-get-2.is in
-    let values = ap (λ (o : Option Value). match r o (value_in (codes_shown c.args.view) t c.args.other)) (value_there c.args.view t c.args.one k there) ∙ ap (λ (o : Option Value). match r (value_at_size k.size one) o) (value_there c.args.view t c.args.other d its) in
+    let values = ap (λ (o : Option Value). match r o (value_in (codes_shown c.args.view) t c.args.other))
+    (value_there c.args.view t c.args.one k there) ∙ ap (λ (o : Option Value). match r (value_at_size k.size one) o)
+    (value_there c.args.view t c.args.other d its) in
     sym (values ∙ (bits_real r k.size d.size one other first second).0)
 
 pub returns-in-Bits-get-3 : goal.returns-in-Bits-get-3
@@ -79,7 +91,9 @@ returns-in-Bits-get-3 c = λ k d laid there its.
     let other = held_at t c.args.other in
     let first = sym c.get.ensures ∙ c.in-Real.is in
     let second = sym c.get-in-Real.ensures ∙ c.in-Bits-get-3.is in
-    let values = ap (λ (o : Option Value). match r o (value_in (codes_shown c.args.view) t c.args.other)) (value_there c.args.view t c.args.one k there) ∙ ap (λ (o : Option Value). match r (value_at_size k.size one) o) (value_there c.args.view t c.args.other d its) in
+    let values = ap (λ (o : Option Value). match r o (value_in (codes_shown c.args.view) t c.args.other))
+    (value_there c.args.view t c.args.one k there) ∙ ap (λ (o : Option Value). match r (value_at_size k.size one) o)
+    (value_there c.args.view t c.args.other d its) in
     sym (values ∙ (bits_real r d.size k.size other one second first).1)
 
 pub returns-in-Real-get-3 : goal.returns-in-Real-get-3
@@ -90,5 +104,9 @@ returns-in-Real-get-3 c = λ k d laid there its.
     let other = held_at t c.args.other in
     let first = sym c.get.ensures ∙ c.in-Real.is in
     let second = sym c.get-in-Real.ensures ∙ c.in-Real-get-3.is in
-    let values = ap (λ (o : Option Value). match r o (value_in (codes_shown c.args.view) t c.args.other)) (value_there c.args.view t c.args.one k there) ∙ ap (λ (o : Option Value). match r (value_at_size k.size one) o) (value_there c.args.view t c.args.other d its) in
-    c.eq.ensures ∙ ap (λ l. bytes_eq l c.real-in-Real-get-3.result.now) (c.real.ensures laid) ∙ ap (λ l. bytes_eq (real_text one) l) (c.real-in-Real-get-3.ensures laid) ∙ sym (values ∙ both_real c.args.asked k.size d.size one other first second)
+    let values = ap (λ (o : Option Value). match r o (value_in (codes_shown c.args.view) t c.args.other))
+    (value_there c.args.view t c.args.one k there) ∙ ap (λ (o : Option Value). match r (value_at_size k.size one) o)
+    (value_there c.args.view t c.args.other d its) in
+    c.eq.ensures ∙ ap (λ l. bytes_eq l c.real-in-Real-get-3.result.now) (c.real.ensures laid)
+    ∙ ap (λ l. bytes_eq (real_text one) l) (c.real-in-Real-get-3.ensures laid)
+    ∙ sym (values ∙ both_real c.args.asked k.size d.size one other first second)

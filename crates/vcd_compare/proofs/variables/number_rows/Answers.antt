@@ -11,7 +11,8 @@ loop-row-preserved c = λ h texts view has.
     let are = subst (λ ns. AreNumbered h (texts ++ s.0) ns row) (sym c.deref.ensures.value) s.2 in
     let entered = c.in_ok-number.ensures h d.0 (texts ++ s.0) view d.1 s.1 are in
     subst (NumbersSome h texts c.enter_row.new.paths c.push.new.self.items) (sym (add-one row))
-    (subst (λ ns. NumbersSome h texts c.enter_row.new.paths ns (suc row)) (sym c.in_ok-push.ensures.items) (some_row h texts c.loop-row.paths c.enter_row.new.paths c.loop-row.numbers.items row c.in_ok-number.number d.0 d.1 s entered))
+    (subst (λ ns. NumbersSome h texts c.enter_row.new.paths ns (suc row)) (sym c.in_ok-push.ensures.items)
+    (some_row h texts c.loop-row.paths c.enter_row.new.paths c.loop-row.numbers.items row c.in_ok-number.number d.0 d.1 s entered))
 
 pub returns : goal.returns
 returns c = λ h texts view has.

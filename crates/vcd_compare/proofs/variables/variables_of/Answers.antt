@@ -8,7 +8,8 @@ loop-row-init c = λ h texts view are apart len.
     let users = c.in_ok-no_users.field-0 in
     let filled : users.items ≡ replicate (c.args.count + 1) Users.None = c.in_ok-no_users.ensures in
     let room : length users.items ≡ c.args.count + 1 = ap length filled ∙ length-replicate (c.args.count + 1) Users.None in
-    some_none h texts _ _ c.in_ok-with_capacity.ensures.items c.in_ok-with_capacity-2.ensures.items (c.new.ensures texts) c.in_ok-with_capacity_and_hasher.ensures.empty c.in_ok-counts.ensures.items (omega (arith, room, len))
+    some_none h texts _ _ c.in_ok-with_capacity.ensures.items c.in_ok-with_capacity-2.ensures.items
+    (c.new.ensures texts) c.in_ok-with_capacity_and_hasher.ensures.empty c.in_ok-counts.ensures.items (omega (arith, room, len))
     (λ n l. ap (λ xs. get_or xs n Users.None) filled ∙ get_or-replicate (c.args.count + 1) n Users.None Users.None (omega (arith, l, room)))
 
 pub loop-row-preserved : goal.loop-row-preserved

@@ -22,11 +22,14 @@ returns-in_err-put_header_lines-clause-needed g c = λ h exceptions ns i front v
     rw e (record { is_left = inl (refl, refl); read = Nothing refl; keeps_up = (take some.0 (within_head (model_asked c.args.asked exceptions) h ns), some.1, Nothing refl) })
 
 -- a run before the first item, as a task, and what was written before it
-first : (asked : Asked) (exceptions : List (List ℕ)) (h : Header) (ns : List Names) (run : Run) → run.comparison.current.asked ≡ asked → RunStands h exceptions ns [] run → HasHandled run (plan_within (model_asked asked exceptions) h ns) h []
+first : (asked : Asked) (exceptions : List (List ℕ)) (h : Header) (ns : List Names) (run : Run) → run.comparison.current.asked ≡ asked
+    → RunStands h exceptions ns [] run → HasHandled run (plan_within (model_asked asked exceptions) h ns) h []
 first asked exceptions h ns run same stands = record { exceptions = exceptions; ns = ns; by_plan = ap (λ (a : Asked). plan_within (model_asked a exceptions) h ns) (sym same); stands = stands }
 
-none_ended : (asked : Asked) (exceptions : List (List ℕ)) (h : Header) (ns : List Names) (run : Run) → run.comparison.current.asked ≡ asked → RunStands h exceptions ns [] run → ends_run (model_asked asked exceptions) h ns [] ≡ false
-none_ended asked exceptions h ns run same stands = subst (λ (a : Asked). ends_run (model_asked a exceptions) h ns [] ≡ false) same (not_ended h exceptions ns [] run.comparison run.watched stands.compares)
+none_ended : (asked : Asked) (exceptions : List (List ℕ)) (h : Header) (ns : List Names) (run : Run) → run.comparison.current.asked ≡ asked
+    → RunStands h exceptions ns [] run → ends_run (model_asked asked exceptions) h ns [] ≡ false
+none_ended asked exceptions h ns run same stands = subst (λ (a : Asked). ends_run (model_asked a exceptions) h ns [] ≡ false) same
+    (not_ended h exceptions ns [] run.comparison run.watched stands.compares)
 
 written : (q : ModelAsked) (h : Header) (ns : List Names) (out mid : Device) → Writes out mid (within_head q h ns) → Writes out mid (within_open q h ns [])
 written q h ns out mid writes = subst (Writes out mid) (sym (open_first q h ns)) writes
@@ -40,7 +43,9 @@ returns-in_err-done-clause-gives g c = λ h exceptions ns i front views pairs gi
     let puts = c.in_ok-put_header_lines.ensures in
     let run = c.new-run.ensures in
     let stands = run.stands h exceptions ns views pairs in
-    rw e (c.in_err-done.ensures.runs (plan_within q h ns) h i front out views given (first c.args.asked exceptions h ns c.new-run.result run.asked stands) (none_ended c.args.asked exceptions h ns c.new-run.result run.asked stands) (written q h ns out mid (puts.0 h q ns views pairs, puts.1)))
+    rw e (c.in_err-done.ensures.runs (plan_within q h ns) h i front out views given
+    (first c.args.asked exceptions h ns c.new-run.result run.asked stands)
+    (none_ended c.args.asked exceptions h ns c.new-run.result run.asked stands) (written q h ns out mid (puts.0 h q ns views pairs, puts.1)))
 
 pub returns-clause-gives : goal.returns-clause-gives
 returns-clause-gives g c = λ h exceptions ns i front views pairs given.
@@ -50,7 +55,8 @@ returns-clause-gives g c = λ h exceptions ns i front views pairs given.
     let puts = c.in_ok-put_header_lines.ensures in
     let run = c.new-run.ensures in
     let stands = run.stands h exceptions ns views pairs in
-    c.in_ok-done.ensures.runs (plan_within q h ns) h i front out views given (first c.args.asked exceptions h ns c.new-run.result run.asked stands) (none_ended c.args.asked exceptions h ns c.new-run.result run.asked stands) (written q h ns out mid (puts.0 h q ns views pairs, puts.1))
+    c.in_ok-done.ensures.runs (plan_within q h ns) h i front out views given (first c.args.asked exceptions h ns c.new-run.result run.asked stands)
+    (none_ended c.args.asked exceptions h ns c.new-run.result run.asked stands) (written q h ns out mid (puts.0 h q ns views pairs, puts.1))
 
 pub returns-in_err-done-clause-needed : goal.returns-in_err-done-clause-needed
 returns-in_err-done-clause-needed g c = λ h exceptions ns i front views pairs given.
@@ -61,7 +67,9 @@ returns-in_err-done-clause-needed g c = λ h exceptions ns i front views pairs g
     let puts = c.in_ok-put_header_lines.ensures in
     let run = c.new-run.ensures in
     let stands = run.stands h exceptions ns views pairs in
-    rw e (c.in_err-done.ensures.needed (plan_within q h ns) h i front out views given (first c.args.asked exceptions h ns c.new-run.result run.asked stands) (none_ended c.args.asked exceptions h ns c.new-run.result run.asked stands) (written q h ns out mid (puts.0 h q ns views pairs, puts.1)))
+    rw e (c.in_err-done.ensures.needed (plan_within q h ns) h i front out views given
+    (first c.args.asked exceptions h ns c.new-run.result run.asked stands)
+    (none_ended c.args.asked exceptions h ns c.new-run.result run.asked stands) (written q h ns out mid (puts.0 h q ns views pairs, puts.1)))
 
 pub returns-clause-needed : goal.returns-clause-needed
 returns-clause-needed g c = λ h exceptions ns i front views pairs given.
@@ -71,4 +79,5 @@ returns-clause-needed g c = λ h exceptions ns i front views pairs given.
     let puts = c.in_ok-put_header_lines.ensures in
     let run = c.new-run.ensures in
     let stands = run.stands h exceptions ns views pairs in
-    c.in_ok-done.ensures.needed (plan_within q h ns) h i front out views given (first c.args.asked exceptions h ns c.new-run.result run.asked stands) (none_ended c.args.asked exceptions h ns c.new-run.result run.asked stands) (written q h ns out mid (puts.0 h q ns views pairs, puts.1))
+    c.in_ok-done.ensures.needed (plan_within q h ns) h i front out views given (first c.args.asked exceptions h ns c.new-run.result run.asked stands)
+    (none_ended c.args.asked exceptions h ns c.new-run.result run.asked stands) (written q h ns out mid (puts.0 h q ns views pairs, puts.1))

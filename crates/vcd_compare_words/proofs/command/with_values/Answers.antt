@@ -10,4 +10,5 @@ returns c = λ before whole.
     let first = with_arg c.args.program c.in_ok-arg.field-0 before whole c.time-from.result from c.in_ok-arg.ensures c.time-from.ensures in
     let second = with_arg c.in_ok-arg.field-0 c.in_ok-arg-2.field-0 (with_rule before from) first c.time-to.result to c.in_ok-arg-2.ensures c.time-to.ensures in
     let third = with_arg c.in_ok-arg-2.field-0 c.in_ok-arg-3.field-0 (with_rule (with_rule before from) to) second c.flag-x_of_a.result of_a c.in_ok-arg-3.ensures c.flag-x_of_a.ensures in
-    IfOk-weaker c.arg-4.result _ _ (λ r h. with_arg c.in_ok-arg-3.field-0 r (with_rule (with_rule (with_rule before from) to) of_a) third c.flag-x_of_b.result of_b h c.flag-x_of_b.ensures) c.arg-4.ensures
+    IfOk-weaker c.arg-4.result _ _ (λ r h. with_arg c.in_ok-arg-3.field-0 r
+    (with_rule (with_rule (with_rule before from) to) of_a) third c.flag-x_of_b.result of_b h c.flag-x_of_b.ensures) c.arg-4.ensures

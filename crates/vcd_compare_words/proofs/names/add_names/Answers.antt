@@ -10,4 +10,5 @@ returns-in_default c =
 pub returns : goal.returns
 returns c =
     let some : Some (c.in-Some.one.now, c.in-Some.other.now) ≡ two_names c.args.word.now = search rules in
-    named-push c.args.names.now.items c.push.new.self.items c.in_ok-pair_of.field-0 (c.in-Some.one.now, c.in-Some.other.now) c.args.word.now (search rules) c.in_ok-pair_of.ensures.one c.in_ok-pair_of.ensures.other some
+    named-push c.args.names.now.items c.push.new.self.items c.in_ok-pair_of.field-0 (c.in-Some.one.now, c.in-Some.other.now) c.args.word.now
+    (search rules) c.in_ok-pair_of.ensures.one c.in_ok-pair_of.ensures.other some

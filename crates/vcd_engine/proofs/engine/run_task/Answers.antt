@@ -37,7 +37,9 @@ returns-clause-runs g c = record {
       let begun = c.in_ok-task_state.ensures.starts h views in
       let keeps = begun_plan t _ h c.in_ok-task_state.ensures.begins.answer begun.1 in
       let out : Device = (g.W.Sink.device c.args.out.now) in
-      follows t h i front name _ _ _ _ _ out (g.W.Sink.device c.run_to_end.new.out) c.run_to_end.result begun.0 (c.run_to_end.ensures.runs (plan_of t h) h i front out views st keeps refl begun.2) (c.run_to_end.ensures.needed (plan_of t h) h i front out views st keeps refl begun.2);
+      follows t h i front name _ _ _ _ _ out (g.W.Sink.device c.run_to_end.new.out) c.run_to_end.result begun.0
+      (c.run_to_end.ensures.runs (plan_of t h) h i front out views st keeps refl begun.2)
+      (c.run_to_end.ensures.needed (plan_of t h) h i front out views st keeps refl begun.2);
   devices = (
     c.run_to_end.ensures.devices.0,
     c.run_to_end.ensures.devices.1 ∙ ap (λ (n : ℕ). n + writes_failed c.run_to_end.result) (c.in_ok-task_state.ensures.begins.failures ∙ add-zero _),

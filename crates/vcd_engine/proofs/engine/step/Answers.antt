@@ -7,7 +7,9 @@ pub returns-clause-gives : goal.returns-clause-gives
 returns-clause-gives g c = λ h i front items s.
     let e = c.args.engine.now in
     let same = ap (λ (q : Request × RoomSize). q.0) c.step-stepped.ensures.fixed in
-    step_plan h i front items c.args.feed.now c.step-stepped.new.feed (g.W.Sink.device c.args.out.now) (g.W.Sink.device c.step-stepped.new.out) e (record { view = e.view; regs = c.step-stepped.new.regs; task_state = c.step-stepped.new.task; going = c.goes_on-engine.result }) c.step-stepped.result s refl same
+    step_plan h i front items c.args.feed.now c.step-stepped.new.feed (g.W.Sink.device c.args.out.now) (g.W.Sink.device c.step-stepped.new.out) e
+    (record { view = e.view; regs = c.step-stepped.new.regs; task_state = c.step-stepped.new.task; going = c.goes_on-engine.result })
+    c.step-stepped.result s refl same
     (c.step-stepped.ensures.steps _ h i front items s.holds.views (runs_plan e h i front items c.args.feed.now s))
 
 pub returns-clause-over : goal.returns-clause-over

@@ -17,5 +17,7 @@ returns-in-Change g c = counted (search rules) (λ h x views is.
     let s = subst (λ (i : Item). HasGoodText codes c.args.text.now i) c.in-Change.is c.requires.sound in
     let there = slice_get-get_or codes c.in-Change.code none (slice_get_within codes c.in-Change.code s.0 s.1) in
     subst (λ l. Takes (g.W.Sink.device c.args.out.now) (g.W.Sink.device c.put_change.new.w) l c.put_change.result)
-    (change_is (parts c.args.view) h c.in-Change.code c.in-Change.form x (get_or codes c.in-Change.code none) c.text_at-id.result.now c.args.text.now views (subst (λ (i : Item). IsItem h.codes c.args.text.now i x) c.in-Change.is is) there c.text_at-id.ensures)
+    (change_is (parts c.args.view) h c.in-Change.code c.in-Change.form x
+    (get_or codes c.in-Change.code none) c.text_at-id.result.now c.args.text.now views
+    (subst (λ (i : Item). IsItem h.codes c.args.text.now i x) c.in-Change.is is) there c.text_at-id.ensures)
     c.put_change.ensures.0)

@@ -7,7 +7,9 @@ returns-in_err-put_counts g c =
     rw e (some-first (g.W.Sink.device _) (g.W.Sink.device _) _ (count_line (codes "last") (number_or_dash c.args.last)) c.in_err-put_counts.ensures)
 
 pub returns-in-Some : goal.returns-in-Some
-returns-in-Some g c = rw c.in-Some.is (puts-twice (g.W.Sink.device _) (g.W.Sink.device _) (g.W.Sink.device _) _ (count_line (codes "last") (number_or_dash (Some c.in-Some.time))) c.put_count.result c.in_ok-put_counts.ensures c.put_count.ensures)
+returns-in-Some g c = rw c.in-Some.is (puts-twice (g.W.Sink.device _) (g.W.Sink.device _) (g.W.Sink.device _) _
+    (count_line (codes "last") (number_or_dash (Some c.in-Some.time))) c.put_count.result c.in_ok-put_counts.ensures c.put_count.ensures)
 
 pub returns-in-None : goal.returns-in-None
-returns-in-None g c = rw c.in-None.is (puts-twice (g.W.Sink.device _) (g.W.Sink.device _) (g.W.Sink.device _) _ (count_line (codes "last") (number_or_dash None)) c.put.result c.in_ok-put_counts.ensures c.put.ensures)
+returns-in-None g c = rw c.in-None.is (puts-twice (g.W.Sink.device _) (g.W.Sink.device _) (g.W.Sink.device _) _
+    (count_line (codes "last") (number_or_dash None)) c.put.result c.in_ok-put_counts.ensures c.put.ensures)

@@ -22,7 +22,8 @@ loop-row-preserved g c =
           rw w.out-is (
             c.loop-row.invariant.0,
             λ h views.
-                subst (λ (l : List ℕ). Appends (g.W.Sink.device c.args.out.now).held (g.W.Sink.device c.loop-row.out).held l) (sym (lines-pass s h i other.0 views other.1 other.2)) (c.loop-row.invariant.1 h views),
+                subst (λ (l : List ℕ). Appends (g.W.Sink.device c.args.out.now).held (g.W.Sink.device c.loop-row.out).held l)
+                (sym (lines-pass s h i other.0 views other.1 other.2)) (c.loop-row.invariant.1 h views),
           )
     ]
 
@@ -38,4 +39,5 @@ returns-in_err-put_list_line-clause-takes g c = λ h views.
 pub returns-clause-takes : goal.returns-clause-takes
 returns-clause-takes g c = λ h views.
     let s = parts c.args.view in
-    subst (λ (l : List ℕ). Appends (g.W.Sink.device c.args.out.now).held (g.W.Sink.device c.loop-row.out).held l) (listed-all s h c.loop-row.row views (omega (arith, c.loop-row-test.false, c.loop-row.auto.row-end))) (c.loop-row.invariant.1 h views)
+    subst (λ (l : List ℕ). Appends (g.W.Sink.device c.args.out.now).held (g.W.Sink.device c.loop-row.out).held l)
+    (listed-all s h c.loop-row.row views (omega (arith, c.loop-row-test.false, c.loop-row.auto.row-end))) (c.loop-row.invariant.1 h views)

@@ -12,4 +12,5 @@ returns-in_err-put_sample-clause-takes g c = λ h items names views marked held 
 pub returns-clause-takes : goal.returns-clause-takes
 returns-clause-takes g c = λ h items names views marked held late.
     let end = take_all c.loop-time.time-index c.args.times.now (omega (arith, c.loop-time-test.false)) in
-    subst (λ (l : List ℕ). Appends (g.W.Sink.device c.args.out.now).held (g.W.Sink.device c.loop-time.out).held l) (ap (flat_map (sample_lines (selected names h.declarations) items)) end) (c.loop-time.invariant.1 h items names views marked held late)
+    subst (λ (l : List ℕ). Appends (g.W.Sink.device c.args.out.now).held (g.W.Sink.device c.loop-time.out).held l)
+    (ap (flat_map (sample_lines (selected names h.declarations) items)) end) (c.loop-time.invariant.1 h items names views marked held late)

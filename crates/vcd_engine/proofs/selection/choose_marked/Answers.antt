@@ -13,10 +13,15 @@ loop-row-preserved-then-code-view c =
     let i = length c.loop-row.yielded in
     let first : iter_rest (zip_first c.into_iter-row-iterator.result) ≡ c.args.view.rows.now = search rules in
     let second : iter_rest (zip_second c.into_iter-row-iterator.result) ≡ c.args.marks.now = search rules in
-    let turn = zip_turn c.args.view.rows.now c.args.marks.now c.loop-row.yielded c.into_iter-row-iterator.result c.loop-row.row-iterator c.next.new.self c.next.result first second c.loop-row.yielded_by (c.in-Some.row, c.in-Some.mark) c.in-Some.is c.next.ensures.steps in
+    let turn = zip_turn c.args.view.rows.now c.args.marks.now c.loop-row.yielded c.into_iter-row-iterator.result c.loop-row.row-iterator c.next.new.self c.next.result first second c.loop-row.yielded_by
+    (c.in-Some.row, c.in-Some.mark) c.in-Some.is c.next.ensures.steps in
     let there = are_at c.args.view.rows.now c.args.marks.now i c.in-Some.row.now c.in-Some.mark.now turn in
-    let more = next_chosen s c.args.marks.now old (is_chosen c.loop-row.flags) i c.in-Some.row.now c.in-Some.mark.now c.loop-row.invariant.1 there (is_chosen c.set_chosen.new.flags) (sym c.eq.ensures ∙ c.if-eq.true) c.if-mark-eq1.true c.set_chosen.ensures.chosen in
-    (c.set_chosen.ensures.codes ∙ c.loop-row.invariant.0, subst (HaveChosen s c.args.marks.now old (is_chosen c.set_chosen.new.flags)) (sym (length_push c.loop-row.yielded (c.in-Some.row, c.in-Some.mark))) more)
+    let more = next_chosen s c.args.marks.now old (is_chosen c.loop-row.flags) i c.in-Some.row.now c.in-Some.mark.now c.loop-row.invariant.1 there
+    (is_chosen c.set_chosen.new.flags) (sym c.eq.ensures ∙ c.if-eq.true) c.if-mark-eq1.true c.set_chosen.ensures.chosen in (
+      c.set_chosen.ensures.codes ∙ c.loop-row.invariant.0,
+      subst (HaveChosen s c.args.marks.now old (is_chosen c.set_chosen.new.flags))
+          (sym (length_push c.loop-row.yielded (c.in-Some.row, c.in-Some.mark))) more,
+    )
 
 pub loop-row-preserved : goal.loop-row-preserved
 loop-row-preserved c =
@@ -29,7 +34,8 @@ loop-row-preserved c =
     let m = c.in-Some.mark.now in
     let first : iter_rest (zip_first c.into_iter-row-iterator.result) ≡ c.args.view.rows.now = search rules in
     let second : iter_rest (zip_second c.into_iter-row-iterator.result) ≡ c.args.marks.now = search rules in
-    let turn = zip_turn c.args.view.rows.now c.args.marks.now c.loop-row.yielded c.into_iter-row-iterator.result c.loop-row.row-iterator c.next.new.self c.next.result first second c.loop-row.yielded_by (c.in-Some.row, c.in-Some.mark) c.in-Some.is c.next.ensures.steps in
+    let turn = zip_turn c.args.view.rows.now c.args.marks.now c.loop-row.yielded c.into_iter-row-iterator.result c.loop-row.row-iterator c.next.new.self c.next.result first second c.loop-row.yielded_by
+    (c.in-Some.row, c.in-Some.mark) c.in-Some.is c.next.ensures.steps in
     let there = are_at c.args.view.rows.now marks i r m turn in
     let so_far = c.loop-row.invariant.1 in
     let more : HaveChosen s marks old now (i + 1) = elim c.else-eq.branch [

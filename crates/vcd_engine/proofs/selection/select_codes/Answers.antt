@@ -7,5 +7,6 @@ returns-clause-selects c = λ h views.
     let marks = c.in_default.ensures.marks h views in record {
       matched = c.in_default.ensures.names h views;
       marks_are = marks;
-      chosen = λ place k there. c.choose_marked.ensures.chosen h names views marks place k there ∙ ap (λ b. b || selects_code (selected names h.declarations) k) (c.clear_chosen.ensures.chosen place);
+      chosen = λ place k there. c.choose_marked.ensures.chosen h names views marks place k there
+          ∙ ap (λ b. b || selects_code (selected names h.declarations) k) (c.clear_chosen.ensures.chosen place);
     }

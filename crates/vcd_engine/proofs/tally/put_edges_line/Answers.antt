@@ -11,7 +11,9 @@ returns-in_err-put_path g c = counted (search rules) (λ h v views declared item
     let ns = c.tally.result in
     let line = row_is c.args.view h c.args.table.now items c.args.row c.in-Some.variable v ns views tallied (sym c.row_at.ensures ∙ c.in-Some.is) declared c.tally.ensures in
     rw e (subst (λ (l : List ℕ). AppendsSome (g.W.Sink.device c.args.out.now).held (g.W.Sink.device c.put_path.new.w).held l) line
-    (appends-first _ _ _ (10 ∷ []) (appends-first _ _ _ (32 ∷ decimal (get_or ns 2 0)) (appends-first _ _ _ (32 ∷ decimal (get_or ns 1 0)) (appends-first _ _ _ (32 ∷ decimal (get_or ns 0 0)) (c.in_err-put_path.ensures.takes h (Declaration.Var v) views declared)))))))
+    (appends-first _ _ _ (10 ∷ []) (appends-first _ _ _ (32 ∷ decimal (get_or ns 2 0))
+    (appends-first _ _ _ (32 ∷ decimal (get_or ns 1 0)) (appends-first _ _ _ (32 ∷ decimal (get_or ns 0 0))
+    (c.in_err-put_path.ensures.takes h (Declaration.Var v) views declared)))))))
 
 pub returns-in_err-put_counter : goal.returns-in_err-put_counter
 returns-in_err-put_counter g c = counted (search rules) (λ h v views declared items tallied.
@@ -19,7 +21,9 @@ returns-in_err-put_counter g c = counted (search rules) (λ h v views declared i
     let ns = c.tally.result in
     let line = row_is c.args.view h c.args.table.now items c.args.row c.in-Some.variable v ns views tallied (sym c.row_at.ensures ∙ c.in-Some.is) declared c.tally.ensures in
     rw e (subst (λ (l : List ℕ). AppendsSome (g.W.Sink.device c.args.out.now).held (g.W.Sink.device c.put_counter.new.out).held l) line
-    (appends-first _ _ _ (10 ∷ []) (appends-first _ _ _ (32 ∷ decimal (get_or ns 2 0)) (appends-first _ _ _ (32 ∷ decimal (get_or ns 1 0)) (appends-some _ _ _ _ (32 ∷ decimal (get_or ns 0 0)) (c.in_ok-put_path.ensures.takes h (Declaration.Var v) views declared) c.in_err-put_counter.ensures.0))))))
+    (appends-first _ _ _ (10 ∷ []) (appends-first _ _ _ (32 ∷ decimal (get_or ns 2 0))
+    (appends-first _ _ _ (32 ∷ decimal (get_or ns 1 0)) (appends-some _ _ _ _ (32 ∷ decimal (get_or ns 0 0))
+    (c.in_ok-put_path.ensures.takes h (Declaration.Var v) views declared) c.in_err-put_counter.ensures.0))))))
 
 pub returns-in_err-put_counter-2 : goal.returns-in_err-put_counter-2
 returns-in_err-put_counter-2 g c = counted (search rules) (λ h v views declared items tallied.
@@ -27,7 +31,9 @@ returns-in_err-put_counter-2 g c = counted (search rules) (λ h v views declared
     let ns = c.tally.result in
     let line = row_is c.args.view h c.args.table.now items c.args.row c.in-Some.variable v ns views tallied (sym c.row_at.ensures ∙ c.in-Some.is) declared c.tally.ensures in
     rw e (subst (λ (l : List ℕ). AppendsSome (g.W.Sink.device c.args.out.now).held (g.W.Sink.device c.put_counter-2.new.out).held l) line
-    (appends-first _ _ _ (10 ∷ []) (appends-first _ _ _ (32 ∷ decimal (get_or ns 2 0)) (appends-some _ _ _ _ (32 ∷ decimal (get_or ns 1 0)) (appends-twice _ _ _ _ (32 ∷ decimal (get_or ns 0 0)) (c.in_ok-put_path.ensures.takes h (Declaration.Var v) views declared) c.in_ok-put_counter.ensures.0) c.in_err-put_counter-2.ensures.0)))))
+    (appends-first _ _ _ (10 ∷ []) (appends-first _ _ _ (32 ∷ decimal (get_or ns 2 0))
+    (appends-some _ _ _ _ (32 ∷ decimal (get_or ns 1 0)) (appends-twice _ _ _ _ (32 ∷ decimal (get_or ns 0 0))
+    (c.in_ok-put_path.ensures.takes h (Declaration.Var v) views declared) c.in_ok-put_counter.ensures.0) c.in_err-put_counter-2.ensures.0)))))
 
 pub returns-in_err-put_counter-3 : goal.returns-in_err-put_counter-3
 returns-in_err-put_counter-3 g c = counted (search rules) (λ h v views declared items tallied.
@@ -35,11 +41,17 @@ returns-in_err-put_counter-3 g c = counted (search rules) (λ h v views declared
     let ns = c.tally.result in
     let line = row_is c.args.view h c.args.table.now items c.args.row c.in-Some.variable v ns views tallied (sym c.row_at.ensures ∙ c.in-Some.is) declared c.tally.ensures in
     rw e (subst (λ (l : List ℕ). AppendsSome (g.W.Sink.device c.args.out.now).held (g.W.Sink.device c.put_counter-3.new.out).held l) line
-    (appends-first _ _ _ (10 ∷ []) (appends-some _ _ _ _ (32 ∷ decimal (get_or ns 2 0)) (appends-twice _ _ _ _ (32 ∷ decimal (get_or ns 1 0)) (appends-twice _ _ _ _ (32 ∷ decimal (get_or ns 0 0)) (c.in_ok-put_path.ensures.takes h (Declaration.Var v) views declared) c.in_ok-put_counter.ensures.0) c.in_ok-put_counter-2.ensures.0) c.in_err-put_counter-3.ensures.0))))
+    (appends-first _ _ _ (10 ∷ []) (appends-some _ _ _ _ (32 ∷ decimal (get_or ns 2 0))
+    (appends-twice _ _ _ _ (32 ∷ decimal (get_or ns 1 0)) (appends-twice _ _ _ _ (32 ∷ decimal (get_or ns 0 0))
+    (c.in_ok-put_path.ensures.takes h (Declaration.Var v) views declared) c.in_ok-put_counter.ensures.0) c.in_ok-put_counter-2.ensures.0)
+    c.in_err-put_counter-3.ensures.0))))
 
 pub returns : goal.returns
 returns g c = counted (search rules) (λ h v views declared items tallied.
     let ns = c.tally.result in
     let line = row_is c.args.view h c.args.table.now items c.args.row c.in-Some.variable v ns views tallied (sym c.row_at.ensures ∙ c.in-Some.is) declared c.tally.ensures in
     subst (λ (l : List ℕ). Takes (g.W.Sink.device c.args.out.now) (g.W.Sink.device c.put.new.w) l c.put.result) line
-    (takes-twice _ _ _ _ (10 ∷ []) c.put.result (appends-twice _ _ _ _ (32 ∷ decimal (get_or ns 2 0)) (appends-twice _ _ _ _ (32 ∷ decimal (get_or ns 1 0)) (appends-twice _ _ _ _ (32 ∷ decimal (get_or ns 0 0)) (c.in_ok-put_path.ensures.takes h (Declaration.Var v) views declared) c.in_ok-put_counter.ensures.0) c.in_ok-put_counter-2.ensures.0) c.in_ok-put_counter-3.ensures.0) c.put.ensures.0))
+    (takes-twice _ _ _ _ (10 ∷ []) c.put.result (appends-twice _ _ _ _ (32 ∷ decimal (get_or ns 2 0))
+    (appends-twice _ _ _ _ (32 ∷ decimal (get_or ns 1 0)) (appends-twice _ _ _ _ (32 ∷ decimal (get_or ns 0 0))
+    (c.in_ok-put_path.ensures.takes h (Declaration.Var v) views declared) c.in_ok-put_counter.ensures.0) c.in_ok-put_counter-2.ensures.0)
+    c.in_ok-put_counter-3.ensures.0) c.put.ensures.0))

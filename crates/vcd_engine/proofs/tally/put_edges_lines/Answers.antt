@@ -7,7 +7,8 @@ pub loop-row-init : goal.loop-row-init
 loop-row-init g c = (
   refl,
   λ h items names views marked tallied.
-      subst (Appends (g.W.Sink.device c.args.out.now).held (g.W.Sink.device c.args.out.now).held) (sym (rows_none (edges_line items) names h.declarations)) (appends-none (g.W.Sink.device c.args.out.now).held),
+      subst (Appends (g.W.Sink.device c.args.out.now).held (g.W.Sink.device c.args.out.now).held)
+      (sym (rows_none (edges_line items) names h.declarations)) (appends-none (g.W.Sink.device c.args.out.now).held),
 )
 
 pub loop-row-preserved : goal.loop-row-preserved
@@ -24,7 +25,8 @@ loop-row-preserved g c =
                 let v = is_declared s h i views is in
                 let mark = sym w.is_marked.ensures ∙ w.if-is_marked.true in
                 subst (λ (l : List ℕ). Appends old (g.W.Sink.device w.put_edges_line.new.out).held l) (sym (rows_marked (edges_line items) names s h i c.args.marks.now views marked v.0 v.1 mark))
-                (appends-twice _ _ _ _ (edges_line items (declared_at h.declarations i v.0)) (c.loop-row.invariant.1 h items names views marked tallied) (w.in_ok-put_edges_line.ensures.0 h v.0 views v.1 items tallied)),
+                (appends-twice _ _ _ _ (edges_line items (declared_at h.declarations i v.0))
+                (c.loop-row.invariant.1 h items names views marked tallied) (w.in_ok-put_edges_line.ensures.0 h v.0 views v.1 items tallied)),
           )
       | else-eq w ↦
           rw w.out-is (
@@ -48,10 +50,12 @@ returns-in_err-put_edges_line-clause-takes g c = λ h items names views marked t
     let i = c.loop-row.row in
     let e : c.from_residual.result ≡ Err c.in_err-put_edges_line.field-0.0 = search rules in
     let v = is_declared s h i views (read_variable s i _ c.eq.result c.eq.ensures c.if-eq.true c.loop-row-test.true) in
-    rw e (rows_some (edges_line items) names s h i c.args.marks.now views marked _ _ _ v.0 v.1 (sym c.is_marked.ensures ∙ c.if-is_marked.true) (c.loop-row.invariant.1 h items names views marked tallied) (c.in_err-put_edges_line.ensures.0 h v.0 views v.1 items tallied))
+    rw e (rows_some (edges_line items) names s h i c.args.marks.now views marked _ _ _ v.0 v.1 (sym c.is_marked.ensures ∙ c.if-is_marked.true)
+    (c.loop-row.invariant.1 h items names views marked tallied) (c.in_err-put_edges_line.ensures.0 h v.0 views v.1 items tallied))
 
 pub returns-clause-takes : goal.returns-clause-takes
 returns-clause-takes g c = λ h items names views marked tallied.
     let s = parts c.args.view in
     subst (λ (l : List ℕ). Appends (g.W.Sink.device c.args.out.now).held (g.W.Sink.device c.loop-row.out).held l)
-    (rows_all (edges_line items) names s h c.loop-row.row c.args.marks.now views marked (omega (arith, c.loop-row-test.false, c.loop-row.auto.row-end))) (c.loop-row.invariant.1 h items names views marked tallied)
+    (rows_all (edges_line items) names s h c.loop-row.row c.args.marks.now views marked
+    (omega (arith, c.loop-row-test.false, c.loop-row.auto.row-end))) (c.loop-row.invariant.1 h items names views marked tallied)

@@ -16,7 +16,8 @@ returns-in-Some-clause-takes c = λ view h items k views declared event size goo
     let kept = tallied.held.shares c.args.code k declared in
     let enough = kept.2 in
     rw (form, has.2)
-    (follow_tallied view h items c.args.code k views declared Vector digits event fits c.args.table.now c.follow.new.self c.args.size size (is.sets.keeps.laid laid) (is.as_text laid kept.0 kept.1 (omega (arith, enough))) (is.value laid) few tallied)
+    (follow_tallied view h items c.args.code k views declared Vector digits event fits c.args.table.now c.follow.new.self c.args.size size
+    (is.sets.keeps.laid laid) (is.as_text laid kept.0 kept.1 (omega (arith, enough))) (is.value laid) few tallied)
 
 pub returns-in-None-clause-takes : goal.returns-in-None-clause-takes
 returns-in-None-clause-takes c = λ view h items k views declared event size good few tallied.
@@ -25,4 +26,5 @@ returns-in-None-clause-takes c = λ view h items k views declared event size goo
     let old = c.args.table.now in
     let new = c.follow-in-None.new.self in
     let changes = text_followed old new c.args.code c.args.size c.args.form c.args.text.now c.of_text.result (c.of_text.ensures.follows c.args.size) (is.sets.changes laid) in
-    follow_tallied view h items c.args.code k views declared c.args.form c.args.text.now event good old new c.args.size size (is.sets.keeps.laid laid) changes (text_gives old new c.args.code c.args.size c.args.form c.args.text.now changes) few tallied
+    follow_tallied view h items c.args.code k views declared c.args.form c.args.text.now event good old new c.args.size size
+    (is.sets.keeps.laid laid) changes (text_gives old new c.args.code c.args.size c.args.form c.args.text.now changes) few tallied

@@ -22,4 +22,6 @@ returns-in_default-insert_full-clause-refused c = λ none _.
     none_keyed c.args.bytes.now c.args.known.now.rising.items keys none ∙ ap (λ (p : CodeKey → Bool). list_any p keys) (sym test) ∙ c.in_default-insert_full.ensures.absent
 
 pub returns-clause-enters : goal.returns-clause-enters
-returns-clause-enters c = λ h none. enters_set c.args.bytes.now c.args.known.now _ refl h c.in-Ok.key c.in-Ok-insert_full.position c.in-Some-checked_add-2.position c.in-Ok-insert_full.new refl none c.in-Ok.ensures c.in-Ok-insert_full.ensures.added c.in-Ok-insert_full.ensures.keys c.in-Ok-insert_full.ensures.index c.in-Ok-insert_full.ensures.within (omega arith)
+returns-clause-enters c = λ h none.
+    enters_set c.args.bytes.now c.args.known.now _ refl h c.in-Ok.key c.in-Ok-insert_full.position c.in-Some-checked_add-2.position c.in-Ok-insert_full.new refl none c.in-Ok.ensures c.in-Ok-insert_full.ensures.added c.in-Ok-insert_full.ensures.keys c.in-Ok-insert_full.ensures.index c.in-Ok-insert_full.ensures.within
+    (omega arith)

@@ -14,13 +14,16 @@ returns-then-key-last_rising-clause-enters c = λ h.
 
 pub returns-in-Some-clause-enters : goal.returns-in-Some-clause-enters
 returns-in-Some-clause-enters c = λ h.
-    let found : position (nat_eq (key_in c.args.bytes.now)) c.args.known.now.rising.items ≡ position (nat_eq c.key_of-key.result) c.deref-2.result.now = λ j. position (nat_eq (sym c.key_of-key.ensures j)) (sym c.deref-2.ensures.value j) in
+    let found : position (nat_eq (key_in c.args.bytes.now)) c.args.known.now.rising.items ≡ position
+    (nat_eq c.key_of-key.result) c.deref-2.result.now = λ j. position (nat_eq (sym c.key_of-key.ensures j)) (sym c.deref-2.ensures.value j) in
     enters_known c.args.bytes.now c.args.known.now _ refl h c.in-Some.position refl refl (found ∙ sym (c.in-Some.ensures (subst Rises (sym c.deref-2.ensures.value) h)))
 
 pub returns-clause-enters : goal.returns-clause-enters
 returns-clause-enters c = λ h.
-    let found : position (nat_eq (key_in c.args.bytes.now)) c.args.known.now.rising.items ≡ position (nat_eq c.key_of-key.result) c.deref-2.result.now = λ j. position (nat_eq (sym c.key_of-key.ensures j)) (sym c.deref-2.ensures.value j) in
-    let none : position (nat_eq (key_in c.args.bytes.now)) c.args.known.now.rising.items ≡ None = found ∙ sym (c.index_in_rising.ensures (subst Rises (sym c.deref-2.ensures.value) h)) ∙ c.in_default.is in
+    let found : position (nat_eq (key_in c.args.bytes.now)) c.args.known.now.rising.items ≡ position
+    (nat_eq c.key_of-key.result) c.deref-2.result.now = λ j. position (nat_eq (sym c.key_of-key.ensures j)) (sym c.deref-2.ensures.value j) in
+    let none : position (nat_eq (key_in c.args.bytes.now)) c.args.known.now.rising.items ≡ None = found
+    ∙ sym (c.index_in_rising.ensures (subst Rises (sym c.deref-2.ensures.value) h)) ∙ c.in_default.is in
     c.enter_in_set.ensures.enters h (none_there (nat_eq (key_in c.args.bytes.now)) c.args.known.now.rising.items none)
 
 pub returns-in_err-append-clause-refused : goal.returns-in_err-append-clause-refused
@@ -34,6 +37,8 @@ returns-in_err-append-clause-refused c = λ h.
 
 pub returns-clause-refused : goal.returns-clause-refused
 returns-clause-refused c = λ h.
-    let found : position (nat_eq (key_in c.args.bytes.now)) c.args.known.now.rising.items ≡ position (nat_eq c.key_of-key.result) c.deref-2.result.now = λ j. position (nat_eq (sym c.key_of-key.ensures j)) (sym c.deref-2.ensures.value j) in
-    let none : position (nat_eq (key_in c.args.bytes.now)) c.args.known.now.rising.items ≡ None = found ∙ sym (c.index_in_rising.ensures (subst Rises (sym c.deref-2.ensures.value) h)) ∙ c.in_default.is in
+    let found : position (nat_eq (key_in c.args.bytes.now)) c.args.known.now.rising.items ≡ position
+    (nat_eq c.key_of-key.result) c.deref-2.result.now = λ j. position (nat_eq (sym c.key_of-key.ensures j)) (sym c.deref-2.ensures.value j) in
+    let none : position (nat_eq (key_in c.args.bytes.now)) c.args.known.now.rising.items ≡ None = found
+    ∙ sym (c.index_in_rising.ensures (subst Rises (sym c.deref-2.ensures.value) h)) ∙ c.in_default.is in
     c.enter_in_set.ensures.refused (none_there (nat_eq (key_in c.args.bytes.now)) c.args.known.now.rising.items none)

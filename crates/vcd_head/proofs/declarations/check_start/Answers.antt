@@ -11,7 +11,8 @@ returns-in-Scope-clause-checks c = λ ps h.
 
 pub returns-in-Up-clause-checks : goal.returns-in-Up-clause-checks
 returns-in-Up-clause-checks c = λ ps h.
-    subst (λ k. IsBarred c.args.most ps k NoScope) (sym c.in-Up.is) (no_scope c.args.most c.args.draft.now ps h (omega arith) (omega (arith, eqb-true _ _ (sym c.is_empty.ensures ∙ c.if-is_empty.true))))
+    subst (λ k. IsBarred c.args.most ps k NoScope) (sym c.in-Up.is)
+    (no_scope c.args.most c.args.draft.now ps h (omega arith) (omega (arith, eqb-true _ _ (sym c.is_empty.ensures ∙ c.if-is_empty.true))))
 
 pub returns-in-Scope-2-clause-checks : goal.returns-in-Scope-2-clause-checks
 returns-in-Scope-2-clause-checks c = λ ps h.

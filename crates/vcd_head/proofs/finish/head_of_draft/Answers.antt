@@ -15,7 +15,8 @@ returns-clause-head c = λ most ps h.
     record {
       rows = h.declares.rows;
       codes = stand;
-      index = subst (λ t. IsIndex ds_codes c.in_ok-index.index.items) c.deref.ensures.value (c.in_ok-index.ensures ds_codes (rw (c.deref.ensures.value, c.deref-2.ensures.value) h.declares.codes.held));
+      index = subst (λ t. IsIndex ds_codes c.in_ok-index.index.items) c.deref.ensures.value
+          (c.in_ok-index.ensures ds_codes (rw (c.deref.ensures.value, c.deref-2.ensures.value) h.declares.codes.held));
       date = h.date;
       version = h.version;
       scale = h.scale;

@@ -7,4 +7,5 @@ loop-rank-preserved c =
     let at = c.loop-rank.rank-index in
     let ranks = c.args.ranks.now in
     let below : at < length ranks = omega (arith, c.loop-rank-test.true, c.loop-rank.auto.ranks) in
-    ap (λ l. set l at (position_in_rank (get_or l at 0))) c.loop-rank.invariant ∙ place_left position_in_rank ranks at below ∙ ap (λ n. map position_in_rank (take n ranks) ++ drop n ranks) (sym (add-one at))
+    ap (λ l. set l at (position_in_rank (get_or l at 0))) c.loop-rank.invariant ∙ place_left position_in_rank ranks at below
+    ∙ ap (λ n. map position_in_rank (take n ranks) ++ drop n ranks) (sym (add-one at))

@@ -4,7 +4,11 @@ use Rattle.vcd_head.proofs.inside.compare_each.Goals as goal
 use Rattle.vcd_head.proofs.inside.compare_each.Goals.{then-selects, else-selects}
 
 pub loop-position-init : goal.loop-position-init
-loop-position-init c = record { len = c.told-matched; asked = λ h x v at. match_first (selects_path (path_of (take c.args.row h.declarations) (Declaration.Var x))) (map string_bytes c.args.names.now) c.args.matched.now }
+loop-position-init c = record {
+  len = c.told-matched;
+  asked = λ h x v at. match_first
+      (selects_path (path_of (take c.args.row h.declarations) (Declaration.Var x))) (map string_bytes c.args.names.now) c.args.matched.now;
+}
 
 pub loop-position-preserved : goal.loop-position-preserved
 loop-position-preserved c =
@@ -25,14 +29,19 @@ loop-position-preserved c =
           elim c.if-selects.branch [
             | then-selects w ↦
                 subst (λ b. Matching test names (position + 1) old now b) (sym w.some-is)
-                (subst (λ l. Matching test names (position + 1) old l true) (sym w.matched-is) (match_next test names position old c.loop-position.matched c.loop-position.some (string_bytes name) named (omega (arith, c.loop-position.invariant.len)) (sym tested ∙ w.if-selects.true) m))
+                (subst (λ l. Matching test names (position + 1) old l true) (sym w.matched-is)
+                (match_next test names position old c.loop-position.matched c.loop-position.some (string_bytes name) named
+                (omega (arith, c.loop-position.invariant.len)) (sym tested ∙ w.if-selects.true) m))
             | else-selects w ↦
                 subst (λ b. Matching test names (position + 1) old now b) (sym w.some-is)
-                (subst (λ l. Matching test names (position + 1) old l c.loop-position.some) (sym w.matched-is) (match_same test names position old c.loop-position.matched c.loop-position.some (string_bytes name) named (sym tested ∙ w.if-selects.false) m))
+                (subst (λ l. Matching test names (position + 1) old l c.loop-position.some) (sym w.matched-is)
+                (match_same test names position old c.loop-position.matched c.loop-position.some (string_bytes name) named (sym tested
+                ∙ w.if-selects.false) m))
           ];
     }
 
 pub returns : goal.returns
 returns c = λ h x v at.
-    match_all (selects_path (path_of (take c.args.row h.declarations) (Declaration.Var x))) (map string_bytes c.args.names.now) c.loop-position.position c.args.matched.now c.loop-position.matched c.loop-position.some
+    match_all (selects_path (path_of (take c.args.row h.declarations) (Declaration.Var x)))
+    (map string_bytes c.args.names.now) c.loop-position.position c.args.matched.now c.loop-position.matched c.loop-position.some
     (omega (arith, length-map c.args.names.now string_bytes)) (c.loop-position.invariant.asked h x v at)

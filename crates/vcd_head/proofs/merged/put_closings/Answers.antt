@@ -13,6 +13,8 @@ scopes-preserved g c = record {
   lines = λ scopes many.
       let f = λ (scope : ℕ). up_line in
       let i = c.scopes.counter in
-      let one = ap (flat_map f) (take_more scopes i 0 (omega (arith, many))) ∙ flat_map-append f (take i scopes) (get_or scopes i 0 ∷ []) ∙ ap (λ l. flat_map f (take i scopes) ++ l) (append-nil up_line) in
-      subst (λ (l : List ℕ). Appends (g.W.Sink.device c.args.w.now).held (g.W.Sink.device c.put.new.w).held l) (sym one) (appends-twice _ _ _ _ up_line (c.scopes.invariant.lines scopes many) c.in_ok-put.ensures.0);
+      let one = ap (flat_map f) (take_more scopes i 0 (omega (arith, many))) ∙ flat_map-append f (take i scopes) (get_or scopes i 0 ∷ [])
+      ∙ ap (λ l. flat_map f (take i scopes) ++ l) (append-nil up_line) in
+      subst (λ (l : List ℕ). Appends (g.W.Sink.device c.args.w.now).held (g.W.Sink.device c.put.new.w).held l) (sym one)
+      (appends-twice _ _ _ _ up_line (c.scopes.invariant.lines scopes many) c.in_ok-put.ensures.0);
 }

@@ -25,7 +25,9 @@ loop-row-preserved g c = record {
       }) in
       let more = text ++ due h c.args.first now.pending now.written (take i h.declarations) d.0 in (
         more,
-        subst (λ (n : ℕ). IsWritten c.args.first h (i + 1) behind.pending n more) is.1 (subst (λ (n : ℕ). IsWritten c.args.first h (i + 1) n (written_behind d.0 now.pending now.written) more) is.0 (row_next c.args.first h i now.pending now.written text w d.0 d.1)),
+        subst (λ (n : ℕ). IsWritten c.args.first h (i + 1) behind.pending n more) is.1
+            (subst (λ (n : ℕ). IsWritten c.args.first h (i + 1) n (written_behind d.0 now.pending now.written) more) is.0
+            (row_next c.args.first h i now.pending now.written text w d.0 d.1)),
         appends-twice _ _ _ text _ puts (c.in_ok-put_input_row.ensures.0 h d.0 v d.1 fits),
       );
 }

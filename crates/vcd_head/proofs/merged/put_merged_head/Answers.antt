@@ -28,4 +28,5 @@ returns-clause-takes g c = λ hs s.
     let text : c.text_of_exponent.result.now ≡ scale_text c.least_exponent.result = search rules in
     let whole = parts_of c.text_of_exponent.result.now hs (text ∙ ap scale_text (c.least_exponent.ensures hs s)) in
     subst (λ (l : List ℕ). Takes (g.W.Sink.device c.args.w.now) (g.W.Sink.device c.put.new.w) l c.put.result) whole
-    (takes-twice _ _ _ _ end_line c.put.result (appends-twice _ _ _ _ (concat (each input_head hs)) (c.in_ok-put_phrase.ensures.0 Keyword.Timescale refl) (c.in_ok-put_input_heads.ensures.0 hs s)) c.put.ensures.0)
+    (takes-twice _ _ _ _ end_line c.put.result (appends-twice _ _ _ _ (concat (each input_head hs))
+    (c.in_ok-put_phrase.ensures.0 Keyword.Timescale refl) (c.in_ok-put_input_heads.ensures.0 hs s)) c.put.ensures.0)

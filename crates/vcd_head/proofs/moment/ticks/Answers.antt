@@ -24,7 +24,8 @@ returns-clause-ticks c =
     let tick : SFits w8 c.in-Some-scale.scale.exponent = search rules in
     let same = ap₂ (λ u t. ticks c.args.moment.number u t c.args.up) (to_z-of_z w8 c.in-Some.unit unit) (to_z-of_z w8 c.in-Some-scale.scale.exponent tick) in
     let found = subst (λ k. SomeIff c.unit_ticks.result (k < 2 ^ 64) k) same c.unit_ticks.ensures in
-    rw (c.in-Some.is, c.in-Some-scale.is) (in_range_told c.unit_ticks.result c.ok_or.result (ticks c.args.moment.number c.in-Some.unit c.in-Some-scale.scale.exponent c.args.up) found c.ok_or.ensures.value)
+    rw (c.in-Some.is, c.in-Some-scale.is) (in_range_told c.unit_ticks.result c.ok_or.result
+    (ticks c.args.moment.number c.in-Some.unit c.in-Some-scale.scale.exponent c.args.up) found c.ok_or.ensures.value)
 
 pub returns-clause-header : goal.returns-clause-header
 returns-clause-header c = λ h v. returns-clause-ticks c ∙ ap (λ scale. moment_ticks scale (asked c.args.moment) c.args.up) v.scale

@@ -17,5 +17,7 @@ returns-in_err-read_rest-clause-reads g c =
 pub returns-clause-reads : goal.returns-clause-reads
 returns-clause-reads g c = λ i b.
     let l = c.in_ok-next_token.ensures.reads c.args.most i b.placed [] b.reads in
-    let after = c.in_ok-read_rest.ensures.reads i (begun_by c.args.most i c.args.draft.now c.next_token.new.feed b.placed c.of-keyword.result (c.of-keyword.ensures ∙ ap keyword_of c.token.ensures) l b.holds) in
-    subst (λ more. MatchBool more (DraftsUpTo c.args.most i c.read_rest.new.draft c.read_rest.new.feed) (DraftsAll c.args.most i c.read_rest.new.draft c.read_rest.new.feed)) (sym c.goes_on.ensures) after
+    let after = c.in_ok-read_rest.ensures.reads i (begun_by c.args.most i c.args.draft.now c.next_token.new.feed b.placed c.of-keyword.result
+    (c.of-keyword.ensures ∙ ap keyword_of c.token.ensures) l b.holds) in
+    subst (λ more. MatchBool more (DraftsUpTo c.args.most i c.read_rest.new.draft c.read_rest.new.feed)
+    (DraftsAll c.args.most i c.read_rest.new.draft c.read_rest.new.feed)) (sym c.goes_on.ensures) after

@@ -38,7 +38,8 @@ pub returns-in-Some-Comment-clause-reads : goal.returns-in-Some-Comment-clause-r
 returns-in-Some-Comment-clause-reads g c = λ i begun.
     let is : c.args.keyword ≡ Some word.Comment = search rules in
     let b = subst (λ k. AtFirstToken c.args.most i k c.args.draft.now c.args.feed.now) is begun in
-    rw is (steps.comment_read c.args.most i c.args.draft.now c.args.feed.now c.skip_to_end.new.feed c.skip_to_end.result b (c.skip_to_end.ensures.reads c.args.most i b.placed (keyword_text Keyword.Comment ∷ [])))
+    rw is (steps.comment_read c.args.most i c.args.draft.now c.args.feed.now c.skip_to_end.new.feed c.skip_to_end.result b
+    (c.skip_to_end.ensures.reads c.args.most i b.placed (keyword_text Keyword.Comment ∷ [])))
 
 pub returns-in_err-draft-in-Some-Date-clause-reads : goal.returns-in_err-draft-in-Some-Date-clause-reads
 returns-in_err-draft-in-Some-Date-clause-reads g c =
@@ -54,7 +55,8 @@ returns-in_ok-draft-in-Some-Date-clause-reads g c = λ i begun.
     let is : c.args.keyword ≡ Some word.Date = search rules in
     let b = subst (λ k. AtFirstToken c.args.most i k c.args.draft.now c.args.feed.now) is begun in
     let s = steps.text_begun c.args.most i Keyword.Date c.args.draft.now c.args.feed.now b refl refl (λ inner t. refl) (λ inner t none e. steps.not_whole_date inner t none e) in
-    rw is (steps.date_read c.args.most i c.args.draft.now c.args.feed.now c.text_to_end.new.feed c.in_ok-draft-in-Some-Date.field-0 b (c.in_ok-draft-in-Some-Date.ensures.reads c.args.most i b.placed (keyword_text Keyword.Date ∷ []) s.1 s.0))
+    rw is (steps.date_read c.args.most i c.args.draft.now c.args.feed.now c.text_to_end.new.feed c.in_ok-draft-in-Some-Date.field-0 b
+    (c.in_ok-draft-in-Some-Date.ensures.reads c.args.most i b.placed (keyword_text Keyword.Date ∷ []) s.1 s.0))
 
 pub returns-in_err-draft-in-Some-Version-clause-reads : goal.returns-in_err-draft-in-Some-Version-clause-reads
 returns-in_err-draft-in-Some-Version-clause-reads g c =
@@ -70,7 +72,8 @@ returns-in_ok-draft-in-Some-Version-clause-reads g c = λ i begun.
     let is : c.args.keyword ≡ Some word.Version = search rules in
     let b = subst (λ k. AtFirstToken c.args.most i k c.args.draft.now c.args.feed.now) is begun in
     let s = steps.text_begun c.args.most i Keyword.Version c.args.draft.now c.args.feed.now b refl refl (λ inner t. refl) (λ inner t none e. steps.not_whole_version inner t none e) in
-    rw is (steps.version_read c.args.most i c.args.draft.now c.args.feed.now c.text_to_end-in-Some-Version.new.feed c.in_ok-draft-in-Some-Version.field-0 b (c.in_ok-draft-in-Some-Version.ensures.reads c.args.most i b.placed (keyword_text Keyword.Version ∷ []) s.1 s.0))
+    rw is (steps.version_read c.args.most i c.args.draft.now c.args.feed.now c.text_to_end-in-Some-Version.new.feed c.in_ok-draft-in-Some-Version.field-0 b
+    (c.in_ok-draft-in-Some-Version.ensures.reads c.args.most i b.placed (keyword_text Keyword.Version ∷ []) s.1 s.0))
 
 pub returns-in-Some-EndDefinitions-clause-reads : goal.returns-in-Some-EndDefinitions-clause-reads
 returns-in-Some-EndDefinitions-clause-reads g c = λ i begun.

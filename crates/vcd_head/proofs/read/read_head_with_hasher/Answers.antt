@@ -18,7 +18,10 @@ returns-in_err-read_phrases g c = record {
 pub returns : goal.returns
 returns g c = record {
   reads = λ i s.
-      finished c.args.most i c.read_phrases.new.draft c.read_phrases.new.feed c.head_of_draft.result (c.in_ok-read_phrases.ensures.reads i (carries_nothing c.args.most i c.new-draft.result c.args.feed.now c.requires.most c.new-draft.ensures s)) c.head_of_draft.ensures.head c.head_of_draft.ensures.memory;
+      finished c.args.most i c.read_phrases.new.draft c.read_phrases.new.feed c.head_of_draft.result
+      (c.in_ok-read_phrases.ensures.reads i
+      (carries_nothing c.args.most i c.new-draft.result c.args.feed.now c.requires.most c.new-draft.ensures s))
+      c.head_of_draft.ensures.head c.head_of_draft.ensures.memory;
   failed = search rules;
   last = search rules;
   same = search rules;

@@ -26,7 +26,8 @@ returns-in-Some-unit_of-clause-reads g c = λ most i placed r.
 pub returns-in-Some-exponent_of-clause-reads : goal.returns-in-Some-exponent_of-clause-reads
 returns-in-Some-exponent_of-clause-reads g c = λ most i placed r.
     let h = sym (c.power_of.ensures ∙ ap power_in c.token.ensures) ∙ not_some c.power_of.result c.in_default.not-Some in
-    let x : exponent_of (token_of c.next_token.new.feed).bytes ≡ Some c.in-Some-exponent_of.exponent = sym (c.exponent_of.ensures ∙ ap exponent_of c.token-in_default.ensures) ∙ c.in-Some-exponent_of.is in
+    let x : exponent_of (token_of c.next_token.new.feed).bytes ≡ Some c.in-Some-exponent_of.exponent = sym (c.exponent_of.ensures
+    ∙ ap exponent_of c.token-in_default.ensures) ∙ c.in-Some-exponent_of.is in
     let s = one_read most i placed c.next_token.new.feed c.in-Some-exponent_of.exponent h x (c.in_ok-next_token.ensures.reads most i placed (keyword_text Keyword.Timescale ∷ []) r) in
     subst (ScaleRead most i placed c.next_token.new.feed) (sym s.fits) s
 

@@ -57,8 +57,10 @@ returns-clause-reads g c = λ i b.
     let name = (token_of c.next_word-2.new.feed).bytes in
     let x = HeaderPhrase.Declares (Declaration.Scope type name) in
     let opened = c.in_ok-open_scope.ensures.opens most (phrases_of b.placed) b.holds start in
-    let holds = subst (λ y. IsDraftOf most c.open_scope.new.draft (phrases_of b.placed ++ HeaderPhrase.Declares y ∷ [])) (λ j. Declaration.Scope ((c.value.ensures ∙ c.in_ok-next_word-2.ensures.value ∙ c.keep.ensures.value) j) (c.token.ensures j)) opened in
+    let holds = subst (λ y. IsDraftOf most c.open_scope.new.draft (phrases_of b.placed ++ HeaderPhrase.Declares y ∷ []))
+    (λ j. Declaration.Scope ((c.value.ensures ∙ c.in_ok-next_word-2.ensures.value ∙ c.keep.ensures.value) j) (c.token.ensures j)) opened in
     then_ok c.next_end.result _ _ _
     (λ u l. carried most i _ c.next_end.new.feed b.placed (record { phrase = x; line = (token_of c.next_end.new.feed).line })
-    (ended most i b.placed Keyword.Scope c.next_end.new.feed (type ∷ name ∷ []) x (passed_test _ 6 l.1) (ap (option_map HeaderPhrase.Declares) (whole_test _ (Declaration.Scope type name) l.1)) refl l.0) holds)
+    (ended most i b.placed Keyword.Scope c.next_end.new.feed (type ∷ name ∷ []) x (passed_test _ 6 l.1)
+    (ap (option_map HeaderPhrase.Declares) (whole_test _ (Declaration.Scope type name) l.1)) refl l.0) holds)
     (c.next_end.ensures.reads most i b.placed (keyword_text Keyword.Scope ∷ type ∷ name ∷ []) (scope_asks_end most b.placed type name) (λ x. x) r2.0)

@@ -28,7 +28,8 @@ returns-in-None-clause-selects c = λ text.
     let n = c.args.name.now in
     let b = c.in-Some.after in
     let s = stripped n p c.strip_prefix.result b c.in-Some.is (strip_prefix_is Decides-eqb n p c.strip_prefix.result c.strip_prefix.ensures.cases) in
-    let none = not_stripped b.now (46 ∷ []) c.strip_prefix-2.result (λ x e. let no = c.in-None.is in cc) (strip_prefix_is Decides-eqb b.now (46 ∷ []) c.strip_prefix-2.result c.strip_prefix-2.ensures.cases) in
+    let none = not_stripped b.now (46 ∷ []) c.strip_prefix-2.result (λ x e. let no = c.in-None.is in
+    cc) (strip_prefix_is Decides-eqb b.now (46 ∷ []) c.strip_prefix-2.result c.strip_prefix-2.ensures.cases) in
     sym (component_differs p n text (sym c.is_or_goes_on.ensures ∙ c.if-is_or_goes_on.false) (λ rest e. none rest (sym (front_rest n p b.now s) ∙ front_rest n p (46 ∷ rest) e)))
 
 pub returns-in-Some-strip_prefix-clause-rest : goal.returns-in-Some-strip_prefix-clause-rest

@@ -25,7 +25,8 @@ loop-row-preserved c = record {
       ] in
       elim c.if-matches.branch [
         | then-matches w ↦
-            let more = subst (Marked (row ∷ enclosing (take row ds)) c.loop-row.marks) (sym w.marks-is) (w.mark_with_scopes.ensures.marks h v (omega (arith, rows)) (c.loop-row.invariant.closed h v closed)) in
+            let more = subst (Marked (row ∷ enclosing (take row ds)) c.loop-row.marks) (sym w.marks-is)
+            (w.mark_with_scopes.ensures.marks h v (omega (arith, rows)) (c.loop-row.invariant.closed h v closed)) in
             subst (λ ps. Marked ps zeros c.if-matches.marks) (sym (marks_more [] ds row d.0 d.1 (selected ∙ w.if-matches.true)))
             (marked_both (marked_places [] (take row ds)) (row ∷ enclosing (take row ds)) zeros c.loop-row.marks c.if-matches.marks (c.loop-row.invariant.marks h v closed) more)
         | else-matches w ↦
@@ -35,7 +36,9 @@ loop-row-preserved c = record {
   closed = λ h v closed.
       let rows = rows_len c.args.view.text.now h.codes [] c.args.view.rows.now h.declarations v.rows in
       elim c.if-matches.branch [
-        | then-matches w ↦ subst (AreClosed h.declarations) (sym w.marks-is) (closed_after h.declarations c.loop-row.row c.loop-row.marks w.mark_with_scopes.new.marks (c.loop-row.invariant.closed h v closed) (w.mark_with_scopes.ensures.marks h v (omega (arith, rows)) (c.loop-row.invariant.closed h v closed)))
+        | then-matches w ↦ subst (AreClosed h.declarations) (sym w.marks-is)
+            (closed_after h.declarations c.loop-row.row c.loop-row.marks w.mark_with_scopes.new.marks (c.loop-row.invariant.closed h v closed)
+            (w.mark_with_scopes.ensures.marks h v (omega (arith, rows)) (c.loop-row.invariant.closed h v closed)))
         | else-matches w ↦ subst (AreClosed h.declarations) (sym w.marks-is) (c.loop-row.invariant.closed h v closed)
       ];
 }

@@ -10,7 +10,8 @@ loop-next-preserved c =
     let earlier = counted_within c.scope_of-next.result p c.scope_of-next.ensures.earlier in
     record {
       within = omega (arith, earlier);
-      same = λ i lt. get_or-set_other marks p i 1 0 (omega (arith, earlier, lt)) ∙ c.loop-next.invariant.same i (subst (λ o. i < counted_from_one o) (sym c.in-Some.is) (omega (arith, earlier, lt)));
+      same = λ i lt. get_or-set_other marks p i 1 0 (omega (arith, earlier, lt))
+          ∙ c.loop-next.invariant.same i (subst (λ o. i < counted_from_one o) (sym c.in-Some.is) (omega (arith, earlier, lt)));
       grown = λ i one. elim (cases_eq i p) [
         | inl e ↦ ap (λ k. get_or (set marks p 1) k 0) e ∙ get_or-set_same marks p 1 0 (omega arith)
         | inr n ↦ get_or-set_other marks p i 1 0 n ∙ c.loop-next.invariant.grown i one

@@ -38,7 +38,9 @@ returns-then-is_empty-clause-marks c = λ h v.
     let rows = rows_len c.args.view.text.now h.codes [] c.args.view.rows.now h.declarations v.rows in
     let none = no_element c.args.names.now (sym c.is_empty.ensures ∙ c.if-is_empty.true) in
     subst (λ ns. c.mark_all.new.marks ≡ marks_of (map string_bytes ns) ds) (sym none)
-    (marked_all (marked_places [] ds) zeros c.mark_all.new.marks (length ds) (omega (arith, rows, c.fill.ensures.len)) (λ i l. c.fill.ensures.clones i 0 (omega (arith, rows)) refl) (c.mark_all.ensures.marks h v (closed_zeros ds zeros (λ i l. c.fill.ensures.clones i 0 (omega (arith, l, c.fill.ensures.len)) refl))))
+    (marked_all (marked_places [] ds) zeros c.mark_all.new.marks (length ds) (omega (arith, rows, c.fill.ensures.len))
+    (λ i l. c.fill.ensures.clones i 0 (omega (arith, rows)) refl)
+    (c.mark_all.ensures.marks h v (closed_zeros ds zeros (λ i l. c.fill.ensures.clones i 0 (omega (arith, l, c.fill.ensures.len)) refl))))
 
 pub returns-clause-marks : goal.returns-clause-marks
 unfolding marks_of
@@ -48,8 +50,10 @@ returns-clause-marks c = λ h v.
     let zeros = c.fill.new.self in
     let rows = rows_len c.args.view.text.now h.codes [] c.args.view.rows.now h.declarations v.rows in
     let closed = closed_zeros ds zeros (λ i l. c.fill.ensures.clones i 0 (omega (arith, l, c.fill.ensures.len)) refl) in
-    let whole = subst (λ l. Marked (marked_places (map string_bytes l) ds) zeros c.loop-done.marks) (take_all c.loop-done.done names (omega arith)) (c.loop-done.invariant.marks h zeros v (c.mark_selected.ensures.closed h v closed) (c.mark_selected.ensures.marks h v closed)) in
-    marked_all (marked_places (map string_bytes names) ds) zeros c.loop-done.marks (length ds) (omega (arith, rows, c.fill.ensures.len)) (λ i l. c.fill.ensures.clones i 0 (omega (arith, rows)) refl) whole
+    let whole = subst (λ l. Marked (marked_places (map string_bytes l) ds) zeros c.loop-done.marks) (take_all c.loop-done.done names (omega arith))
+    (c.loop-done.invariant.marks h zeros v (c.mark_selected.ensures.closed h v closed) (c.mark_selected.ensures.marks h v closed)) in
+    marked_all (marked_places (map string_bytes names) ds) zeros c.loop-done.marks (length ds) (omega (arith, rows, c.fill.ensures.len))
+    (λ i l. c.fill.ensures.clones i 0 (omega (arith, rows)) refl) whole
 
 -- the names in two groups, by a number of them
 split_at : {X : Type 0} (text : X → List ℕ) (n : ℕ) (xs : List X) → map text xs ≡ map text (take n xs) ++ map text (drop n xs)
@@ -72,7 +76,9 @@ returns-in-Some-mark_selected-clause-names c = λ h v.
     let both = ap (map string_bytes) (take_group from to names (omega arith) (omega arith)) ∙ map-append string_bytes (take from names) (slice_range names from to) in
     let found = sym c.in-Some-mark_selected.is ∙ c.mark_selected-in-loop-done.ensures.names h v in
     let count : length (map string_bytes (take from names)) ≡ from = length-map (take from names) string_bytes ∙ length-take-le from names (omega arith) in
-    let here = ap (λ l. first_unmatched l ds) both ∙ unmatched_later (map string_bytes (take from names)) (map string_bytes (slice_range names from to)) ds (Some position) (c.loop-done.invariant.matched h v) found ∙ ap (λ n. Some (n + position)) count in
+    let here = ap (λ l. first_unmatched l ds) both ∙ unmatched_later (map string_bytes (take from names))
+    (map string_bytes (slice_range names from to)) ds (Some position) (c.loop-done.invariant.matched h v) found
+    ∙ ap (λ n. Some (n + position)) count in
     ap (λ l. first_unmatched l ds) (split_at string_bytes to names) ∙ unmatched_first (map string_bytes (take to names)) (map string_bytes (drop to names)) ds (from + position) here
 
 pub returns-clause-names : goal.returns-clause-names

@@ -8,7 +8,8 @@ invariant-loop-done l = record {
   len : length l.marks ≡ length l.view.rows.now;
   matched : (h : Header) → Views (parts l.view) h → first_unmatched (map string_bytes (take l.done l.names)) h.declarations ≡ None;
   closed : (h : Header) → Views (parts l.view) h → AreClosed h.declarations l.initial.marks → AreClosed h.declarations l.marks;
-  marks : (h : Header) (zeros : List ℕ) → Views (parts l.view) h → AreClosed h.declarations l.initial.marks → Marked (marked_places (map string_bytes (take l.initial.done l.names)) h.declarations) zeros l.initial.marks
+  marks : (h : Header) (zeros : List ℕ) → Views (parts l.view) h → AreClosed h.declarations l.initial.marks
+      → Marked (marked_places (map string_bytes (take l.initial.done l.names)) h.declarations) zeros l.initial.marks
       → Marked (marked_places (map string_bytes (take l.done l.names)) h.declarations) zeros l.marks;
 }
 

@@ -5,7 +5,13 @@ use Rattle.vcd_head.proofs.texts.append_to_end.Goals as goal
 pub tokens-init : goal.tokens-init
 tokens-init g c = (
   advances_nowhere _ c.args.feed.now,
-  λ most i placed before runs r. record { inner = []; none = tt; reads = subst (λ b. Reads most i placed b c.args.feed.now) (sym (append-nil before)) r; grows = sym (append-nil c.args.text.now.items) },
+  λ most i placed before runs r. record {
+    inner = [];
+    none = tt;
+    reads = subst (λ b. Reads most i placed b c.args.feed.now)
+        (sym (append-nil before)) r;
+    grows = sym (append-nil c.args.text.now.items);
+  },
   omega arith,
 )
 
@@ -17,21 +23,30 @@ returns-in_err-next_ends-clause-reads g c =
 pub returns-clause-reads : goal.returns-clause-reads
 returns-clause-reads g c = λ most i placed before runs r.
     let on = c.tokens.invariant.1 most i placed before runs r in
-    record { inner = on.inner; none = on.none; token_read = c.in_ok-next_ends.ensures.reads most i placed (before ++ on.inner) on.reads; ends = sym c.in_ok-next_ends.ensures.end ∙ c.if-not-branch.false; grows = on.grows }
+    record {
+      inner = on.inner;
+      none = on.none;
+      token_read = c.in_ok-next_ends.ensures.reads most i placed
+          (before ++ on.inner) on.reads;
+      ends = sym c.in_ok-next_ends.ensures.end ∙ c.if-not-branch.false;
+      grows = on.grows;
+    }
 
 pub returns-in_err-push-clause-reads : goal.returns-in_err-push-clause-reads
 returns-in_err-push-clause-reads g c =
     let p = err_from_is_err_and c.from_residual-in_err-push.result c.from_residual-in_err-push.ensures.1 in
     rw (p.1, p.2) (λ most i placed before runs r.
     let on = c.tokens.invariant.1 most i placed before runs r in
-    faultless_more most i placed before c.next_ends.new.feed on.inner runs on.none (sym c.in_ok-next_ends.ensures.end ∙ c.if-not-branch.true) (c.in_ok-next_ends.ensures.reads most i placed (before ++ on.inner) on.reads))
+    faultless_more most i placed before c.next_ends.new.feed on.inner runs on.none (sym c.in_ok-next_ends.ensures.end ∙ c.if-not-branch.true)
+    (c.in_ok-next_ends.ensures.reads most i placed (before ++ on.inner) on.reads))
 
 pub returns-in_err-extend_from_slice-clause-reads : goal.returns-in_err-extend_from_slice-clause-reads
 returns-in_err-extend_from_slice-clause-reads g c =
     let p = err_from_is_err_and c.from_residual-in_err-extend_from_slice.result c.from_residual-in_err-extend_from_slice.ensures.1 in
     rw (p.1, p.2) (λ most i placed before runs r.
     let on = c.tokens.invariant.1 most i placed before runs r in
-    faultless_more most i placed before c.next_ends.new.feed on.inner runs on.none (sym c.in_ok-next_ends.ensures.end ∙ c.if-not-branch.true) (c.in_ok-next_ends.ensures.reads most i placed (before ++ on.inner) on.reads))
+    faultless_more most i placed before c.next_ends.new.feed on.inner runs on.none (sym c.in_ok-next_ends.ensures.end ∙ c.if-not-branch.true)
+    (c.in_ok-next_ends.ensures.reads most i placed (before ++ on.inner) on.reads))
 
 pub tokens-preserved : goal.tokens-preserved
 tokens-preserved g c =
@@ -41,7 +56,9 @@ tokens-preserved g c =
           let on = c.tokens.invariant.1 most i placed before runs r in
           let t = (token_of c.next_ends.new.feed).bytes in
           let old = c.args.text.now.items in
-          reads_more most i placed before c.next_ends.new.feed on.inner runs on.none (sym c.in_ok-next_ends.ensures.end ∙ c.if-not-branch.true) (c.in_ok-next_ends.ensures.reads most i placed (before ++ on.inner) on.reads)
-          (grown ∙ ap (λ x. c.tokens.text.items ++ 32 ∷ x) c.token.ensures ∙ ap (λ x. x ++ 32 ∷ t) on.grows ∙ append_assoc old (spaced on.inner) (32 ∷ t) ∙ ap (λ x. old ++ x) (sym (spaced_more on.inner t))),
+          reads_more most i placed before c.next_ends.new.feed on.inner runs on.none (sym c.in_ok-next_ends.ensures.end ∙ c.if-not-branch.true)
+          (c.in_ok-next_ends.ensures.reads most i placed (before ++ on.inner) on.reads)
+          (grown ∙ ap (λ x. c.tokens.text.items ++ 32 ∷ x) c.token.ensures ∙ ap (λ x. x ++ 32 ∷ t) on.grows
+          ∙ append_assoc old (spaced on.inner) (32 ∷ t) ∙ ap (λ x. old ++ x) (sym (spaced_more on.inner t))),
       omega (arith, ap length grown, length-append c.tokens.text.items (32 ∷ c.token.result.now), c.tokens.invariant.2),
     )

@@ -10,12 +10,20 @@ returns-in_err-next_ends-clause-reads g c =
 pub returns-clause-reads : goal.returns-clause-reads
 returns-clause-reads g c = λ most i placed before runs r.
     let on = c.tokens.invariant.1 most i placed before runs r in
-    record { inner = on.inner; none = on.none; token_read = c.in_ok-next_ends.ensures.reads most i placed (before ++ on.inner) on.reads; ends = sym c.in_ok-next_ends.ensures.end ∙ c.if-not-branch.false; grows = tt }
+    record {
+      inner = on.inner;
+      none = on.none;
+      token_read = c.in_ok-next_ends.ensures.reads most i placed
+          (before ++ on.inner) on.reads;
+      ends = sym c.in_ok-next_ends.ensures.end ∙ c.if-not-branch.false;
+      grows = tt;
+    }
 
 pub tokens-preserved : goal.tokens-preserved
 tokens-preserved g c = (
   advances_on g.S.Source.failures _ _ _ _ c.tokens.invariant.0 c.in_ok-next_ends.ensures.goes.advances,
   λ most i placed before runs r.
       let on = c.tokens.invariant.1 most i placed before runs r in
-      reads_more most i placed before c.next_ends.new.feed on.inner runs on.none (sym c.in_ok-next_ends.ensures.end ∙ c.if-not-branch.true) (c.in_ok-next_ends.ensures.reads most i placed (before ++ on.inner) on.reads) tt,
+      reads_more most i placed before c.next_ends.new.feed on.inner runs on.none (sym c.in_ok-next_ends.ensures.end ∙ c.if-not-branch.true)
+      (c.in_ok-next_ends.ensures.reads most i placed (before ++ on.inner) on.reads) tt,
 )

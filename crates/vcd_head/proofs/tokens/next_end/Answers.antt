@@ -12,7 +12,9 @@ returns-then-branch-clause-reads g c = λ most i placed before w at r. (c.in_ok-
 
 pub returns-clause-reads : goal.returns-clause-reads
 returns-clause-reads g c = λ most i placed before w at r.
-    at (refused most i placed before c.next_ends.new.feed (fault_number c.args.fault) (w (token_of c.next_ends.new.feed).bytes (sym c.in_ok-next_ends.ensures.end ∙ c.if-branch.false)) (c.in_ok-next_ends.ensures.reads most i placed before r))
+    at (refused most i placed before c.next_ends.new.feed (fault_number c.args.fault)
+    (w (token_of c.next_ends.new.feed).bytes (sym c.in_ok-next_ends.ensures.end ∙ c.if-branch.false))
+    (c.in_ok-next_ends.ensures.reads most i placed before r))
 
 pub returns-clause-advances : goal.returns-clause-advances
 returns-clause-advances g c = ends_on g.S.Source.failures c.args.feed.now c.next_ends.new.feed _ c.requires.found c.in_ok-next_ends.ensures.goes.advances

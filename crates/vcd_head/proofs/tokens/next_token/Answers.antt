@@ -41,8 +41,11 @@ returns-in-Err-InputTooLong-clause-reads g c = λ most i placed before r.
 pub returns-in-Err-ReadFailed-clause-reads : goal.returns-in-Err-ReadFailed-clause-reads
 returns-in-Err-ReadFailed-clause-reads g c = λ most i placed before r.
     let e = rw c.in-Err-ReadFailed.field-0-is at c.in-Err-ReadFailed.ensures in
-    let n = e.gives i r.given r.stands in
-    (fails_at_end most (limit_of c.args.feed.now) (failed_after (seen c.next.new.self) i) r.given placed before (Some 31) c.next.new.self e.advances.limit r.so_far n.2 n.1 n.0, e.left refl i r.given r.stands)
+    let n = e.gives i r.given r.stands in (
+      fails_at_end most (limit_of c.args.feed.now) (failed_after (seen c.next.new.self) i) r.given placed before
+          (Some 31) c.next.new.self e.advances.limit r.so_far n.2 n.1 n.0,
+      e.left refl i r.given r.stands,
+    )
 
 pub returns-in-Ok-Token-clause-reads : goal.returns-in-Ok-Token-clause-reads
 returns-in-Ok-Token-clause-reads g c = λ most i placed before r.

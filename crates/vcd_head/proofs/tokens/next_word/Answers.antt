@@ -9,7 +9,9 @@ returns-in_err-next_ends-clause-reads g c =
 
 pub returns-then-branch-clause-reads : goal.returns-then-branch-clause-reads
 returns-then-branch-clause-reads g c = λ most i placed before w at r.
-    at (refused most i placed before c.next_ends.new.feed (fault_number c.args.fault) (w.1 (token_of c.next_ends.new.feed).bytes (sym c.in_ok-next_ends.ensures.end ∙ c.if-branch.true)) (c.in_ok-next_ends.ensures.reads most i placed before r))
+    at (refused most i placed before c.next_ends.new.feed (fault_number c.args.fault)
+    (w.1 (token_of c.next_ends.new.feed).bytes (sym c.in_ok-next_ends.ensures.end ∙ c.if-branch.true))
+    (c.in_ok-next_ends.ensures.reads most i placed before r))
 
 pub returns-then-branch-clause-advances : goal.returns-then-branch-clause-advances
 returns-then-branch-clause-advances g c = ends_on g.S.Source.failures c.args.feed.now c.next_ends.new.feed _ c.requires.found c.in_ok-next_ends.ensures.goes.advances

@@ -5,7 +5,8 @@ use Rattle.vcd_head.proofs.variable.read_reference.Goals as goal
 pub returns-in_err-next_word-clause-reads : goal.returns-in_err-next_word-clause-reads
 returns-in_err-next_word-clause-reads g c =
     let p = err_from_is_err_and c.from_residual.result c.from_residual.ensures.1 in
-    rw (p.1, p.2) (λ most i placed type digits code r. c.in_err-next_word.ensures.reads most i placed (keyword_text Keyword.Var ∷ type ∷ digits ∷ code ∷ []) (var_welcomes_reference most placed type digits code) (λ x. x) r)
+    rw (p.1, p.2) (λ most i placed type digits code r. c.in_err-next_word.ensures.reads most i placed
+    (keyword_text Keyword.Var ∷ type ∷ digits ∷ code ∷ []) (var_welcomes_reference most placed type digits code) (λ x. x) r)
 
 pub returns-in_err-extend_from_slice-clause-reads : goal.returns-in_err-extend_from_slice-clause-reads
 returns-in_err-extend_from_slice-clause-reads g c =
@@ -37,6 +38,7 @@ returns-clause-reads g c = λ most i placed type digits code r.
         none = e.none;
         token_read = e.token_read;
         ends = e.ends;
-        grows = e.grows ∙ ap (λ l. l ++ spaced e.inner) (c.in_ok-extend_from_slice.ensures.items ∙ ap (λ l. old ++ l) c.token.ensures) ∙ append_assoc old first (spaced e.inner) ∙ ap (λ l. old ++ l) (sym (joined first e.inner));
+        grows = e.grows ∙ ap (λ l. l ++ spaced e.inner) (c.in_ok-extend_from_slice.ensures.items ∙ ap (λ l. old ++ l) c.token.ensures)
+            ∙ append_assoc old first (spaced e.inner) ∙ ap (λ l. old ++ l) (sym (joined first e.inner));
       };
     }

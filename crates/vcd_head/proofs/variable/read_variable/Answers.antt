@@ -56,7 +56,8 @@ returns-in_err-push-clause-reads g c =
     let f = c.read_reference.new.feed in
     let x = HeaderPhrase.Declares (Declaration.Var (variable type k.digits k.code (q.first ∷ q.ends.inner))) in
     faultless_phrase c.args.most i b.placed (record { phrase = x; line = (token_of f).line }) f
-    (ended c.args.most i b.placed Keyword.Var f (type ∷ k.digits ∷ k.code ∷ q.first ∷ q.ends.inner) x refl (var_whole type k.digits k.code q.first q.ends.inner (token_of f).bytes q.first_on q.ends.none q.ends.ends k.decimal) refl q.ends.token_read))
+    (ended c.args.most i b.placed Keyword.Var f (type ∷ k.digits ∷ k.code ∷ q.first ∷ q.ends.inner) x refl
+    (var_whole type k.digits k.code q.first q.ends.inner (token_of f).bytes q.first_on q.ends.none q.ends.ends k.decimal) refl q.ends.token_read))
 
 pub returns-clause-reads : goal.returns-clause-reads
 returns-clause-reads g c = λ i b.
@@ -74,15 +75,20 @@ returns-clause-reads g c = λ i b.
     let reference = q.first ∷ q.ends.inner in
     let v = variable type k.digits k.code reference in
     let x = HeaderPhrase.Declares (Declaration.Var v) in
-    let read = ended most i b.placed Keyword.Var f (type ∷ k.digits ∷ k.code ∷ reference) x refl (var_whole type k.digits k.code q.first q.ends.inner (token_of f).bytes q.first_on q.ends.none q.ends.ends k.decimal) refl q.ends.token_read in
+    let read = ended most i b.placed Keyword.Var f (type ∷ k.digits ∷ k.code ∷ reference) x refl
+    (var_whole type k.digits k.code q.first q.ends.inner (token_of f).bytes q.first_on q.ends.none q.ends.ends k.decimal)
+    refl q.ends.token_read in
     let h = k.held reference in
     let join = join_with_byte 32 reference in
     let middle = c.read_code.new.text.items in
     let known = c.read_code.new.known in
     let typed = c.in_ok-extend_from_slice.ensures.items ∙ ap (λ l. middle ++ l) c.value.ensures in
     let text : c.read_reference.new.text.items ≡ middle ++ (type ++ join) = q.ends.grows ∙ ap (λ l. l ++ join) typed ∙ append_assoc middle type join in
-    let grown : c.read_reference.new.text.items ≡ d.text.items ++ (h.more ++ (type ++ (join ++ []))) = text ∙ ap (λ t. t ++ (type ++ join)) h.grown ∙ append_assoc d.text.items h.more (type ++ join) ∙ ap (λ l. d.text.items ++ (h.more ++ (type ++ l))) (sym (append-nil join)) in
-    let codes : HasCodes c.read_reference.new.text.items known (ds ++ Declaration.Var v ∷ []) = subst (λ t. HasCodes t known (ds ++ Declaration.Var v ∷ [])) (sym text) (has_codes_grow middle (type ++ join) known (ds ++ Declaration.Var v ∷ []) h.held_codes) in
+    let grown : c.read_reference.new.text.items ≡ d.text.items ++ (h.more ++ (type ++ (join ++ []))) = text ∙ ap (λ t. t ++ (type ++ join)) h.grown
+    ∙ append_assoc d.text.items h.more (type ++ join) ∙ ap (λ l. d.text.items ++ (h.more ++ (type ++ l))) (sym (append-nil join)) in
+    let codes : HasCodes c.read_reference.new.text.items known (ds ++ Declaration.Var v ∷ []) = subst
+    (λ t. HasCodes t known (ds ++ Declaration.Var v ∷ [])) (sym text)
+    (has_codes_grow middle (type ++ join) known (ds ++ Declaration.Var v ∷ []) h.held_codes) in
     let typed_len = ap length typed in
     let from : c.len-start.result ≡ length (d.text.items ++ h.more) = omega (arith, ap length h.grown) in
     let word : c.len-name_start.result - c.len-start.result ≡ length type = omega (arith, typed_len, length-append middle type) in
@@ -91,6 +97,10 @@ returns-clause-reads g c = λ i b.
     carried most i _ f b.placed (record { phrase = x; line = (token_of f).line }) read
     (holds_declared most d _ ps (Declaration.Var v) b.holds
     (var_entered most d _ ds v row h.more [] held (room most ps kind.Var start) (some_token q.first q.ends.inner) grown (omega (arith, h.short))
-    (c.in_ok-push.ensures.items (record { parent = subst (λ n. n < 2 ^ 32) (sym c.parent.ensures) (scope_narrow most d ds held); code = code_narrow most d ds v c.in_ok-code.code held (room most ps kind.Var start) h.held_at }))
+    (c.in_ok-push.ensures.items (record {
+      parent = subst (λ n. n < 2 ^ 32) (sym c.parent.ensures)
+          (scope_narrow most d ds held);
+      code = code_narrow most d ds v c.in_ok-code.code held (room most ps kind.Var start) h.held_at;
+    }))
     codes h.held_at refl refl c.parent.ensures from word all q.name_is)
     refl refl refl)

@@ -76,4 +76,37 @@ unfolding scale_text
 returns-in-minus15 c = let e : c.args.exponent ≡ negsuc 14 = search rules in sym (ap scale_text e)
 
 pub returns-in_default : goal.returns-in_default
-returns-in_default c = sym (no_scale c.args.exponent (search rules, (search rules, (search rules, (search rules, (search rules, (search rules, (search rules, (search rules, (search rules, (search rules, (search rules, (search rules, (search rules, (search rules, (search rules, (search rules, (search rules, (search rules, tt)))))))))))))))))))
+returns-in_default c = sym (no_scale c.args.exponent (
+  search rules,
+  (
+    search rules,
+    (
+      search rules,
+      (
+        search rules,
+        (
+          search rules,
+          (
+            search rules,
+            (
+              search rules,
+              (
+                search rules,
+                (
+                  search rules,
+                  (
+                    search rules,
+                    (
+                      search rules,
+                      (search rules, (search rules, (search rules, (search rules, (search rules, (search rules, (search rules, tt))))))),
+                    ),
+                  ),
+                ),
+              ),
+            ),
+          ),
+        ),
+      ),
+    ),
+  ),
+))

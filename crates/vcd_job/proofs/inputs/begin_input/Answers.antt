@@ -12,7 +12,8 @@ returns-in_err-head-clause-begins g c = λ text h.
     let chunk = c.in_err-head.ensures.lengths.1 ∙ c.new-feed.ensures.begins.chunk_len in
     let gone : c.in_err-head.reader-1-own.given.0 ≡ source_of feed = search rules in
     let before : Supply = supply g.S.Source.rest g.S.Source.failures c.args.reader.now in
-    let counted = subst (λ (n : ℕ). CountsRead c.args.input n (g.S.Source.failures (source_of feed)) (Some why)) (ap g.S.Source.failures c.new-feed.ensures.begins.source_is) c.in_err-head.ensures.failures in
+    let counted = subst (λ (n : ℕ). CountsRead c.args.input n (g.S.Source.failures (source_of feed)) (Some why))
+    (ap g.S.Source.failures c.new-feed.ensures.begins.source_is) c.in_err-head.ensures.failures in
     rw (e, gone) (failed c.args.reading.now.most _ _ (whole text) before feed limit chunk c.args.input why counted (c.in_err-head.ensures.reads (whole text) stands))
 
 pub returns-clause-begins : goal.returns-clause-begins
@@ -33,4 +34,5 @@ pub returns-clause-seated : goal.returns-clause-seated
 returns-clause-seated g c =
     let limit = c.in_ok-head.ensures.lengths.0 ∙ c.new-feed.ensures.begins.limit in
     let chunk = c.in_ok-head.ensures.lengths.1 ∙ c.new-feed.ensures.begins.chunk_len in
-    seated c.args.reading.now.most _ _ (whole []) (record { rest = None; failures = 0 }) c.read_head_of.new.feed limit chunk c.new-seat.result c.parked.result c.parked.ensures.fits c.parked.ensures.parked c.in_ok-head.ensures.«open» c.new-seat.ensures.parked c.new-seat.ensures.regs c.new-seat.ensures.«open»
+    seated c.args.reading.now.most _ _ (whole []) (record { rest = None; failures = 0 })
+    c.read_head_of.new.feed limit chunk c.new-seat.result c.parked.result c.parked.ensures.fits c.parked.ensures.parked c.in_ok-head.ensures.«open» c.new-seat.ensures.parked c.new-seat.ensures.regs c.new-seat.ensures.«open»

@@ -72,8 +72,12 @@ returns-clause-begins g c = λ texts h.
     let limit = part_len (length c.args.readers.now) c.args.windows.now.tokens.now in
     let chunk = part_len (length c.args.readers.now) c.args.windows.now.chunks.now in
     let e : l.input ≡ length l.readers = omega arith in
-    all_begun limit chunk (length c.args.readers.now) g.S.Source.rest g.S.Source.failures texts c.args.readers.now l.readers l.most l.inputs.heads.items l.inputs.seats.items l.windows.chunks.now l.windows.tokens.now
-    (subst (λ (k : ℕ). BegunSoFar limit chunk (length c.args.readers.now) g.S.Source.rest g.S.Source.failures texts c.args.readers.now l.readers k l.most l.inputs.heads.items l.inputs.seats.items l.windows.chunks.now l.windows.tokens.now) e (l.invariant.told texts h))
+    all_begun limit chunk
+    (length c.args.readers.now)
+    g.S.Source.rest g.S.Source.failures texts c.args.readers.now l.readers l.most l.inputs.heads.items l.inputs.seats.items l.windows.chunks.now l.windows.tokens.now
+    (subst (λ (k : ℕ). BegunSoFar limit chunk (length c.args.readers.now)
+    g.S.Source.rest g.S.Source.failures texts c.args.readers.now l.readers k l.most l.inputs.heads.items l.inputs.seats.items l.windows.chunks.now l.windows.tokens.now)
+    e (l.invariant.told texts h))
 
 pub returns-clause-bound : goal.returns-clause-bound
 returns-clause-bound g c = λ limit windows.

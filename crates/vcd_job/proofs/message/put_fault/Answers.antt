@@ -14,7 +14,8 @@ returns-in_err-put_texts g c =
 
 pub returns-in_err-put_number : goal.returns-in_err-put_number
 returns-in_err-put_number g c =
-    as-line (g.E.Sink.device _) (g.E.Sink.device _) _ _ c.args.text.now _ _ c.args.text.now (decimal c.args.line) c.from_residual-in_err-put_number.result c.as_bytes.ensures.value c.as_bytes-2.ensures.value refl
+    as-line (g.E.Sink.device _) (g.E.Sink.device _) _ _ c.args.text.now _ _ c.args.text.now
+    (decimal c.args.line) c.from_residual-in_err-put_number.result c.as_bytes.ensures.value c.as_bytes-2.ensures.value refl
     (puts-twice (g.E.Sink.device _) (g.E.Sink.device _) (g.E.Sink.device _) _ _ _ c.in_ok-put_texts.ensures
     (puts-first (g.E.Sink.device _) (g.E.Sink.device _) (decimal c.args.line) _ _ c.from_residual-in_err-put_number.ensures.0 c.in_err-put_number.ensures))
 

@@ -7,7 +7,17 @@ returns-in-Write g c = rw c.in-Write.is c.say.ensures
 
 pub returns-in-Dump : goal.returns-in-Dump
 returns-in-Dump g c =
-    rw (c.in-Dump.is, ← c.name_at.ensures, ← c.text_of.ensures, fault-line c.args.program.now c.name_at.result.now (decimal c.in-Dump.line) c.text_of.result.now) (record { line = puts-shows (g.E.Sink.device _) (g.E.Sink.device _) _ c.put_fault.result c.put_fault.ensures; status = refl })
+    rw (
+      c.in-Dump.is,
+      ← c.name_at.ensures,
+      ← c.text_of.ensures,
+      fault-line c.args.program.now c.name_at.result.now
+          (decimal c.in-Dump.line) c.text_of.result.now,
+    ) (record {
+      line = puts-shows (g.E.Sink.device _)
+          (g.E.Sink.device _) _ c.put_fault.result c.put_fault.ensures;
+      status = refl;
+    })
 
 pub returns-in-Read : goal.returns-in-Read
 returns-in-Read g c =

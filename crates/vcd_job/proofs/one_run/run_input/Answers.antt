@@ -18,9 +18,12 @@ returns-in_err-head-clause-ends g c = λ text name h.
     let chunk : chunk_len_of c.read_head_of.new.feed ≡ g.J.OneInput.chunk c.args.job.now = c.in_err-head.ensures.lengths.1 ∙ omega (arith, c.in_ok-memory.ensures, c.lengths.ensures) in
     let gone : c.in_err-head.reader-1-own.given.0 ≡ source_of c.read_head_of.new.feed = search rules in
     let before : Supply = supply g.S.Source.rest g.S.Source.failures c.args.reader.now in
-    let counted = subst (λ (n : ℕ). CountsRead 0 n (g.S.Source.failures (source_of c.read_head_of.new.feed)) (Some why)) (ap g.S.Source.failures c.new-feed.ensures.begins.source_is) c.in_err-head.ensures.failures in
-    rw (e, gone) (refused (g.J.OneInput.work c.args.job.now) (speech_of g.J.OneInput c.args.job.now) refl (g.J.OneInput.limit c.args.job.now) (g.J.OneInput.chunk c.args.job.now) (whole text) name before _ _ why
-    (failed declarations_allowed (g.J.OneInput.limit c.args.job.now) (g.J.OneInput.chunk c.args.job.now) (whole text) before c.read_head_of.new.feed limit chunk 0 why counted (c.in_err-head.ensures.reads (whole text) stands)))
+    let counted = subst (λ (n : ℕ). CountsRead 0 n (g.S.Source.failures (source_of c.read_head_of.new.feed)) (Some why))
+    (ap g.S.Source.failures c.new-feed.ensures.begins.source_is) c.in_err-head.ensures.failures in
+    rw (e, gone) (refused (g.J.OneInput.work c.args.job.now) (speech_of g.J.OneInput c.args.job.now) refl (g.J.OneInput.limit c.args.job.now)
+    (g.J.OneInput.chunk c.args.job.now) (whole text) name before _ _ why
+    (failed declarations_allowed (g.J.OneInput.limit c.args.job.now) (g.J.OneInput.chunk c.args.job.now)
+    (whole text) before c.read_head_of.new.feed limit chunk 0 why counted (c.in_err-head.ensures.reads (whole text) stands)))
 
 pub returns-clause-ends : goal.returns-clause-ends
 returns-clause-ends g c = λ text name h.
@@ -34,7 +37,9 @@ returns-clause-ends g c = λ text name h.
     let head = c.in_ok-head.ensures.reads (whole text) stands in
     let views = subst (λ (s : HeadShown). Views s (header_of (phrases_of head.placed))) (sym c.view.ensures) head.views in
     rw gone
-    (read_on (g.J.OneInput.work c.args.job.now) (speech_of g.J.OneInput c.args.job.now) refl (g.J.OneInput.limit c.args.job.now) (g.J.OneInput.chunk c.args.job.now) (whole text) name (limit_of feed) (chunk_len_of feed) (record { header = header_of (phrases_of head.placed); input = whole text; front = head.given }) before _ _ _ _ c.run_over.result limit chunk
+    (read_on (g.J.OneInput.work c.args.job.now) (speech_of g.J.OneInput c.args.job.now) refl (g.J.OneInput.limit c.args.job.now)
+    (g.J.OneInput.chunk c.args.job.now) (whole text) name (limit_of feed) (chunk_len_of feed)
+    (record { header = header_of (phrases_of head.placed); input = whole text; front = head.given }) before _ _ _ _ c.run_over.result limit chunk
     (begun declarations_allowed (g.J.OneInput.limit c.args.job.now) (g.J.OneInput.chunk c.args.job.now) (whole text) before feed limit chunk (shown c.in_ok-head.head) same head)
     (c.run_over.ensures.ends (header_of (phrases_of head.placed)) (whole text) head.given name views head.stands))
 

@@ -25,7 +25,8 @@ loop-input-preserved c =
           (λ x a h there.
           let same : Some at.header ≡ Some h = sym at.at ∙ there in
           let is : at.header ≡ h = cc in
-          as_begun c.loop-input.seats i x _ c.factor_of.result c.loop-input.first (factor hs h) (first_number (take i hs)) (so_far.left i (omega arith) ∙ a) (scale ∙ ap (factor hs) is) (c.loop-input.invariant.first hs s));
+          as_begun c.loop-input.seats i x _ c.factor_of.result c.loop-input.first (factor hs h) (first_number (take i hs))
+          (so_far.left i (omega arith) ∙ a) (scale ∙ ap (factor hs) is) (c.loop-input.invariant.first hs s));
       kept =
           one_more _ i _ c.loop-input.seats _ c.loop-input.invariant.kept (omega arith)
           (λ x a. as_begun c.loop-input.seats i x _ c.factor_of.result c.loop-input.first c.factor_of.result c.loop-input.first (c.loop-input.invariant.kept.left i (omega arith) ∙ a) refl refl);

@@ -6,8 +6,11 @@ use Rattle.vcd_merge.proofs.merge_steps.run_step.Goals.{After-join, In_ok-run_tu
 use Rattle.vcd_merge.proofs.merge_steps.run_step.Goals as goal
 
 -- the turn that was taken
-took : (g : Over) (c : In_ok-run_turn g) → TookTurn {A = Unit {0}} g.S.Source.rest g.S.Source.failures (standing c.args.heads.now c.args.seats.now c.args.written.now c.args.sources.now c.args.windows.now)
-    (standing c.args.heads.now c.run_turn.new.seats c.run_turn.new.written c.run_turn.new.sources c.run_turn.new.windows) c.take_next-next.result.input c.take_next-next.result.before c.args.order.now.until (g.W.Sink.device c.args.out.now) (g.W.Sink.device c.run_turn.new.out) (Ok c.in_ok-run_turn.field-0)
+took : (g : Over) (c : In_ok-run_turn g) → TookTurn {A = Unit {0}} g.S.Source.rest g.S.Source.failures
+    (standing c.args.heads.now c.args.seats.now c.args.written.now c.args.sources.now c.args.windows.now)
+    (standing c.args.heads.now c.run_turn.new.seats c.run_turn.new.written c.run_turn.new.sources c.run_turn.new.windows)
+    c.take_next-next.result.input c.take_next-next.result.before c.args.order.now.until (g.W.Sink.device c.args.out.now)
+    (g.W.Sink.device c.run_turn.new.out) (Ok c.in_ok-run_turn.field-0)
 took g c =
     let en = c.in_ok-run_turn.ensures in
     let next = c.take_next-next.ensures in
@@ -20,7 +23,9 @@ waiting g c =
     let en = c.in_ok-run_turn.ensures in
     let w = slice_get_within c.args.seats.now c.take_next-next.result.input next.next.seat next.next.there in
     let e = en.touches.seats in
-    c.join.ensures.back (length c.run_turn.new.seats) (others_stay c.args.seats.now c.run_turn.new.seats c.take_next-next.result.input c.take_next-next.new.self.inputs c.take_next-next.new.self.len e en.kept next.others) (omega (arith, w, e))
+    c.join.ensures.back (length c.run_turn.new.seats)
+    (others_stay c.args.seats.now c.run_turn.new.seats c.take_next-next.result.input c.take_next-next.new.self.inputs c.take_next-next.new.self.len e en.kept next.others)
+    (omega (arith, w, e))
 
 pub take_next-next-requires-clause-some : goal.take_next-next-requires-clause-some
 take_next-next-requires-clause-some g c =
@@ -41,7 +46,13 @@ join-requires-clause-input g c =
     omega (arith, w, e)
 
 pub join-requires-clause-order : goal.join-requires-clause-order
-join-requires-clause-order g c = (length c.run_turn.new.seats, c.take_next-next.result.input, omega arith, others_stay c.args.seats.now c.run_turn.new.seats c.take_next-next.result.input c.take_next-next.new.self.inputs c.take_next-next.new.self.len c.in_ok-run_turn.ensures.touches.seats c.in_ok-run_turn.ensures.kept c.take_next-next.ensures.others, inr refl)
+join-requires-clause-order g c = (
+  length c.run_turn.new.seats,
+  c.take_next-next.result.input,
+  omega arith,
+  others_stay c.args.seats.now c.run_turn.new.seats c.take_next-next.result.input c.take_next-next.new.self.inputs c.take_next-next.new.self.len c.in_ok-run_turn.ensures.touches.seats c.in_ok-run_turn.ensures.kept c.take_next-next.ensures.others,
+  inr refl,
+)
 
 pub returns-then-not-is_empty-clause-order : goal.returns-then-not-is_empty-clause-order
 returns-then-not-is_empty-clause-order g c = λ again. waiting g (goal.at.returns-then-not-is_empty-clause-order g c).After-join
@@ -52,13 +63,15 @@ returns-in_err-run_turn-clause-runs g c =
     let e : c.from_residual.result ≡ Err stop = search rules in
     let en = c.in_err-run_turn.ensures in
     let next = c.take_next-next.ensures in
-    rw e (was_stopped {A = Unit {0}} {k = c.take_next-next.result.input} {before = c.take_next-next.result.before} stop (record { ready = c.requires.ready; next = next.next; early = next.before; within = next.until; heads = refl; sources = en.sources; touches = en.touches; turns = en.turns }))
+    rw e (was_stopped {A = Unit {0}} {k = c.take_next-next.result.input} {before = c.take_next-next.result.before} stop
+    (record { ready = c.requires.ready; next = next.next; early = next.before; within = next.until; heads = refl; sources = en.sources; touches = en.touches; turns = en.turns }))
 
 pub returns-then-not-is_empty-clause-runs : goal.returns-then-not-is_empty-clause-runs
 returns-then-not-is_empty-clause-runs g c =
     let at = goal.at.returns-then-not-is_empty-clause-runs g c in
     let en = c.in_ok-run_turn.ensures in
-    went_on (took g at.In_ok-run_turn) en.seated (some_waits c.run_turn.new.seats c.join.new.self.inputs c.join.new.self.len (waiting g at.After-join) (c.is_empty.ensures.some c.if-not-is_empty.true)) en.left
+    went_on (took g at.In_ok-run_turn) en.seated (some_waits c.run_turn.new.seats c.join.new.self.inputs c.join.new.self.len
+    (waiting g at.After-join) (c.is_empty.ensures.some c.if-not-is_empty.true)) en.left
 
 pub returns-in_err-put_end-clause-runs : goal.returns-in_err-put_end-clause-runs
 returns-in_err-put_end-clause-runs g c =
@@ -66,7 +79,8 @@ returns-in_err-put_end-clause-runs g c =
     let close = c.in_err-put_end.ensures in
     let all = none_waiting c.run_turn.new.seats c.join.new.self.inputs c.join.new.self.len (waiting g at.After-join) (c.is_empty.ensures.none c.if-not-is_empty.false) in
     let e : c.from_residual-in_err-put_end.result ≡ Err Write = search rules in
-    rw e (was_cut (took g at.In_ok-run_turn) all _ (close.counts ∙ ap (λ n. n + 1) (c.in_ok-run_turn.ensures.touches.writes ∙ add-zero _)) (λ hs es marked w. (close.takes hs es marked w, close.counts)))
+    rw e (was_cut (took g at.In_ok-run_turn) all _ (close.counts ∙ ap (λ n. n + 1) (c.in_ok-run_turn.ensures.touches.writes ∙ add-zero _))
+    (λ hs es marked w. (close.takes hs es marked w, close.counts)))
 
 pub returns-clause-runs : goal.returns-clause-runs
 returns-clause-runs g c =

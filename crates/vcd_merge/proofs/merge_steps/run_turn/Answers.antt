@@ -16,7 +16,8 @@ overflow_mul-token_at g c =
     omega (arith, ends, c.requires.ready.parts.tokens_are)
 
 -- the parts that were lent, as they are after the turn
-own : (g : Over) (c : Else-prove g) → AreOwn c.args.seats.now c.args.sources.now c.args.windows.now.chunks.now c.args.windows.now.tokens.now c.args.turn.input c.take_turn-answer.new.feed.chunk.now c.take_turn-answer.new.feed.token.now
+own : (g : Over) (c : Else-prove g)
+    → AreOwn c.args.seats.now c.args.sources.now c.args.windows.now.chunks.now c.args.windows.now.tokens.now c.args.turn.input c.take_turn-answer.new.feed.chunk.now c.take_turn-answer.new.feed.token.now
 own g c =
     let n = length c.args.seats.now in
     let k = c.args.turn.input in
@@ -45,10 +46,15 @@ returns-clause-turns g c = λ scale first l items h s there views at is.
     let old = subst (AtSeat scale first l items) e is in
     let same : shown c.index-heads-input.result ≡ shown h = ap shown (c.index-heads-input.is ∙ get_or_from_slice_get c.args.heads.now k h c.index-heads-input.result there) in
     let shown_views = subst (λ (x : HeadShown). Views x l.header) (sym same) views in
-    let told = run_from g.S.Source.failures k scale first l c.args.turn.before items c.args.written.now c.take_turn-answer.new.written _ c.resume-feed.result _ _ _ (spot_with c.take_turn-answer.new.seat c.take_turn-answer.new.feed) (g.W.Sink.device c.args.out.now) (g.W.Sink.device c.take_turn-answer.new.out) c.take_turn-answer.result
-    shows.source_is shows.chunk_is shows.token_is c.resume-feed.ensures.parked (c.take_turn-answer.ensures.turns scale first l items shown_views (rw (shows.source_is, shows.chunk_is, shows.token_is, c.resume-feed.ensures.parked) old)) in (
+    let told = run_from g.S.Source.failures k scale first l c.args.turn.before items c.args.written.now c.take_turn-answer.new.written _ c.resume-feed.result _ _ _
+    (spot_with c.take_turn-answer.new.seat c.take_turn-answer.new.feed) (g.W.Sink.device c.args.out.now)
+    (g.W.Sink.device c.take_turn-answer.new.out) c.take_turn-answer.result
+    shows.source_is shows.chunk_is shows.token_is c.resume-feed.ensures.parked
+    (c.take_turn-answer.ensures.turns scale first l items shown_views
+    (rw (shows.source_is, shows.chunk_is, shows.token_is, c.resume-feed.ensures.parked) old)) in (
       spot_with c.take_turn-answer.new.seat c.take_turn-answer.new.feed,
-      rw (e1, e2, c.parked-seat.ensures.parked) (spot_put own (record c.take_turn-answer.new.seat { parked = c.take_turn-answer.new.feed.parked }) c.take_turn-answer.new.feed.source.now g.S.Source.rest),
+      rw (e1, e2, c.parked-seat.ensures.parked) (spot_put own (record c.take_turn-answer.new.seat { parked = c.take_turn-answer.new.feed.parked })
+          c.take_turn-answer.new.feed.source.now g.S.Source.rest),
       record { seat = _; source = _; chunk = _; token = _; spot_is = e; source_at = slice_get-get_or c.args.sources.now k c.index-sources-input.result own.in_sources; turns = told },
     )
 
@@ -75,7 +81,9 @@ returns-clause-touches g c =
       tokens = rw e2 (len_tokens own seat source);
       values = len_put limit n k values c.value-3-1.given.0 all c.requires.input lv;
       reads = map_set f sources k source
-          ∙ ap (slice_set (map f sources) k) (c.take_turn-answer.ensures.moved.failed on ∙ ap (λ n. n + reads_failed c.take_turn-answer.result) (ap f c.resume-feed.ensures.shows.source_is ∙ ap f (sym c.index-sources-input.is) ∙ sym (get_map_or f sources k c.index-sources-input.result c.index-sources-input.is own.in_sources)));
+          ∙ ap (slice_set (map f sources) k) (c.take_turn-answer.ensures.moved.failed on
+          ∙ ap (λ n. n + reads_failed c.take_turn-answer.result) (ap f c.resume-feed.ensures.shows.source_is ∙ ap f (sym c.index-sources-input.is)
+          ∙ sym (get_map_or f sources k c.index-sources-input.result c.index-sources-input.is own.in_sources)));
       named = c.take_turn-answer.ensures.named;
       others = rw (e1, e2) (spot_other own seat source g.S.Source.rest);
       untouched = λ j other. (get_other sources k j source other, part_other limit n k values c.value-3-1.given.0 all c.requires.input lv j other);
@@ -102,11 +110,18 @@ returns-clause-seated g c =
     let e1 : c.chunk-3-1.given.0 ≡ c.take_turn-answer.new.feed.chunk.now = search rules in
     let e2 : c.token-3-1.given.0 ≡ c.take_turn-answer.new.feed.token.now = search rules in
     let fits : Fits c.parked-seat.result (part_len n c.args.windows.now.chunks.now) (part_len n c.args.windows.now.tokens.now) = rw (← own.chunk, ← own.token) c.parked-seat.ensures.fits in
-    if_ok_more c.take_turn-answer.result _ _ (λ still. rw (e1, e2) (seated_put own (record c.take_turn-answer.new.seat { parked = c.parked-seat.result }) c.take_turn-answer.new.feed.source.now (record { fits = fits; on = subst (λ (p : Parked). parked_answer p ≢ Some (Err halt.ReadFailed)) (sym c.parked-seat.ensures.parked) still }) c.requires.ready.seated)) (c.take_turn-answer.ensures.moved.goes on)
+    if_ok_more c.take_turn-answer.result _ _ (λ still. rw (e1, e2)
+    (seated_put own (record c.take_turn-answer.new.seat { parked = c.parked-seat.result }) c.take_turn-answer.new.feed.source.now
+    (record { fits = fits; on = subst (λ (p : Parked). parked_answer p ≢ Some (Err halt.ReadFailed)) (sym c.parked-seat.ensures.parked) still })
+    c.requires.ready.seated)) (c.take_turn-answer.ensures.moved.goes on)
 
 pub returns-clause-left : goal.returns-clause-left
 returns-clause-left g c =
     let parked = c.parked-seat.ensures.parked in
     let below = subst (λ (p : Parked). parked_seen p < 2 ^ 63) (sym parked) c.take_turn-answer.ensures.moved.bounded in
-    if_ok_more c.take_turn-answer.result _ _ (λ further. left_moved c.args.seats.now c.args.turn.input _ (record c.take_turn-answer.new.seat { parked = c.parked-seat.result }) _ _ c.requires.input c.requires.ready.seated c.requires.unfinished below
-    (λ still. subst (λ (p : Parked). parked_seen p < parked_seen c.parked-seat.result) c.resume-feed.ensures.parked (subst (λ (p : Parked). parked_seen c.resume-feed.result.parked < parked_seen p) (sym parked) (further still)))) c.take_turn-answer.ensures.moved.progress
+    if_ok_more c.take_turn-answer.result _ _ (λ further. left_moved c.args.seats.now c.args.turn.input _
+    (record c.take_turn-answer.new.seat { parked = c.parked-seat.result })
+    _ _ c.requires.input c.requires.ready.seated c.requires.unfinished below
+    (λ still. subst (λ (p : Parked). parked_seen p < parked_seen c.parked-seat.result) c.resume-feed.ensures.parked
+    (subst (λ (p : Parked). parked_seen c.resume-feed.result.parked < parked_seen p) (sym parked) (further still))))
+    c.take_turn-answer.ensures.moved.progress

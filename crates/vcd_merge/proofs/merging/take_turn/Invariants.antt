@@ -14,7 +14,9 @@ invariant-items g l = record {
   same : SameSeat l.fn.seat l.seat;
   writes : (g.W.Sink.device l.out).failures ≡ (g.W.Sink.device l.fn.out).failures;
   trail : (scale first : ℕ) (lane : Lane) (items : List BodyItem) → Views (shown l.fn.head) lane.header → AtSeat scale first lane items (spot_with l.fn.seat l.fn.feed)
-      → (xs : List BodyItem) × AtSeat scale first lane xs (spot_with l.seat l.feed) × Reaches g.S.Source.rest g.S.Source.failures scale first lane l.fn.turn.before (stage_with items l.fn.written l.fn.seat l.fn.feed (g.W.Sink.device l.fn.out)) (stage_with xs l.written l.seat l.feed (g.W.Sink.device l.out));
+      → (xs : List BodyItem) × AtSeat scale first lane xs (spot_with l.seat l.feed)
+      × Reaches g.S.Source.rest g.S.Source.failures scale first lane l.fn.turn.before
+      (stage_with items l.fn.written l.fn.seat l.fn.feed (g.W.Sink.device l.fn.out)) (stage_with xs l.written l.seat l.feed (g.W.Sink.device l.out));
 }
 
 abbrev pub decreases-items : goal.decreases-items

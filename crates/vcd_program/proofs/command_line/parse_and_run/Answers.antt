@@ -5,11 +5,15 @@ use Rattle.vcd_program.proofs.command_line.parse_and_run.Goals as goal
 
 pub returns-in_default-clause-runs : goal.returns-in_default-clause-runs
 returns-in_default-clause-runs g c =
-    RunsOn.NoMatches kind.OutOfMemory (inl refl) (λ _. refl) refl (inr (memory-fails g.P.Program.name g.P.Program.refusal (g.W.Sink.device _) (g.E.Sink.device _) (g.E.Sink.device _) _ c.use_fault.ensures.memory c.use_fault.ensures.line.line c.use_fault.ensures.line.status))
+    RunsOn.NoMatches kind.OutOfMemory (inl refl) (λ _. refl) refl
+    (inr (memory-fails g.P.Program.name g.P.Program.refusal (g.W.Sink.device _) (g.E.Sink.device _)
+    (g.E.Sink.device _) _ c.use_fault.ensures.memory c.use_fault.ensures.line.line c.use_fault.ensures.line.status))
 
 pub returns-in-Ok-try_get_matches_from-clause-runs : goal.returns-in-Ok-try_get_matches_from-clause-runs
 returns-in-Ok-try_get_matches_from-clause-runs g c =
-    RunsOn.Parsed c.in-Ok-try_get_matches_from.matches (subst (λ app. HasMatchesOf app (map string_bytes c.args.words.now) c.in-Ok-try_get_matches_from.matches) c.in-Ok.ensures.whole.0 c.in-Ok-try_get_matches_from.ensures.matches) c.run_matches.ensures.runs
+    RunsOn.Parsed c.in-Ok-try_get_matches_from.matches (subst (λ app. HasMatchesOf app
+    (map string_bytes c.args.words.now) c.in-Ok-try_get_matches_from.matches)
+    c.in-Ok.ensures.whole.0 c.in-Ok-try_get_matches_from.ensures.matches) c.run_matches.ensures.runs
 
 pub returns-in-Err-clause-runs : goal.returns-in-Err-clause-runs
 returns-in-Err-clause-runs g c =

@@ -18,5 +18,7 @@ returns-clause-steps g c = λ p h i front items views s.
     let few : length items + length (bytes_of c.ahead.result) < 2 ^ 63 = let each = s.few in omega (arith, each, bounded) in
     let all = c.take_ahead-taken.ensures.runs.gives p h (lines_of c.args.feed.now) items views s.gave.known few s.stands s.on a.passed in (
       all.0,
-      come_ahead g.T.Task.keeps p h i front items c.args.task.now c.args.regs.now c.args.feed.now s c.ahead.result c.take_ahead-taken.new.self taken.regs c.pass_items.new.feed (g.W.Sink.device c.args.out.now) (g.W.Sink.device c.take_ahead-taken.new.out) taken.passed a.limit a.bytes c.pass_items.ensures.gives c.pass_items.ensures.looked taken.written all.0 all.1,
+      come_ahead g.T.Task.keeps p h i front items c.args.task.now c.args.regs.now c.args.feed.now s c.ahead.result c.take_ahead-taken.new.self taken.regs c.pass_items.new.feed
+          (g.W.Sink.device c.args.out.now) (g.W.Sink.device c.take_ahead-taken.new.out)
+          taken.passed a.limit a.bytes c.pass_items.ensures.gives c.pass_items.ensures.looked taken.written all.0 all.1,
     )

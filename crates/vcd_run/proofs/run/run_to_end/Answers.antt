@@ -43,7 +43,8 @@ returns-in_err-advance_ahead-clause-runs g c = λ p h i front begin views given 
     let a = c.in_err-advance_ahead.ensures.steps p h i front s.0 views s.1 in
     let some = some_written begin (g.W.Sink.device c.items.out) new (p.opens s.0) (p.opens (s.0 ++ a.0)) s.2 a.1.1 in
     let limit : limit_of f ≡ limit_of c.args.feed.now = c.in_err-advance_ahead.ensures.advances.limit ∙ c.items.invariant.0.limit in
-    rw e (subst (λ (n : ℕ). BodyGives (g.T.Task.tells c.advance_ahead.new.task) p h i front n (seen f) begin new (Err Write)) limit (pass_fails (g.T.Task.tells c.advance_ahead.new.task) p h i front (s.0 ++ a.0) c.advance_ahead.new.regs f (seen f) begin new a.1.0 some))
+    rw e (subst (λ (n : ℕ). BodyGives (g.T.Task.tells c.advance_ahead.new.task) p h i front n (seen f) begin new (Err Write)) limit
+    (pass_fails (g.T.Task.tells c.advance_ahead.new.task) p h i front (s.0 ++ a.0) c.advance_ahead.new.regs f (seen f) begin new a.1.0 some))
 
 pub returns-in_err-advance_ahead-clause-needed : goal.returns-in_err-advance_ahead-clause-needed
 returns-in_err-advance_ahead-clause-needed g c = λ p h i front begin views given stands on writes.
@@ -55,7 +56,8 @@ returns-in_err-advance_ahead-clause-needed g c = λ p h i front begin views give
     let still : supply_of f ≡ supply_of c.items.feed = ap (supply g.S.Source.rest g.S.Source.failures) c.in_err-advance_ahead.ensures.source in
     let same : (supply_of f).failures ≡ before.failures = ap g.S.Source.failures c.in_err-advance_ahead.ensures.source ∙ c.items.invariant.0.same (λ x. cc) in
     let read = read_ahead p h (limit_of c.args.feed.now) (chunk_len_of c.args.feed.now) i front before s.0 s.0 (supply_of c.items.feed) (supply_of f) ([], sym (append-nil (p.opens s.0))) still s.3 in
-    rw e (needed_before p h (limit_of c.args.feed.now) (chunk_len_of c.args.feed.now) i front before s.0 (supply_of f) begin (g.W.Sink.device c.items.out) (g.W.Sink.device c.advance_ahead.new.out) same read s.2 (take a.1.1.2.0.0 a.1.1.0, a.1.1.2.0.1))
+    rw e (needed_before p h (limit_of c.args.feed.now) (chunk_len_of c.args.feed.now) i front before s.0 (supply_of f) begin
+    (g.W.Sink.device c.items.out) (g.W.Sink.device c.advance_ahead.new.out) same read s.2 (take a.1.1.2.0.0 a.1.1.0, a.1.1.2.0.1))
 
 pub returns-in_err-pass_on_before_read-clause-runs : goal.returns-in_err-pass_on_before_read-clause-runs
 returns-in_err-pass_on_before_read-clause-runs g c = λ p h i front begin views given stands on writes.
@@ -69,7 +71,8 @@ returns-in_err-pass_on_before_read-clause-runs g c = λ p h i front begin views 
     let e : c.from_residual-in_err-pass_on_before_read.result ≡ Err Write = search rules in
     let f = c.advance_ahead.new.feed in
     let limit : limit_of f ≡ limit_of c.args.feed.now = c.in_ok-advance_ahead.ensures.advances.limit ∙ c.items.invariant.0.limit in
-    rw e (subst (λ (n : ℕ). BodyGives (g.T.Task.tells c.advance_ahead.new.task) p h i front n (seen f) begin new (Err Write)) limit (pass_fails (g.T.Task.tells c.advance_ahead.new.task) p h i front all c.advance_ahead.new.regs f (seen f) begin new a.1.0.gave some))
+    rw e (subst (λ (n : ℕ). BodyGives (g.T.Task.tells c.advance_ahead.new.task) p h i front n (seen f) begin new (Err Write)) limit
+    (pass_fails (g.T.Task.tells c.advance_ahead.new.task) p h i front all c.advance_ahead.new.regs f (seen f) begin new a.1.0.gave some))
 
 pub returns-in_err-pass_on_before_read-clause-needed : goal.returns-in_err-pass_on_before_read-clause-needed
 returns-in_err-pass_on_before_read-clause-needed g c = λ p h i front begin views given stands on writes.
@@ -84,7 +87,8 @@ returns-in_err-pass_on_before_read-clause-needed g c = λ p h i front begin view
     let same : (supply_of f).failures ≡ before.failures = ap g.S.Source.failures c.in_ok-advance_ahead.ensures.source ∙ c.items.invariant.0.same (λ x. cc) in
     let read = read_ahead p h (limit_of c.args.feed.now) (chunk_len_of c.args.feed.now) i front before s.0 all (supply_of c.items.feed) (supply_of f) (a.1.1.0, a.1.1.1) still s.3 in
     let some = c.in_err-pass_on_before_read.ensures.puts.0 in
-    rw e (needed_before p h (limit_of c.args.feed.now) (chunk_len_of c.args.feed.now) i front before all (supply_of f) begin (g.W.Sink.device c.advance_ahead.new.out) (g.W.Sink.device c.pass_on_before_read.new.out) same read first (take some.0 [], some.1))
+    rw e (needed_before p h (limit_of c.args.feed.now) (chunk_len_of c.args.feed.now) i front before all (supply_of f) begin
+    (g.W.Sink.device c.advance_ahead.new.out) (g.W.Sink.device c.pass_on_before_read.new.out) same read first (take some.0 [], some.1))
 
 pub returns-in_err-step-clause-runs : goal.returns-in_err-step-clause-runs
 returns-in_err-step-clause-runs g c = λ p h i front begin views given stands on writes.
@@ -99,7 +103,10 @@ returns-in_err-step-clause-runs g c = λ p h i front begin views given stands on
     let stop = c.in_err-step.field-0.0 in
     let e : c.from_residual-in_err-step.result ≡ Err stop = search rules in
     let limit : limit_of c.step.new.feed ≡ limit_of c.args.feed.now = c.in_err-step.ensures.over.advances.limit ∙ c.in_ok-advance_ahead.ensures.advances.limit ∙ c.items.invariant.0.limit in
-    rw e (subst (λ (n : ℕ). BodyGives (g.T.Task.tells c.step.new.task) p h i front n (seen c.step.new.feed) begin new (Err stop)) limit (stops g.T.Task.keeps (g.T.Task.tells c.step.new.task) p h i front all c.step.new.task c.step.new.regs c.step.new.feed begin mid new a.1.0.on written stop (c.in_err-step.ensures.steps p h i front all views a.1.0)))
+    rw e (subst (λ (n : ℕ). BodyGives (g.T.Task.tells c.step.new.task) p h i front n (seen c.step.new.feed) begin new (Err stop)) limit
+    (stops g.T.Task.keeps
+    (g.T.Task.tells c.step.new.task) p h i front all c.step.new.task c.step.new.regs c.step.new.feed begin mid new a.1.0.on written stop
+    (c.in_err-step.ensures.steps p h i front all views a.1.0)))
 
 pub returns-in_err-step-clause-needed : goal.returns-in_err-step-clause-needed
 returns-in_err-step-clause-needed g c = λ p h i front begin views given stands on writes.
@@ -118,8 +125,11 @@ returns-in_err-step-clause-needed g c = λ p h i front begin views given stands 
     let limit = over.advances.limit ∙ c.in_ok-advance_ahead.ensures.advances.limit ∙ c.items.invariant.0.limit in
     let chunk = over.advances.chunk ∙ c.in_ok-advance_ahead.ensures.advances.chunk ∙ c.items.invariant.0.chunk in
     let same = c.in_ok-advance_ahead.ensures.advances.same (λ x. cc) ∙ c.items.invariant.0.same (λ x. cc) in
-    let past = reads_past g.T.Task.keeps (g.T.Task.tells c.step.new.task) p h i front all c.step.new.task c.step.new.regs c.step.new.feed mid new (Err stop) (c.in_err-step.ensures.steps p h i front all views a.1.0) in
-    rw e (needed_last p h (limit_of c.args.feed.now) (chunk_len_of c.args.feed.now) i front (supply_of c.args.feed.now) all c.advance_ahead.new.feed c.step.new.feed begin mid new (Err stop) a.1.0.on limit chunk unfailed same over.advances written past)
+    let past = reads_past g.T.Task.keeps (g.T.Task.tells c.step.new.task) p h i front all c.step.new.task c.step.new.regs c.step.new.feed mid new
+    (Err stop) (c.in_err-step.ensures.steps p h i front all views a.1.0) in
+    rw e (needed_last p h (limit_of c.args.feed.now) (chunk_len_of c.args.feed.now) i front
+    (supply_of c.args.feed.now) all c.advance_ahead.new.feed c.step.new.feed begin mid new
+    (Err stop) a.1.0.on limit chunk unfailed same over.advances written past)
 
 pub returns-in_err-step-clause-last : goal.returns-in_err-step-clause-last
 returns-in_err-step-clause-last g c = λ input is.
@@ -137,7 +147,11 @@ returns-in_err-step-clause-devices g c =
     let over = c.in_err-step.ensures.over in
     let same = c.in_ok-advance_ahead.ensures.advances.same (λ x. cc) ∙ c.items.invariant.0.same (λ x. cc) in
     let out = c.in_ok-pass_on_before_read.ensures.puts.1 ∙ c.in_ok-advance_ahead.ensures.counts ∙ c.items.invariant.3 in
-    rw e (step_reads g.S.Source.failures c.advance_ahead.new.feed c.step.new.feed (Err stop) unfailed over.advances ∙ ap (λ n. n + reads_failed {A = Done} (Err stop)) same, over.writes ∙ ap (λ n. n + writes_failed {A = Done} (Err stop)) out)
+    rw e (
+      step_reads g.S.Source.failures c.advance_ahead.new.feed c.step.new.feed (Err stop) unfailed over.advances
+          ∙ ap (λ n. n + reads_failed {A = Done} (Err stop)) same,
+      over.writes ∙ ap (λ n. n + writes_failed {A = Done} (Err stop)) out,
+    )
 
 pub returns-in_err-step-clause-passed_on : goal.returns-in_err-step-clause-passed_on
 returns-in_err-step-clause-passed_on g c = λ input is.
@@ -168,8 +182,13 @@ returns-in-Ended-clause-runs g c = λ p h i front begin views given stands on wr
     let first = written_behind begin (g.W.Sink.device c.items.out) out (p.opens s.0) (p.opens all) s.2 a.1.1 in
     let written = still_written begin out mid (p.opens all) first c.in_ok-pass_on_before_read.ensures.puts in
     let limit : limit_of c.step.new.feed ≡ limit_of c.args.feed.now = c.in_ok-step.ensures.over.advances.limit ∙ c.in_ok-advance_ahead.ensures.advances.limit ∙ c.items.invariant.0.limit in
-    let gives = subst (λ (m : More). StepGives g.T.Task.keeps p h i front (g.T.Task.tells c.step.new.task) all c.step.new.task c.step.new.regs c.step.new.feed mid new (Ok m)) c.in-Ended.is (c.in_ok-step.ensures.steps p h i front all views a.1.0) in
-    subst (λ (n : ℕ). BodyGives (g.T.Task.tells c.step.new.task) p h i front n (seen c.step.new.feed) begin new (Ok c.in-Ended.done)) limit (ended g.T.Task.keeps (g.T.Task.tells c.step.new.task) p h i front all c.step.new.task c.step.new.regs c.step.new.feed begin mid new a.1.0.on written c.in-Ended.done gives)
+    let gives = subst (λ (m : More). StepGives g.T.Task.keeps p h i front
+    (g.T.Task.tells c.step.new.task) all c.step.new.task c.step.new.regs c.step.new.feed mid new (Ok m)) c.in-Ended.is
+    (c.in_ok-step.ensures.steps p h i front all views a.1.0) in
+    subst (λ (n : ℕ). BodyGives (g.T.Task.tells c.step.new.task) p h i front n (seen c.step.new.feed) begin new (Ok c.in-Ended.done)) limit
+    (ended g.T.Task.keeps
+    (g.T.Task.tells c.step.new.task)
+    p h i front all c.step.new.task c.step.new.regs c.step.new.feed begin mid new a.1.0.on written c.in-Ended.done gives)
 
 pub returns-in-Ended-clause-needed : goal.returns-in-Ended-clause-needed
 returns-in-Ended-clause-needed g c = λ p h i front begin views given stands on writes.
@@ -186,22 +205,29 @@ returns-in-Ended-clause-needed g c = λ p h i front begin views given stands on 
     let limit = over.advances.limit ∙ c.in_ok-advance_ahead.ensures.advances.limit ∙ c.items.invariant.0.limit in
     let chunk = over.advances.chunk ∙ c.in_ok-advance_ahead.ensures.advances.chunk ∙ c.items.invariant.0.chunk in
     let same = c.in_ok-advance_ahead.ensures.advances.same (λ x. cc) ∙ c.items.invariant.0.same (λ x. cc) in
-    let past = reads_past g.T.Task.keeps (g.T.Task.tells c.step.new.task) p h i front all c.step.new.task c.step.new.regs c.step.new.feed mid new (Ok c.in_ok-step.field-0) (c.in_ok-step.ensures.steps p h i front all views a.1.0) in
-    needed_last p h (limit_of c.args.feed.now) (chunk_len_of c.args.feed.now) i front (supply_of c.args.feed.now) all c.advance_ahead.new.feed c.step.new.feed begin mid new (Ok c.in_ok-step.field-0) a.1.0.on limit chunk unfailed same over.advances written past
+    let past = reads_past g.T.Task.keeps (g.T.Task.tells c.step.new.task) p h i front all c.step.new.task c.step.new.regs c.step.new.feed mid new
+    (Ok c.in_ok-step.field-0) (c.in_ok-step.ensures.steps p h i front all views a.1.0) in
+    needed_last p h (limit_of c.args.feed.now) (chunk_len_of c.args.feed.now) i front
+    (supply_of c.args.feed.now) all c.advance_ahead.new.feed c.step.new.feed begin mid new
+    (Ok c.in_ok-step.field-0) a.1.0.on limit chunk unfailed same over.advances written past
 
 pub returns-in-Ended-clause-devices : goal.returns-in-Ended-clause-devices
 returns-in-Ended-clause-devices g c =
     let ended = subst (λ (m : More). Advances g.S.Source.failures c.advance_ahead.new.feed c.step.new.feed (step_end (Ok m))) c.in-Ended.is c.in_ok-step.ensures.over.advances in
     let unfailed = c.in_ok-advance_ahead.ensures.advances.goes refl (c.items.invariant.0.goes refl c.requires.open) in
     let same = c.in_ok-advance_ahead.ensures.advances.same (λ x. cc) ∙ c.items.invariant.0.same (λ x. cc) in
-    let out = c.in_ok-pass_on_before_read.ensures.puts.1 ∙ c.in_ok-advance_ahead.ensures.counts ∙ c.items.invariant.3 in
-    (step_reads g.S.Source.failures c.advance_ahead.new.feed c.step.new.feed (Ok (Ended c.in-Ended.done)) unfailed ended ∙ ap (λ n. n + 0) same, c.in_ok-step.ensures.over.writes ∙ ap (λ n. n + 0) out)
+    let out = c.in_ok-pass_on_before_read.ensures.puts.1 ∙ c.in_ok-advance_ahead.ensures.counts ∙ c.items.invariant.3 in (
+      step_reads g.S.Source.failures c.advance_ahead.new.feed c.step.new.feed (Ok (Ended c.in-Ended.done)) unfailed ended
+          ∙ ap (λ n. n + 0) same,
+      c.in_ok-step.ensures.over.writes ∙ ap (λ n. n + 0) out,
+    )
 
 pub items-preserved : goal.items-preserved
 items-preserved g c =
     let over = c.in_ok-step.ensures.over in
     let ahead = advances_on g.S.Source.failures c.args.feed.now c.items.feed c.advance_ahead.new.feed CallEnd.GoesOn c.items.invariant.0 c.in_ok-advance_ahead.ensures.advances in (
-      advances_on g.S.Source.failures c.args.feed.now c.advance_ahead.new.feed c.step.new.feed CallEnd.GoesOn ahead (subst (λ (m : More). Advances g.S.Source.failures c.advance_ahead.new.feed c.step.new.feed (step_end (Ok m))) c.in-Again.is over.advances),
+      advances_on g.S.Source.failures c.args.feed.now c.advance_ahead.new.feed c.step.new.feed CallEnd.GoesOn ahead
+          (subst (λ (m : More). Advances g.S.Source.failures c.advance_ahead.new.feed c.step.new.feed (step_end (Ok m))) c.in-Again.is over.advances),
       c.in_ok-step.ensures.ready (ap (λ (m : More). Ok m) c.in-Again.is),
       c.in_ok-step.ensures.fixed ∙ c.in_ok-advance_ahead.ensures.fixed ∙ c.items.invariant.2,
       over.writes ∙ add-zero _ ∙ c.in_ok-pass_on_before_read.ensures.puts.1 ∙ c.in_ok-advance_ahead.ensures.counts ∙ c.items.invariant.3,
@@ -214,7 +240,9 @@ items-preserved g c =
           let all = s.0 ++ a.0 in
           let first = written_behind begin (g.W.Sink.device c.items.out) out (p.opens s.0) (p.opens all) s.2 a.1.1 in
           let written = still_written begin out mid (p.opens all) first c.in_ok-pass_on_before_read.ensures.puts in
-          let goes = subst (λ (m : More). StepGives g.T.Task.keeps p h i front (g.T.Task.tells c.step.new.task) all c.step.new.task c.step.new.regs c.step.new.feed mid new (Ok m)) c.in-Again.is (c.in_ok-step.ensures.steps p h i front all views a.1.0) in
+          let goes = subst (λ (m : More). StepGives g.T.Task.keeps p h i front
+          (g.T.Task.tells c.step.new.task) all c.step.new.task c.step.new.regs c.step.new.feed mid new (Ok m)) c.in-Again.is
+          (c.in_ok-step.ensures.steps p h i front all views a.1.0) in
           let past = reads_past g.T.Task.keeps (g.T.Task.tells c.step.new.task) p h i front all c.step.new.task c.step.new.regs c.step.new.feed mid new (Ok Again) goes in
           let limit = over.advances.limit ∙ c.in_ok-advance_ahead.ensures.advances.limit ∙ c.items.invariant.0.limit in
           let chunk = over.advances.chunk ∙ c.in_ok-advance_ahead.ensures.advances.chunk ∙ c.items.invariant.0.chunk in

@@ -18,7 +18,8 @@ invariant-items g l = Advances g.S.Source.failures l.fn.feed l.feed CallEnd.Goes
     × g.T.Task.is_ready l.task
     × (g.T.Task.fixed l.task ≡ g.T.Task.fixed l.fn.task)
     × ((g.W.Sink.device l.out).failures ≡ (g.W.Sink.device l.fn.out).failures)
-    × ((p : Plan) (h : Header) (i : Input) (front : List Token) (begin : Device) → IsViewOf l.view h → HasGiven i front l.fn.feed → g.T.Task.keeps l.fn.task p h [] → p.ends [] ≡ false → Writes begin (g.W.Sink.device l.fn.out) (p.opens [])
+    × ((p : Plan) (h : Header) (i : Input) (front : List Token) (begin : Device) → IsViewOf l.view h → HasGiven i front l.fn.feed
+    → g.T.Task.keeps l.fn.task p h [] → p.ends [] ≡ false → Writes begin (g.W.Sink.device l.fn.out) (p.opens [])
     → (items : List BodyItem) × HasTaken g.T.Task.keeps p h i front items l.task l.regs l.feed × Writes begin (g.W.Sink.device l.out) (p.opens items)
     × HasRead p h (limit_of l.fn.feed) (chunk_len_of l.fn.feed) i front (supply_of l.fn.feed) items (supply_of l.feed))
 

@@ -7,7 +7,9 @@ use Rattle.vcd_run.proofs.run.step.Goals as goal
 
 pub returns-in-Err-clause-steps : goal.returns-in-Err-clause-steps
 returns-in-Err-clause-steps g c = λ p h i front items views s.
-    rw c.of_body.ensures (stopped g.T.Task.keeps p h i front (g.T.Task.tells c.args.task.now) items c.args.task.now c.next_item.new.regs c.next_item.new.feed (g.W.Sink.device c.args.out.now) c.in-Err.fault c.line.result c.line.ensures (c.in-Err.ensures.reads h i front items views s.gave))
+    rw c.of_body.ensures (stopped g.T.Task.keeps p h i front (g.T.Task.tells c.args.task.now)
+    items c.args.task.now c.next_item.new.regs c.next_item.new.feed (g.W.Sink.device c.args.out.now) c.in-Err.fault c.line.result c.line.ensures
+    (c.in-Err.ensures.reads h i front items views s.gave))
 
 pub returns-in_err-close-clause-steps : goal.returns-in_err-close-clause-steps
 returns-in_err-close-clause-steps g c = λ p h i front items views s.
@@ -39,7 +41,9 @@ returns-in-Ok-false-clause-steps g c = λ p h i front items views s.
     let further = c.in-Ok.ensures.progress no in
     let few = few_items g.T.Task.keeps p h i front items c.args.task.now c.args.regs.now c.args.feed.now s f further c.in-Ok.ensures.bounded in
     let t = c.in-Ok-false.ensures.takes p h items c.args.regs.now x.0 views s.gave.known x.2.gave.known c.in-Ok.ensures.regs read few s.stands s.on in
-    taken_on g.T.Task.keeps p h i front items c.args.task.now c.args.regs.now c.args.feed.now s (g.T.Task.tells c.take.new.self) c.take.new.self r f (g.W.Sink.device c.args.out.now) (g.W.Sink.device c.take.new.out) c.in-Ok-false.field-0 x.0 further c.in-Ok-false.field-0-test x.2 t c.in-Ok-false.ensures.counts
+    taken_on g.T.Task.keeps p h i front items c.args.task.now c.args.regs.now c.args.feed.now s (g.T.Task.tells c.take.new.self) c.take.new.self r f
+    (g.W.Sink.device c.args.out.now) (g.W.Sink.device c.take.new.out)
+    c.in-Ok-false.field-0 x.0 further c.in-Ok-false.field-0-test x.2 t c.in-Ok-false.ensures.counts
 
 pub returns-in-Ok-true-clause-steps : goal.returns-in-Ok-true-clause-steps
 returns-in-Ok-true-clause-steps g c = λ p h i front items views s.
@@ -51,7 +55,9 @@ returns-in-Ok-true-clause-steps g c = λ p h i front items views s.
     let further = c.in-Ok.ensures.progress no in
     let few = few_items g.T.Task.keeps p h i front items c.args.task.now c.args.regs.now c.args.feed.now s f further c.in-Ok.ensures.bounded in
     let t = c.in-Ok-true.ensures.takes p h items c.args.regs.now x.0 views s.gave.known x.2.gave.known c.in-Ok.ensures.regs read few s.stands s.on in
-    taken_last g.T.Task.keeps p h i front items c.args.task.now c.args.regs.now c.args.feed.now s (g.T.Task.tells c.take.new.self) c.take.new.self r f (g.W.Sink.device c.args.out.now) (g.W.Sink.device c.take.new.out) c.in-Ok-true.field-0 x.0 c.in-Ok-true.field-0-test x.2 t c.in-Ok-true.ensures.counts
+    taken_last g.T.Task.keeps p h i front items c.args.task.now c.args.regs.now c.args.feed.now s
+    (g.T.Task.tells c.take.new.self) c.take.new.self r f (g.W.Sink.device c.args.out.now)
+    (g.W.Sink.device c.take.new.out) c.in-Ok-true.field-0 x.0 c.in-Ok-true.field-0-test x.2 t c.in-Ok-true.ensures.counts
 
 pub returns-in-Err-take-clause-steps : goal.returns-in-Err-take-clause-steps
 returns-in-Err-take-clause-steps g c = λ p h i front items views s.
@@ -64,7 +70,9 @@ returns-in-Err-take-clause-steps g c = λ p h i front items views s.
     let few = few_items g.T.Task.keeps p h i front items c.args.task.now c.args.regs.now c.args.feed.now s f further c.in-Ok.ensures.bounded in
     let t = c.in-Err-take.ensures.takes p h items c.args.regs.now x.0 views s.gave.known x.2.gave.known c.in-Ok.ensures.regs read few s.stands s.on in
     let w : c.into.result ≡ Write = search rules in
-    rw w (take_fails g.T.Task.keeps p h i front items c.args.task.now c.args.regs.now c.args.feed.now s (g.T.Task.tells c.take.new.self) c.take.new.self r f (g.W.Sink.device c.args.out.now) (g.W.Sink.device c.take.new.out) c.in-Err-take.failed x.0 x.2 t c.in-Err-take.ensures.counts)
+    rw w (take_fails g.T.Task.keeps p h i front items c.args.task.now c.args.regs.now c.args.feed.now s
+    (g.T.Task.tells c.take.new.self) c.take.new.self r f (g.W.Sink.device c.args.out.now)
+    (g.W.Sink.device c.take.new.out) c.in-Err-take.failed x.0 x.2 t c.in-Err-take.ensures.counts)
 
 pub returns-in-Err-take-clause-sink : goal.returns-in-Err-take-clause-sink
 returns-in-Err-take-clause-sink g c = λ input is.

@@ -25,7 +25,8 @@ returns-then-not-is_due-clause-takes g c = λ codes k places there within laid.
     let at = c.place_of-settled.ensures (code_low c.args.places codes c.args.code k places there) few in
     let is = declared_is c.args.places codes c.args.code k places there c.place_of-settled.result c.settled.result c.in-Some.declared few at c.in-Some.ensures in
     let none =
-    event_text (in_places c.args.table.now k.size c.args.code) k c.args.role c.args.time (ap (λ (y : IdCode). y.event) (sym is) ∙ c.if-declared.true) ∙ ap (λ b. cond b (as_line (byte "1" ∷ k.text)) []) (sym c.if-not-is_due.ensures) in
+    event_text (in_places c.args.table.now k.size c.args.code) k c.args.role c.args.time (ap (λ (y : IdCode). y.event) (sym is) ∙ c.if-declared.true)
+    ∙ ap (λ b. cond b (as_line (byte "1" ∷ k.text)) []) (sym c.if-not-is_due.ensures) in
     subst (λ (l : List ℕ). Appends (g.W.Sink.device c.args.out.now).held (g.W.Sink.device c.args.out.now).held l) (sym none) (appends-none (g.W.Sink.device c.args.out.now).held)
 
 pub returns-then-declared-clause-takes : goal.returns-then-declared-clause-takes
@@ -34,7 +35,8 @@ returns-then-declared-clause-takes g c = λ codes k places there within laid.
     let at = c.place_of-settled.ensures (code_low c.args.places codes c.args.code k places there) few in
     let is = declared_is c.args.places codes c.args.code k places there c.place_of-settled.result c.settled.result c.in-Some.declared few at c.in-Some.ensures in
     let text =
-    event_text (in_places c.args.table.now k.size c.args.code) k c.args.role c.args.time (ap (λ (y : IdCode). y.event) (sym is) ∙ c.if-declared.true) ∙ ap (λ b. cond b (as_line (byte "1" ∷ k.text)) []) (sym c.if-not-is_due.ensures)
+    event_text (in_places c.args.table.now k.size c.args.code) k c.args.role c.args.time (ap (λ (y : IdCode). y.event) (sym is) ∙ c.if-declared.true)
+    ∙ ap (λ b. cond b (as_line (byte "1" ∷ k.text)) []) (sym c.if-not-is_due.ensures)
     ∙ ap (λ (y : IdCode). as_line (byte "1" ∷ y.text)) (sym is) in
     subst (λ (l : List ℕ). Takes (g.W.Sink.device c.args.out.now) (g.W.Sink.device c.put_event.new.out) l c.put_event.result) (sym text) c.put_event.ensures.0
 
@@ -44,8 +46,11 @@ returns-then-same_value-clause-takes g c = λ codes k places there within laid.
     let few : c.settled.result < 4 = subst (λ n. n < 4) (sym c.settled.ensures) (settled_within c.args.role c.args.time within) in
     let at = c.place_of-settled.ensures low few in
     let is = declared_is c.args.places codes c.args.code k places there c.place_of-settled.result c.settled.result c.in-Some.declared few at c.in-Some.ensures in
-    let same = same_places c.args.table.now c.args.code c.in-Some.declared.size c.args.role.written (settled c.args.role c.args.time) c.place_of.result c.place_of-settled.result c.same_value.result (c.place_of.ensures low within.written) (at ∙ ap (place_of c.args.code) c.settled.ensures) (c.same_value.ensures laid) in
-    let sized = subst (λ (n : ℕ). same_state (in_places c.args.table.now n c.args.code c.args.role.written) (in_places c.args.table.now n c.args.code (settled c.args.role c.args.time)) ≡ c.same_value.result) (ap (λ (y : IdCode). y.size) is) same in
+    let same = same_places c.args.table.now c.args.code c.in-Some.declared.size c.args.role.written
+    (settled c.args.role c.args.time) c.place_of.result c.place_of-settled.result c.same_value.result (c.place_of.ensures low within.written) (at
+    ∙ ap (place_of c.args.code) c.settled.ensures) (c.same_value.ensures laid) in
+    let sized = subst (λ (n : ℕ). same_state (in_places c.args.table.now n c.args.code c.args.role.written)
+    (in_places c.args.table.now n c.args.code (settled c.args.role c.args.time)) ≡ c.same_value.result) (ap (λ (y : IdCode). y.size) is) same in
     let none =
     value_text (in_places c.args.table.now k.size c.args.code) k c.args.role c.args.time (ap (λ (y : IdCode). y.event) (sym is) ∙ c.if-declared.false)
     ∙ ap (λ b. cond b [] (line_if_set k (in_places c.args.table.now k.size c.args.code (settled c.args.role c.args.time)))) (sized ∙ c.if-same_value.true) in
@@ -57,12 +62,16 @@ returns-clause-takes g c = λ codes k places there within laid.
     let few : c.settled.result < 4 = subst (λ n. n < 4) (sym c.settled.ensures) (settled_within c.args.role c.args.time within) in
     let at = c.place_of-settled.ensures low few in
     let is = declared_is c.args.places codes c.args.code k places there c.place_of-settled.result c.settled.result c.in-Some.declared few at c.in-Some.ensures in
-    let same = same_places c.args.table.now c.args.code c.in-Some.declared.size c.args.role.written (settled c.args.role c.args.time) c.place_of.result c.place_of-settled.result c.same_value.result (c.place_of.ensures low within.written) (at ∙ ap (place_of c.args.code) c.settled.ensures) (c.same_value.ensures laid) in
-    let sized = subst (λ (n : ℕ). same_state (in_places c.args.table.now n c.args.code c.args.role.written) (in_places c.args.table.now n c.args.code (settled c.args.role c.args.time)) ≡ c.same_value.result) (ap (λ (y : IdCode). y.size) is) same in
+    let same = same_places c.args.table.now c.args.code c.in-Some.declared.size c.args.role.written
+    (settled c.args.role c.args.time) c.place_of.result c.place_of-settled.result c.same_value.result (c.place_of.ensures low within.written) (at
+    ∙ ap (place_of c.args.code) c.settled.ensures) (c.same_value.ensures laid) in
+    let sized = subst (λ (n : ℕ). same_state (in_places c.args.table.now n c.args.code c.args.role.written)
+    (in_places c.args.table.now n c.args.code (settled c.args.role c.args.time)) ≡ c.same_value.result) (ap (λ (y : IdCode). y.size) is) same in
     let here : c.place_of-settled.result ≡ place_of c.args.code (settled c.args.role c.args.time) = at ∙ ap (place_of c.args.code) c.settled.ensures in
     let text =
     value_text (in_places c.args.table.now k.size c.args.code) k c.args.role c.args.time (ap (λ (y : IdCode). y.event) (sym is) ∙ c.if-declared.false)
     ∙ ap (λ b. cond b [] (line_if_set k (in_places c.args.table.now k.size c.args.code (settled c.args.role c.args.time)))) (sized ∙ c.if-same_value.false)
     ∙ ap (λ i. line_if_set k (value_at_size k.size (held_at c.args.table.now i))) (sym here)
-    ∙ sym (line_there (codes_shown c.args.places) c.args.table.now c.place_of-settled.result k (ap (λ i. slice_get (codes_shown c.args.places) i) at ∙ shown_there c.args.places codes c.args.code k places there c.settled.result few)) in
+    ∙ sym (line_there (codes_shown c.args.places) c.args.table.now c.place_of-settled.result k (ap (λ i. slice_get (codes_shown c.args.places) i) at
+    ∙ shown_there c.args.places codes c.args.code k places there c.settled.result few)) in
     subst (λ (l : List ℕ). Takes (g.W.Sink.device c.args.out.now) (g.W.Sink.device c.put_short.new.w) l c.put_short.result) (sym text) (c.put_short.ensures.takes laid)

@@ -26,9 +26,12 @@ loop-code-preserved g c = record {
       let code = get_or c.args.listed.now i 0 in
       let at : slice_get c.args.listed.now i ≡ Some code = slice_get-get_or c.args.listed.now i 0 (omega arith) in
       lines_more line _ _ _ c.args.listed.now i code at (c.loop-code.invariant.lines codes places roles laid)
-      (subst (λ (l : List ℕ). Appends (g.W.Sink.device c.loop-code.out).held (g.W.Sink.device c.put_listed.new.out).held l) (sym (append-nil (line code))) (c.in_ok-put_listed.ensures.takes codes places roles laid));
+      (subst (λ (l : List ℕ). Appends (g.W.Sink.device c.loop-code.out).held (g.W.Sink.device c.put_listed.new.out).held l)
+      (sym (append-nil (line code))) (c.in_ok-put_listed.ensures.takes codes places roles laid));
 }
 
 pub returns-clause-takes : goal.returns-clause-takes
 returns-clause-takes g c = λ codes places roles laid.
-    subst (λ (l : List ℕ). Appends (g.W.Sink.device c.args.out.now).held (g.W.Sink.device c.loop-code.out).held (flat_map (line_at codes c.args.table.now c.args.roles.now c.args.time) l)) (take_all c.loop-code.code-index c.args.listed.now (omega arith)) (c.loop-code.invariant.lines codes places roles laid)
+    subst (λ (l : List ℕ). Appends (g.W.Sink.device c.args.out.now).held (g.W.Sink.device c.loop-code.out).held
+    (flat_map (line_at codes c.args.table.now c.args.roles.now c.args.time) l)) (take_all c.loop-code.code-index c.args.listed.now (omega arith))
+    (c.loop-code.invariant.lines codes places roles laid)

@@ -12,12 +12,15 @@ use Rattle.vcd_strobe.proofs.edge_lines.put_moment.Goals as goal
 
 pub returns-in_err-put_time : goal.returns-in_err-put_time
 returns-in_err-put_time g c =
-    puts-first (g.W.Sink.device c.args.out.now) (g.W.Sink.device c.put_time.new.out) (time_line c.args.number) (value_line (record { text = c.args.id.now; size = 64; event = false }) (Value.Bits (binary 64 c.args.time))) c.from_residual.result (search rules) c.in_err-put_time.ensures
+    puts-first (g.W.Sink.device c.args.out.now) (g.W.Sink.device c.put_time.new.out) (time_line c.args.number)
+    (value_line (record { text = c.args.id.now; size = 64; event = false }) (Value.Bits (binary 64 c.args.time))) c.from_residual.result
+    (search rules) c.in_err-put_time.ensures
 
 pub returns : goal.returns
 returns g c =
     let line = λ (ds : List ℕ). value_line (record { text = c.args.id.now; size = 64; event = false }) (Value.Bits ds) in
     let text : line_under c.args.id.now 64 false Vector c.put_binary.new.digits ≡ line (binary 64 c.args.time) =
     ap (λ (ds : List ℕ). line (extend (str_to_ascii_lowercase ds) 64)) c.put_binary.ensures ∙ ap line (binary_value c.args.time) in
-    puts-twice (g.W.Sink.device c.args.out.now) (g.W.Sink.device c.put_time.new.out) (g.W.Sink.device c.put_change.new.w) (time_line c.args.number) (line (binary 64 c.args.time)) c.put_change.result c.in_ok-put_time.ensures
+    puts-twice (g.W.Sink.device c.args.out.now) (g.W.Sink.device c.put_time.new.out) (g.W.Sink.device c.put_change.new.w) (time_line c.args.number)
+    (line (binary 64 c.args.time)) c.put_change.result c.in_ok-put_time.ensures
     (subst (λ (l : List ℕ). Puts (g.W.Sink.device c.put_time.new.out) (g.W.Sink.device c.put_change.new.w) l c.put_change.result) text c.put_change.ensures)

@@ -10,4 +10,5 @@ loop-code-preserved c = let one = longest_more c.args.view.codes.now c.loop-code
 
 pub returns : goal.returns
 returns c = λ h views.
-    c.loop-code.invariant ∙ ap longest_len (take_all c.loop-code.code-index c.args.view.codes.now (omega arith)) ∙ ap (fold max 0) (lengths_are c.args.view.text.now c.args.view.codes.now h.codes views.codes)
+    c.loop-code.invariant ∙ ap longest_len (take_all c.loop-code.code-index c.args.view.codes.now (omega arith))
+    ∙ ap (fold max 0) (lengths_are c.args.view.text.now c.args.view.codes.now h.codes views.codes)

@@ -16,4 +16,5 @@ returns-in_err-put_variable-clause-takes g c = λ h names views marked is.
 pub returns-clause-takes : goal.returns-clause-takes
 returns-clause-takes g c = λ h names views marked is.
     subst (λ (l : List ℕ). Takes (g.W.Sink.device c.args.out.now) (g.W.Sink.device c.put_head.new.w) l c.put_head.result) (head_is h names c.args.id.now is)
-    (takes-twice _ _ _ (variable_lines c.args.id.now) (head_for (bare h) names) c.put_head.result c.in_ok-put_variable.ensures.0 (c.put_head.ensures.selected (bare h) names (c.bare.ensures h views) marked))
+    (takes-twice _ _ _ (variable_lines c.args.id.now) (head_for (bare h) names) c.put_head.result c.in_ok-put_variable.ensures.0
+    (c.put_head.ensures.selected (bare h) names (c.bare.ensures h views) marked))

@@ -20,7 +20,8 @@ returns-clause-gives g c = λ h names ks i front views marked has given.
     let out : Device = g.W.Sink.device c.args.out.now in
     let mid : Device = g.W.Sink.device c.put_strobe_head.new.out in
     let puts = c.in_ok-put_strobe_head.ensures in
-    c.run_to_end.ensures.runs (strobe_plan ks h names) h i front out views given has refl (subst (Writes out mid) (sym (open_first ks h names)) (puts.takes h names views marked has.stands.id, puts.counts))
+    c.run_to_end.ensures.runs (strobe_plan ks h names) h i front out views given has refl
+    (subst (Writes out mid) (sym (open_first ks h names)) (puts.takes h names views marked has.stands.id, puts.counts))
 
 pub returns-in_err-put_strobe_head-clause-needed : goal.returns-in_err-put_strobe_head-clause-needed
 returns-in_err-put_strobe_head-clause-needed g c = λ h names ks i front views marked has given.
@@ -33,4 +34,5 @@ returns-clause-needed g c = λ h names ks i front views marked has given.
     let out : Device = g.W.Sink.device c.args.out.now in
     let mid : Device = g.W.Sink.device c.put_strobe_head.new.out in
     let puts = c.in_ok-put_strobe_head.ensures in
-    c.run_to_end.ensures.needed (strobe_plan ks h names) h i front out views given has refl (subst (Writes out mid) (sym (open_first ks h names)) (puts.takes h names views marked has.stands.id, puts.counts))
+    c.run_to_end.ensures.needed (strobe_plan ks h names) h i front out views given has refl
+    (subst (Writes out mid) (sym (open_first ks h names)) (puts.takes h names views marked has.stands.id, puts.counts))

@@ -8,7 +8,8 @@ err-is : (h : Halt) → ◌≡◌ {A = Result Next Halt} (Err h) (Err ReadFailed
 err-is h e = cc
 
 -- a whole token has bytes
-some-token : (chunk tok tok' : List ℕ) (old mid new : Parked) → (0 < old.size → mid ≡ old) → (old.size ≡ 0 → Skips chunk old mid) → Collects chunk tok tok' mid new Whole → 0 < new.size
+some-token : (chunk tok tok' : List ℕ) (old mid new : Parked) → (0 < old.size → mid ≡ old) → (old.size ≡ 0 → Skips chunk old mid)
+    → Collects chunk tok tok' mid new Whole → 0 < new.size
 some-token chunk tok tok' old mid new begun skips h = by_sizes old.size refl h.0 refl
   where
     size : new.size ≡ mid.size + h.0
@@ -29,12 +30,15 @@ some-token chunk tok tok' old mid new begun skips h = by_sizes old.size refl h.0
 -- ---- what a turn leaves
 
 -- how far the registers have come
-far-enough : (first old mid new : Parked) → first.base + first.at + old.size ≤ old.base + old.at → old.base + old.at + mid.size ≤ mid.base + mid.at + old.size → mid.base + mid.at + new.size ≤ new.base + new.at + mid.size → first.base + first.at + new.size ≤ new.base + new.at
+far-enough : (first old mid new : Parked) → first.base + first.at + old.size ≤ old.base + old.at
+    → old.base + old.at + mid.size ≤ mid.base + mid.at + old.size → mid.base + mid.at + new.size ≤ new.base + new.at + mid.size
+    → first.base + first.at + new.size ≤ new.base + new.at
 far-enough first old mid new a b d = omega (arith, a, b, d)
 
 module _ {X : Type 0} (failures : X → ℕ) (last_failed : X → Bool) (source source' : X) (chunk limit : ℕ) (old new : Parked) (fits : Fits new chunk limit) (kept : new.kept ≡ old.kept) where
   -- one that is settled already
-  again-turns : (answer : Result Next Halt) → settled old.phase ≡ Some answer → answer ≢ Ok token → new.phase ≡ old.phase → looked new ≡ looked old → new.size ≡ 0 → source' ≡ source → Turns failures last_failed source source' chunk limit old new answer
+  again-turns : (answer : Result Next Halt) → settled old.phase ≡ Some answer → answer ≢ Ok token → new.phase ≡ old.phase → looked new ≡ looked old
+      → new.size ≡ 0 → source' ≡ source → Turns failures last_failed source source' chunk limit old new answer
   again-turns answer is other phase same empty source_is = record {
     fits = fits;
     kept = kept;
@@ -55,7 +59,9 @@ module _ {X : Type 0} (failures : X → ℕ) (last_failed : X → Bool) (source 
     settled-not answer = subst (λ p. IfSome (settled p) answer) (sym going) tt
 
     -- one that halts
-    halts-turns : (h : Halt) (size : ℕ) → looked old + size ≤ looked new → new.phase ≡ Halted h → new.size ≡ 0 → (h ≡ ReadFailed → failures source' ≡ failures source + 1) → (h ≡ ReadFailed → last_failed source' ≡ true) → (h ≢ ReadFailed → failures source' ≡ failures source) → Turns failures last_failed source source' chunk limit old new (Err h)
+    halts-turns : (h : Halt) (size : ℕ) → looked old + size ≤ looked new → new.phase ≡ Halted h → new.size ≡ 0
+        → (h ≡ ReadFailed → failures source' ≡ failures source + 1) → (h ≡ ReadFailed → last_failed source' ≡ true)
+        → (h ≢ ReadFailed → failures source' ≡ failures source) → Turns failures last_failed source source' chunk limit old new (Err h)
     halts-turns h size far phase empty failed last same = record {
       fits = fits;
       kept = kept;
@@ -72,7 +78,8 @@ module _ {X : Type 0} (failures : X → ℕ) (last_failed : X → Bool) (source 
     }
 
     -- one that gives a token, and does not halt
-    token-turns : looked old < looked new → 0 < new.size → ((h : Halt) → settled new.phase ≢ Some (Err h)) → failures source' ≡ failures source → Turns failures last_failed source source' chunk limit old new (Ok token)
+    token-turns : looked old < looked new → 0 < new.size → ((h : Halt) → settled new.phase ≢ Some (Err h)) → failures source' ≡ failures source
+        → Turns failures last_failed source source' chunk limit old new (Ok token)
     token-turns further some no_halt same = record {
       fits = fits;
       kept = kept;
@@ -89,7 +96,8 @@ module _ {X : Type 0} (failures : X → ℕ) (last_failed : X → Bool) (source 
     }
 
     -- one that comes to the end
-    finish-turns : (size : ℕ) → looked old + size ≤ looked new → new.phase ≡ Ended → new.size ≡ 0 → failures source' ≡ failures source → Turns failures last_failed source source' chunk limit old new (Ok Finish)
+    finish-turns : (size : ℕ) → looked old + size ≤ looked new → new.phase ≡ Ended → new.size ≡ 0 → failures source' ≡ failures source
+        → Turns failures last_failed source source' chunk limit old new (Ok Finish)
     finish-turns size far phase empty same = record {
       fits = fits;
       kept = kept;
@@ -106,7 +114,8 @@ module _ {X : Type 0} (failures : X → ℕ) (last_failed : X → Bool) (source 
     }
 
     -- one that ends
-    ends-turns : (mid : Parked) (result : Next) → looked old + mid.size ≤ looked mid → Finishes mid new result → failures source' ≡ failures source → Turns failures last_failed source source' chunk limit old new (Ok result)
+    ends-turns : (mid : Parked) (result : Next) → looked old + mid.size ≤ looked mid → Finishes mid new result → failures source' ≡ failures source
+        → Turns failures last_failed source source' chunk limit old new (Ok result)
     ends-turns mid token far ends same =
         let at = ap looked ends.1 in
         let size = ap (λ (p : Parked). p.size) ends.1 in
@@ -148,7 +157,8 @@ returns-in-Whole-clause-turns g c =
     let full = c.loop-parked.auto.token in
     let range = c.in-Whole.ensures.fits (rw (fits, full) (rw fits at (c.skip.ensures.fits (length c.args.token.now) (rw fits t.fits)))) in
     let phase = c.in-Whole.ensures.on.phase ∙ (c.skip.ensures.on.phase ∙ t.going) in
-    let further : looked c.args.parked.now + c.collect_token.new.parked.size < looked c.collect_token.new.parked = omega (arith, c.in-Whole.ensures.whole, c.skip.ensures.on.looked, c.loop-parked.invariant.3) in
+    let further : looked c.args.parked.now + c.collect_token.new.parked.size < looked c.collect_token.new.parked = omega
+    (arith, c.in-Whole.ensures.whole, c.skip.ensures.on.looked, c.loop-parked.invariant.3) in
     token-turns g.S.Source.failures g.S.Source.last_failed _ _ _ _ _ _ (rw (fits, full) at range) (c.in-Whole.ensures.on.kept ∙ (c.skip.ensures.on.kept ∙ c.loop-parked.invariant.2)) c.in-Going.is
     (omega (arith, further)) (some-token _ _ _ _ _ _ c.skip.ensures.begun c.skip.ensures.skips c.in-Whole.ensures.collects) (λ h e. let none = ap settled phase in cc) c.loop-parked.invariant.0
 
@@ -277,7 +287,8 @@ returns-in-TooLong-clause-turns g c =
     let halts : c.halted.new.parked ≡ record c.collect_token.new.parked { size = 0; phase = Halted TokenTooLong } = c.halted.ensures.halts in
     let far = far-enough c.args.parked.now c.loop-parked.parked c.skip.new.parked c.collect_token.new.parked c.loop-parked.invariant.3 c.skip.ensures.on.looked on.looked in
     rw c.halted.ensures.result
-    (halts-turns g.S.Source.failures g.S.Source.last_failed _ _ _ _ _ _ (c.halted.ensures.fits _ _ (rw (fits, full) at range)) (c.halted.ensures.kept ∙ (on.kept ∙ (c.skip.ensures.on.kept ∙ c.loop-parked.invariant.2))) c.in-Going.is TokenTooLong c.collect_token.new.parked.size
+    (halts-turns g.S.Source.failures g.S.Source.last_failed _ _ _ _ _ _ (c.halted.ensures.fits _ _ (rw (fits, full) at range)) (c.halted.ensures.kept
+    ∙ (on.kept ∙ (c.skip.ensures.on.kept ∙ c.loop-parked.invariant.2))) c.in-Going.is TokenTooLong c.collect_token.new.parked.size
     (rw (ap looked halts) far) (ap (λ (p : Parked). p.phase) halts) (ap (λ (p : Parked). p.size) halts) (λ e. absurd (cc)) (λ e. absurd (cc)) (λ _. c.loop-parked.invariant.0))
 
 pub returns-then-parked-clause-turns : goal.returns-then-parked-clause-turns
@@ -287,10 +298,13 @@ returns-then-parked-clause-turns g c =
     let full = c.loop-parked.auto.token in
     let range = c.in-Part.ensures.fits (rw (fits, full) (rw fits at (c.skip.ensures.fits (length c.args.token.now) (rw fits t.fits)))) in
     let on = c.in-Part.ensures.on in
-    let halts : c.halted-then-parked.new.parked ≡ record c.collect_token.new.parked { size = 0; line = c.collect_token.new.parked.line_feeds + 1; phase = Halted InputTooLong } = c.halted-then-parked.ensures.halts in
+    let halts : c.halted-then-parked.new.parked
+    ≡ record c.collect_token.new.parked { size = 0; line = c.collect_token.new.parked.line_feeds + 1; phase = Halted InputTooLong } = c.halted-then-parked.ensures.halts in
     let far = far-enough c.args.parked.now c.loop-parked.parked c.skip.new.parked c.collect_token.new.parked c.loop-parked.invariant.3 c.skip.ensures.on.looked on.looked in
     rw c.halted-then-parked.ensures.result
-    (halts-turns g.S.Source.failures g.S.Source.last_failed _ _ _ _ _ _ (c.halted-then-parked.ensures.fits _ _ (rw (fits, full) at range)) (c.halted-then-parked.ensures.kept ∙ (on.kept ∙ (c.skip.ensures.on.kept ∙ c.loop-parked.invariant.2))) c.in-Going.is InputTooLong c.collect_token.new.parked.size
+    (halts-turns g.S.Source.failures g.S.Source.last_failed _ _ _ _ _ _ (c.halted-then-parked.ensures.fits _ _ (rw (fits, full) at range))
+    (c.halted-then-parked.ensures.kept ∙ (on.kept ∙ (c.skip.ensures.on.kept ∙ c.loop-parked.invariant.2)))
+    c.in-Going.is InputTooLong c.collect_token.new.parked.size
     (rw (ap looked halts) far) (ap (λ (p : Parked). p.phase) halts) (ap (λ (p : Parked). p.size) halts) (λ e. absurd (cc)) (λ e. absurd (cc)) (λ _. c.loop-parked.invariant.0))
 
 pub returns-in-Failed-clause-turns : goal.returns-in-Failed-clause-turns
@@ -301,11 +315,15 @@ returns-in-Failed-clause-turns g c =
     let range = c.in-Part.ensures.fits (rw (fits, full) (rw fits at (c.skip.ensures.fits (length c.args.token.now) (rw fits t.fits)))) in
     let on = c.in-Part.ensures.on in
     let filled = c.in-Failed.ensures in
-    let halts : c.halted-in-Failed.new.parked ≡ record c.fill_chunk.new.parked { size = 0; line = c.fill_chunk.new.parked.line_feeds + 1; phase = Halted ReadFailed } = c.halted-in-Failed.ensures.halts in
+    let halts : c.halted-in-Failed.new.parked
+    ≡ record c.fill_chunk.new.parked { size = 0; line = c.fill_chunk.new.parked.line_feeds + 1; phase = Halted ReadFailed } = c.halted-in-Failed.ensures.halts in
     let far = far-enough c.args.parked.now c.loop-parked.parked c.skip.new.parked c.collect_token.new.parked c.loop-parked.invariant.3 c.skip.ensures.on.looked on.looked in
     rw c.halted-in-Failed.ensures.result
-    (halts-turns g.S.Source.failures g.S.Source.last_failed _ _ _ _ _ _ (c.halted-in-Failed.ensures.fits _ _ (rw fits at (filled.fits _ (rw full at range)))) (c.halted-in-Failed.ensures.kept ∙ (filled.kept ∙ (on.kept ∙ (c.skip.ensures.on.kept ∙ c.loop-parked.invariant.2)))) c.in-Going.is ReadFailed c.collect_token.new.parked.size
-    (rw (ap looked halts, filled.looked.0) far) (ap (λ (p : Parked). p.phase) halts) (ap (λ (p : Parked). p.size) halts) (λ _. filled.failed refl ∙ ap (λ n. n + 1) c.loop-parked.invariant.0) (λ _. filled.last refl) (λ n. absurd (n refl)))
+    (halts-turns g.S.Source.failures g.S.Source.last_failed _ _ _ _ _ _
+    (c.halted-in-Failed.ensures.fits _ _ (rw fits at (filled.fits _ (rw full at range)))) (c.halted-in-Failed.ensures.kept
+    ∙ (filled.kept ∙ (on.kept ∙ (c.skip.ensures.on.kept ∙ c.loop-parked.invariant.2)))) c.in-Going.is ReadFailed c.collect_token.new.parked.size
+    (rw (ap looked halts, filled.looked.0) far) (ap (λ (p : Parked). p.phase) halts) (ap (λ (p : Parked). p.size) halts) (λ _. filled.failed refl
+    ∙ ap (λ n. n + 1) c.loop-parked.invariant.0) (λ _. filled.last refl) (λ n. absurd (n refl)))
 
 pub returns-in-End-clause-turns : goal.returns-in-End-clause-turns
 returns-in-End-clause-turns g c =
@@ -316,7 +334,8 @@ returns-in-End-clause-turns g c =
     let on = c.in-Part.ensures.on in
     let filled = c.in-End.ensures in
     let far = far-enough c.args.parked.now c.loop-parked.parked c.skip.new.parked c.collect_token.new.parked c.loop-parked.invariant.3 c.skip.ensures.on.looked on.looked in
-    ends-turns g.S.Source.failures g.S.Source.last_failed _ _ _ _ _ _ (c.end_feed.ensures.fits _ _ (rw fits at (filled.fits _ (rw full at range)))) (c.end_feed.ensures.kept ∙ (filled.kept ∙ (on.kept ∙ (c.skip.ensures.on.kept ∙ c.loop-parked.invariant.2)))) c.in-Going.is
+    ends-turns g.S.Source.failures g.S.Source.last_failed _ _ _ _ _ _ (c.end_feed.ensures.fits _ _ (rw fits at (filled.fits _ (rw full at range))))
+    (c.end_feed.ensures.kept ∙ (filled.kept ∙ (on.kept ∙ (c.skip.ensures.on.kept ∙ c.loop-parked.invariant.2)))) c.in-Going.is
     c.fill_chunk.new.parked c.end_feed.result (rw (filled.looked.0, filled.looked.1) far) c.end_feed.ensures.finishes (filled.failures (λ e. cc) ∙ c.loop-parked.invariant.0)
 
 -- ---- if whole tokens lie ahead
@@ -330,7 +349,8 @@ returns-in-Whole-clause-ahead g c = λ t ts w.
 
 pub returns-in-TooLong-clause-ahead : goal.returns-in-TooLong-clause-ahead
 returns-in-TooLong-clause-ahead g c = λ t ts w.
-    absurd (stays_long _ _ _ _ _ c.collect_token.new.token _ _ _ _ t ts c.loop-parked.invariant.1.fits c.loop-parked.auto.chunk c.skip.ensures.skips (c.loop-parked.invariant.4 t ts w) c.loop-parked.auto.token c.in-TooLong.ensures.collects)
+    absurd (stays_long _ _ _ _ _ c.collect_token.new.token _ _ _ _ t ts c.loop-parked.invariant.1.fits c.loop-parked.auto.chunk c.skip.ensures.skips
+    (c.loop-parked.invariant.4 t ts w) c.loop-parked.auto.token c.in-TooLong.ensures.collects)
 
 pub returns-then-parked-clause-ahead : goal.returns-then-parked-clause-ahead
 returns-then-parked-clause-ahead g c = λ t ts w.

@@ -20,10 +20,12 @@ returns-then-collect_short-clause-ahead g c = λ t ts w.
     let range = c.requires.fits in
     let first = subst (λ q. AreFirst limit (ahead_in q c.args.chunk.now p) (t ∷ ts)) s.going w in
     let full : length c.collect_short.new.token ≡ limit = omega arith in
-    let taken = stays_whole c.args.source.now c.args.source.now limit c.args.chunk.now c.args.token.now c.collect_short.new.token (length c.args.chunk.now) (record p { size = 0 }) _ c.collect_short.new.parked t ts
+    let taken = stays_whole c.args.source.now c.args.source.now limit c.args.chunk.now c.args.token.now c.collect_short.new.token
+    (length c.args.chunk.now) (record p { size = 0 }) _ c.collect_short.new.parked t ts
     (record { at = range.at; stop = range.stop; end = range.end; stops = range.stops; counted = range.counted; line_feeds = range.line_feeds; size = omega arith; kept = range.kept }) refl
     (λ _. short-skips limit rest c.args.chunk.now c.args.token.now c.collect_short.new.token p c.collect_short.new.parked range refl s)
-    (record { source_is = refl; none = refl; first = first }) (short-going limit rest c.args.chunk.now c.args.token.now c.collect_short.new.token p c.collect_short.new.parked range refl s) s.collects in
+    (record { source_is = refl; none = refl; first = first })
+    (short-going limit rest c.args.chunk.now c.args.token.now c.collect_short.new.token p c.collect_short.new.parked range refl s) s.collects in
     (refl, taken.0, refl, rw full taken.2)
 
 pub returns-clause-ahead : goal.returns-clause-ahead
@@ -32,4 +34,5 @@ returns-clause-ahead g c = λ t ts w.
     let p = c.args.parked.now in
     let chunk = c.args.chunk.now in
     c.gather.ensures.ahead t ts
-    (subst (λ (q : Parked). AreFirst (length c.collect_short.new.token) (ahead_in q.phase chunk q) (t ∷ ts)) (sym same.0) (subst (λ (l : List ℕ). AreFirst (length l) (ahead_in p.phase chunk p) (t ∷ ts)) (sym same.1) w))
+    (subst (λ (q : Parked). AreFirst (length c.collect_short.new.token) (ahead_in q.phase chunk q) (t ∷ ts)) (sym same.0)
+    (subst (λ (l : List ℕ). AreFirst (length l) (ahead_in p.phase chunk p) (t ∷ ts)) (sym same.1) w))

@@ -35,7 +35,8 @@ power_is (suc (suc (suc (suc (suc (suc (suc (suc zero)))))))) some h = refl
 power_is (suc (suc (suc (suc (suc (suc (suc (suc (suc k))))))))) some h = absurd (omega arith)
 
 -- the power of ten by which the first eight count
-power : (bytes : List ℕ) (from to p : ℕ) → to ≤ length bytes → from + 8 < to → to ≤ from + 16 → p ≡ 10 * get_or WORTH (16 - (to - from)) 0 → p ≡ 10 ^ length (slice_range bytes (from + 8) to)
+power : (bytes : List ℕ) (from to p : ℕ) → to ≤ length bytes → from + 8 < to → to ≤ from + 16 → p ≡ 10 * get_or WORTH (16 - (to - from)) 0
+    → p ≡ 10 ^ length (slice_range bytes (from + 8) to)
 power bytes from to p within le few is =
     let long = length-slice_range bytes (from + 8) to within in
     is ∙ ap (λ k. 10 * get_or WORTH k 0) (omega arith) ∙ power_is (to - from - 8) (omega arith) (omega arith) ∙ ap (λ k. 10 ^ k) (omega (arith, long))
@@ -61,7 +62,8 @@ returns-in_err-low c =
     let bytes = c.args.bytes.now in
     let from = c.args.from in
     let to = c.args.to in
-    c.from_residual-in_err-low.ensures ∙ back_fails (slice_range bytes from (from + 8)) (slice_range bytes (from + 8) to) (back bytes from to _ (omega arith) c.few_digits-3.ensures ∙ c.in_err-low.was)
+    c.from_residual-in_err-low.ensures ∙ back_fails (slice_range bytes from (from + 8)) (slice_range bytes (from + 8) to)
+    (back bytes from to _ (omega arith) c.few_digits-3.ensures ∙ c.in_err-low.was)
     ∙ ap spelled (parts bytes from to (omega arith)) ∙ whole bytes from to c.requires.1 (omega arith) (omega arith)
 
 pub overflow_mul-result : goal.overflow_mul-result
@@ -71,7 +73,10 @@ overflow_mul-result c =
     let to = c.args.to in
     let long = length-slice_range bytes from to c.requires.1 in
     let le : from + 8 ≤ to = omega arith in
-    let small = two_below (slice_range bytes from (from + 8)) (slice_range bytes (from + 8) to) c.in_ok-high.high c.in_ok-low.low _ (power bytes from to _ c.requires.1 (omega arith) (omega arith) (ap (λ w. 10 * w) c.from-power.ensures)) (front bytes from _ c.few_digits-2.ensures ∙ c.in_ok-high.was) (back bytes from to _ le c.few_digits-3.ensures ∙ c.in_ok-low.was) (omega (arith, ap length (parts bytes from to le))) in
+    let small = two_below (slice_range bytes from (from + 8)) (slice_range bytes (from + 8) to) c.in_ok-high.high c.in_ok-low.low _
+    (power bytes from to _ c.requires.1 (omega arith) (omega arith) (ap (λ w. 10 * w) c.from-power.ensures))
+    (front bytes from _ c.few_digits-2.ensures ∙ c.in_ok-high.was) (back bytes from to _ le c.few_digits-3.ensures ∙ c.in_ok-low.was)
+    (omega (arith, ap length (parts bytes from to le))) in
     record { fits = omega arith }
 
 pub overflow_add-result : goal.overflow_add-result
@@ -81,7 +86,10 @@ overflow_add-result c =
     let to = c.args.to in
     let long = length-slice_range bytes from to c.requires.1 in
     let le : from + 8 ≤ to = omega arith in
-    let small = two_below (slice_range bytes from (from + 8)) (slice_range bytes (from + 8) to) c.in_ok-high.high c.in_ok-low.low _ (power bytes from to _ c.requires.1 (omega arith) (omega arith) (ap (λ w. 10 * w) c.from-power.ensures)) (front bytes from _ c.few_digits-2.ensures ∙ c.in_ok-high.was) (back bytes from to _ le c.few_digits-3.ensures ∙ c.in_ok-low.was) (omega (arith, ap length (parts bytes from to le))) in
+    let small = two_below (slice_range bytes from (from + 8)) (slice_range bytes (from + 8) to) c.in_ok-high.high c.in_ok-low.low _
+    (power bytes from to _ c.requires.1 (omega arith) (omega arith) (ap (λ w. 10 * w) c.from-power.ensures))
+    (front bytes from _ c.few_digits-2.ensures ∙ c.in_ok-high.was) (back bytes from to _ le c.few_digits-3.ensures ∙ c.in_ok-low.was)
+    (omega (arith, ap length (parts bytes from to le))) in
     record { fits = omega arith }
 
 pub returns : goal.returns
@@ -90,5 +98,7 @@ returns c =
     let from = c.args.from in
     let to = c.args.to in
     let le : from + 8 ≤ to = omega arith in
-    two_spelled (slice_range bytes from (from + 8)) (slice_range bytes (from + 8) to) c.in_ok-high.high c.in_ok-low.low _ (power bytes from to _ c.requires.1 (omega arith) (omega arith) (ap (λ w. 10 * w) c.from-power.ensures)) (front bytes from _ c.few_digits-2.ensures ∙ c.in_ok-high.was) (back bytes from to _ le c.few_digits-3.ensures ∙ c.in_ok-low.was)
+    two_spelled (slice_range bytes from (from + 8)) (slice_range bytes (from + 8) to) c.in_ok-high.high c.in_ok-low.low _
+    (power bytes from to _ c.requires.1 (omega arith) (omega arith) (ap (λ w. 10 * w) c.from-power.ensures))
+    (front bytes from _ c.few_digits-2.ensures ∙ c.in_ok-high.was) (back bytes from to _ le c.few_digits-3.ensures ∙ c.in_ok-low.was)
     ∙ ap spelled (parts bytes from to le) ∙ whole bytes from to c.requires.1 (omega arith) (omega arith)

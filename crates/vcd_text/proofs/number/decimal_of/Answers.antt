@@ -24,7 +24,8 @@ loop-digit-preserved c =
     let place = c.loop-digit.digit-index in
     let product : c.in_ok-checked_mul.field-0 ≡ c.loop-digit.number * 10 = omega (arith, c.in_ok-checked_mul.ensures) in
     let value : c.loop-digit.number * 10 + (get_or ds place 0 - 48) ≡ c.in_ok-number.number = omega (arith, c.in_ok-number.ensures, c.from.ensures) in
-    subst (HasRead ds (place + 1)) value (read_more ds place c.loop-digit.number (omega arith) (sym c.is_ascii_digit.ensures.value ∙ c.if-not-is_ascii_digit.false) (omega (arith, c.in_ok-number.ensures, c.from.ensures)) c.loop-digit.invariant)
+    subst (HasRead ds (place + 1)) value (read_more ds place c.loop-digit.number (omega arith) (sym c.is_ascii_digit.ensures.value
+    ∙ c.if-not-is_ascii_digit.false) (omega (arith, c.in_ok-number.ensures, c.from.ensures)) c.loop-digit.invariant)
 
 pub returns : goal.returns
 returns c = read_all c.args.digits.now c.loop-digit.digit-index c.loop-digit.number (sym c.is_empty.ensures ∙ c.if-is_empty.false) (omega arith) c.loop-digit.invariant

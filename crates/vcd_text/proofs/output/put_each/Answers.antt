@@ -12,10 +12,12 @@ returns-in_err-put-2 g c =
     let p = err_from_is_err_and c.from_residual-in_err-put-2.result c.from_residual-in_err-put-2.ensures.1 in
     let front = c.args.from.now in
     let end = c.args.end.now in
-    rw p.1 (some-behind (g.W.Sink.device _) (g.W.Sink.device _) (g.W.Sink.device _) (c.args.first ∷ []) (front ++ end) c.in_ok-put.ensures (some-first (g.W.Sink.device _) (g.W.Sink.device _) front end c.in_err-put-2.ensures))
+    rw p.1 (some-behind (g.W.Sink.device _) (g.W.Sink.device _) (g.W.Sink.device _) (c.args.first ∷ []) (front ++ end) c.in_ok-put.ensures
+    (some-first (g.W.Sink.device _) (g.W.Sink.device _) front end c.in_err-put-2.ensures))
 
 pub returns : goal.returns
 returns g c =
     let front = c.args.from.now in
     let end = c.args.end.now in
-    puts-twice (g.W.Sink.device _) (g.W.Sink.device _) (g.W.Sink.device _) (c.args.first ∷ []) (front ++ end) c.put-3.result c.in_ok-put.ensures (puts-twice (g.W.Sink.device _) (g.W.Sink.device _) (g.W.Sink.device _) front end c.put-3.result c.in_ok-put-2.ensures c.put-3.ensures)
+    puts-twice (g.W.Sink.device _) (g.W.Sink.device _) (g.W.Sink.device _) (c.args.first ∷ []) (front ++ end) c.put-3.result c.in_ok-put.ensures
+    (puts-twice (g.W.Sink.device _) (g.W.Sink.device _) (g.W.Sink.device _) front end c.put-3.result c.in_ok-put-2.ensures c.put-3.ensures)

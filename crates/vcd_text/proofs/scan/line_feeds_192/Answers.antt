@@ -22,7 +22,17 @@ returns-clause-count c =
     let three = sum-three 64 c.line_feed_lanes-first.result c.line_feed_lanes-second.result c.line_feed_lanes-third.result c.line_feed_lanes-first.ensures.lanes c.line_feed_lanes-second.ensures.lanes c.line_feed_lanes-third.ensures.lanes in
     let last : at + 64 + 64 ≡ at + 128 = omega arith in
     let rest = line_feeds_in-next bytes (at + 64) 64 64 ∙ ap (λ n. line_feeds_in (take 64 (drop (at + 64) bytes)) + line_feeds_in (take 64 (drop n bytes))) last in
-    c.from.ensures ∙ omega (arith, fold-sum 0 (zip2 (λ x y. x + y) (zip2 (λ x y. x + y) c.line_feed_lanes-first.result c.line_feed_lanes-second.result) c.line_feed_lanes-third.result), three, c.line_feed_lanes-first.ensures.sum, c.line_feed_lanes-second.ensures.sum, c.line_feed_lanes-third.ensures.sum, rest, line_feeds_in-next bytes at 64 128)
+    c.from.ensures ∙ omega (
+      arith,
+      fold-sum 0 (zip2 (λ x y. x + y)
+          (zip2 (λ x y. x + y) c.line_feed_lanes-first.result c.line_feed_lanes-second.result) c.line_feed_lanes-third.result),
+      three,
+      c.line_feed_lanes-first.ensures.sum,
+      c.line_feed_lanes-second.ensures.sum,
+      c.line_feed_lanes-third.ensures.sum,
+      rest,
+      line_feeds_in-next bytes at 64 128,
+    )
 
 pub returns-clause-few : goal.returns-clause-few
 returns-clause-few c =

@@ -27,4 +27,15 @@ returns-clause-count c =
 pub returns-clause-few : goal.returns-clause-few
 returns-clause-few c =
     let v = slice_range c.args.bytes.now (c.args.end - c.args.n) c.args.end in
-    omega (arith, returns-clause-count c, line_feeds_in-few v, length-take-le (c.args.end - (c.args.end - c.args.n)) (drop (c.args.end - c.args.n) c.args.bytes.now) (omega (arith, c.requires.block, c.requires.some, length-drop (c.args.end - c.args.n) c.args.bytes.now)))
+    omega (
+      arith,
+      returns-clause-count c,
+      line_feeds_in-few v,
+      length-take-le (c.args.end - (c.args.end - c.args.n))
+          (drop (c.args.end - c.args.n) c.args.bytes.now) (omega (
+            arith,
+            c.requires.block,
+            c.requires.some,
+            length-drop (c.args.end - c.args.n) c.args.bytes.now,
+          )),
+    )

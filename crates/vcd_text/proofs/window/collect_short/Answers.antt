@@ -21,7 +21,8 @@ returns-clause-takes c = λ _.
           to = omega (arith, c.if-parked-at-lt16.false, short);
           room = omega (arith, c.if-token-lt16.false, short);
           other = λ k lt. c.low_16-low.ensures.other k (omega (arith, short)) (c.lowest-n.ensures.below k lt);
-          bytes = ap (λ k. take k copied) (sym size) ∙ sym (take-take n 16 copied (omega (arith, short))) ∙ ap (take n) c.copy_16.ensures.copied ∙ take-take n (p.at + 16 - p.at) rest (omega (arith, short)) ∙ ap (λ k. take k rest) back;
+          bytes = ap (λ k. take k copied) (sym size) ∙ sym (take-take n 16 copied (omega (arith, short))) ∙ ap (take n) c.copy_16.ensures.copied
+              ∙ take-take n (p.at + 16 - p.at) rest (omega (arith, short)) ∙ ap (λ k. take k rest) back;
         },
         omega (arith, c.if-parked-at-lt16.false, short),
         white,

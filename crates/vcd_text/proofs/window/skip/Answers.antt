@@ -3,13 +3,16 @@ use Rattle.vcd_text.proofs.Facts.{slice-index}
 use Rattle.vcd_text.proofs.window.skip.Goals as goal
 
 skips : (chunk : List ℕ) (p : Parked) (d e f : ℕ) → d ≡ e → p.at ≤ p.stop → p.stop ≤ length chunk → d ≤ length (slice_range chunk p.at p.stop)
-    → ((k : ℕ) → k < d → is_white_space (slice_index (slice_range chunk p.at p.stop) k) ≡ true) → (d < length (slice_range chunk p.at p.stop) → is_white_space (slice_index (slice_range chunk p.at p.stop) d) ≡ false)
+    → ((k : ℕ) → k < d → is_white_space (slice_index (slice_range chunk p.at p.stop) k) ≡ true)
+    → (d < length (slice_range chunk p.at p.stop) → is_white_space (slice_index (slice_range chunk p.at p.stop) d) ≡ false)
     → f ≡ line_feeds_in (take d (slice_range chunk p.at p.stop))
     → Whites chunk p e × (record p { at = p.at + d; line_feeds = p.line_feeds + f; line = p.line_feeds + f + 1 } ≡ skipped chunk p e)
 skips chunk p d e f is order within fits white stops line_feeds =
     let long : length (slice_range chunk p.at p.stop) ≡ p.stop - p.at = length-take-le (p.stop - p.at) (drop p.at chunk) (omega (arith, length-drop p.at chunk)) in
     let back : p.at + d - p.at ≡ d = omega arith in
-    let counted : f ≡ line_feeds_in (slice_range chunk p.at (p.at + d)) = line_feeds ∙ ap line_feeds_in (take-take d (p.stop - p.at) (drop p.at chunk) (omega arith)) ∙ ap (λ n. line_feeds_in (take n (drop p.at chunk))) (sym back) in
+    let counted : f ≡ line_feeds_in (slice_range chunk p.at (p.at + d)) = line_feeds
+    ∙ ap line_feeds_in (take-take d (p.stop - p.at) (drop p.at chunk) (omega arith))
+    ∙ ap (λ n. line_feeds_in (take n (drop p.at chunk))) (sym back) in
     subst (λ n. Whites chunk p n × (record p { at = p.at + d; line_feeds = p.line_feeds + f; line = p.line_feeds + f + 1 } ≡ skipped chunk p n)) is (
       record {
         to = omega arith;
@@ -21,5 +24,7 @@ skips chunk p d e f is order within fits white stops line_feeds =
 
 pub returns-clause-skips : goal.returns-clause-skips
 returns-clause-skips c = λ _.
-    skips c.args.chunk.now c.args.parked.now c.white_len-white.result.0 (c.args.parked.now.at + c.white_len-white.result.0 - c.args.parked.now.at) c.white_len-white.result.1 (omega arith) c.requires.order c.requires.within
+    skips c.args.chunk.now c.args.parked.now c.white_len-white.result.0
+    (c.args.parked.now.at + c.white_len-white.result.0 - c.args.parked.now.at) c.white_len-white.result.1
+    (omega arith) c.requires.order c.requires.within
     c.white_len-white.ensures.within c.white_len-white.ensures.white c.white_len-white.ensures.stops c.white_len-white.ensures.line_feeds

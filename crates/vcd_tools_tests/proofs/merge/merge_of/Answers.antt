@@ -47,5 +47,7 @@ merge_as-answer-requires-clause-bound c =
     let lt : length c.begin_all.new.windows.tokens.now ≡ n * 64 = same.tokens ∙ c.deref_mut-2.ensures.len ∙ c.in_ok-tokens.ensures.len in
     let lv : length c.begin_all.new.windows.values.now ≡ n * 64 = same.values ∙ c.deref_mut-3.ensures.len ∙ c.in_ok-values.ensures.len in
     let chunks : n * c.args.chunk ≤ n * 65536 = mul-le n c.args.chunk n 65536 (omega arith) c.requires.chunk.1 in
-    rw (many, part_is n 64 c.begin_all.new.windows.tokens.now some lt) (merge_within 64 c.deref.result.now (record { chunk = length c.begin_all.new.windows.chunks.now; token = length c.begin_all.new.windows.tokens.now; value = length c.begin_all.new.windows.values.now })
+    rw (many, part_is n 64 c.begin_all.new.windows.tokens.now some lt)
+    (merge_within 64 c.deref.result.now
+    (record { chunk = length c.begin_all.new.windows.chunks.now; token = length c.begin_all.new.windows.tokens.now; value = length c.begin_all.new.windows.values.now })
     (rw heads (record { chunk = omega (arith, lc, chunks); token = omega (arith, lt); value = omega (arith, lv) })))

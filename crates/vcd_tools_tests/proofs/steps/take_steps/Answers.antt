@@ -17,7 +17,8 @@ merge_step-requires-clause-reads g c = still_low g.S.Source.failures c.args.sour
 pub merge_step-requires-clause-bound : goal.merge_step-requires-clause-bound
 merge_step-requires-clause-bound g c =
     let v = c.items.invariant in
-    still_within (length c.args.merge.now.seats.now) (length c.items.merge.seats.now) c.args.merge.now.heads.now c.items.merge.heads.now c.args.windows.now c.items.windows v.seats v.heads v.windows c.requires.bound
+    still_within (length c.args.merge.now.seats.now) (length c.items.merge.seats.now)
+    c.args.merge.now.heads.now c.items.merge.heads.now c.args.windows.now c.items.windows v.seats v.heads v.windows c.requires.bound
 
 pub items-preserved : goal.items-preserved
 items-preserved g c =

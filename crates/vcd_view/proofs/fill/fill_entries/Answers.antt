@@ -10,7 +10,9 @@ loop-position-preserved c =
     let there = slice_get-get_or codes c.loop-position.position _ (omega arith) in
     elim c.match-free.branch [
       | in-Some w ↦ (
-        λ h. ap (are_right text codes) w.entries-is ∙ all_written (is_right text codes) c.loop-position.entries w.in-Some.at w.entry_with.result (c.loop-position.invariant.0 h) (w.entry_with.ensures text codes there (subst (λ bytes. MayHaveKey bytes c.key_and_entry_for-key.result.0) c.text_in-bytes.ensures c.key_and_entry_for-key.ensures.key)),
+        λ h. ap (are_right text codes) w.entries-is ∙ all_written (is_right text codes) c.loop-position.entries w.in-Some.at w.entry_with.result
+            (c.loop-position.invariant.0 h) (w.entry_with.ensures text codes there
+            (subst (λ bytes. MayHaveKey bytes c.key_and_entry_for-key.result.0) c.text_in-bytes.ensures c.key_and_entry_for-key.ensures.key)),
         ap length w.entries-is ∙ length-set c.loop-position.entries w.in-Some.at w.entry_with.result ∙ c.loop-position.invariant.1,
       )
       | in_default w ↦ (

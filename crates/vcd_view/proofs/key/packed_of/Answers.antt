@@ -7,10 +7,18 @@ byte : (c : goal.After-from) → c.from.result < 256
 byte c = let h = c.type_inv.code (c.loop-position.position - 1) in omega (arith, h, c.from.ensures)
 
 pub overflow_mul-key : goal.overflow_mul-key
-overflow_mul-key c = omega (arith, fits c.loop-position.key (length c.args.code.now - c.loop-position.position) 0 c.loop-position.invariant.2 (omega (arith, c.requires, c.loop-position-test.true, c.loop-position.invariant.0)) (omega arith))
+overflow_mul-key c = omega (
+  arith,
+  fits c.loop-position.key (length c.args.code.now - c.loop-position.position) 0 c.loop-position.invariant.2
+      (omega (arith, c.requires, c.loop-position-test.true, c.loop-position.invariant.0)) (omega arith),
+)
 
 pub overflow_add-key : goal.overflow_add-key
-overflow_add-key c = omega (arith, fits c.loop-position.key (length c.args.code.now - c.loop-position.position) c.from.result c.loop-position.invariant.2 (omega (arith, c.requires, c.loop-position-test.true, c.loop-position.invariant.0)) (byte c))
+overflow_add-key c = omega (
+  arith,
+  fits c.loop-position.key (length c.args.code.now - c.loop-position.position)
+      c.from.result c.loop-position.invariant.2 (omega (arith, c.requires, c.loop-position-test.true, c.loop-position.invariant.0)) (byte c),
+)
 
 pub loop-position-preserved : goal.loop-position-preserved
 loop-position-preserved c =

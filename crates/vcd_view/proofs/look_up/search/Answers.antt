@@ -63,7 +63,9 @@ returns-in-Equal-clause-few c = λ ks x.
     omega (arith, c.loop-low.invariant.few, c.in-Equal.ensures.counted, one)
 
 pub returns-clause-found : goal.returns-clause-found
-returns-clause-found c = λ ks a x. none_between ks c.args.index.now c.args.code.now c.loop-low.low x (subst (λ n. IsBetween ks c.args.index.now c.args.code.now c.loop-low.low n) (omega (arith, c.loop-low.invariant.within)) (c.loop-low.invariant.between ks a x))
+returns-clause-found c = λ ks a x. none_between ks c.args.index.now c.args.code.now c.loop-low.low x
+    (subst (λ n. IsBetween ks c.args.index.now c.args.code.now c.loop-low.low n) (omega (arith, c.loop-low.invariant.within))
+    (c.loop-low.invariant.between ks a x))
 
 pub returns-clause-few : goal.returns-clause-few
 returns-clause-few c = λ ks x.

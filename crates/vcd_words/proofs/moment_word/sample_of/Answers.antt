@@ -35,6 +35,7 @@ returns c =
     let some = some_times c.args.at.now found.0 c.in_ok-numbers.numbers found.1 numbers in
     record {
       want = ap (model.sample_of names) found.1 ∙ found.2 ∙ ap₂ (λ (ms : List Moment) (ns : List (List ℕ)). Ok (Want.Sample ms ns)) (sym times) (sym c.in_ok-names.ensures);
-      asked = asked_of c.in_ok-numbers.numbers c.in_ok-units.units (long_units _ _ found.0 numbers units) some (λ none. ap do_rise numbers ∙ good_rises names found.0 found.2 (ap has_units (sym units) ∙ none));
+      asked = asked_of c.in_ok-numbers.numbers c.in_ok-units.units (long_units _ _ found.0 numbers units) some (λ none. ap do_rise numbers
+          ∙ good_rises names found.0 found.2 (ap has_units (sym units) ∙ none));
       fault = tt;
     }

@@ -17,4 +17,5 @@ returns-then-to-from-clause-request c = λ h v.
     (sym (c.in_ok-from.ensures.header h v)) (sym (c.in_ok-to.ensures.header h v)) c.if-to-from.true
 
 pub returns-clause-request : goal.returns-clause-request
-returns-clause-request c = λ h v. in_order h.scale (asked c.args.from) (asked c.args.to) c.in_ok-from.from c.in_ok-to.to (sym (c.in_ok-from.ensures.header h v)) (sym (c.in_ok-to.ensures.header h v)) c.if-to-from.false
+returns-clause-request c = λ h v. in_order h.scale (asked c.args.from) (asked c.args.to) c.in_ok-from.from c.in_ok-to.to
+    (sym (c.in_ok-from.ensures.header h v)) (sym (c.in_ok-to.ensures.header h v)) c.if-to-from.false

@@ -27,7 +27,8 @@ returns-in-Sample-clause-request c = λ h v.
     let us = c.in-Sample.field-1 in
     let none : has_units us.items ≡ false = rw c.in-Sample.is at c.requires.ticks in
     let told : is_asked (Sample ns us c.in-Sample.names) ≡ true = rw c.in-Sample.is at c.requires.asked in
-    rw (c.in-Sample.is, c.as_slice-in-Sample.ensures.value, c.as_slice-in-Sample-2.ensures.value) (plain_request h.scale ns.items us.items (map string_bytes c.in-Sample.names.items) (asked_pairs ns.items us.items told) none)
+    rw (c.in-Sample.is, c.as_slice-in-Sample.ensures.value, c.as_slice-in-Sample-2.ensures.value)
+    (plain_request h.scale ns.items us.items (map string_bytes c.in-Sample.names.items) (asked_pairs ns.items us.items told) none)
 
 pub returns-in-Sample-clause-valid : goal.returns-in-Sample-clause-valid
 returns-in-Sample-clause-valid c =

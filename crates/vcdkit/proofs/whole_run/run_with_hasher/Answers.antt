@@ -22,7 +22,9 @@ pub returns-clause-passed_on : goal.returns-clause-passed_on
 returns-clause-passed_on g c =
     let alone : length c.args.readers.now ≡ 1 = c.requires.alone (sym c.is_merge.ensures ∙ c.if-is_merge.false) in
     let readers = c.args.readers.now in
-    passes_alone g.S.Source.failures readers _ (get_or readers 0 c.index-readers-0.result) c.run_one.new.reader (one_of readers c.index-readers-0.result alone) (set_one readers c.run_one.new.reader alone) g.W.Sink.kept_back c.args.out.now c.run_one.new.out c.run_one.ensures.passed_on
+    passes_alone g.S.Source.failures readers _ (get_or readers 0 c.index-readers-0.result) c.run_one.new.reader
+    (one_of readers c.index-readers-0.result alone) (set_one readers c.run_one.new.reader alone)
+    g.W.Sink.kept_back c.args.out.now c.run_one.new.out c.run_one.ensures.passed_on
 
 pub returns-clause-gives : goal.returns-clause-gives
 returns-clause-gives g c = λ texts h.
@@ -30,14 +32,23 @@ returns-clause-gives g c = λ texts h.
     let alone : length c.args.readers.now ≡ 1 = c.requires.alone one in
     let readers = c.args.readers.now in
     let after = c.run_one.new.reader in
-    ran_one c.args.job.task one c.args.job.limit c.args.job.chunk _ _ _ _ c.run_one.result g.S.Source.rest g.S.Source.failures (get_or readers 0 c.index-readers-0.result) after (map string_bytes c.args.names.now) readers _
+    ran_one c.args.job.task one c.args.job.limit c.args.job.chunk _ _ _ _ c.run_one.result g.S.Source.rest g.S.Source.failures
+    (get_or readers 0 c.index-readers-0.result) after (map string_bytes c.args.names.now) readers _
     (one_of readers c.index-readers-0.result alone) (set_one readers after alone) (length-map c.args.names.now string_bytes ∙ c.requires.names ∙ alone) c.run_one.ensures.gives texts h
 
 pub returns-in-Ok-clause-ends : goal.returns-in-Ok-clause-ends
 returns-in-Ok-clause-ends g c = (Ok (Status 0), done_well, c.in-Ok.ensures.reads, c.in-Ok.ensures.writes, refl, shows_nothing (g.E.Sink.device _), c.in-Ok.ensures.last)
 
 pub returns-in-Err-clause-ends : goal.returns-in-Err-clause-ends
-returns-in-Err-clause-ends g c = (Err c.in-Err.failure, not_answered c.in-Err.failure, c.in-Err.ensures.reads, c.in-Err.ensures.writes, c.report.ensures.status, rw (c.names.ensures) at c.report.ensures.line, c.in-Err.ensures.last)
+returns-in-Err-clause-ends g c = (
+  Err c.in-Err.failure,
+  not_answered c.in-Err.failure,
+  c.in-Err.ensures.reads,
+  c.in-Err.ensures.writes,
+  c.report.ensures.status,
+  rw (c.names.ensures) at c.report.ensures.line,
+  c.in-Err.ensures.last,
+)
 
 pub returns-in-Ok-clause-gives : goal.returns-in-Ok-clause-gives
 returns-in-Ok-clause-gives g c = λ texts h.
@@ -46,8 +57,11 @@ returns-in-Ok-clause-gives g c = λ texts h.
 
 pub returns-in-Err-clause-gives : goal.returns-in-Err-clause-gives
 returns-in-Err-clause-gives g c = λ texts h.
-    merged_run c.args.job.task (sym c.is_merge.ensures ∙ c.if-is_merge.true) c.args.job.limit c.args.job.chunk (map string_bytes c.args.names.now) texts _ _ _ _ _ _ c.report.result (Err c.in-Err.failure)
-    (c.in-Err.ensures.ends texts (map string_bytes c.args.names.now) h) (counted_reads g.S.Source.rest g.S.Source.failures _ _ (Some c.in-Err.failure) c.in-Err.ensures.reads) c.report.ensures.status (rw (c.names.ensures) at c.report.ensures.line)
+    merged_run c.args.job.task (sym c.is_merge.ensures ∙ c.if-is_merge.true) c.args.job.limit c.args.job.chunk
+    (map string_bytes c.args.names.now) texts _ _ _ _ _ _ c.report.result (Err c.in-Err.failure)
+    (c.in-Err.ensures.ends texts (map string_bytes c.args.names.now) h)
+    (counted_reads g.S.Source.rest g.S.Source.failures _ _ (Some c.in-Err.failure) c.in-Err.ensures.reads) c.report.ensures.status
+    (rw (c.names.ensures) at c.report.ensures.line)
 
 pub returns-in-Err-clause-failures : goal.returns-in-Err-clause-failures
 returns-in-Err-clause-failures g c = (

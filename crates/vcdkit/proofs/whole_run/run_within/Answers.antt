@@ -11,5 +11,6 @@ returns-clause-gives g c = λ texts h.
     let names = map string_bytes c.args.names.now in
     run_within narrow.limit wide.limit narrow.chunk wide.chunk n.chunk (model_want wide.task) names texts _ _ _ _ _ _ c.run_with_hasher.result
     (short_texts g.S.Source.rest c.args.longest wide narrow c.args.readers.now texts n c.requires.within h)
-    (subst (λ (t : Want). HasRun (model_want t) narrow.limit narrow.chunk names texts (supplies g.S.Source c.args.readers.now) (supplies g.S.Source c.run_with_hasher.new.readers) (g.W.Sink.device c.args.out.now) (g.W.Sink.device c.run_with_hasher.new.out)
+    (subst (λ (t : Want). HasRun (model_want t) narrow.limit narrow.chunk names texts (supplies g.S.Source c.args.readers.now)
+    (supplies g.S.Source c.run_with_hasher.new.readers) (g.W.Sink.device c.args.out.now) (g.W.Sink.device c.run_with_hasher.new.out)
     (g.E.Sink.device c.args.err.now) (g.E.Sink.device c.run_with_hasher.new.err) c.run_with_hasher.result) n.task (c.run_with_hasher.ensures.gives texts h))

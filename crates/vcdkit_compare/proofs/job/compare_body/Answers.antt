@@ -28,7 +28,8 @@ returns-in-Err-clause-ends g c = λ h i front name views given.
     let names : c.deref.result.now ≡ c.args.job.now.names.items = search rules in
     let exceptions : c.deref-2.result.now ≡ c.args.job.now.exceptions.items = search rules in
     let found = subst (λ ns. IsFaultOf q h (names_in ns) c.in-Err.fault) names (c.in-Err.ensures.faults h q views (ap texts_in (sym exceptions))) in
-    rw c.refused_for.ensures (no_pairs c.args.job.now (limit_of c.args.feed.now) (chunk_len_of c.args.feed.now) i front h name (supply_of c.args.feed.now) c.args.feed.now (g.W.Sink.device c.args.out.now) refl given c.in-Err.fault found)
+    rw c.refused_for.ensures (no_pairs c.args.job.now (limit_of c.args.feed.now) (chunk_len_of c.args.feed.now) i front h name
+    (supply_of c.args.feed.now) c.args.feed.now (g.W.Sink.device c.args.out.now) refl given c.in-Err.fault found)
 
 pub returns-in_err-memory-clause-ends : goal.returns-in_err-memory-clause-ends
 returns-in_err-memory-clause-ends g c = λ h i front name views given.

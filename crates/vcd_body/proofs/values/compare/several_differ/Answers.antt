@@ -7,4 +7,5 @@ returns c =
     let xs = digits_with c.args.held.holding c.args.held.bytes.now in
     let ys = str_to_ascii_lowercase c.args.text.now in
     let l = length-map c.args.text.now to_ascii_lowercase in
-    differ_at_longest xs ys c.args.size c.max-3.result (omega (arith, c.max-3.ensures, c.count-count.ensures)) (omega (arith, c.max.ensures, c.max-2.ensures, c.count-count.ensures, c.if-max.false)) c.are_same.result c.are_same.ensures
+    differ_at_longest xs ys c.args.size c.max-3.result (omega (arith, c.max-3.ensures, c.count-count.ensures))
+    (omega (arith, c.max.ensures, c.max-2.ensures, c.count-count.ensures, c.if-max.false)) c.are_same.result c.are_same.ensures

@@ -8,8 +8,13 @@ returns-then-count-eq0 c =
     let ds = digits_of c.args.held in
     let l = length_extended ds c.args.size in
     elim c.then-count-eq0.branch [
-      | then-count-eq0-via-then-count-eq0 w ↦ sym (no_digits c.args.held.holding.state (len_of c.args.held.holding) c.args.size c.args.index c.args.held.bytes.now c.args.held.some (omega (arith, c.count.ensures, w.if-count-eq0.true)))
-      | then-count-eq0-via-else-count-eq0+then-index-count w ↦ sym (shown_at (held_in c.args.held) c.args.size c.args.index (omega (arith, c.count.ensures, w.if-count-eq0.false)) ∙ slice_get_past (extend ds c.args.size) c.args.index (omega (arith, l, c.count.ensures, w.count-else-count-eq0.ensures, w.if-index-count.true)))
+      | then-count-eq0-via-then-count-eq0 w ↦ sym (no_digits c.args.held.holding.state
+          (len_of c.args.held.holding) c.args.size c.args.index c.args.held.bytes.now c.args.held.some
+          (omega (arith, c.count.ensures, w.if-count-eq0.true)))
+      | then-count-eq0-via-else-count-eq0+then-index-count w ↦ sym
+          (shown_at (held_in c.args.held) c.args.size c.args.index (omega (arith, c.count.ensures, w.if-count-eq0.false))
+          ∙ slice_get_past (extend ds c.args.size) c.args.index (omega
+          (arith, l, c.count.ensures, w.count-else-count-eq0.ensures, w.if-index-count.true)))
     ]
 
 pub returns : goal.returns

@@ -8,7 +8,8 @@ returns-in_err-put_repeated g c =
     let m = c.args.size - length ds in
     let count : c.saturating_sub-missing.result ≡ m = omega (arith, c.saturating_sub-missing.ensures, c.count.ensures) in
     let front = ap (λ n. replicate n c.extension.result) count ∙ ap (replicate m) c.extension.ensures in
-    rw p.1 (some-first (g.W.Sink.device _) (g.W.Sink.device _) (replicate m (extension ds)) ds (subst (WritesSome (g.W.Sink.device c.args.w.now) (g.W.Sink.device c.put_repeated.new.w)) front c.in_err-put_repeated.ensures))
+    rw p.1 (some-first (g.W.Sink.device _) (g.W.Sink.device _) (replicate m (extension ds)) ds
+    (subst (WritesSome (g.W.Sink.device c.args.w.now) (g.W.Sink.device c.put_repeated.new.w)) front c.in_err-put_repeated.ensures))
 
 pub returns : goal.returns
 returns g c =
@@ -16,4 +17,5 @@ returns g c =
     let m = c.args.size - length ds in
     let count : c.saturating_sub-missing.result ≡ m = omega (arith, c.saturating_sub-missing.ensures, c.count.ensures) in
     let front = ap (λ n. replicate n c.extension.result) count ∙ ap (replicate m) c.extension.ensures in
-    puts-twice (g.W.Sink.device _) (g.W.Sink.device _) (g.W.Sink.device _) (replicate m (extension ds)) ds c.put_from.result (subst (Writes (g.W.Sink.device c.args.w.now) (g.W.Sink.device c.put_repeated.new.w)) front c.in_ok-put_repeated.ensures) c.put_from.ensures
+    puts-twice (g.W.Sink.device _) (g.W.Sink.device _) (g.W.Sink.device _) (replicate m (extension ds)) ds c.put_from.result
+    (subst (Writes (g.W.Sink.device c.args.w.now) (g.W.Sink.device c.put_repeated.new.w)) front c.in_ok-put_repeated.ensures) c.put_from.ensures

@@ -11,4 +11,5 @@ returns-then-quarter-lt16 c = λ yes j less.
     sym (get_or-take q bytes j 0 less) ∙ ap (λ (l : List ℕ). get_or l j 0) same ∙ get_or-take q few j 0 less ∙ c.packed_few.ensures j less
 
 pub returns : goal.returns
-returns c = λ e k less. in_block (HasFour c.args.bytes.now c.args.text.now c.args.quarter) (c.first_marked.ensures.none (eqb-true _ _ e) k less) (λ at none j few. let z = bit_at-zero j in search rules)
+returns c = λ e k less. in_block (HasFour c.args.bytes.now c.args.text.now c.args.quarter) (c.first_marked.ensures.none (eqb-true _ _ e) k less)
+    (λ at none j few. let z = bit_at-zero j in search rules)

@@ -7,4 +7,5 @@ returns-then-bytes-ge16 c = λ k less.
     let packed = c.args.packed in
     let long : length packed ≡ 16 = search rules in
     let front : 0 + k ≡ k = omega arith in
-    subst (λ j. get_or (put_chunk 0 bytes packed) j 0 ≡ get_or packed k 0) front (get_or-put_chunk_at 0 bytes packed k 0 (omega (arith, long, less, c.requires.few)) (omega (arith, long, c.if-bytes-ge16.true)))
+    subst (λ j. get_or (put_chunk 0 bytes packed) j 0 ≡ get_or packed k 0) front
+    (get_or-put_chunk_at 0 bytes packed k 0 (omega (arith, long, less, c.requires.few)) (omega (arith, long, c.if-bytes-ge16.true)))

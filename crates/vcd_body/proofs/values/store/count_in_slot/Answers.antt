@@ -29,7 +29,8 @@ returns-then-code-slots-clause-left c = λ _ shares values after counted with re
     let rises = c.args.way == 2 in
     let falls = c.args.way == 0 in
     change_as c.args.code (with_steps 256 rises falls) (with_step rises falls) values after slots counted shares with
-    (λ k kept. absurd (let none = ap (option_map (kept_with values (end_at shares (length values) c.args.code))) (no_slot slots shares c.args.code (slice_get_past slots c.args.code c.if-code-slots.true)) in let e : None ≡ Some k = sym none ∙ kept in cc)) rest
+    (λ k kept. absurd (let none = ap (option_map (kept_with values (end_at shares (length values) c.args.code)))
+    (no_slot slots shares c.args.code (slice_get_past slots c.args.code c.if-code-slots.true)) in let e : None ≡ Some k = sym none ∙ kept in cc)) rest
 
 pub returns-clause-laid : goal.returns-clause-laid
 returns-clause-laid c = λ shares n laid.

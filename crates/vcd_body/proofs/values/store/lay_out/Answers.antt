@@ -9,7 +9,8 @@ loop-index-preserved c =
     let f = i.1 in
     let at = i.2 in
     let none : Code = record { start = 0; size = 0; len = 0; event = false } in
-    let s = start_next c.args.codes.now c.args.values c.loop-index.index (get_or c.args.codes.now c.loop-index.index none) (slice_get-get_or c.args.codes.now c.loop-index.index none (omega (arith, e))) in
+    let s = start_next c.args.codes.now c.args.values c.loop-index.index (get_or c.args.codes.now c.loop-index.index none)
+    (slice_get-get_or c.args.codes.now c.loop-index.index none (omega (arith, e))) in
     let one = c.value_bytes.ensures in
     let more = laid_more c.args.codes.now c.loop-index.shares c.args.values c.loop-index.index (omega (arith, e, f)) i.4 in (
       length-set _ _ _ ∙ i.0,

@@ -10,7 +10,9 @@ returns-then-eq-clause-counted c = λ _ form digits size shares values.
     let code = c.args.code in
     let slot = get_or slots code blank in
     let at = slice_get-get_or slots code blank c.if-code-slots.false in
-    let there = ap one_digit (sym c.state_in.ensures) ∙ sym c.digit_of_state.ensures ∙ digit_there c.digit_of_state.result c.to_ascii_lowercase.result (sym c.eq.ensures ∙ c.if-eq.true) ∙ ap (λ (d : ℕ). Some d) c.to_ascii_lowercase.ensures.value in
+    let there = ap one_digit (sym c.state_in.ensures) ∙ sym c.digit_of_state.ensures
+    ∙ digit_there c.digit_of_state.result c.to_ascii_lowercase.result (sym c.eq.ensures ∙ c.if-eq.true)
+    ∙ ap (λ (d : ℕ). Some d) c.to_ascii_lowercase.ensures.value in
     change_as code (λ (k : Kept). k) (with_change size form (c.args.digit ∷ [])) values values slots slots shares shares
     (λ k kept. kept_stays values slots shares code slot at k kept c.args.digit c.ranges.digit.fits there form digits size)
     (nothing_changes code values slots shares)
@@ -27,17 +29,21 @@ returns-then-count_in_slot-clause-counted c = λ _ form digits size shares value
     let way = c.way_to.result in
     let turns = way_flips one way c.way_to.ensures in
     let counts = subst (λ (b : Bool). ChangesAt code (with_step one b) values c.set_tag.new.slots shares values c.count_in_slot.new.slots shares) turns.1
-    (subst (λ (b : Bool). ChangesAt code (with_step b (way == 0)) values c.set_tag.new.slots shares values c.count_in_slot.new.slots shares) turns.0 (c.if-count_in_slot.ensures.counts refl shares values)) in
+    (subst (λ (b : Bool). ChangesAt code (with_step b (way == 0)) values c.set_tag.new.slots shares values c.count_in_slot.new.slots shares) turns.0
+    (c.if-count_in_slot.ensures.counts refl shares values)) in
     let bit = bit_is c.args.digit (c.if-not-is_zero_or_one.ensures.yes refl) in
     subst (λ d. ChangesAt code (with_change size form (d ∷ [])) values slots shares values c.count_in_slot.new.slots shares) bit
-    (change_as code (λ k. with_step one (not one) (with_held (Held.Digits (cond one 49 48 ∷ [])) k)) (with_change size form (cond one 49 48 ∷ [])) values values slots c.count_in_slot.new.slots shares shares
+    (change_as code (λ k. with_step one (not one) (with_held (Held.Digits (cond one 49 48 ∷ [])) k))
+    (with_change size form (cond one 49 48 ∷ [])) values values slots c.count_in_slot.new.slots shares shares
     (λ k kept. kept_flips values slots shares code slot at k kept one (other_bit slot.tag one (c.if-before-tag_of_flipped.false ∙ c.tag_of_flipped.ensures)) form digits size)
-    (change_twice code (with_held (Held.Digits (cond one 49 48 ∷ []))) (with_step one (not one)) values values values slots c.set_tag.new.slots c.count_in_slot.new.slots shares shares shares set counts))
+    (change_twice code (with_held (Held.Digits (cond one 49 48 ∷ [])))
+    (with_step one (not one)) values values values slots c.set_tag.new.slots c.count_in_slot.new.slots shares shares shares set counts))
 
 pub returns-then-count_in_slot-clause-laid : goal.returns-then-count_in_slot-clause-laid
 returns-then-count_in_slot-clause-laid c = λ shares n laid.
     let one = c.args.digit == 49 in
-    c.count_in_slot.ensures.laid shares n (c.set_tag.ensures.laid (cond one 49 48) (bit_digit one c.flipped.result (c.flipped.ensures one (c.if-before-tag_of_flipped.false ∙ c.tag_of_flipped.ensures))) shares n laid)
+    c.count_in_slot.ensures.laid shares n (c.set_tag.ensures.laid (cond one 49 48)
+    (bit_digit one c.flipped.result (c.flipped.ensures one (c.if-before-tag_of_flipped.false ∙ c.tag_of_flipped.ensures))) shares n laid)
 
 -- the slot had no room, and stayed
 pub returns-clause-uncounted : goal.returns-clause-uncounted
@@ -66,4 +72,5 @@ returns-clause-uncounted c = λ rises falls is form digits size shares values af
 pub returns-clause-laid : goal.returns-clause-laid
 returns-clause-laid c = λ shares n laid.
     let one = c.args.digit == 49 in
-    c.count_in_slot.ensures.laid shares n (c.set_tag.ensures.laid (cond one 49 48) (bit_digit one c.flipped.result (c.flipped.ensures one (c.if-before-tag_of_flipped.false ∙ c.tag_of_flipped.ensures))) shares n laid)
+    c.count_in_slot.ensures.laid shares n (c.set_tag.ensures.laid (cond one 49 48)
+    (bit_digit one c.flipped.result (c.flipped.ensures one (c.if-before-tag_of_flipped.false ∙ c.tag_of_flipped.ensures))) shares n laid)

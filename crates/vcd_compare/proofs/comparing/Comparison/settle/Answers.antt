@@ -14,7 +14,9 @@ returns c =
     let long : length classes ≡ length rows = length-map rows (λ r. r.class) in
     let due : AreDue c.take_due-count.new.due c.take_due-count.result (is_flagged bytes classes) = c.take_due-count.ensures.due classes has.linked has.last (omega (arith, long, has.room)) in
     let front = take c.take_due-count.result c.sort_front.new.numbers in
-    let once : (i : ℕ) → times i front ≡ cond (is_flagged bytes classes i) 1 0 = (λ i. sum_by-IsPermutation (λ n. cond (n == i) 1 0) (take c.take_due-count.result c.take_due-count.new.due) front c.sort_front.ensures.moved ∙ due.once i) in
+    let once : (i : ℕ) → times i front ≡ cond (is_flagged bytes classes i) 1 0 =
+    (λ i. sum_by-IsPermutation (λ n. cond (n == i) 1 0) (take c.take_due-count.result c.take_due-count.new.due) front c.sort_front.ensures.moved
+    ∙ due.once i) in
     record {
       current = refl;
       many = c.take_due-count.ensures.many;
@@ -25,5 +27,6 @@ returns c =
         room = omega (arith, has.room, c.sort_front.ensures.len, c.take_due-count.ensures.len);
       };
       within = omega (arith, due.within, c.sort_front.ensures.len);
-      due = sorted_is (is_flagged bytes classes) (length rows) front c.sort_front.ensures.sorted (λ i lt. once i) (λ i le. once i ∙ ap (λ b. cond {A = ℕ} b 1 0) (no_row bytes classes i (omega (arith, le, long))));
+      due = sorted_is (is_flagged bytes classes) (length rows) front c.sort_front.ensures.sorted (λ i lt. once i) (λ i le. once i
+          ∙ ap (λ b. cond {A = ℕ} b 1 0) (no_row bytes classes i (omega (arith, le, long))));
     }

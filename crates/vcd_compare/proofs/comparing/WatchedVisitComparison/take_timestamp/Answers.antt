@@ -19,6 +19,8 @@ returns-clause-takes c = λ a a' out item. record {
       let forth : time_after items ≤ t = omega arith in
       let comparison = c.args._comparison.now in
       let watched : Watched = record { at = c.max-self.result; differing = c.args.self.now.differing } in
-      subst (λ (y : BodyItem). Compares h exceptions ns (items ++ y ∷ []) comparison watched × (within_open (model_asked comparison.current.asked exceptions) h ns (items ++ y ∷ []) ≡ within_open (model_asked comparison.current.asked exceptions) h ns items)) (sym mark)
+      subst (λ (y : BodyItem). Compares h exceptions ns (items ++ y ∷ []) comparison watched
+      × (within_open (model_asked comparison.current.asked exceptions) h ns (items ++ y ∷ []) ≡ within_open
+      (model_asked comparison.current.asked exceptions) h ns items)) (sym mark)
       (timestamp_on h exceptions ns items t comparison c.args.self.now stands forth c.requires.stands c.requires.no_stop watched c.max-self.ensures);
 }

@@ -14,5 +14,8 @@ returns c = λ h items a b views current codes.
     let size : a.size ≡ b.size = one_size ∙ c.if-branch.false ∙ ap (λ (k : Code). k.size) (sym its) ∙ n.2.size_is in
     let one = ap (λ k. value_at_size k (held_at t c.args.code)) (sym one_size) ∙ current.held.values.each c.args.code a codes.one_is no_event in
     let other = ap (λ k. value_at_size k (held_at t c.args.other)) (sym one_size ∙ size) ∙ current.held.values.each c.args.other b codes.other_is (sym codes.same ∙ no_event) in
-    let told = c.same_value.ensures current.held.values.laid in
-    (sym codes.same ∙ no_event, subst (λ (o : Option Value). Decides c.same_value.result (final_value items a ≡ o)) other (subst (λ (o : Option Value). Decides c.same_value.result (o ≡ value_at_size c.args.declared.size (held_at t c.args.other))) one told))
+    let told = c.same_value.ensures current.held.values.laid in (
+      sym codes.same ∙ no_event,
+      subst (λ (o : Option Value). Decides c.same_value.result (final_value items a ≡ o)) other
+          (subst (λ (o : Option Value). Decides c.same_value.result (o ≡ value_at_size c.args.declared.size (held_at t c.args.other))) one told),
+    )

@@ -7,7 +7,8 @@ returns c = λ h items a b views current codes le.
     let v = c.args.view in
     let k = c.args.self.now in
     let r = rule_of k.asked in
-    let event : a.event ≡ false = sym (ap (λ (o : Option IdCode). unwrap_or (option_map (λ (d : IdCode). d.event) o) false) codes.one_is) ∙ sym (c.is_event.ensures.event h views) ∙ c.if-is_event.false in
+    let event : a.event ≡ false = sym (ap (λ (o : Option IdCode). unwrap_or (option_map (λ (d : IdCode). d.event) o) false) codes.one_is)
+    ∙ sym (c.is_event.ensures.event h views) ∙ c.if-is_event.false in
     let m = code_at v.text.now v.codes.now h.codes c.args.one a views.codes codes.one_is in
     let n = code_at v.text.now v.codes.now h.codes c.args.other b views.codes codes.other_is in
     let first = held_state v k h items views current c.args.one a codes.one_is c.args.at le event in

@@ -17,7 +17,8 @@ returns-in_err-put_lines-clause-puts g c = λ h exceptions ns items views stands
     let settled = c.settle-count.ensures in
     let takes = AppendsSome (g.W.Sink.device c.args.out.now).held (g.W.Sink.device c.put_lines.new.out).held in
     let rows = take c.settle-count.result now.due.now in
-    let lines = pair_lines c.args.view run.comparison.current rows run.comparison.flags.bytes.now run.watched.at takes settled.due (subst (λ (k : Current). AreRowLines c.args.view k rows run.watched.at takes) settled.current c.in_err-put_lines.ensures.0) in
+    let lines = pair_lines c.args.view run.comparison.current rows run.comparison.flags.bytes.now run.watched.at takes settled.due
+    (subst (λ (k : Current). AreRowLines c.args.view k rows run.watched.at takes) settled.current c.in_err-put_lines.ensures.0) in
     let e : c.from_residual.result ≡ Err c.in_err-put_lines.field-0.0 = search rules in
     rw e (puts_now h exceptions ns items run.comparison run.watched stands (sym c.is_due.ensures ∙ c.if-not-is_due.false) c.args.view takes views lines)
 
@@ -28,5 +29,6 @@ returns-clause-puts g c = λ h exceptions ns items views stands.
     let settled = c.settle-count.ensures in
     let takes = Appends (g.W.Sink.device c.args.out.now).held (g.W.Sink.device c.put_lines.new.out).held in
     let rows = take c.settle-count.result now.due.now in
-    let lines = pair_lines c.args.view run.comparison.current rows run.comparison.flags.bytes.now run.watched.at takes settled.due (subst (λ (k : Current). AreRowLines c.args.view k rows run.watched.at takes) settled.current c.in_ok-put_lines.ensures.0) in
+    let lines = pair_lines c.args.view run.comparison.current rows run.comparison.flags.bytes.now run.watched.at takes settled.due
+    (subst (λ (k : Current). AreRowLines c.args.view k rows run.watched.at takes) settled.current c.in_ok-put_lines.ensures.0) in
     puts_now h exceptions ns items run.comparison run.watched stands (sym c.is_due.ensures ∙ c.if-not-is_due.false) c.args.view takes views lines

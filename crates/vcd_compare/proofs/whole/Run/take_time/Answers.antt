@@ -19,7 +19,11 @@ pub returns-in_err-put_due-clause-takes : goal.returns-in_err-put_due-clause-tak
 returns-in_err-put_due-clause-takes g c = λ h exceptions ns items views forth stands.
     let failed = c.in_err-put_due.field-0.0 in
     let e : c.from_residual.result ≡ Err failed = search rules in
-    rw e (rw (settles_due h exceptions ns items c.args.time c.args.self.now stands forth c.if-time-self.false c.requires.counted) (c.in_err-put_due.ensures.puts h exceptions ns items views stands.compares), tt)
+    rw e (
+      rw (settles_due h exceptions ns items c.args.time c.args.self.now stands forth c.if-time-self.false c.requires.counted)
+          (c.in_err-put_due.ensures.puts h exceptions ns items views stands.compares),
+      tt,
+    )
 
 pub returns-then-not-branch-clause-takes : goal.returns-then-not-branch-clause-takes
 returns-then-not-branch-clause-takes g c = λ h exceptions ns items views forth stands.
@@ -38,7 +42,8 @@ returns-in-First-clause-takes g c = λ h exceptions ns items views forth stands.
     let left = subst (λ some. LeavesDue some run c.put_due.new.self) c.if-not-branch.false c.in_ok-put_due.ensures.settles in
     let due = sym c.in_ok-put_due.ensures.tells ∙ c.if-not-branch.false in (
       rw (settles_due h exceptions ns items t run stands forth c.if-time-self.false c.requires.counted) (c.in_ok-put_due.ensures.puts h exceptions ns items views stands.compares),
-      tells_first h exceptions ns items t run stands forth c.if-time-self.false c.requires.counted due _ (ap (λ (k : Current). model_extent k.asked.extent) (sym left.1.current) ∙ ap model_extent c.in-First.is) refl,
+      tells_first h exceptions ns items t run stands forth c.if-time-self.false c.requires.counted due _
+          (ap (λ (k : Current). model_extent k.asked.extent) (sym left.1.current) ∙ ap model_extent c.in-First.is) refl,
     )
 
 others : (e : Extent) → (e ≡ extent.First → ⊥) → model_extent e ≡ ModelExtent.First → ⊥
@@ -54,7 +59,8 @@ returns-clause-takes g c = λ h exceptions ns items views forth stands.
     let due = sym c.in_ok-put_due.ensures.tells ∙ c.if-not-branch.false in
     let first = ap (λ (k : Current). k.asked.extent) left.1.current in (
       rw (settles_due h exceptions ns items t run stands forth c.if-time-self.false c.requires.counted) (c.in_ok-put_due.ensures.puts h exceptions ns items views stands.compares),
-      tells_later h exceptions ns items t run stands forth c.if-time-self.false c.requires.counted due _ left.1.current refl left.1.many (λ k low. left.1.each k) (others run.comparison.current.asked.extent (λ e. c.in_default.not-First (first ∙ e))) refl,
+      tells_later h exceptions ns items t run stands forth c.if-time-self.false c.requires.counted due _ left.1.current refl left.1.many
+          (λ k low. left.1.each k) (others run.comparison.current.asked.extent (λ e. c.in_default.not-First (first ∙ e))) refl,
     )
 
 pub returns-clause-counted : goal.returns-clause-counted

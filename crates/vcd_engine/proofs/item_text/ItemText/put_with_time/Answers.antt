@@ -6,7 +6,14 @@ pub returns-in_err-put_time_unless-clause-text : goal.returns-in_err-put_time_un
 returns-in_err-put_time_unless-clause-text g c = λ h before kept e views is at has tells.
     let t = c.args.self.now in
     let failed : c.from_residual.result ≡ Err c.in_err-put_time_unless.field-0.0 = search rules in
-    rw failed ((time_due t.written c.args.time ++ item_line e.item, text_with before kept e c.args.time t at has tells, appends-first _ _ (time_due t.written c.args.time) (item_line e.item) c.in_err-put_time_unless.ensures.0), tt)
+    rw failed (
+      (
+        time_due t.written c.args.time ++ item_line e.item,
+        text_with before kept e c.args.time t at has tells,
+        appends-first _ _ (time_due t.written c.args.time) (item_line e.item) c.in_err-put_time_unless.ensures.0,
+      ),
+      tt,
+    )
 
 pub returns-clause-text : goal.returns-clause-text
 returns-clause-text g c = λ h before kept e views is at has tells.

@@ -26,6 +26,7 @@ returns-then-to-from g c =
 pub returns : goal.returns
 returns g c = record {
   puts = put_on _ _ _ (g.W.Sink.device _) (g.W.Sink.device _) (g.W.Sink.device _) c.put_with_line_feed.result c.in_ok-flush.ensures.puts c.in_ok-flush.ensures.pending.0 c.put_with_line_feed.ensures;
-  counts = counts-on (g.W.Sink.device c.args.out.now) (g.W.Sink.device c.flush.new.out) (g.W.Sink.device c.put_with_line_feed.new.out) c.put_with_line_feed.result c.in_ok-flush.ensures.puts.1 c.put_with_line_feed.ensures.1;
+  counts = counts-on (g.W.Sink.device c.args.out.now) (g.W.Sink.device c.flush.new.out)
+      (g.W.Sink.device c.put_with_line_feed.new.out) c.put_with_line_feed.result c.in_ok-flush.ensures.puts.1 c.put_with_line_feed.ensures.1;
   part = if_ok c.put_with_line_feed.result _ c.in_ok-flush.ensures.pending.1;
 }

@@ -16,7 +16,8 @@ returns-in_err-queue g c =
     let bytes = c.args.bytes.now in
     let from = c.args.from in
     rw e (record {
-      puts = first_on (pending_in bytes c.args.self.now) (slice_range bytes from (from + 1)) (slice_range bytes (from + 1 + c.args.n) c.args.to) (g.W.Sink.device _) (g.W.Sink.device _) c.in_err-queue.ensures.puts;
+      puts = first_on (pending_in bytes c.args.self.now) (slice_range bytes from (from + 1)) (slice_range bytes (from + 1 + c.args.n) c.args.to)
+          (g.W.Sink.device _) (g.W.Sink.device _) c.in_err-queue.ensures.puts;
       counts = c.in_err-queue.ensures.counts;
       part = tt;
     })

@@ -8,7 +8,8 @@ queue_line-requires-clause-within g c = let line = c.requires.line c.if-from-to.
 pub returns-then-from-to : goal.returns-then-from-to
 returns-then-from-to g c =
     let line = c.requires.line c.if-from-to.true in
-    subst (λ l. PutsBehind c.args.bytes.now c.args.self.now c.queue_line.new.self (g.W.Sink.device c.args.out.now) (g.W.Sink.device c.queue_line.new.out) l c.queue_line.result) line.2 c.queue_line.ensures
+    subst (λ l. PutsBehind c.args.bytes.now c.args.self.now c.queue_line.new.self (g.W.Sink.device c.args.out.now)
+    (g.W.Sink.device c.queue_line.new.out) l c.queue_line.result) line.2 c.queue_line.ensures
 
 pub returns-in_err-flush : goal.returns-in_err-flush
 returns-in_err-flush g c =

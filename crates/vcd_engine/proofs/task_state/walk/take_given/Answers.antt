@@ -21,7 +21,12 @@ returns g c =
       takes = λ h items before x views known re read few keeps.
           let one = taken.takes h items before x views known (rw given.item re) (rw (given.item, given.text) read) few keeps in
           record {
-            due = (one.0.0, one.0.1, none_held l.bytes.now c.new-pending.result c.take_item.new.pending (g.W.Sink.device c.args.out.now) (g.W.Sink.device c.take_item.new.out) one.0.0 given.bytes (c.new-pending.ensures.part _) taken.part one.0.2);
+            due = (
+              one.0.0,
+              one.0.1,
+              none_held l.bytes.now c.new-pending.result c.take_item.new.pending (g.W.Sink.device c.args.out.now)
+                  (g.W.Sink.device c.take_item.new.out) one.0.0 given.bytes (c.new-pending.ensures.part _) taken.part one.0.2,
+            );
             ends = sym (goes_on_item (request_in (g.C.AheadTask.task_state c.args.command.now)) h.codes c.args.text.now c.args.item x none read);
             keeps = λ e. one.1;
           };

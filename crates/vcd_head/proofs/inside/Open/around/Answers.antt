@@ -9,5 +9,7 @@ returns-clause-run c = λ h names order flags v are.
     let row : slice_get c.args.view.rows.now c.args.row ≡ Some c.in_ok-declared.declared = search rules in
     let parent = parent_of_row (parts c.args.view) h c.args.row c.in_ok-declared.declared v row in
     let scope : inside.scope ≡ c.in_ok-declared.declared.parent = search rules in
-    let at : slice_get self.inside.now self.entered ≡ Some inside = slice_get_read self.inside.now (length self.inside.now) self.entered inside refl c.in_ok-inside.ensures.lookup.3.0 c.in_ok-inside.ensures.lookup.1 in
-    subst (λ f. Follows names order flags f inside.run) (sym (front_is h.declarations c.args.row ∙ ap (front h.declarations) (sym parent ∙ sym scope))) (are.held self.entered inside (omega arith) at)
+    let at : slice_get self.inside.now self.entered ≡ Some inside = slice_get_read self.inside.now
+    (length self.inside.now) self.entered inside refl c.in_ok-inside.ensures.lookup.3.0 c.in_ok-inside.ensures.lookup.1 in
+    subst (λ f. Follows names order flags f inside.run) (sym (front_is h.declarations c.args.row
+    ∙ ap (front h.declarations) (sym parent ∙ sym scope))) (are.held self.entered inside (omega arith) at)

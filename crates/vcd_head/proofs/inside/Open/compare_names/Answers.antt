@@ -6,7 +6,8 @@ pub returns-in-Some : goal.returns-in-Some
 returns-in-Some c = λ h d v at var are.
     let e = take c.args.row h.declarations in
     let names = map string_bytes c.args.group.now.names.now in
-    subst (λ p. Matches (selects_path p) names c.args.matched.now c.note_selecting.new.matched c.note_selecting.result) (ap (λ l. scopes_text e ++ l) (c.name_of.ensures h d v at) ∙ sym (path_is e d))
+    subst (λ p. Matches (selects_path p) names c.args.matched.now c.note_selecting.new.matched c.note_selecting.result)
+    (ap (λ l. scopes_text e ++ l) (c.name_of.ensures h d v at) ∙ sym (path_is e d))
     (c.note_selecting.ensures (scopes_text e) (c.in-Some.ensures.run h names c.args.group.now.order.now c.args.matched.now v are))
 
 pub returns-in-None : goal.returns-in-None

@@ -17,5 +17,8 @@ loop-scope-preserved c = record {
       let left = c.loop-scope.invariant.left h v l in
       let next = left_next h c.args.row c.loop-scope.scopes c.next.new.self c.in-Some.scope left (c.in-Some.ensures.gives h c.args.row left.rest v left.leaves) in
       let so_far = c.loop-scope.invariant.entered h v l are in
-      entered_next h (map string_bytes c.args.group.now.names.now) c.args.group.now.order.now (scopes_text (take c.args.row h.declarations)) c.args.matched.now c.loop-scope.matched c.enter.new.matched c.loop-scope.self c.enter.new.self c.in-Some.scope next.more so_far (c.enter.ensures h v next.within so_far.open_scopes);
+      entered_next h (map string_bytes c.args.group.now.names.now) c.args.group.now.order.now
+      (scopes_text (take c.args.row h.declarations))
+      c.args.matched.now c.loop-scope.matched c.enter.new.matched c.loop-scope.self c.enter.new.self c.in-Some.scope next.more so_far
+      (c.enter.ensures h v next.within so_far.open_scopes);
 }

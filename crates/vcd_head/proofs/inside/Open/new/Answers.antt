@@ -8,7 +8,9 @@ returns c = λ h flags order same. record {
       let names = map string_bytes c.args.group.now.names.now in
       let outermost = c.outermost.result in
       elim (set_at c.args.inside.now 0 k outermost s at) [
-        | inl e ↦ subst (λ (x : Inside). Follows names c.args.group.now.order.now flags (front h.declarations x.scope) x.run) e.1 (subst (λ n. Follows names c.args.group.now.order.now flags (front h.declarations n) outermost.run) (sym c.outermost.ensures.scope) (c.outermost.ensures.run flags order same))
+        | inl e ↦ subst (λ (x : Inside). Follows names c.args.group.now.order.now flags (front h.declarations x.scope) x.run) e.1
+            (subst (λ n. Follows names c.args.group.now.order.now flags (front h.declarations n) outermost.run) (sym c.outermost.ensures.scope)
+            (c.outermost.ensures.run flags order same))
         | inr n ↦ absurd (n.0 (omega (arith, l)))
       ];
   same = same;

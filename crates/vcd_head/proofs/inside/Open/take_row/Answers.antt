@@ -19,22 +19,26 @@ returns-in_default-clause-matched c = λ h d v at are i name n.
 pub returns-in-Scope-clause-selected : goal.returns-in-Scope-clause-selected
 returns-in-Scope-clause-selected c = λ h d v at are.
     let row : slice_get c.args.view.rows.now c.args.row ≡ Some c.in-Some.declared = search rules in
-    sym (none_selects (map string_bytes c.args.group.now.names.now) (take c.args.row h.declarations) d (declares_none (parts c.args.view) h c.args.row c.in-Some.declared d v row at (λ k. let other = c.in-Scope.is in cc)))
+    sym (none_selects (map string_bytes c.args.group.now.names.now) (take c.args.row h.declarations) d
+    (declares_none (parts c.args.view) h c.args.row c.in-Some.declared d v row at (λ k. let other = c.in-Scope.is in cc)))
 
 pub returns-in-Scope-clause-matched : goal.returns-in-Scope-clause-matched
 returns-in-Scope-clause-matched c = λ h d v at are.
     let row : slice_get c.args.view.rows.now c.args.row ≡ Some c.in-Some.declared = search rules in
-    no_match (map string_bytes c.args.group.now.names.now) (take c.args.row h.declarations) d c.args.matched.now (declares_none (parts c.args.view) h c.args.row c.in-Some.declared d v row at (λ k. let other = c.in-Scope.is in cc))
+    no_match (map string_bytes c.args.group.now.names.now) (take c.args.row h.declarations) d c.args.matched.now
+    (declares_none (parts c.args.view) h c.args.row c.in-Some.declared d v row at (λ k. let other = c.in-Scope.is in cc))
 
 pub returns-in-Up-clause-selected : goal.returns-in-Up-clause-selected
 returns-in-Up-clause-selected c = λ h d v at are.
     let row : slice_get c.args.view.rows.now c.args.row ≡ Some c.in-Some.declared = search rules in
-    sym (none_selects (map string_bytes c.args.group.now.names.now) (take c.args.row h.declarations) d (declares_none (parts c.args.view) h c.args.row c.in-Some.declared d v row at (λ k. let other = c.in-Up.is in cc)))
+    sym (none_selects (map string_bytes c.args.group.now.names.now) (take c.args.row h.declarations) d
+    (declares_none (parts c.args.view) h c.args.row c.in-Some.declared d v row at (λ k. let other = c.in-Up.is in cc)))
 
 pub returns-in-Up-clause-matched : goal.returns-in-Up-clause-matched
 returns-in-Up-clause-matched c = λ h d v at are.
     let row : slice_get c.args.view.rows.now c.args.row ≡ Some c.in-Some.declared = search rules in
-    no_match (map string_bytes c.args.group.now.names.now) (take c.args.row h.declarations) d c.args.matched.now (declares_none (parts c.args.view) h c.args.row c.in-Some.declared d v row at (λ k. let other = c.in-Up.is in cc))
+    no_match (map string_bytes c.args.group.now.names.now) (take c.args.row h.declarations) d c.args.matched.now
+    (declares_none (parts c.args.view) h c.args.row c.in-Some.declared d v row at (λ k. let other = c.in-Up.is in cc))
 
 pub returns-then-enter_and_compare-clause-open : goal.returns-then-enter_and_compare-clause-open
 returns-then-enter_and_compare-clause-open c = λ h v are.
@@ -46,7 +50,8 @@ pub returns-then-enter_and_compare-clause-matched : goal.returns-then-enter_and_
 returns-then-enter_and_compare-clause-matched c = λ h d v at are.
     let row : slice_get c.args.view.rows.now c.args.row ≡ Some c.in-Some.declared = search rules in
     let var = declares_one (parts c.args.view) h c.args.row c.in-Some.declared d v row at c.in-Var.is in
-    matched_row (map string_bytes c.args.group.now.names.now) (take c.args.row h.declarations) d c.args.matched.now c.enter_and_compare.new.matched c.enter_and_compare.result var (c.enter_and_compare.ensures h d v at var are).matches
+    matched_row (map string_bytes c.args.group.now.names.now) (take c.args.row h.declarations)
+    d c.args.matched.now c.enter_and_compare.new.matched c.enter_and_compare.result var (c.enter_and_compare.ensures h d v at var are).matches
 
 pub returns-then-enter_and_compare-clause-selected : goal.returns-then-enter_and_compare-clause-selected
 returns-then-enter_and_compare-clause-selected c = λ h d v at are.
@@ -54,7 +59,8 @@ returns-then-enter_and_compare-clause-selected c = λ h d v at are.
     let row : slice_get c.args.view.rows.now c.args.row ≡ Some c.in-Some.declared = search rules in
     let var = declares_one (parts c.args.view) h c.args.row c.in-Some.declared d v row at c.in-Var.is in
     c.if-enter_and_compare.true
-    ∙ sym (selected_row names (take c.args.row h.declarations) d c.args.matched.now c.enter_and_compare.new.matched c.enter_and_compare.result var (c.enter_and_compare.ensures h d v at var are).matches ∙ or_true (is_empty names) c.enter_and_compare.result c.if-enter_and_compare.true)
+    ∙ sym (selected_row names (take c.args.row h.declarations) d c.args.matched.now c.enter_and_compare.new.matched c.enter_and_compare.result var
+    (c.enter_and_compare.ensures h d v at var are).matches ∙ or_true (is_empty names) c.enter_and_compare.result c.if-enter_and_compare.true)
 
 pub returns-else-enter_and_compare-clause-open : goal.returns-else-enter_and_compare-clause-open
 returns-else-enter_and_compare-clause-open c = λ h v are.
@@ -66,7 +72,8 @@ pub returns-else-enter_and_compare-clause-matched : goal.returns-else-enter_and_
 returns-else-enter_and_compare-clause-matched c = λ h d v at are.
     let row : slice_get c.args.view.rows.now c.args.row ≡ Some c.in-Some.declared = search rules in
     let var = declares_one (parts c.args.view) h c.args.row c.in-Some.declared d v row at c.in-Var.is in
-    matched_row (map string_bytes c.args.group.now.names.now) (take c.args.row h.declarations) d c.args.matched.now c.enter_and_compare.new.matched c.enter_and_compare.result var (c.enter_and_compare.ensures h d v at var are).matches
+    matched_row (map string_bytes c.args.group.now.names.now) (take c.args.row h.declarations)
+    d c.args.matched.now c.enter_and_compare.new.matched c.enter_and_compare.result var (c.enter_and_compare.ensures h d v at var are).matches
 
 pub returns-else-enter_and_compare-clause-selected : goal.returns-else-enter_and_compare-clause-selected
 returns-else-enter_and_compare-clause-selected c = λ h d v at are.
@@ -74,7 +81,8 @@ returns-else-enter_and_compare-clause-selected c = λ h d v at are.
     let row : slice_get c.args.view.rows.now c.args.row ≡ Some c.in-Some.declared = search rules in
     let var = declares_one (parts c.args.view) h c.args.row c.in-Some.declared d v row at c.in-Var.is in
     c.is_empty.ensures ∙ sym (is_empty-map string_bytes c.args.group.now.names.now)
-    ∙ sym (selected_row names (take c.args.row h.declarations) d c.args.matched.now c.enter_and_compare.new.matched c.enter_and_compare.result var (c.enter_and_compare.ensures h d v at var are).matches ∙ or_false (is_empty names) c.enter_and_compare.result c.if-enter_and_compare.false)
+    ∙ sym (selected_row names (take c.args.row h.declarations) d c.args.matched.now c.enter_and_compare.new.matched c.enter_and_compare.result var
+    (c.enter_and_compare.ensures h d v at var are).matches ∙ or_false (is_empty names) c.enter_and_compare.result c.if-enter_and_compare.false)
 
 pub returns-in-Up-clause-open : goal.returns-in-Up-clause-open
 returns-in-Up-clause-open c = λ h v are. record { held = λ k s l at. are.held k s (omega (arith, l, c.min-self.ensures)) at; same = are.same }

@@ -13,7 +13,8 @@ returns c = λ front f.
     let ends = c.if-byte-eq46.ends in
     let m : Matches (λ name. (byte == 46) && bytes_eq name front) names old new ends = elim c.if-byte-eq46.branch [
       | then-byte-eq46 w ↦ rw (w.matched-is, w.ends-is, eq-eqb byte 46 w.if-byte-eq46.true) (w.note-ends.ensures front f)
-      | else-byte-eq46 w ↦ rw (w.matched-is, w.ends-is ∙ ne_eqb byte 46 w.if-byte-eq46.false) (match_none (λ name. (byte == 46) && bytes_eq name front) names old (λ p name at. rw (ne_eqb byte 46 w.if-byte-eq46.false) refl))
+      | else-byte-eq46 w ↦ rw (w.matched-is, w.ends-is ∙ ne_eqb byte 46 w.if-byte-eq46.false)
+          (match_none (λ name. (byte == 46) && bytes_eq name front) names old (λ p name at. rw (ne_eqb byte 46 w.if-byte-eq46.false) refl))
     ] in
     let n = c.with_byte.ensures.narrows f.up (rises_in names order old front c.args.run f) in
     record {

@@ -29,7 +29,8 @@ loop-done-preserved c =
           let new = c.hop-count.new.matched in
           let so_far = c.loop-done.invariant.goes front f in
           subst (λ p. GoesOn names order old new p c.hop-count.result.0) (append_assoc front (take done bytes) (take count rest) ∙ ap (λ l. front ++ l) (sym (take_on done count bytes within)))
-          (goes_both names order old c.loop-done.matched new (front ++ take done bytes) (take count rest) c.loop-done.run c.hop-count.result.0 so_far (c.hop-count.ensures.run (front ++ take done bytes) c.if-run.false so_far.follows));
+          (goes_both names order old c.loop-done.matched new (front ++ take done bytes) (take count rest) c.loop-done.run c.hop-count.result.0 so_far
+          (c.hop-count.ensures.run (front ++ take done bytes) c.if-run.false so_far.follows));
     }
 
 pub returns-then-run : goal.returns-then-run
@@ -38,11 +39,13 @@ returns-then-run c = λ front f.
     let order = c.args.self.now.order.now in
     let bytes = c.args.bytes.now in
     let done = c.loop-done.done in
-    subst (λ p. GoesOn names order c.args.matched.now c.loop-done.matched p c.loop-done.run) (append_assoc front (take done bytes) (drop done bytes) ∙ ap (λ l. front ++ l) (take-append-drop done bytes))
+    subst (λ p. GoesOn names order c.args.matched.now c.loop-done.matched p c.loop-done.run) (append_assoc front (take done bytes) (drop done bytes)
+    ∙ ap (λ l. front ++ l) (take-append-drop done bytes))
     (goes_empty names order c.args.matched.now c.loop-done.matched (front ++ take done bytes) (drop done bytes) c.loop-done.run c.if-run.true (c.loop-done.invariant.goes front f))
 
 pub returns : goal.returns
 returns c = λ front f.
     let names = map string_bytes c.args.self.now.names.now in
     let order = c.args.self.now.order.now in
-    subst (λ l. GoesOn names order c.args.matched.now c.loop-done.matched (front ++ l) c.loop-done.run) (take_all c.loop-done.done c.args.bytes.now c.loop-done-test.false) (c.loop-done.invariant.goes front f)
+    subst (λ l. GoesOn names order c.args.matched.now c.loop-done.matched (front ++ l) c.loop-done.run)
+    (take_all c.loop-done.done c.args.bytes.now c.loop-done-test.false) (c.loop-done.invariant.goes front f)

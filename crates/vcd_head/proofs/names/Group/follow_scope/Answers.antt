@@ -10,4 +10,5 @@ returns c = λ front f.
     let named = c.follow_bytes-named.ensures front f in
     let new = c.follow_byte.new.matched in
     subst (λ p. GoesOn names order c.args.matched.now new p c.follow_byte.result) (append_assoc front component (46 ∷ []))
-    (goes_both names order c.args.matched.now c.follow_bytes-named.new.matched new (front ++ component) (46 ∷ []) c.follow_bytes-named.result c.follow_byte.result named (c.follow_byte.ensures (front ++ component) named.follows))
+    (goes_both names order c.args.matched.now c.follow_bytes-named.new.matched new (front ++ component)
+    (46 ∷ []) c.follow_bytes-named.result c.follow_byte.result named (c.follow_byte.ensures (front ++ component) named.follows))

@@ -14,8 +14,10 @@ returns-in-Some-clause-run c = λ front some f.
     let follows = follows_along names order old front bytes n r along f some c.shared_by_run-shared.ensures.within c.shared_by_run-shared.ensures.first c.shared_by_run-shared.ensures.last refl refl refl refl in
     let within : n < length bytes = search rules in
     let byte : c.in-Some.byte.now ≡ get_or bytes n 0 = search rules in
-    subst (λ p. GoesOn names order old c.follow_byte.new.matched p c.follow_byte.result) (append_assoc front (take n bytes) (c.in-Some.byte.now ∷ []) ∙ ap (λ b. front ++ (take n bytes ++ b ∷ [])) byte ∙ ap (λ l. front ++ l) (sym (take_more bytes n 0 within)))
-    (goes_both names order old old c.follow_byte.new.matched (front ++ take n bytes) (c.in-Some.byte.now ∷ []) along c.follow_byte.result (goes_nowhere names order old (front ++ take n bytes) along follows) (c.follow_byte.ensures (front ++ take n bytes) follows))
+    subst (λ p. GoesOn names order old c.follow_byte.new.matched p c.follow_byte.result) (append_assoc front (take n bytes) (c.in-Some.byte.now ∷ [])
+    ∙ ap (λ b. front ++ (take n bytes ++ b ∷ [])) byte ∙ ap (λ l. front ++ l) (sym (take_more bytes n 0 within)))
+    (goes_both names order old old c.follow_byte.new.matched (front ++ take n bytes) (c.in-Some.byte.now ∷ []) along c.follow_byte.result
+    (goes_nowhere names order old (front ++ take n bytes) along follows) (c.follow_byte.ensures (front ++ take n bytes) follows))
 
 pub returns-in-None-clause-run : goal.returns-in-None-clause-run
 returns-in-None-clause-run c = λ front some f.

@@ -17,7 +17,8 @@ pub returns-then-matched-index_at : goal.returns-then-matched-index_at
 returns-then-matched-index_at c = λ front f.
     let names = map string_bytes c.args.self.now.names.now in
     let order = c.args.self.now.order.now in
-    noted_before names order c.args.matched.now front c.args.run f c.if-run.false (sym c.next_at.ensures.next ∙ c.if-next_at-ne0.false) (ap (λ p. get_or c.args.matched.now p false) (sym c.index_at.ensures.position) ∙ c.if-matched-index_at.true)
+    noted_before names order c.args.matched.now front c.args.run f c.if-run.false (sym c.next_at.ensures.next ∙ c.if-next_at-ne0.false)
+    (ap (λ p. get_or c.args.matched.now p false) (sym c.index_at.ensures.position) ∙ c.if-matched-index_at.true)
 
 pub returns-then-next_at-ne0-2 : goal.returns-then-next_at-ne0-2
 returns-then-next_at-ne0-2 c = λ front f.
@@ -37,7 +38,9 @@ loop-at-preserved c =
       len = length-set matched c.index_at-in-loop-at.result true ∙ c.loop-at.invariant.len;
       up = omega (arith, c.loop-at.invariant.up);
       noting = λ front f. subst (λ p. Noting names order front c.args.matched.now (set matched p true) c.args.run.first (at + 1)) (sym position)
-          (noting_next names order c.args.matched.now front c.args.run f matched at c.loop-at.invariant.up c.loop-at-test.true (sym c.next_at-in-loop-at.ensures.next ∙ c.if-next_at-ne0-2.false) (omega (arith, c.loop-at.invariant.len, position, c.index_at-in-loop-at.ensures.within)) (c.loop-at.invariant.noting front f));
+          (noting_next names order c.args.matched.now front c.args.run f matched at c.loop-at.invariant.up c.loop-at-test.true
+          (sym c.next_at-in-loop-at.ensures.next ∙ c.if-next_at-ne0-2.false)
+          (omega (arith, c.loop-at.invariant.len, position, c.index_at-in-loop-at.ensures.within)) (c.loop-at.invariant.noting front f));
     }
 
 pub returns : goal.returns

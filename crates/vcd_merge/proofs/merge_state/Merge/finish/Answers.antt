@@ -47,7 +47,13 @@ returns-in_err-run_step-clause-reads g c =
     let is : c.from_residual.result ≡ Err stop = search rules in
     let a = v.ready.sources in
     let b = c.items.auto.sources in
-    rw is ((st.runs.input, omega (arith, within, a, b), st.runs.leaves.touches.reads ∙ ap (λ (l : List ℕ). failures_with {A = More} l st.runs.input (Err stop)) v.reads, still_named More Done st.runs.input stop st.runs.leaves.touches.named))
+    rw is ((
+      st.runs.input,
+      omega (arith, within, a, b),
+      st.runs.leaves.touches.reads
+          ∙ ap (λ (l : List ℕ). failures_with {A = More} l st.runs.input (Err stop)) v.reads,
+      still_named More Done st.runs.input stop st.runs.leaves.touches.named,
+    ))
 
 pub returns-in_err-run_step-clause-last : goal.returns-in_err-run_step-clause-last
 returns-in_err-run_step-clause-last g c = λ input is.

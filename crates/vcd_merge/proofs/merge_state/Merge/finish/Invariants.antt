@@ -12,8 +12,12 @@ invariant-items g l = record {
   seats : length l.self.seats.now ≡ length l.fn.self.seats.now;
   windows : SameLengths l.fn.windows l.windows;
   heads : l.self.heads.now ≡ l.fn.self.heads.now;
-  holds : (hs : List Header) (lanes : List Lane) (ds : List Dump) (begin : Device) → Holds g.S.Source.rest hs lanes ds (standing_of l.fn.self l.fn.sources l.fn.windows) → Writes begin (g.W.Sink.device l.fn.out) (merge_open hs (merged_items ds))
-      → (es : List Dump) × IsSoFar g.S.Source.rest g.S.Source.failures hs lanes (part_len (length l.fn.self.seats.now) l.fn.windows.tokens.now) (part_len (length l.fn.self.seats.now) l.fn.windows.chunks.now) (map (supply g.S.Source.rest g.S.Source.failures) l.fn.sources) begin es (standing_of l.self l.sources l.windows) (g.W.Sink.device l.out);
+  holds : (hs : List Header) (lanes : List Lane) (ds : List Dump) (begin : Device)
+      → Holds g.S.Source.rest hs lanes ds (standing_of l.fn.self l.fn.sources l.fn.windows)
+      → Writes begin (g.W.Sink.device l.fn.out) (merge_open hs (merged_items ds))
+      → (es : List Dump) × IsSoFar g.S.Source.rest g.S.Source.failures hs lanes (part_len (length l.fn.self.seats.now) l.fn.windows.tokens.now)
+      (part_len (length l.fn.self.seats.now) l.fn.windows.chunks.now) (map (supply g.S.Source.rest g.S.Source.failures) l.fn.sources) begin es
+      (standing_of l.self l.sources l.windows) (g.W.Sink.device l.out);
 }
 
 abbrev pub decreases-items : goal.decreases-items

@@ -28,7 +28,8 @@ returns-in_err-self-clause-puts g c = λ h names es items has is count few low.
     let moment = moment_is s h names es items has low s.id.now c.saturating_add-number.result c.args.time refl (omega (arith, number, count, few)) is in
     let first = subst (Appends (g.W.Sink.device c.args.out.now).held (g.W.Sink.device c.put_moment.new.out).held) moment c.in_ok-put_moment.ensures.0 in
     let text = texts_are s h names es items has low puts.0 puts.1 puts.2 c.args.time is in
-    let second = subst (AppendsSome (g.W.Sink.device c.put_moment.new.out).held (g.W.Sink.device c.put_listed_lines.new.out).held) text (puts.3 h.codes has.places (have_roles s h names es items has low) has.laid) in
+    let second = subst (AppendsSome (g.W.Sink.device c.put_moment.new.out).held (g.W.Sink.device c.put_listed_lines.new.out).held) text
+    (puts.3 h.codes has.places (have_roles s h names es items has low) has.laid) in
     let e : c.from_residual-in_err-self.result ≡ Err c.in_err-self.field-0.0 = search rules in
     rw e (
       subst (AppendsSome (g.W.Sink.device c.args.out.now).held (g.W.Sink.device c.put_listed_lines.new.out).held) (sym (edge_is h names es items))
@@ -44,7 +45,8 @@ returns-clause-puts g c = λ h names es items has is count few low.
     let moment = moment_is s h names es items has low s.id.now c.saturating_add-number.result c.args.time refl (omega (arith, number, count, few)) is in
     let first = subst (Appends (g.W.Sink.device c.args.out.now).held (g.W.Sink.device c.put_moment.new.out).held) moment c.in_ok-put_moment.ensures.0 in
     let text = texts_are s h names es items has low puts.0 puts.1 puts.2 c.args.time is in
-    let second = subst (Appends (g.W.Sink.device c.put_moment.new.out).held (g.W.Sink.device c.put_listed_lines.new.out).held) text (puts.3 h.codes has.places (have_roles s h names es items has low) has.laid) in (
+    let second = subst (Appends (g.W.Sink.device c.put_moment.new.out).held (g.W.Sink.device c.put_listed_lines.new.out).held) text
+    (puts.3 h.codes has.places (have_roles s h names es items has low) has.laid) in (
       subst (Appends (g.W.Sink.device c.args.out.now).held (g.W.Sink.device c.put_listed_lines.new.out).held) (sym (edge_is h names es items))
           (appends-twice _ _ _ (moment_lines (time_code h).text (1 + length es) (time_after items)) (flat_map (code_line es items) (strobe_codes h names)) first second),
       edge_stands s h names es items has low puts.0 puts.1 puts.2 _ c.args.time is refl refl refl puts.4,

@@ -15,4 +15,6 @@ pub returns-clause-puts : goal.returns-clause-puts
 returns-clause-puts g c = λ h names ks items x has edges is time few low one two turn.
     let most = edges_few ks items in
     let puts = c.put_edge.ensures.puts h names (edges_in ks items) items has is edges.count (omega (arith, few, most)) (edges_low ks items c.args.self.now.edges c.args.self.now.last edges) in
-    turn_edge c.args.self.now h names ks items x has edges time _ (g.W.Sink.device c.args.out.now) (g.W.Sink.device c.put_edge.new.out) c.args.time c.put_edge.result is (sym c.if-is_at.ensures) (sym turn ∙ sym (c.if-not-is_turn.ensures has.laid low one two)) few puts.0 puts.1 c.put_edge.ensures.past
+    turn_edge c.args.self.now h names ks items x has edges time _ (g.W.Sink.device c.args.out.now)
+    (g.W.Sink.device c.put_edge.new.out) c.args.time c.put_edge.result is (sym c.if-is_at.ensures) (sym turn
+    ∙ sym (c.if-not-is_turn.ensures has.laid low one two)) few puts.0 puts.1 c.put_edge.ensures.past

@@ -22,7 +22,8 @@ returns-then-not-is_event-clause-takes g c = λ p h items a views has known decl
     let same : good.0 ≡ found.0 = same_Some good.0 found.0 (sym good.1 ∙ found.1) in
     let text = subst (λ (y : Code). IsText c.args.form y c.args.text.now) same good.2 in
     let event : a.event ≡ false = event_is h c.args.code a false (c.is_event.ensures.event h views) declared c.if-not-is_event.true in
-    c.take_change.ensures.takes p h items a found.0 has known (changes_only h distinct c.args.code x declared) distinct event text (found.2.event_is ∙ event) found.2.size_is (some_bit h.codes c.args.code a views.sizes declared) few
+    c.take_change.ensures.takes p h items a found.0 has known (changes_only h distinct c.args.code x declared) distinct event text (found.2.event_is
+    ∙ event) found.2.size_is (some_bit h.codes c.args.code a views.sizes declared) few
 
 pub returns-then-is_some-clause-takes : goal.returns-then-is_some-clause-takes
 returns-then-is_some-clause-takes g c = λ p h items a views has known declared few.
@@ -35,7 +36,8 @@ returns-then-is_some-clause-takes g c = λ p h items a views has known declared 
     let same : SameEdges s s = record { edges = refl; last = refl } in
     let inside : leaves_open items ≡ true = section_is items c.args.regs true known (sym c.is_some.ensures ∙ c.if-is_some.true) in (
       due_none s s p h items has (BodyItem.Changes x) turn (g.W.Sink.device c.args.out.now),
-      strobed_still s s p h items has (BodyItem.Changes x) turn refl same (stands_inside s h has.names (edges_in has.ks items) items has.stands x c.args.code a declared only.gives only.others event inside),
+      strobed_still s s p h items has (BodyItem.Changes x) turn refl same
+          (stands_inside s h has.names (edges_in has.ks items) items has.stands x c.args.code a declared only.gives only.others event inside),
     )
 
 pub returns-clause-takes : goal.returns-clause-takes

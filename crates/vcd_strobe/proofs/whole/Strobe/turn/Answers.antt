@@ -16,4 +16,6 @@ returns-clause-takes c = λ h names es items a d has only event known value full
     let e = c.change_role-self.ensures.enlists r.0 r.1 low r.2.within.now in
     let held = held_at s.table (place_of c.args.code r.0.now) in
     let start = start_by held a.size (final_value items a) (r.2.values event).now_is c.args.regs.section (open_section items) known.section_is in
-    stands_changed s h names es items has d c.args.code a only.declared only.gives only.others _ r.0 c.args.regs.time c.args.place (is_start (shown_as held) c.args.regs.section) known.time_is event c.requires value full start r.1 refl refl refl e.roles_are e.within e.long e.more e.same
+    stands_changed s h names es items has d c.args.code a only.declared only.gives only.others _ r.0 c.args.regs.time c.args.place
+    (is_start (shown_as held)
+    c.args.regs.section) known.time_is event c.requires value full start r.1 refl refl refl e.roles_are e.within e.long e.more e.same

@@ -13,7 +13,8 @@ take-requires-clause-bits g c =
       within = omega (arith, w.next, few);
       ahead = λ k set. omega (arith, w.bit k set, w.next);
       inside = λ k set. omega (arith, w.bit k set);
-      white = λ k set. let here : at + len ≡ c.before-2.result.next + k - 64 = omega (arith, w.bit k set, w.next) in subst (λ j. is_white_space (slice_index bytes j) ≡ true) here (rw c.if-self-start.false c.end_of_token.ensures);
+      white = λ k set. let here : at + len ≡ c.before-2.result.next + k - 64 = omega (arith, w.bit k set, w.next) in
+          subst (λ j. is_white_space (slice_index bytes j) ≡ true) here (rw c.if-self-start.false c.end_of_token.ensures);
       other = λ j from below none. elim (cases_lt j (at + len)) [
         | inl lt ↦ (let here : at + (j - at) ≡ j = omega arith in
             subst (λ i. is_white_space (slice_index bytes i) ≡ false) here (low.other (j - at) (omega arith) (c.lowest-len.ensures.below (j - at) (omega arith))))

@@ -17,7 +17,8 @@ returns-then-end-start-clause-needed c = λ _ start n front r.
     let ahead = m.ahead c.lowest-bit.result c.lowest-bit.ensures.set in
     let le = run_behind a.limit a.bytes.now a.at at start n inv.before front r in
     let rest = white_rest a.bytes.now a.at at start inv.before.order le front in
-    let n-is = marked_first a.bytes.now at c.args.white c.lowest-bit.result m c.lowest-bit.ensures.set c.lowest-bit.ensures.below a.limit start n (λ e. let o = inv.token c.lowest-bit.result c.lowest-bit.ensures.set in absurd (omega (arith, e, o))) rest r in
+    let n-is = marked_first a.bytes.now at c.args.white c.lowest-bit.result m c.lowest-bit.ensures.set c.lowest-bit.ensures.below a.limit start n
+    (λ e. let o = inv.token c.lowest-bit.result c.lowest-bit.ensures.set in absurd (omega (arith, e, o))) rest r in
     absurd (omega (arith, r.short, n-is, c.if-end-start.true))
 
 pub invariant_of-self-clause-bits : goal.invariant_of-self-clause-bits
@@ -28,7 +29,9 @@ invariant_of-self-clause-bits c =
     let bit = c.lowest-bit.result in
     let m = inv.bits in
     let ahead = m.ahead bit c.lowest-bit.ensures.set in
-    bits-on a.bytes.now c.args.start (w.next + bit - 64 + 1) (length a.bytes.now) w bit c.without.result m c.lowest-bit.ensures.set c.lowest-bit.ensures.below c.without.ensures.kept c.without.ensures.no_more c.without.ensures.gone (omega arith)
+    bits-on a.bytes.now c.args.start (w.next + bit - 64 + 1) (length a.bytes.now)
+    w bit c.without.result m c.lowest-bit.ensures.set c.lowest-bit.ensures.below c.without.ensures.kept c.without.ensures.no_more c.without.ensures.gone
+    (omega arith)
 
 pub invariant_of-self-clause-order : goal.invariant_of-self-clause-order
 invariant_of-self-clause-order c =

@@ -18,7 +18,8 @@ returns-clause-stands g c = λ ts passed i given st.
     let f = c.args.self.now in
     let rest = g.S.Source.rest f.source.now in
     let on = pass_stands f.parked.phase (length f.token.now) rest f.chunk.now f.parked i given ts c.args.n f.fits passed st.at in
-    rw (c.move_past.ensures.same, c.move_past.ensures.parked) (parked-stands rest f.chunk.now f.token.now (length f.token.now) (gone_on f.chunk.now f.parked c.args.n) i (given ++ ts) refl on (λ some. absurd (omega arith)))
+    rw (c.move_past.ensures.same, c.move_past.ensures.parked) (parked-stands rest f.chunk.now f.token.now (length f.token.now)
+    (gone_on f.chunk.now f.parked c.args.n) i (given ++ ts) refl on (λ some. absurd (omega arith)))
 
 pub returns-clause-near : goal.returns-clause-near
 returns-clause-near g c = λ ts passed some i given st.

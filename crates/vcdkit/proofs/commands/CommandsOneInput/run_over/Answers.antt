@@ -18,7 +18,8 @@ returns-in_err-memory-clause-ends g c = λ h i front name v st.
 pub returns-clause-ends : goal.returns-clause-ends
 returns-clause-ends g c = λ h i front name v st.
     let one = c.write_ticks.ensures.kind ∙ c.requires.ready in
-    let same : request_of h.scale (model_want c.args.job.now.task) ≡ Ok (request_for c.in-Ok.task) = sym (c.in_default.ensures.same h v) ∙ c.in-Ok.ensures.request h v ∙ asked_for c.write_ticks.new.self c.in-Ok.task one in
+    let same : request_of h.scale (model_want c.args.job.now.task) ≡ Ok (request_for c.in-Ok.task) = sym (c.in_default.ensures.same h v)
+    ∙ c.in-Ok.ensures.request h v ∙ asked_for c.write_ticks.new.self c.in-Ok.task one in
     rw (c.answered.ensures) (followed c.args.job.now.task _ _ _ i front h name _ _ _ _ c.run_in.result c.requires.ready same (c.run_in.ensures.gives h i front name v st))
 
 pub run_in-requires-clause-bound : goal.run_in-requires-clause-bound

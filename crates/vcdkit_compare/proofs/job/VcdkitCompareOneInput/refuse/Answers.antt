@@ -6,6 +6,7 @@ use Rattle.vcdkit_compare.proofs.job.VcdkitCompareOneInput.refuse.Goals as goal
 
 pub returns-clause-line : goal.returns-clause-line
 returns-clause-line g c = record {
-  line = subst (λ l. Shows (g.E.Sink.device c.args.err.now) (g.E.Sink.device c.put_refusal.new.err) l) (sym (refusal-line c.args.job.now c.args.why)) (puts-shows (g.E.Sink.device c.args.err.now) (g.E.Sink.device c.put_refusal.new.err) _ c.put_refusal.result c.put_refusal.ensures);
+  line = subst (λ l. Shows (g.E.Sink.device c.args.err.now) (g.E.Sink.device c.put_refusal.new.err) l) (sym (refusal-line c.args.job.now c.args.why))
+      (puts-shows (g.E.Sink.device c.args.err.now) (g.E.Sink.device c.put_refusal.new.err) _ c.put_refusal.result c.put_refusal.ensures);
   status = sym (refusal-two c.args.job.now c.args.why);
 }

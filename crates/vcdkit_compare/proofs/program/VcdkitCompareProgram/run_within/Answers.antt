@@ -26,7 +26,9 @@ returns-clause-passed_on g c =
     let asked = c.requires.asked in
     let alone : length c.args.readers.now ≡ 1 = sym (length-map c.args.names.now string_bytes ∙ c.requires.names) ∙ one-name asked.0 (map string_bytes c.args.names.now) asked.2 in
     let readers = c.args.readers.now in
-    passes_alone g.S.Source.failures readers _ (get_or readers 0 c.index-readers-0.result) c.run_one.new.reader (one_of readers c.index-readers-0.result alone) (set_one readers c.run_one.new.reader alone) g.W.Sink.kept_back c.args.out.now c.run_one.new.out c.run_one.ensures.passed_on
+    passes_alone g.S.Source.failures readers _ (get_or readers 0 c.index-readers-0.result) c.run_one.new.reader
+    (one_of readers c.index-readers-0.result alone) (set_one readers c.run_one.new.reader alone)
+    g.W.Sink.kept_back c.args.out.now c.run_one.new.out c.run_one.ensures.passed_on
 
 pub returns-clause-leaves : goal.returns-clause-leaves
 returns-clause-leaves g c = λ matches asks texts have.

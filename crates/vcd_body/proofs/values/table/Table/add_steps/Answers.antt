@@ -6,7 +6,8 @@ pub returns-then-code-self-clause-keeps : goal.returns-then-code-self-clause-kee
 returns-then-code-self-clause-keeps c =
     let t = c.args.self.now in
     let share = get_or t.shares.now c.args.code blank_share in
-    keeps_laid t _ refl (length-set _ _ _) refl (λ laid. counted_laid t.slots.now t.shares.now (length t.values.now) laid c.args.code share _ (slice_get-get_or t.shares.now c.args.code blank_share c.if-code-self.true) refl refl)
+    keeps_laid t _ refl (length-set _ _ _) refl (λ laid. counted_laid t.slots.now t.shares.now (length t.values.now) laid c.args.code share _
+    (slice_get-get_or t.shares.now c.args.code blank_share c.if-code-self.true) refl refl)
 
 pub returns-then-code-self-clause-changes : goal.returns-then-code-self-clause-changes
 returns-then-code-self-clause-changes c =
@@ -18,4 +19,5 @@ returns-then-code-self-clause-changes c =
     (λ s end. more_kept (whole s share) (counts_of s.steps counts) a.more a.rises a.falls end t.values.now (c.count_steps.ensures s.steps))
 
 pub returns-else-code-self-clause-changes : goal.returns-else-code-self-clause-changes
-returns-else-code-self-clause-changes c = no_share_there c.args.self.now.values.now c.args.self.now.slots.now c.args.self.now.shares.now c.args.code (with_steps c.args.more c.args.rises c.args.falls) c.if-code-self.false
+returns-else-code-self-clause-changes c = no_share_there c.args.self.now.values.now c.args.self.now.slots.now c.args.self.now.shares.now c.args.code
+    (with_steps c.args.more c.args.rises c.args.falls) c.if-code-self.false

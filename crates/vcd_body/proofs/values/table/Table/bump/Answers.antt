@@ -24,6 +24,7 @@ returns-then-code-self-2-clause-changes c =
 
 pub returns-else-code-self-clause-changes : goal.returns-else-code-self-clause-changes
 returns-else-code-self-clause-changes c = elim c.else-code-self.branch [
-  | else-code-self-via-then-code-self+else-code-self-2 w ↦ no_share_there c.args.self.now.values.now c.args.self.now.slots.now c.args.self.now.shares.now c.args.code (one_more c.args.which) w.if-code-self-2.false
+  | else-code-self-via-then-code-self+else-code-self-2 w ↦ no_share_there c.args.self.now.values.now c.args.self.now.slots.now c.args.self.now.shares.now c.args.code
+      (one_more c.args.which) w.if-code-self-2.false
   | else-code-self-via-else-code-self w ↦ no_slot_there c.args.self.now.values.now c.args.self.now.slots.now c.args.self.now.shares.now c.args.code (one_more c.args.which) w.if-code-self.false
 ]

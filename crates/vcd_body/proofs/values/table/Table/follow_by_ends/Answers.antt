@@ -11,7 +11,8 @@ returns-then-step-clause-sets c = λ told size.
     let is = c.in-Some.ensures in
     record {
       keeps = keeps_twice old mid new c.set_text_in.ensures.keeps c.count.ensures.keeps;
-      changes = λ laid. set_and_counted old mid new c.args.code size form.Vector c.args.text.now c.in-Some.step (c.set_text_in.ensures.changes laid) is.some (is.step laid size) c.if-step.true c.count.ensures.changes;
+      changes = λ laid. set_and_counted old mid new c.args.code size form.Vector c.args.text.now c.in-Some.step
+          (c.set_text_in.ensures.changes laid) is.some (is.step laid size) c.if-step.true c.count.ensures.changes;
     }
 
 pub returns-else-step-clause-sets : goal.returns-else-step-clause-sets

@@ -10,8 +10,11 @@ returns-in-Uncounted c =
     let k = c.add_steps.ensures.keeps in
     record {
       keeps = record { laid = λ laid. k.laid (c.step_digit_at.ensures.laid old.shares.now (length old.values.now) laid); codes = cc; bytes = cc };
-      changes = λ laid. subst (λ (t : List ℕ). ChangesAt c.args.code (with_change c.args.size form.Vector t) old.values.now old.slots.now old.shares.now new.values.now new.slots.now new.shares.now) (alone c.args.text.now c.in-len1.len_at_least c.in-len1.len_below)
-          (c.in-Uncounted.ensures.uncounted c.in-Uncounted.rises c.in-Uncounted.falls refl form.Vector (λ e. cc) c.args.size old.shares.now old.values.now new.values.now new.slots.now new.shares.now c.add_steps.ensures.changes);
+      changes = λ laid. subst (λ (t : List ℕ). ChangesAt c.args.code
+          (with_change c.args.size form.Vector t) old.values.now old.slots.now old.shares.now new.values.now new.slots.now new.shares.now)
+          (alone c.args.text.now c.in-len1.len_at_least c.in-len1.len_below)
+          (c.in-Uncounted.ensures.uncounted c.in-Uncounted.rises c.in-Uncounted.falls refl form.Vector
+          (λ e. cc) c.args.size old.shares.now old.values.now new.values.now new.slots.now new.shares.now c.add_steps.ensures.changes);
     }
 
 pub returns-else-not-follow_by_ends : goal.returns-else-not-follow_by_ends

@@ -11,7 +11,8 @@ returns-clause-laid c =
     let size = length-take-le c.lay_out-end.result values (omega (arith, end)) in
     let same = c.lay_out-end.auto.slots ∙ length-take-le (length codes) c.args.slots.now c.requires.slots in
     let all = c.lay_out-end.auto.shares ∙ length-take-le (length codes) c.args.shares.now c.requires.shares in
-    laid codes c.lay_out-end.new.slots c.lay_out-end.new.shares (length values) (length (take c.lay_out-end.result values)) (sym same) (sym all) (size ∙ end) c.lay_out-end.ensures.slots c.lay_out-end.ensures.shares
+    laid codes c.lay_out-end.new.slots c.lay_out-end.new.shares (length values) (length (take c.lay_out-end.result values)) (sym same) (sym all)
+    (size ∙ end) c.lay_out-end.ensures.slots c.lay_out-end.ensures.shares
 
 pub returns-clause-kept : goal.returns-clause-kept
 returns-clause-kept c = λ code.
@@ -21,7 +22,8 @@ returns-clause-kept c = λ code.
     let size = length-take-le c.lay_out-end.result values (omega (arith, end)) in
     let same = c.lay_out-end.auto.slots ∙ length-take-le (length codes) c.args.slots.now c.requires.slots in
     let all = c.lay_out-end.auto.shares ∙ length-take-le (length codes) c.args.shares.now c.requires.shares in
-    new_kept codes c.lay_out-end.new.slots c.lay_out-end.new.shares (length values) c.lay_out-end.result (sym same) (sym all) end c.lay_out-end.ensures.slots c.lay_out-end.ensures.shares (take c.lay_out-end.result values) size code
+    new_kept codes c.lay_out-end.new.slots c.lay_out-end.new.shares (length values) c.lay_out-end.result (sym same)
+    (sym all) end c.lay_out-end.ensures.slots c.lay_out-end.ensures.shares (take c.lay_out-end.result values) size code
 
 pub returns-clause-room : goal.returns-clause-room
 returns-clause-room c = λ most code declared at.
@@ -31,7 +33,8 @@ returns-clause-room c = λ most code declared at.
     let size = length-take-le c.lay_out-end.result values (omega (arith, end)) in
     let same = c.lay_out-end.auto.slots ∙ length-take-le (length codes) c.args.slots.now c.requires.slots in
     let all = c.lay_out-end.auto.shares ∙ length-take-le (length codes) c.args.shares.now c.requires.shares in
-    new_kept codes c.lay_out-end.new.slots c.lay_out-end.new.shares (length values) c.lay_out-end.result (sym same) (sym all) end c.lay_out-end.ensures.slots c.lay_out-end.ensures.shares (take c.lay_out-end.result values) size code
+    new_kept codes c.lay_out-end.new.slots c.lay_out-end.new.shares (length values) c.lay_out-end.result (sym same)
+    (sym all) end c.lay_out-end.ensures.slots c.lay_out-end.ensures.shares (take c.lay_out-end.result values) size code
     ∙ ap (option_map (λ (x : Code). unset (start_of codes (length values) (code + 1) - start_of codes (length values) code))) at
     ∙ ap (λ n. Some (unset n)) (whole_share codes (length values) code declared most at)
 

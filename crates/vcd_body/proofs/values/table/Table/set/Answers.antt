@@ -9,7 +9,9 @@ returns-clause-sets c =
     let is = c.set_value.ensures.sets in
     record {
       keeps = is.keeps;
-      changes = λ laid. change_as c.args.code (with_value c.of_text.result) (with_text c.args.form c.args.text.now) old.values.now new.values.now old.slots.now new.slots.now old.shares.now new.shares.now (λ k at. c.of_text.ensures.sets k) (is.changes laid);
+      changes = λ laid. change_as c.args.code (with_value c.of_text.result)
+          (with_text c.args.form c.args.text.now) old.values.now new.values.now old.slots.now new.slots.now old.shares.now new.shares.now
+          (λ k at. c.of_text.ensures.sets k) (is.changes laid);
     }
 
 pub returns-clause-value : goal.returns-clause-value

@@ -25,18 +25,25 @@ returns c =
     let bytes = put_mid share.start (stop - share.start) values c.fill_share-state.new.bytes in
     let enough : share.start ≤ c.args.end = omega (arith, c.if-end-start.false) in
     let most : c.args.end ≤ length values = omega (arith, c.if-self-end.false) in
-    let lent : length (take (c.args.end - share.start) (drop share.start values)) ≡ c.args.end - share.start = omega (arith, most, enough, length-take (c.args.end - share.start) (drop share.start values), length-drop share.start values) in
+    let lent : length (take (c.args.end - share.start) (drop share.start values)) ≡ c.args.end - share.start = omega
+    (arith, most, enough, length-take (c.args.end - share.start) (drop share.start values), length-drop share.start values) in
     let size : length c.fill_share-state.new.bytes ≡ stop - share.start = c.fill_share-state.auto.bytes ∙ lent ∙ ap (λ e. e - share.start) end in
     let fits = held.used in
     let many = held.some some in
     let u = ap (λ (w : Whole). used_by w.state w.len) is in
     let o = ap (λ (w : Whole). some_by w.state w.len) is in
     record {
-      keeps = keeps_laid t _ (length-set _ _ _) (length-set _ _ _) (length-put_mid share.start (c.args.end - share.start) values c.fill_share-state.new.bytes (omega (arith, enough, most)) (size ∙ ap (λ e. e - share.start) (sym end)))
-          (λ laid. both_laid slots parts (length values) laid code slot share at there new.slot new.share (ap (λ (w : Whole). w.start) is) (omega (arith, fits, size, u, enough, end)) (omega (arith, many, o)));
-      changes = λ laid. rw end (share_changes slots parts (length values) laid code slot share at there new.slot new.share values c.fill_share-state.new.bytes (with_text c.args.form text) (ap (λ (w : Whole). w.start) is) refl size
+      keeps = keeps_laid t _ (length-set _ _ _) (length-set _ _ _)
+          (length-put_mid share.start (c.args.end - share.start) values c.fill_share-state.new.bytes (omega (arith, enough, most)) (size
+          ∙ ap (λ e. e - share.start) (sym end)))
+          (λ laid. both_laid slots parts (length values) laid code slot share at there new.slot new.share (ap (λ (w : Whole). w.start) is)
+          (omega (arith, fits, size, u, enough, end)) (omega (arith, many, o)));
+      changes = λ laid. rw end (share_changes slots parts (length values)
+          laid code slot share at there new.slot new.share values c.fill_share-state.new.bytes (with_text c.args.form text)
+          (ap (λ (w : Whole). w.start) is) refl size
           (ap (kept_with bytes stop) is
-          ∙ form_kept c.args.form c.fill_share-state.result (whole slot share) stop values c.fill_share-state.new.bytes text c.requires.several some (omega (arith, enough, end, c.text_bytes.ensures, c.if-text_bytes-end.false)) (omega (arith, most, end)) size held));
+          ∙ form_kept c.args.form c.fill_share-state.result (whole slot share) stop values c.fill_share-state.new.bytes text c.requires.several some
+          (omega (arith, enough, end, c.text_bytes.ensures, c.if-text_bytes-end.false)) (omega (arith, most, end)) size held));
     }
 
 pub returns-then-end-start : goal.returns-then-end-start

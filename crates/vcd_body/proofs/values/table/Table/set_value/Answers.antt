@@ -13,7 +13,8 @@ returns-in-len1-clause-sets c =
     record {
       keeps = record { laid = c.set_tag.ensures.laid (held_digit digit) c.tag_of_digit.ensures old.shares.now (length old.values.now); codes = cc; bytes = refl };
       changes = λ laid. subst (λ (v : Value). ChangesAt c.args.code (with_value v) old.values.now old.slots.now old.shares.now old.values.now c.set_tag.new.slots old.shares.now) (sym c.in-Digits.is)
-          (change_as c.args.code (with_held (Held.Digits (held_digit digit ∷ []))) (with_text form.Vector text) old.values.now old.values.now old.slots.now c.set_tag.new.slots old.shares.now old.shares.now
+          (change_as c.args.code (with_held (Held.Digits (held_digit digit ∷ [])))
+          (with_text form.Vector text) old.values.now old.values.now old.slots.now c.set_tag.new.slots old.shares.now old.shares.now
           (λ k kept. sym (one_text form.Vector digit k (λ e. cc)) ∙ ap (λ (l : List ℕ). with_text form.Vector l k) one)
           (c.set_tag.ensures.changes (held_digit digit) c.tag_of_digit.ensures old.shares.now old.values.now));
     }
@@ -47,7 +48,9 @@ returns-in-Bits-clause-sets c =
     let old = c.args.self.now in
     record {
       keeps = record { laid = c.set_bits.ensures.laid old.shares.now (length old.values.now); codes = cc; bytes = refl };
-      changes = λ laid. subst (λ (v : Value). ChangesAt c.args.code (with_value v) old.values.now old.slots.now old.shares.now old.values.now c.set_bits.new.slots old.shares.now) (sym c.in-Bits.is) (c.set_bits.ensures.changes old.shares.now old.values.now);
+      changes = λ laid. subst (λ (v : Value). ChangesAt c.args.code
+          (with_value v) old.values.now old.slots.now old.shares.now old.values.now c.set_bits.new.slots old.shares.now) (sym c.in-Bits.is)
+          (c.set_bits.ensures.changes old.shares.now old.values.now);
     }
 
 pub returns-in-Bits-clause-as_text : goal.returns-in-Bits-clause-as_text
@@ -64,5 +67,6 @@ returns-in-Bits-clause-bits c = λ b is.
     let there = c.in-Bits.bits in
     rw (← same) (record {
       changes = changes;
-      as_text = λ k at room. number_as_text c.args.code there.len there.number old.values.now old.values.now old.slots.now c.set_bits.new.slots old.shares.now old.shares.now k there.some there.few at room changes;
+      as_text = λ k at room.
+          number_as_text c.args.code there.len there.number old.values.now old.values.now old.slots.now c.set_bits.new.slots old.shares.now old.shares.now k there.some there.few at room changes;
     })

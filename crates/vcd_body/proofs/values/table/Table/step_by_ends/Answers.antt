@@ -14,7 +14,8 @@ returns-in-Packed-clause-step c = λ laid size.
     let some = c.ends_differ.ensures.some c.if-ends_differ.true in
     let last = c.last_held.ensures size ∙ ap (λ (h : Held). last_digit_in (value_at_size size h)) held in
     let is = c.step_to_text.ensures in (
-      is.differs ∙ differ_for (digits_in n bytes) (str_to_ascii_lowercase c.args.text.now) size (c.ends_differ.ensures.differ c.if-ends_differ.true n fits size) ∙ ap (λ (h : Held). differs (value_at_size size h) v) packed,
+      is.differs ∙ differ_for (digits_in n bytes) (str_to_ascii_lowercase c.args.text.now) size
+          (c.ends_differ.ensures.differ c.if-ends_differ.true n fits size) ∙ ap (λ (h : Held). differs (value_at_size size h) v) packed,
       is.rises some size ∙ ap (λ (o : Option ℕ). goes_from 48 49 o (last_digit_in (Some v))) last,
       is.falls some size ∙ ap (λ (o : Option ℕ). goes_from 49 48 o (last_digit_in (Some v))) last,
     )
@@ -32,7 +33,8 @@ returns-in-Packed-2-clause-step c = λ laid size.
     let same = ap (λ m. digits_in m bytes) many ∙ c.holds_packed.ensures.same c.if-holds_packed.true in
     let last = c.last_held-in-Packed-2.ensures size ∙ ap (λ (h : Held). last_digit_in (value_at_size size h)) held in
     let is = c.step_to_text-in-Packed-2.ensures in (
-      is.differs ∙ differ_where_as_many (digits_in n bytes) (str_to_ascii_lowercase c.args.text.now) size (ap length same) true ((λ yes. same), λ e. refl) ∙ ap (λ (h : Held). differs (value_at_size size h) v) packed,
+      is.differs ∙ differ_where_as_many (digits_in n bytes) (str_to_ascii_lowercase c.args.text.now) size (ap length same) true
+          ((λ yes. same), λ e. refl) ∙ ap (λ (h : Held). differs (value_at_size size h) v) packed,
       is.rises (omega (arith, some, many)) size ∙ ap (λ (o : Option ℕ). goes_from 48 49 o (last_digit_in (Some v))) last,
       is.falls (omega (arith, some, many)) size ∙ ap (λ (o : Option ℕ). goes_from 49 48 o (last_digit_in (Some v))) last,
     )

@@ -29,7 +29,10 @@ returns-in_err-begin_by-clause-starts g c = λ h views.
     let begun = begun_at from (let now = section.1 in omega (arith, now)) in
     rw e (
       record { body = refl; valid = c.requires.order; matched = c.in_default.ensures.names h views },
-      (rw (open_begun h from to begun) (appends-some _ _ _ (head_for h []) (start_section h from []) head section.2.0), c.in_err-begin_by.ensures.counts ∙ ap (λ n. n + 1) c.in_ok-put_head.ensures.counts),
+      (
+        rw (open_begun h from to begun) (appends-some _ _ _ (head_for h []) (start_section h from []) head section.2.0),
+        c.in_err-begin_by.ensures.counts ∙ ap (λ n. n + 1) c.in_ok-put_head.ensures.counts,
+      ),
     )
 
 pub returns-clause-starts : goal.returns-clause-starts

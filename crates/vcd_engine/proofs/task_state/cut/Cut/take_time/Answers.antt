@@ -8,7 +8,8 @@ returns-in_err-begin_by-clause-takes g c = λ h items views is.
     let e : c.from_residual.result ≡ Err c.in_err-begin_by.field-0.0 = search rules in
     let b = c.in_err-begin_by.ensures.begins h items views (values_due h items m is) in
     rw e (record {
-      due = begun_some h m.from m.to items is.on c.args.time (g.W.Sink.device c.args.out.now) (g.W.Sink.device c.begin_by.new.out) (Err c.in_err-begin_by.field-0.0) refl (sym is.started_is ∙ b.0) b.1 b.2.0;
+      due = begun_some h m.from m.to items is.on c.args.time (g.W.Sink.device c.args.out.now) (g.W.Sink.device c.begin_by.new.out)
+          (Err c.in_err-begin_by.field-0.0) refl (sym is.started_is ∙ b.0) b.1 b.2.0;
       ends = tt;
       keeps = λ q. cc;
     })
@@ -20,7 +21,8 @@ returns-then-time-self-clause-takes g c = λ h items views is.
     let same_from : c.begin_by.new.self.from ≡ m.from = cc in
     let same_to : c.begin_by.new.self.to ≡ m.to = cc in
     let low : c.args.time ≤ m.to = omega (arith, same_to, c.if-time-self.true) in
-    mark_goes h items m c.begin_by.new.self c.args.time (g.W.Sink.device c.args.out.now) (g.W.Sink.device c.begin_by.new.out) (Ok false) refl is low same_from same_to (c.in_ok-begin_by.ensures.begins h items views (values_due h items m is))
+    mark_goes h items m c.begin_by.new.self c.args.time (g.W.Sink.device c.args.out.now) (g.W.Sink.device c.begin_by.new.out)
+    (Ok false) refl is low same_from same_to (c.in_ok-begin_by.ensures.begins h items views (values_due h items m is))
 
 pub returns-in_err-close-clause-takes : goal.returns-in_err-close-clause-takes
 returns-in_err-close-clause-takes g c = λ h items views is.
@@ -31,9 +33,12 @@ returns-in_err-close-clause-takes g c = λ h items views is.
     let e : c.from_residual-in_err-close.result ≡ Err c.in_err-close.field-0.0 = search rules in
     let failed : Result Bool WriteFailed = Err c.in_err-close.field-0.0 in
     rw e (record {
-      due = mark_ends h items m c.begin_by.new.self c.args.time (g.W.Sink.device c.args.out.now) (g.W.Sink.device c.begin_by.new.out) (g.W.Sink.device c.close.new.out) failed failed is high (c.in_ok-begin_by.ensures.begins h items views (values_due h items m is))
+      due = mark_ends h items m c.begin_by.new.self c.args.time (g.W.Sink.device c.args.out.now) (g.W.Sink.device c.begin_by.new.out)
+          (g.W.Sink.device c.close.new.out) failed failed is high (c.in_ok-begin_by.ensures.begins h items views (values_due h items m is))
           (λ before kept has.
-          subst (λ n. ((u : ℕ) → Some n ≡ Some u → LastTells (times_with before kept) u) → Takes (g.W.Sink.device c.begin_by.new.out) (g.W.Sink.device c.close.new.out) (closing (times_with before kept) (Some n)) failed) same_to (c.in_err-close.ensures.takes before kept has))
+          subst (λ n. ((u : ℕ) → Some n ≡ Some u → LastTells (times_with before kept) u)
+          → Takes (g.W.Sink.device c.begin_by.new.out) (g.W.Sink.device c.close.new.out) (closing (times_with before kept) (Some n)) failed)
+          same_to (c.in_err-close.ensures.takes before kept has))
           (λ l x. x);
       ends = tt;
       keeps = λ q. cc;
@@ -47,9 +52,12 @@ returns-clause-takes g c = λ h items views is.
     let high : m.to < c.args.time = omega (arith, same_to, c.if-time-self.false) in
     let done : Result Bool WriteFailed = Ok true in
     record {
-      due = mark_ends h items m c.begin_by.new.self c.args.time (g.W.Sink.device c.args.out.now) (g.W.Sink.device c.begin_by.new.out) (g.W.Sink.device c.close.new.out) done done is high (c.in_ok-begin_by.ensures.begins h items views (values_due h items m is))
+      due = mark_ends h items m c.begin_by.new.self c.args.time (g.W.Sink.device c.args.out.now) (g.W.Sink.device c.begin_by.new.out)
+          (g.W.Sink.device c.close.new.out) done done is high (c.in_ok-begin_by.ensures.begins h items views (values_due h items m is))
           (λ before kept has.
-          subst (λ n. ((u : ℕ) → Some n ≡ Some u → LastTells (times_with before kept) u) → Takes (g.W.Sink.device c.begin_by.new.out) (g.W.Sink.device c.close.new.out) (closing (times_with before kept) (Some n)) done) same_to (c.in_ok-close.ensures.takes before kept has))
+          subst (λ n. ((u : ℕ) → Some n ≡ Some u → LastTells (times_with before kept) u)
+          → Takes (g.W.Sink.device c.begin_by.new.out) (g.W.Sink.device c.close.new.out) (closing (times_with before kept) (Some n)) done)
+          same_to (c.in_ok-close.ensures.takes before kept has))
           (λ l x. x);
       ends = sym (above_is m.to c.args.time high);
       keeps = λ q. cc;

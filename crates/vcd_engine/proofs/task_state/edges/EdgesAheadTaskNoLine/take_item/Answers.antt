@@ -16,7 +16,8 @@ returns-then-scanned-eq0-clause-takes g c = λ h items before x views known re r
     let change = subst (λ (i : Item). IsItem h.codes c.args.scanned.text.now i x) c.in-Change.is read in
     let opens : is_some c.args.regs.section ≡ leaves_open items = ap (λ (r : Regs). is_some r.section) (re ∙ ap (regs_after before) c.in-Change.is) ∙ section_is items before known in (
       ([], refl, none_on _ (g.W.Sink.device c.args._out.now)),
-      subst (λ (y : BodyItem). AreEdges c.take_at.new.self h (items ++ y ∷ [])) (sym change.2) (c.take_at.ensures.takes c.args.view h items change.0 refl views change.1 (c.is_some.ensures ∙ opens) few is),
+      subst (λ (y : BodyItem). AreEdges c.take_at.new.self h (items ++ y ∷ [])) (sym change.2)
+          (c.take_at.ensures.takes c.args.view h items change.0 refl views change.1 (c.is_some.ensures ∙ opens) few is),
     )
 
 pub returns-clause-takes : goal.returns-clause-takes

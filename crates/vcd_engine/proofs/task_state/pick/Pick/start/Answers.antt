@@ -14,7 +14,13 @@ returns-in_err-put_head-clause-starts g c = λ h views.
     let e : c.from_residual-in_err-put_head.result ≡ Err Write = search rules in
     let selected = c.in_ok-select_codes.ensures.selects h views in
     let head = c.in_err-put_head.ensures.selected h names views selected.marks_are in
-    rw e (record { body = refl; valid = tt; matched = selected.matched }, (subst (AppendsSome (g.W.Sink.device c.args.out.now).held (g.W.Sink.device c.put_head.new.w).held) (sym (pick_open_none h names)) head, c.in_err-put_head.ensures.counts))
+    rw e (
+      record { body = refl; valid = tt; matched = selected.matched },
+      (
+        subst (AppendsSome (g.W.Sink.device c.args.out.now).held (g.W.Sink.device c.put_head.new.w).held) (sym (pick_open_none h names)) head,
+        c.in_err-put_head.ensures.counts,
+      ),
+    )
 
 pub returns-clause-starts : goal.returns-clause-starts
 returns-clause-starts g c = λ h views.

@@ -15,7 +15,8 @@ returns-in_err-put_samples-clause-takes g c = λ h items views is.
     let front = c.split_at.ensures.front ∙ ap (λ n. take n s.rest.now) c.count_below.ensures in
     let unsettled = subst (AllByRecursion (λ u. is_settled items u ≡ false)) (sym front) (due_unsettled s h items t is) in
     rw e (record {
-      due = takes_due s h items t is (g.W.Sink.device c.args.out.now) (g.W.Sink.device c.put_samples.new.out) (Err failed) c.split_at.result.0.now front (c.in_err-put_samples.ensures.takes h items (names_in s) views is.marks_lead is.held unsettled);
+      due = takes_due s h items t is (g.W.Sink.device c.args.out.now) (g.W.Sink.device c.put_samples.new.out)
+          (Err failed) c.split_at.result.0.now front (c.in_err-put_samples.ensures.takes h items (names_in s) views is.marks_lead is.held unsettled);
       ends = tt;
       keeps = λ ok. cc;
     })
@@ -28,7 +29,9 @@ returns-clause-takes g c = λ h items views is.
     let back = c.split_at.ensures.back ∙ ap (λ n. drop n s.rest.now) c.count_below.ensures in
     let unsettled = subst (AllByRecursion (λ u. is_settled items u ≡ false)) (sym front) (due_unsettled s h items t is) in
     record {
-      due = takes_due s h items t is {E = WriteFailed} (g.W.Sink.device c.args.out.now) (g.W.Sink.device c.put_samples.new.out) (Ok c.is_empty.result) c.split_at.result.0.now front (c.in_ok-put_samples.ensures.takes h items (names_in s) views is.marks_lead is.held unsettled);
+      due = takes_due s h items t is {E = WriteFailed} (g.W.Sink.device c.args.out.now) (g.W.Sink.device c.put_samples.new.out)
+          (Ok c.is_empty.result) c.split_at.result.0.now front (c.in_ok-put_samples.ensures.takes h items
+          (names_in s) views is.marks_lead is.held unsettled);
       ends = ends_is s h items t is c.split_at.result.1.now c.is_empty.result back c.is_empty.ensures;
       keeps = λ ok. samples_behind s h items t is c.split_at.result.1 back (some_left s h items t is c.split_at.result.1.now c.is_empty.result back c.is_empty.ensures cc);
     }

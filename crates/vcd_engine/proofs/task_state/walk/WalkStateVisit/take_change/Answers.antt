@@ -30,7 +30,8 @@ returns-clause-takes g c = λ a a' item.
       one = λ h items x views known read few keeps.
           let one = c.take_item.ensures.takes h items c.args.regs x views known (same_regs c.args.regs p.item f.1.0 f.0 f.1.1) read few keeps in
           record {
-            due = subst (λ (bs : List ℕ). DueBy (λ due. PutsOn (pending_in bs c.args.self.now.pending) (pending_in bs c.take_item.new.pending) old new due result) (open_text t h items) (open_text t h (items ++ x ∷ []))) same one.0;
+            due = subst (λ (bs : List ℕ). DueBy (λ due. PutsOn (pending_in bs c.args.self.now.pending)
+                (pending_in bs c.take_item.new.pending) old new due result) (open_text t h items) (open_text t h (items ++ x ∷ []))) same one.0;
             on = goes_on_item t h.codes p.text.now p.item x (no_timestamp_here p.item f.1.0 f.0 f.1.1) read;
             keeps = one.1;
           };

@@ -30,7 +30,8 @@ returns-clause-takes g c = λ a a' item.
       one = λ h items x views known read few keeps.
           let one = c.take_item.ensures.takes h items c.args._before x views known c.requires.after read few keeps in
           record {
-            due = subst (λ (bs : List ℕ). DueBy (λ due. PutsOn (pending_in bs c.args.self.now.pending) (pending_in bs c.take_item.new.pending) old new due result) (open_text t h items) (open_text t h (items ++ x ∷ []))) same one.0;
+            due = subst (λ (bs : List ℕ). DueBy (λ due. PutsOn (pending_in bs c.args.self.now.pending)
+                (pending_in bs c.take_item.new.pending) old new due result) (open_text t h items) (open_text t h (items ++ x ∷ []))) same one.0;
             on = goes_on_item t h.codes p.text.now p.item x (no_timestamp_at p.item c.requires.section) read;
             keeps = one.1;
           };
@@ -42,4 +43,6 @@ returns-clause-takes g c = λ a a' item.
 pub returns-clause-stands : goal.returns-clause-stands
 returns-clause-stands g c =
     let later : c.args._before.time ≡ c.args.after.time = sym (ap (λ (r : Regs). r.time) c.requires.after ∙ section_time c.args._before c.args.section.item c.requires.section) in
-    if_ok_more c.take_item.result _ _ (λ part. record { ready = c.take_item.ensures.ready; part = part; line = next_line_is _ _ _ _ _ _ refl refl later c.requires.stands.line }) c.take_item.ensures.part
+    if_ok_more c.take_item.result _ _
+    (λ part. record { ready = c.take_item.ensures.ready; part = part; line = next_line_is _ _ _ _ _ _ refl refl later c.requires.stands.line })
+    c.take_item.ensures.part
