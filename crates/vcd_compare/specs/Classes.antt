@@ -4,7 +4,7 @@ use mathlib.Core.Logic.{◌⊎◌}
 use Rattle.vcd_compare.specs.Pairs.{AreLinked}
 use Rattle.vcd_compare.specs.declared.pairs.End.{End}
 
--- an end with the code, behind the others
+-- an end with the code, after the others
 pub record AddsEnd (ends new_ends : List End) (last new_last : List ℕ) (code : ℕ) : Type 0 where
   pub ends_are : new_ends ≡ ends ++ record { code = code; earlier = get_or last code 0 } ∷ []
   pub last_is : new_last ≡ set last code (suc (length ends))
@@ -19,7 +19,7 @@ pub record HasClasses (keys : List (ℕ × ℕ)) (ends : List End) (last : List 
   pub count : length keys * 2 ≡ length ends
   pub each : (class : ℕ) (key : ℕ × ℕ) → slice_get keys class ≡ Some key → HasCode ends (2 * class) key.0 × HasCode ends (suc (2 * class)) key.1
 
--- the class of two codes, behind the others if it is new
+-- the class of two codes, after the others if it is new
 pub record EntersClass (keys new_keys : List (ℕ × ℕ)) (ends new_ends : List End) (last new_last : List ℕ) (codes : ℕ × ℕ) (class : ℕ) : Type 0 where
   pub has : HasClasses new_keys new_ends new_last
   pub more : List End

@@ -25,7 +25,7 @@ pub record IsClassOf (h : Header) (ends : List End) (class : ℕ) (p : Pair) : T
   pub one : HasEnd h ends (2 * class) p.one
   pub other : HasEnd h ends (suc (2 * class)) p.other
 
--- a path with a range behind it, or without
+-- a path with a range after it, or without
 abbrev pub named_by : Bool → List ℕ → Variable → List ℕ
 named_by ranged path v = cond ranged (path ++ range_of v) path
 

@@ -5,7 +5,7 @@ use Rattle.vcd_model.specs.Declarations.{Variable, first_token}
 use Rattle.vcd_compare.specs.Paths.{AreApart, IsNumberOf, texts_in}
 use Rattle.vcd_compare.specs.declared.slices.Slices.{Slices}
 
--- what stands behind the name of a variable
+-- what follows the name of a variable
 abbrev pub tail_of : Variable → List ℕ
 tail_of v = drop (length (first_token v.reference)) (join_with_byte 32 v.reference)
 

@@ -113,7 +113,7 @@ pub record HasSome (h : Header) (texts : List (List ℕ)) (row : ℕ) (vs : Vari
 abbrev pub same_key : ℕ × ℕ → ℕ × ℕ → Bool
 same_key a b = nat_eq a.0 b.0 && nat_eq a.1 b.1
 
--- one variable more has the path and the range, and the key goes behind the others unless it is there
+-- one variable more has the path and the range, and the key goes after the others unless it is there
 pub record AddsVariable (old new : Variables) (old_counts new_counts : List ℕ) (row path : ℕ) (range : List ℕ) : Type 0 where
   pub slice : ℕ
   pub slices : (texts : List (List ℕ)) (list : List (List ℕ × List ℕ)) (t : List ℕ) → AreApart texts → HasSlices texts old.slices list

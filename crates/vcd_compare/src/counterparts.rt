@@ -241,7 +241,7 @@ fn index_if(own: Option<usize>, one: bool, two: bool, index: usize) -> Option<us
     None
 }
 
-/// Returns whether lines show the range of the variable at this index behind its path: whether
+/// Returns whether lines show the range of the variable at this index after its path: whether
 /// another variable has the path.
 pub(crate) fn shows_range(variables: &Variables, index: usize) -> bool
     ensures { (h : Header) (texts : List (List ℕ)) (v : Named) → AreVariables h texts variables.now

@@ -84,7 +84,7 @@ fn put_states<W: Sink>(
     put(out, b"\n")
 }
 
-/// Writes the path of the variable at index `row`, and its range behind it if `ranged` says so. Fails
+/// Writes the path of the variable at index `row`, and its range after it if `ranged` says so. Fails
 /// if a write does.
 fn put_name<W: Sink>(
     view: HeadView<'_>,
@@ -100,7 +100,7 @@ fn put_name<W: Sink>(
     put_without_blanks(shown_tail(view, row, ranged), out)
 }
 
-/// Returns what stands behind the name of the variable at index `row` in its reference if `ranged`
+/// Returns what follows the name of the variable at index `row` in its reference if `ranged`
 /// says so, otherwise nothing.
 fn shown_tail<'a>(view: HeadView<'a>, row: usize, ranged: bool) -> &'a [u8]
     ensures { AnyVariable view.entry row (λ _ v. result.now ≡ cond ranged (tail_of v) []) }

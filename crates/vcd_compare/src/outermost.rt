@@ -52,7 +52,7 @@ fn distinct(
     Ok(all)
 }
 
-/// Returns whether two paths are inside the two of one of these pairs, with the same rest behind
+/// Returns whether two paths are inside the two of one of these pairs, with the same rest after
 /// both.
 fn is_covered(paths: &Paths, all: &IndexSet<(usize, usize), CodeSeed>, pair: (usize, usize)) -> bool
     ensures { (texts : List (List ℕ)) (n : Names) (ns : List Names) → HasTexts paths.now texts

@@ -50,21 +50,21 @@ pub(crate) fn enter_slice(
     Ok(index)
 }
 
-/// Returns what stands behind the name of the variable at index `row` in its reference.
+/// Returns what follows the name of the variable at index `row` in its reference.
 pub(crate) fn tail_of<'a>(view: HeadView<'a>, row: usize) -> &'a [u8]
     ensures { AnyVariable view.entry row (λ _ v. result.now ≡ tail_of v) }
 {
     behind(view.reference_of(row), view.name_of(row))
 }
 
-/// Returns what stands behind so many bytes of a text as `front` has; no bytes if there are fewer.
+/// Returns what follows the first bytes of a text, as many as `front` has; no bytes if there are fewer.
 fn behind<'a>(text: &'a [u8], front: &[u8]) -> &'a [u8]
     ensures { result.now ≡ drop (length front.now) text.now }
 {
     text.get(front.len()..).unwrap_or(&[])
 }
 
-/// Returns the range of the variable at index `row`: what stands behind its name, without blanks.
+/// Returns the range of the variable at index `row`: what follows its name, without blanks.
 pub(crate) fn range_bytes(
     alloc: Global,
     view: HeadView<'_>,

@@ -64,7 +64,7 @@ asked_by m =
 abbrev is_equals : ℕ → Bool
 is_equals b = b == byte "="
 
--- the two names of a word, before its first `=` and behind it; neither is empty
+-- the two names of a word, before its first `=` and after it; neither is empty
 abbrev pub two_names : Text → Option Names
 two_names word =
     cond (is_empty (before_first is_equals word) || is_empty (after_first is_equals word)) None

@@ -211,6 +211,15 @@ no_clock : of (rise_of "t.q" ∷ []) "t.q" front "#0;" ≡ gives "" "" "no clock
 unfolding model
 no_clock = refl
 
+-- a name that selects nothing is refused after the clocks
+unselected : of rise "t.z" front "#0;" ≡ gives "" "" "t.z: selects nothing" 2
+unfolding model
+unselected = refl
+
+clock_first : of (rise_of "t.q" ∷ []) "t.z" front "#0;" ≡ gives "" "" "no clock of one bit: t.q" 2
+unfolding model
+clock_first = refl
+
 no_such : of (rise_of "t.x" ∷ []) "t.q" front "#0;" ≡ gives "" "" "no clock of one bit: t.x" 2
 unfolding model
 no_such = refl

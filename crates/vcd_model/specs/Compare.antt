@@ -47,7 +47,7 @@ pub record Asked : Type 0 where
 
 -- ---- which variables are compared
 
--- the range of a variable, such as `[7:0]`: what stands behind its name, without the blanks
+-- the range of a variable, such as `[7:0]`: what follows its name, without the blanks
 abbrev pub range_of : Variable → List ℕ
 range_of v = filter (λ b. not (b == 32)) (drop (length (first_token v.reference)) (join_with_byte 32 v.reference))
 

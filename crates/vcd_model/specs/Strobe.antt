@@ -16,9 +16,9 @@ use Rattle.vcd_model.specs.Values.{Value, same_value, value_line, value_of}
 use Rattle.vcd_model.specs.History.{final_value, gives_to, value_before}
 use Rattle.vcd_model.specs.ItemText.{time_line}
 use Rattle.vcd_model.specs.HeadText.{head_for, scope_line, up_line, words}
-use Rattle.vcd_model.specs.Selection.{selected, selects_code}
+use Rattle.vcd_model.specs.Selection.{first_unmatched, selected, selects_code}
 use Rattle.vcd_model.specs.Cut.{line_if_set}
-use Rattle.vcd_model.specs.Outcome.{Opened, Outcome, clean_outcome, fault_in, items_in, open_from}
+use Rattle.vcd_model.specs.Outcome.{Opened, Outcome, clean_outcome, fault_in, items_in, name_at, open_from}
 use Rattle.vcd_model.specs.Compare.{fault_after}
 
 -- ---- edges
@@ -191,15 +191,27 @@ abbrev pub no_clock : Header → List ClockName → Option (List ℕ)
 no_clock h [] = None
 no_clock h (name ∷ names) = elim (clock_of h name) [ Some k ↦ no_clock h names | None ↦ Some name.path ]
 
+-- a refusal with this message
+abbrev pub refused : List ℕ → Outcome
+refused message = record { output = []; message = message; status = 2 }
+
+-- the outcome of a dump whose header is read, if each name selects something
+abbrev pub strobe_body : Strobe → List ℕ → Opened → Outcome
+strobe_body q name o =
+    let text = strobe_open (clocks_of o.header q.clocks) o.header q.names (items_in o) in
+    elim (fault_in o) [
+      | Some f ↦ fault_after text name f
+      | None ↦ clean_outcome text
+    ]
+
 -- the outcome of a dump whose header is read
 unfoldable pub strobe_dump : Strobe → List ℕ → Opened → Outcome
 strobe_dump q name o =
-    let text = strobe_open (clocks_of o.header q.clocks) o.header q.names (items_in o) in
     elim (no_clock o.header q.clocks) [
-      | Some path ↦ record { output = []; message = codes "no clock of one bit: " ++ path; status = 2 }
-      | None ↦ elim (fault_in o) [
-        | Some f ↦ fault_after text name f
-        | None ↦ clean_outcome text
+      | Some path ↦ refused (codes "no clock of one bit: " ++ path)
+      | None ↦ elim (first_unmatched q.names o.header.declarations) [
+        | Some i ↦ refused (name_at q.names i ++ codes ": selects nothing")
+        | None ↦ strobe_body q name o
       ]
     ]
 

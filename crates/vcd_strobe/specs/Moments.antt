@@ -5,7 +5,7 @@ use Rattle.vcd_model.specs.Items.{BodyItem, time_after}
 use Rattle.vcd_model.specs.Strobe.{Clock, edges_in, turn_times}
 use Rattle.vcd_strobe.specs.Roles.{is_at}
 
--- after these items there were so many edges, the last one at this time
+-- after these items there were this many edges, the last one at this time
 pub record EdgesStand (ks : List Clock) (items : List BodyItem) (n : ℕ) (at : Option ℕ) : Type 0 where
   pub count : n ≡ length (edges_in ks items)
   pub last : at ≡ last_or None (map time_after (edges_in ks items))

@@ -7,7 +7,7 @@ ghost use Rattle.vcd_strobe.specs.Codes.{longest_text};
 use vcd_view::HeadView;
 
 /// Returns the length of the longest code in bytes; 0 if there is no code. The code of the time of
-/// an edge is one byte longer: so many `!`.
+/// an edge is one byte longer: that many `!`.
 pub fn longest_code(view: HeadView<'_>) -> usize
     ensures { (h : Header) → IsViewOf view.entry h → result ≡ longest_text h.codes }
 {

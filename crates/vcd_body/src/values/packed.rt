@@ -251,7 +251,7 @@ fn pack_many(bytes: &mut [u8], text: &[u8], quarter: usize)
 }
 
 /// Copies the first `quarter` bytes of `packed`, fewer than 16, to the front of `bytes`, which must
-/// have as many; all 16 if `bytes` has so many.
+/// have as many; all 16 if `bytes` has as many.
 #[inline(always)]
 fn copy_packed(bytes: &mut [u8], packed: [u8; 16], quarter: usize)
     requires few { quarter < 16 }
