@@ -24,7 +24,7 @@ pub use Rattle.std.proofs.lemmas.Nat.{div-add-mod', mod-mul-add, pow-add}
 pub use Rattle.std.proofs.lemmas.Option.{cond_some, get_or_from_slice_get, none-some, same_Some, slice_get-get_or, slice_get_past, slice_get_read, slice_get_within, unwrap_or-slice_get}
 pub use Rattle.std.proofs.lemmas.Result.{err_from_is_err_and}
 pub use Rattle.std.proofs.lemmas.Slice.Eq.{bytes_eq-Decides, strip_prefix_is}
-pub use Rattle.std.proofs.lemmas.Slice.Zip.{AllZip-long}
+pub use Rattle.std.proofs.lemmas.Slice.Zip.{AllZip-long, zip_end, zip_turn}
 pub use Rattle.std.specs.Borrow.{Bor}
 pub use Rattle.std.specs.Char.{is_ascii_digit}
 pub use Rattle.std.specs.Cmp.{IsStrictWeakOrder, nat_cmp_is}
@@ -32,6 +32,7 @@ pub use Rattle.std.specs.Cmp.Lexicographic.{slice_cmp}
 pub use Rattle.std.specs.Global.{Vec}
 pub use Rattle.std.specs.Int.{div_ceil, int_min}
 pub use Rattle.std.specs.Io.KnownBytes.{Appends}
+pub use Rattle.std.specs.Iterator.Adapters.{zip_first, zip_second}
 pub use Rattle.std.specs.List.{All, AllByRecursion, AllZip, Contains, IsDistinct, concat, join_with_byte, last_or, list_all, list_any, position_or_len, prefix_len, range_with_len, reduce, starts_with}
 pub use Rattle.std.specs.List.Sorted.{IsBinarySearchResult, IsSorted, IsSortedBy, IsStrictlySortedBy}
 pub use Rattle.std.specs.Option.{SomeIff, ok_or, option_or}
@@ -39,6 +40,7 @@ pub use Rattle.std.specs.Ordering.{int_eq, is_eq, is_lt, nat_cmp, ordering_rever
 pub use Rattle.std.specs.Prelude.{IsPermutation, fold, int_le, nat_le, nat_lt, option_to_list, ◌-ℤ◌}
 pub use Rattle.std.specs.declared.cmp.Ordering.{Ordering}
 pub use Rattle.std.specs.declared.cmp.Ordering.TheVariants.{Equal, Greater, Less}
+pub use Rattle.std.specs.Slice.Iter.{iter_rest}
 pub use Rattle.vcd_head.specs.Calls.{ReadsEnd}
 pub use Rattle.vcd_head.specs.Codes.{HasNone, Rises, RisesFrom, is_declared_as, is_of, keys_behind, keys_of}
 pub use Rattle.vcd_head.specs.Declares.{IsBarred, MayStart, keyword_for}
@@ -79,7 +81,7 @@ pub use Rattle.vcd_head.specs.declared.selection.Match.{Match}
 pub use Rattle.vcd_model.proofs.Decimals.{decimal_value-push}
 pub use Rattle.vcd_model.proofs.Growing.{each_after-append}
 pub use Rattle.vcd_model.proofs.HeaderGrammar.{find_passes, keyword_is, keyword_of-text}
-pub use Rattle.vcd_model.proofs.MarkedPlaces.{around_marks, below_other, none_any, places_after, places_below, places_split}
+pub use Rattle.vcd_model.proofs.MarkedPlaces.{around_marks, below_other, none_any, places_after, places_at, places_below, places_split}
 pub use Rattle.vcd_model.proofs.ScopeLemmas.{enclosing-scope, enclosing-up, enclosing-var, enclosing_below, innermost, slice_get-take}
 pub use Rattle.vcd_model.proofs.SoFarLemmas.{earlier-so_far, faulty-token, so_far-nothing, so_far-phrase, so_far-token, whole-phrase, without-last}
 pub use Rattle.vcd_model.specs.Backward.{each, each_after}
@@ -98,7 +100,7 @@ pub use Rattle.vcd_model.specs.Keywords.{Keyword, is_command, is_end, is_unknown
 pub use Rattle.vcd_model.specs.Laws.{IsPrefixOf}
 pub use Rattle.vcd_model.specs.Reading.{Placed, Reading, phrases_of, reading_of}
 pub use Rattle.vcd_model.specs.Scales.{exponent_of, is_scale_number, is_scale_unit, scale_text, scales}
-pub use Rattle.vcd_model.specs.Selection.{Selected, first_unmatched, is_among, is_selected, is_variable, marked_places, selects_path, with_path}
+pub use Rattle.vcd_model.specs.Selection.{Selected, first_unmatched, is_among, is_selected, is_variable, marked_places, selected, selects_code, selects_path, with_path}
 pub use Rattle.vcd_model.specs.SoFar.{IsSoFar}
 pub use Rattle.vcd_model.specs.Ticks.{Moment, in_range, ticks}
 pub use Rattle.vcd_model.specs.Tokens.{Stream, Token, stream_of}
@@ -117,7 +119,7 @@ pub use Rattle.vcd_view.proofs.EntryLemmas.{all_replicated}
 pub use Rattle.vcd_view.proofs.KeyLemmas.{same_key}
 pub use Rattle.vcd_view.proofs.KeywordLemmas.{no_ends_more, not_until, until}
 pub use Rattle.vcd_view.proofs.ListLemmas.{all_push, all_weaker, all_zip_push, bytes_flip, same_bytes, slice_get-front, slice_get-seam, there, to_all}
-pub use Rattle.vcd_view.proofs.LookUpLemmas.{codes_len, place_is, texts_range}
+pub use Rattle.vcd_view.proofs.LookUpLemmas.{codes_len, place_is, same_place, texts_range}
 pub use Rattle.vcd_view.proofs.ParentLemmas.{around_none, around_some, parent_before, parent_of_row, scopes_around, take-take, with_scopes}
 pub use Rattle.vcd_view.proofs.RoomLemmas.{codes_few}
 pub use Rattle.vcd_view.proofs.RowLemmas.{bytes_are, code_of_shown, read_row, row_at, row_of, row_of_variable, rows_len, text_within}
@@ -127,10 +129,12 @@ pub use Rattle.vcd_view.specs.Keys.{AreBytes, key_in}
 pub use Rattle.vcd_view.specs.Keywords.{NoEnds, model_keyword}
 pub use Rattle.vcd_view.specs.Shown.{HeadShown, parts}
 pub use Rattle.vcd_view.specs.Views.{AreHeld, AreRows, HasTexts, IsCode, IsExponent, IsIndex, IsRow, IsRowOf, IsSize, Views, code_text, counted_from_one, reference_of, type_of}
+pub use Rattle.vcd_view.specs.contracts.view.Kind.{the_type}
 pub use Rattle.vcd_view.specs.declared.view.Code.{Code}
 pub use Rattle.vcd_view.specs.declared.view.Kind.{Kind}
 pub use Rattle.vcd_view.specs.declared.view.Row.{Row}
 pub use Rattle.vcd_view.specs.declared.view.Scale.{Scale}
 pub use borrow.Author.Count.{below_more}
+pub use denote.Enum.Bare.{sameb}
 pub use mir.Syntax.{w8}
 pub use mir.Val.{SFits, of_z, to_z}

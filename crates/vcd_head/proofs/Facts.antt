@@ -6,6 +6,7 @@ pub use Rattle.vcd_head.proofs.DraftLemmas.{closed_narrow, code_narrow, has_code
 pub use Rattle.vcd_head.proofs.DraftSteps.{carried, failed_test, no_scope, passed_test, popped, room, scope_may, some_open, too_deep, too_many, up_may, var_may, whole_test}
 pub use Rattle.vcd_head.proofs.EnclosingLemmas.{HasWalked, IsReady, all_around, gives_some, leaves_most, ready_as_held, ready_by_walk, walk_ends, walk_first, walk_next, walk_stops}
 pub use Rattle.vcd_head.proofs.EnteredLemmas.{entered_known, entered_new, entered_other}
+pub use Rattle.vcd_head.proofs.FlagLemmas.{HaveFlags, are_at, flagged_all, flagged_next, flagged_none, flagged_other, flagged_outside, flagged_unmarked}
 pub use Rattle.vcd_head.proofs.IndexLemmas.{before, front_fits, index_made, range_push}
 pub use Rattle.vcd_head.proofs.InsideLemmas.{LeftAround, declares_none, declares_one, entered_next, front_is, front_next, get_mapped, is_empty-map, left_first, left_next, none_selects, notes_grow, notes_then_match, open_kept, open_matched, set_at, some_grouped, some_taken, take_group, the_variable}
 pub use Rattle.vcd_head.proofs.MarkLemmas.{closed_after, closed_zeros, counted_within, marked_all, marked_before, marked_both, marked_first, marked_group, walk_on}

@@ -17,6 +17,7 @@ pub mod RunLemmas
 pub mod RunSteps
 pub mod OrderLemmas
 pub mod SelectionLemmas
+pub mod FlagLemmas
 pub mod MatchLemmas
 pub mod DraftSteps
 pub mod DraftCodes

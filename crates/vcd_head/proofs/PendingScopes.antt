@@ -1,5 +1,5 @@
 -- The scopes of a merged head, whose lines are withheld until a variable is declared inside them.
-use Rattle.vcd_head.proofs.Cited.{◌≡◌, ℕ, zero, suc, ◌+◌, ◌-◌, ◌^◌, ◌<◌, ◌≤◌, ◌==◌, Bool, true, false, cond, ◌||◌, List, [], ◌∷◌, ◌++◌, length, take, drop, reverse, flat_map, slice_get, add-one, Option, Some, refl, sym, ap, subst, ◌∙◌, arith, AllByRecursion, concat, Appends, take-length, eq-eqb, ne_eqb, or_parts, flat_map-append, append_assoc, append-nil, length-drop, length-take, length_push, reverse-append, take-append-drop, list_any-append, each, each_after, Declaration, Variable, Header, row_line, up_line, up_lines_at, var_line, is_among, around_marks, below_other, none_any, places_after, places_below, places_split, enclosing-scope, enclosing-up, enclosing-var, enclosing_below, innermost, AppendsSome, appends-first, appends-none, appends-some, appends-twice, IsBehind, closing, due, numbered, opening, opening_of, openings, pending_behind, written_behind, GivesNext, LeavesScopes, Enclosing, Kind, Row, HeadShown, IsRow, Views, row_of, or-true}
+use Rattle.vcd_head.proofs.Cited.{◌≡◌, ℕ, zero, suc, ◌+◌, ◌-◌, ◌^◌, ◌<◌, ◌≤◌, ◌==◌, Bool, true, false, cond, ◌||◌, List, [], ◌∷◌, ◌++◌, length, take, drop, reverse, flat_map, slice_get, Option, Some, refl, sym, ap, subst, ◌∙◌, arith, AllByRecursion, concat, Appends, take-length, flat_map-append, append_assoc, append-nil, length-drop, length-take, length_push, reverse-append, take-append-drop, list_any-append, each, each_after, Declaration, Variable, Header, row_line, up_line, up_lines_at, var_line, is_among, around_marks, below_other, none_any, places_after, places_below, places_split, enclosing-scope, enclosing-up, enclosing-var, enclosing_below, innermost, AppendsSome, appends-first, appends-none, appends-some, appends-twice, IsBehind, closing, due, numbered, opening, opening_of, openings, pending_behind, written_behind, GivesNext, LeavesScopes, Enclosing, Kind, Row, HeadShown, IsRow, Views, row_of}
 use Rattle.vcd_model.specs.Declarations.{enclosing}
 use Rattle.vcd_model.specs.HeadText.{rows_text}
 use Rattle.vcd_model.specs.Selection.{marked_places}
@@ -7,7 +7,7 @@ use Rattle.vcd_view.specs.declared.view.Kind.TheVariants as kind
 use Rattle.vcd_head.proofs.EnclosingLemmas.{few_around}
 use Rattle.vcd_head.proofs.PathLemmas.{scope_at}
 use Rattle.vcd_head.proofs.WriteLemmas.{front-length, lines-append, lines-next}
-use Rattle.vcd_head.proofs.SelectionLemmas.{take-next}
+use Rattle.vcd_head.proofs.SelectionLemmas.{in_parts, marked_is, none_after, one_on}
 
 -- ---- lists
 
@@ -20,50 +20,17 @@ all_lower : (m n : ℕ) (xs : List ℕ) → m ≤ n → AllByRecursion (λ x. x 
 all_lower m n [] l h = tt
 all_lower m n (x ∷ xs) l h = let first = h.0 in (omega arith, all_lower m n xs l h.1)
 
-drop_none : (ps : List ℕ) (p : ℕ) → is_among ps p ≡ false → is_among (drop 1 ps) p ≡ false
-drop_none [] p h = refl
-drop_none (q ∷ ps) p h = (or_parts (p == q) (is_among ps p) h).1
-
-one_on : (ds : List Declaration) (i : ℕ) (d : Declaration) → slice_get ds i ≡ Some d → take (i + 1) ds ≡ take i ds ++ d ∷ []
-one_on ds i d at = ap (λ n. take n ds) (add-one i) ∙ take-next ds i d at
-
-in_parts : (ds : List Declaration) (i : ℕ) (d : Declaration) → slice_get ds i ≡ Some d → ds ≡ take i ds ++ d ∷ drop (i + 1) ds
-in_parts ds i d at = sym (take-append-drop (i + 1) ds) ∙ ap (λ l. l ++ drop (i + 1) ds) (one_on ds i d at) ∙ append_assoc (take i ds) (d ∷ []) (drop (i + 1) ds)
-
 -- ---- which scopes have a variable
 
--- the index of a variable is marked
-own_mark : (front back : List Declaration) (v : Variable) → is_among (marked_places [] (front ++ Declaration.Var v ∷ back)) (length front) ≡ true
-unfolding marked_places
-own_mark front back v =
-    let n = length front in
-    let before = places_after [] [] front in
-    let rest = enclosing front ++ places_after [] (front ++ Declaration.Var v ∷ []) back in
-    ap (λ l. is_among l n) (places_split [] [] front (Declaration.Var v ∷ back)) ∙ list_any-append (λ j. n == j) before (places_after [] front (Declaration.Var v ∷ back))
-    ∙ ap (λ b. is_among before n || (b || is_among rest n)) (eq-eqb n n refl) ∙ or-true (is_among before n)
-
--- so are those of the scopes around it
+-- the index of a variable is marked, and those of the scopes around it
 var_marks : (ds : List Declaration) (i : ℕ) (v : Variable) → slice_get ds i ≡ Some (Declaration.Var v)
     → AllByRecursion (λ p. is_among (marked_places [] ds) p ≡ true) (i ∷ enclosing (take i ds))
 var_marks ds i v at =
-    let front = take i ds in
-    let back = drop (i + 1) ds in
-    let whole = sym (in_parts ds i (Declaration.Var v) at) in
-    subst (λ (l : List Declaration). AllByRecursion (λ p. is_among (marked_places [] l) p ≡ true) (i ∷ enclosing front)) whole
-    (subst (λ n. is_among (marked_places [] (front ++ Declaration.Var v ∷ back)) n ≡ true) (front-length ds i (Declaration.Var v) at) (own_mark front back v), around_marks [] front back v refl)
-
--- a scope that is closed is marked by none of the declarations after
-closed_after : (p : ℕ) (e xs : List Declaration) → p < length e → is_among (enclosing e) p ≡ false → is_among (places_after [] e xs) p ≡ false
-closed_after p e [] l h = refl
-closed_after p e (Declaration.Scope type name ∷ xs) l h =
-    closed_after p (e ++ Declaration.Scope type name ∷ []) xs (omega (arith, length_push e (Declaration.Scope type name)))
-    (ap (λ ps. is_among ps p) (enclosing-scope e type name) ∙ ap (λ b. b || is_among (enclosing e) p) (ne_eqb p (length e) (λ q. absurd (omega arith))) ∙ h)
-closed_after p e (Declaration.Up ∷ xs) l h =
-    closed_after p (e ++ Declaration.Up ∷ []) xs (omega (arith, length_push e Declaration.Up)) (ap (λ ps. is_among ps p) (enclosing-up e) ∙ drop_none (enclosing e) p h)
-closed_after p e (Declaration.Var v ∷ xs) l h =
-    let rest = places_after [] (e ++ Declaration.Var v ∷ []) xs in
-    ap (λ b. b || is_among (enclosing e ++ rest) p) (ne_eqb p (length e) (λ q. absurd (omega arith))) ∙ list_any-append (λ j. p == j) (enclosing e) rest ∙ ap (λ b. b || is_among rest p) h
-    ∙ closed_after p (e ++ Declaration.Var v ∷ []) xs (omega (arith, length_push e (Declaration.Var v))) (ap (λ ps. is_among ps p) (enclosing-var e v) ∙ h)
+    let front = take i ds in (
+      marked_is [] ds i v at,
+      subst (λ (l : List Declaration). AllByRecursion (λ p. is_among (marked_places [] l) p ≡ true) (enclosing front))
+          (sym (in_parts ds i (Declaration.Var v) at)) (around_marks [] front (drop (i + 1) ds) v refl),
+    )
 
 -- a scope, or the end of one, marks nothing
 scope_marks : (ds : List Declaration) (i : ℕ) (type name : List ℕ) → slice_get ds i ≡ Some (Declaration.Scope type name) → marked_places [] (take (i + 1) ds) ≡ marked_places [] (take i ds)
@@ -99,7 +66,7 @@ never ds i p around at are_open none =
     let gone : is_among (enclosing e) p ≡ false = ap (λ ps. is_among ps p) outer ∙ none_any (λ j. p == j) around (below_other p around lower) in
     let first : is_among (places_after [] [] e) p ≡ false = ap (λ ps. is_among ps p) (up_marks ds i at) ∙ none in
     ap (λ l. is_among (places_after [] [] l) p) (sym (take-append-drop (i + 1) ds)) ∙ ap (λ ps. is_among ps p) (places_split [] [] e rest)
-    ∙ list_any-append (λ j. p == j) (places_after [] [] e) (places_after [] e rest) ∙ ap (λ b. b || is_among (places_after [] e rest) p) first ∙ closed_after p e rest within gone
+    ∙ list_any-append (λ j. p == j) (places_after [] [] e) (places_after [] e rest) ∙ ap (λ b. b || is_among (places_after [] e rest) p) first ∙ none_after [] e rest p within gone
 
 -- ---- lines that are withheld
 

@@ -37,7 +37,7 @@ pub use Rattle.vcd_head.specs.Fronts.{AreRanks, prefix_in, position_in_rank, ran
 pub use Rattle.vcd_head.specs.Groups.{AreRising, FlagsSome, GoesOnWith, IsRun, IsRunOn, RunsOn, names_of}
 pub use Rattle.vcd_head.specs.Inside.{AnyOpen, ComparesAt, Enters as EntersScope, FlagsSelected, GivesAround, IsOpen, KeepsOpen, SelectsAt, StaysOpen, front, row_path}
 pub use Rattle.vcd_head.specs.Keys.{AreKeysOf, is_key, same_shape, same_writes, shape_in, shape_of, writes_of}
-pub use Rattle.vcd_head.specs.Marks.{AreClosed, Marked, RefusesUnmatched, is_marked, marks_of, row_and_scopes}
+pub use Rattle.vcd_head.specs.Marks.{AreClosed, AreFlags, Marked, RefusesUnmatched, is_marked, marks_of, row_and_scopes}
 pub use Rattle.vcd_head.specs.Matched.{IsFirstFalse, Matches}
 pub use Rattle.vcd_head.specs.Merged.{FitNumbers, IsBehind as IsPast, ShowHeaders, closing, due, input_rows, openings}
 pub use Rattle.vcd_head.specs.Moments.{asked, tick_fault_number, told, with_unit}

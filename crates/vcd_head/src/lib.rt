@@ -4,8 +4,8 @@
 //! `read_head` reads a header from a feed, up to the `$end` of `$enddefinitions`, into a `Head`,
 //! which owns its memory. `read_head_with_hasher` hashes its codes with what the caller chooses,
 //! against crafted codes. All else works on its `HeadView`: the path of a variable (`put_path`),
-//! the variables that names select (`select`, as marks), and the header of marked declarations
-//! (`put_head`). The header of a merged dump is written from the heads themselves
+//! the variables that names select (`select`, as marks), their codes (`flag_codes`), and the header
+//! of marked declarations (`put_head`). The header of a merged dump is written from the heads themselves
 //! (`put_merged_head`).
 //!
 //! The view and its rows, the look-up of codes (`find`), the room that an engine needs (`need`) and
@@ -38,7 +38,7 @@
 //! - Look-up in the head: `index`, the order of the codes by their bytes; `vcd_view` has the rest
 //! - Scopes around a declaration: `enclosing`, outermost first; `path`, the path of a variable
 //! - Selection: `selection`, which variables names select; `inside`, the names that continue inside
-//!   open scopes; `names`, names in the order of their bytes
+//!   open scopes; `names`, names in the order of their bytes; `flags`, the codes of marked variables
 //! - Writing: `write`, headers as they are written; `merged`, the header of a merged dump
 //! - Ticks: `moment`, a time with a unit in ticks of the header's scale
 //! - Theorems: `laws`. Each function there has a law over headers and codes as its contract
@@ -87,6 +87,7 @@ mod enclosing;
 mod path;
 
 // Selection.
+mod flags;
 mod inside;
 mod names;
 mod selection;
@@ -102,6 +103,7 @@ mod moment;
 pub mod laws;
 
 pub use fault::HeadFault;
+pub use flags::flag_codes;
 pub use head::Head;
 pub use merged::{least_exponent, put_merged_head};
 pub use moment::{Moment, TickFault, ticks};
