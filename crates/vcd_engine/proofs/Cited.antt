@@ -65,7 +65,6 @@ pub use Rattle.vcd_body.specs.declared.values.step.Step.{Step}
 pub use Rattle.vcd_body.specs.declared.values.table.Table.{Table}
 pub use Rattle.vcd_engine.specs.Ahead.{EndsAhead, RunsAhead, RunsOver, StandsAhead}
 pub use Rattle.vcd_engine.specs.Check.{AreCounted}
-pub use Rattle.vcd_engine.specs.Choice.{is_chosen}
 pub use Rattle.vcd_engine.specs.Cut.{AreCut, HasBegun, HasNone, IsNoTimestamp, kept_from, values_text}
 pub use Rattle.vcd_engine.specs.Edges.{AreEdges, AreTallied, names_counted, numbers}
 pub use Rattle.vcd_engine.specs.Engine.{CanRun, Holds, Keeps, Runs, StopsAtStart, StopsUnread, TakesOne, is_going, last_time_of, reads_body, request_in, request_of, request_of_engine}
@@ -93,7 +92,7 @@ pub use Rattle.vcd_engine.specs.declared.task_state.sample.Sample.{Sample}
 pub use Rattle.vcd_engine.specs.declared.task_state.walk.WalkState.{WalkState}
 pub use Rattle.vcd_head.proofs.MarkLemmas.{among-append}
 pub use Rattle.vcd_head.proofs.MarkedHead.{marks_are}
-pub use Rattle.vcd_head.proofs.SelectionLemmas.{take-next}
+pub use Rattle.vcd_head.proofs.SelectionLemmas.{marked_is, selected_next, take-next}
 pub use Rattle.vcd_head.proofs.WriteLemmas.{code_there, own_text, texts-some}
 pub use Rattle.vcd_head.specs.Marks.{is_marked, marks_of}
 pub use Rattle.vcd_model.proofs.BodyPrefix.{items_begin}

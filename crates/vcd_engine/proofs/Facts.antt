@@ -15,7 +15,6 @@ pub use Rattle.vcd_engine.proofs.RunLemmas.{begun_plan, follows, runs_plan, step
 pub use Rattle.vcd_engine.proofs.SampleLemmas.{closes, due_unsettled, ends_is, first_or_len, place_within, quiet_item, quiet_mark, samples_behind, some_left, takes_due}
 pub use Rattle.vcd_engine.proofs.SampleLines.{event_is, line_at, lines_are, no_line}
 pub use Rattle.vcd_engine.proofs.SelectedLines.{declared_at, rows_all, rows_before, rows_marked, rows_none, rows_other, rows_some, rows_unmarked}
-pub use Rattle.vcd_engine.proofs.SelectionLemmas.{HaveChosen, all_chosen, are_at, next_chosen, next_other, next_outside, next_unmarked, none_chosen}
 pub use Rattle.vcd_engine.proofs.StartStops.{never_begun}
 pub use Rattle.vcd_engine.proofs.TallyLemmas.{follow_tallied, mark_passed, mark_tallied, new_tallied, shown_there, sized_there, still_tallied}
 pub use Rattle.vcd_engine.proofs.TallyLines.{row_is, rows_are}

@@ -18,7 +18,6 @@ pub mod CutLemmas
 pub mod TallyLemmas
 pub mod SelectedLines
 pub mod TallyLines
-pub mod SelectionLemmas
 pub mod SampleLines
 pub mod LeadLemmas
 pub mod SampleLemmas

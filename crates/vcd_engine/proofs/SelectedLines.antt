@@ -1,9 +1,8 @@
 -- The lines of the selected variables, row by row.
-use Rattle.vcd_engine.proofs.Cited.{◌≡◌, ◌≢◌, ℕ, ◌+◌, refl, Bool, true, false, cond, List, [], ◌∷◌, ◌++◌, length, take, drop, slice_get, flat_map, filter_map, Option, Some, None, sym, ap, subst, ◌∙◌, Appends, take-length, take-append-drop, filter_map-append, flat_map-append, each, each_after, Declaration, Variable, path_of, Header, Selected, is_selected, with_path, each_after-append, AppendsSome, appends-first, appends-some, is_marked, marks_of, HeadShown, IsRow, Views, Row, rows_len, row_at, marks_are}
+use Rattle.vcd_engine.proofs.Cited.{◌≡◌, ◌≢◌, ℕ, ◌+◌, refl, Bool, true, false, cond, List, [], ◌∷◌, ◌++◌, length, take, drop, slice_get, flat_map, filter_map, Option, Some, None, sym, ap, subst, ◌∙◌, Appends, take-length, take-append-drop, filter_map-append, flat_map-append, each, each_after, Declaration, Variable, path_of, Header, Selected, is_selected, with_path, each_after-append, AppendsSome, appends-first, appends-some, is_marked, marks_of, HeadShown, IsRow, Views, Row, rows_len, row_at, marked_is, marks_are, selected_next}
 use Rattle.std.proofs.lemmas.List.{append-nil}
 use Rattle.vcd_model.specs.Selection.{selected}
 use Rattle.vcd_view.specs.declared.view.Kind.TheVariants as kind
-use Rattle.vcd_engine.proofs.SelectionLemmas.{marked_is, selected_next}
 
 -- a variable that is declared at an index, with its path
 abbrev pub declared_at : List Declaration → ℕ → Variable → Selected

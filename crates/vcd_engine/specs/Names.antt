@@ -44,7 +44,6 @@ pub use Rattle.vcd_body.specs.declared.item.Item.TheVariants.{Finish}
 pub use Rattle.vcd_run.specs.Run.{CountsStop}
 pub use Rattle.vcd_engine.specs.Ahead.{RunsOver}
 pub use Rattle.vcd_engine.specs.Check.{AreCounted}
-pub use Rattle.vcd_engine.specs.Choice.{is_chosen}
 pub use Rattle.vcd_engine.specs.Cut.{AreCut, BeginsBy, IsNoTimestamp, lent_to, PutsStart, SameSpan, span_in}
 pub use Rattle.vcd_engine.specs.Edges.{AreEdges, AreTallied, change_to, names_counted, room_in_edges, SameEdges}
 pub use Rattle.vcd_engine.specs.Engine.{AtClose, AtItem, CanRun, ClosesOver, Holds, is_going, Keeps, last_time_of, may_end_early, request_in, request_of, request_of_engine, Starts, StartsOver, StopsUnread, TakesEach, TakesTime}
@@ -57,6 +56,6 @@ pub use Rattle.vcd_engine.specs.Room.{AnyRoom, AreWithinBound, BeginsAs, HasRoom
 pub use Rattle.vcd_engine.specs.Rows.{AtRow}
 pub use Rattle.vcd_engine.specs.TaskRun.{EndsAsAsked, MayRun, RunsTask, RunsWhole}
 pub use Rattle.vcd_engine.specs.Sample.{AreSampled, asked_in, is_due, lent_to as lent_to_sample, SameSample}
-pub use Rattle.vcd_engine.specs.Selection.{AreSelected, ChoosesMore, IsFirstUnmatched, IsUnmatched}
+pub use Rattle.vcd_engine.specs.Selection.{AreSelected, IsFirstUnmatched, IsUnmatched}
 pub use Rattle.vcd_engine.specs.Step.{MayStep, Steps, StepsOver}
 pub use Rattle.vcd_body.specs.Current.{AreHeld, HasValues}

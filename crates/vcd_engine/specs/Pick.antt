@@ -4,12 +4,11 @@ use Rattle.vcd_model.specs.Header.{Header}
 use Rattle.vcd_model.specs.Items.{BodyItem}
 use Rattle.vcd_model.specs.Pick.{pick_kept}
 use Rattle.vcd_view.specs.declared.view.HeadView.{HeadView}
-use Rattle.vcd_engine.specs.Choice.{is_chosen}
+use Rattle.vcd_head.specs.Marks.{AreFlags, is_marked}
 use Rattle.vcd_body.specs.declared.item.Item.{Item}
 use Rattle.vcd_body.specs.declared.item.Item.TheVariants.{Change}
 use Rattle.vcd_body.specs.declared.item.Regs.{Regs}
 use Rattle.vcd_engine.specs.ItemText.{HasWritten, may_be_kept}
-use Rattle.vcd_engine.specs.Selection.{AreChosen}
 use Rattle.vcd_engine.specs.declared.task_state.pick.Pick.{Pick}
 
 -- the names that were asked for
@@ -20,15 +19,15 @@ names_in p = map string_bytes p.names.now
 abbrev pub flags_in : Pick → ℕ
 flags_in p = length p.flags.now
 
--- over this header and after these items: the codes of the selected variables are chosen, and the
+-- over this header and after these items: the flags are those of the selected variables, and the
 -- text is that of the kept items
 pub record ArePicked (p : Pick) (h : Header) (items : List BodyItem) : Type 0 where
-  pub chosen : AreChosen (names_in p) h p.flags.now
+  pub chosen : AreFlags h (names_in p) p.flags.now
   pub written : HasWritten [] (pick_kept h (names_in p) items) p.text
 
--- an item is of a chosen code, or of none
+-- an item is of a code whose flag is 1, or of none
 abbrev pub is_of_chosen : List ℕ → Item → Bool
-is_of_chosen flags (Change index form) = is_chosen flags index
+is_of_chosen flags (Change index form) = is_marked flags index
 is_of_chosen flags item = true
 
 -- an item, after which the registers are these, is kept

@@ -29,10 +29,9 @@
 //!   `AheadTask`, what a task does with items that lie completely in the chunk, and the loop over
 //!   these
 //! - `commands`: `check`, `pick`, `cut`, `sample`, `edges`
-//! - `choice`: which codes are chosen, a byte for each code
 //! - `item_text`: kept items as lines, each after the line of its time
 //! - `pending`: pending text: output that the chunk already has, and that is written piece by piece
-//! - `selection`: the variables that names select, as flags and as chosen codes
+//! - `selection`: the variables that names select, as marks of rows and flags of codes
 //! - `report`, `rows`, `tally`: the seven lines of `check`; `list`; the counters of `edges`, and
 //!   its rows
 //! - `sample_lines`: the lines of a sample; `leads`: the flags that lead from one row with a line
@@ -53,7 +52,6 @@
 //! in it after a run.
 #![tactic(auto)]
 
-mod choice;
 mod commands;
 mod engine;
 mod item_text;

@@ -1,34 +1,19 @@
-//! The variables that names select: a flag for each row, and for each code.
-ghost use Rattle.std.specs.Prelude.{◌≡◌, ℕ, ◌≤◌, List, length, map, string_bytes, MatchResult};
-ghost use Rattle.vcd_engine.specs.Names.{AreSelected, ChoosesMore, Header, is_marked, IsFirstUnmatched, IsUnmatched, IsViewOf, marks_of};
+//! The variables that names select: a mark for each row, and a flag for each code.
+ghost use Rattle.std.specs.Prelude.{◌≡◌, ◌≤◌, length, map, string_bytes, MatchResult};
+ghost use Rattle.vcd_engine.specs.Names.{AreSelected, Header, is_marked, IsFirstUnmatched, IsUnmatched, IsViewOf};
 
-use crate::choice::{clear_chosen, set_chosen};
 use vcd_body::Stop;
-use vcd_head::select;
-use vcd_view::{HeadView, Kind};
+use vcd_head::{flag_codes, select};
+use vcd_view::HeadView;
 
-/// Returns whether the element of a row in `marks` is 1; false if there is no such row.
-pub(crate) fn is_marked(marks: &[u8], row: usize) -> bool
-    ensures { result ≡ is_marked marks.now row }
+/// Returns whether the mark of a row, or the flag of a code, is 1; false if there is none at this
+/// index.
+// A byte for each code, so that the flags of many codes fit into the cache.
+#[inline]
+pub(crate) fn is_marked(marks: &[u8], index: usize) -> bool
+    ensures { result ≡ is_marked marks.now index }
 {
-    marks.get(row).copied().unwrap_or(0) == 1
-}
-
-/// Sets to 1 the flags of the codes of the variables that are marked (have 1 in `marks`, at the
-/// indexes of their rows). `flags` has at least one byte for each code. The flags of all other
-/// codes stay as they are.
-fn choose_marked(view: HeadView<'_>, marks: &[u8], flags: &mut [u8])
-    requires codes { length view.codes.now ≤ length flags.old }
-    ensures codes { length flags.new ≡ length flags.old }
-    ensures chosen { (h : Header) (names : List (List ℕ)) → IsViewOf view.entry h
-        → marks.now ≡ marks_of names h.declarations → ChoosesMore names h flags.old flags.new }
-{
-    for (row, mark) in view.rows.iter().zip(marks) {
-        let code = row.code as usize;
-        if row.kind == Kind::Var && *mark == 1 && code < view.codes.len() {
-            set_chosen(flags, code);
-        }
-    }
+    marks.get(index).copied().unwrap_or(0) == 1
 }
 
 /// Selects variables by these names (all if there are no names): sets `marks`, one byte for each
@@ -52,7 +37,6 @@ pub(crate) fn select_codes(
     if let Err(name) = select(view, names, marks) {
         return Err(Stop::Unmatched { name });
     }
-    clear_chosen(flags);
-    choose_marked(view, marks, flags);
+    flag_codes(view, marks, flags);
     Ok(())
 }

@@ -3,10 +3,9 @@ ghost use Rattle.std.specs.Prelude.{◌≡◌, ◌-◌, ◌^◌, ◌<◌, map, s
 ghost use Rattle.vcd_engine.specs.Names.{ArePicked, AreRegsAfter, BodyItem, Counts, CountsStop, flags_in, HasRoomFor, Header, is_kept, last_mark, last_time_of, names_in, pick_close, Request, StartsOver, StopsUnread, Takes};
 ghost use Rattle.vcd_engine.specs.declared.task.Task.TheVariants as task;
 
-use crate::choice::is_chosen;
 use crate::item_text::{ItemText, may_keep};
 use crate::pending::PendingCopy;
-use crate::selection::select_codes;
+use crate::selection::{is_marked, select_codes};
 use crate::task::Room;
 use crate::task_state::last_time_of;
 use crate::task_state::walk::{AheadTask, KnownLine};
@@ -66,7 +65,7 @@ impl<'n, 'r> Pick<'n, 'r> {
         ensures { result ≡ is_kept self.now.flags.now view.entry regs item }
     {
         let chosen = match item {
-            Item::Change { code, .. } => is_chosen(self.flags, code),
+            Item::Change { code, .. } => is_marked(self.flags, code),
             Item::Time(_) | Item::Begin(_) | Item::End | Item::Finish => true,
         };
         chosen && may_keep(view, regs, item)
