@@ -22,7 +22,6 @@ use Rattle.vcd_model.specs.Items.{BodyItem, Change, leaves_open, time_after}
 use Rattle.vcd_model.specs.Selection.{selected, selects_code}
 use Rattle.vcd_model.specs.Strobe.{Clock as ModelClock, edge_text, edges_in, is_turn, last_time, strobe_open, time_code}
 use Rattle.vcd_text.specs.Device.{Device, Takes}
-use Rattle.vcd_head.specs.Marks.{is_marked}
 use Rattle.vcd_view.specs.Views.{IsViewOf}
 use Rattle.vcd_view.specs.declared.view.HeadView.{HeadView}
 use Rattle.vcd_body.specs.Contents.{IsLaidOut, codes_shown, kept_at}
@@ -188,7 +187,3 @@ pub record Suffices (v : HeadView) (bytes room : ℕ) (roles : List Role) (clock
   pub roles_are : AreFresh h names roles
   pub clocks_are : AreClocks h.codes clocks ks
   pub id_is : id ≡ (time_code h).text
-
--- a flag is 1 if a selected variable has its code
-abbrev pub AreFlags : Header → List (List ℕ) → List ℕ → Type 0
-AreFlags h names flags = (i : ℕ) (c : IdCode) → slice_get h.codes i ≡ Some c → is_marked flags i ≡ has_lines_in h names c

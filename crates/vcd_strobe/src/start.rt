@@ -2,8 +2,8 @@
 ghost use Rattle.std.specs.Prelude.{◌≡◌, ℕ, ◌≤◌, List, [], length};
 ghost use Rattle.vcd_model.specs.Header.{Header};
 ghost use Rattle.vcd_model.specs.Strobe.{Clock as ModelClock};
-ghost use Rattle.vcd_head.specs.Marks.{is_marked};
-ghost use Rattle.vcd_strobe.specs.Strobes.{AreFlags, AreFresh, HasStrobed, Suffices, strobe_plan};
+ghost use Rattle.vcd_head.specs.Marks.{AreFlags, is_marked};
+ghost use Rattle.vcd_strobe.specs.Strobes.{AreFresh, HasStrobed, Suffices, strobe_plan};
 
 use crate::clocks::Clock;
 use crate::role::Role;
