@@ -94,6 +94,12 @@ pub mod SameSides
 pub mod CompareInputs
 pub mod CompareOfMerge
 pub mod SameStrobes
+pub mod StrobeBase
+pub mod StrobeEdges
+pub mod StrobeChanges
+pub mod StrobeFacts
+pub mod StrobeCounts
+pub mod StrobeKeeps
 pub mod SuccessMatches
 pub mod MergedSuccess
 pub mod Cited

@@ -13,7 +13,7 @@ ghost use Rattle.vcd_laws.specs.OverCut.{ListOfCut, SampleOfCut, SampleOfCutAnyw
 ghost use Rattle.vcd_laws.specs.OverMerge.{ListOfMerge, SampleOfMerge, EdgesOfMerge, SampleOfOneMerged, SampleOfAllMerged, EdgesOfOneMerged, EdgesOfAllMerged, SampleOfAnyMerged, EdgesOfAnyMerged};
 ghost use Rattle.vcd_laws.specs.CompareMerged.{CompareOfMerge};
 ghost use Rattle.vcd_laws.specs.Matching.{ComparisonIsWithin, SuccessIsAMatch, MergedSuccessIsAMatch};
-ghost use Rattle.vcd_laws.specs.Strobes.{NothingRevisedInStrobe, SameStrobes};
+ghost use Rattle.vcd_laws.specs.Strobes.{NothingRevisedInStrobe, SameStrobes, StrobeKeeps};
 ghost use Rattle.vcd_laws.specs.Counted.{CheckOfPick, CheckOfCut, CheckOfMerge};
 ghost use Rattle.vcd_laws.specs.Checked.{CheckedIsSafe, CheckNamesTheFault, CleanIsChecked, CheckedMergeIsSafe, MergeNamesTheFault};
 ghost use Rattle.vcd_laws.specs.Final.{SettledIsFinal, SettledIsFinalInMerge, SettledMergeIsFinal, SettledAloneSettlesMerge, UnsettledIsOpen, UnsettledMergeIsOpen};
@@ -292,6 +292,12 @@ pub fn nothing_revised_in_strobe()
 /// edge, whatever happens between the edges, and whenever the edges are.
 pub fn same_strobes()
     ensures { SameStrobes }
+{}
+
+/// What `strobe` writes is a whole body after its head, with or without a fault of the input: at
+/// time n the selected codes, except those of events, have their values just before edge n.
+pub fn strobe_keeps()
+    ensures { StrobeKeeps }
 {}
 
 /// `check` of what `pick` wrote counts the selected variables and what was kept of the body.

@@ -1,0 +1,235 @@
+-- The edges of a strobe, the values just before them, and the changes that it writes at them.
+use Rattle.vcd_laws.proofs.Cited.{Bool, List, None, Option, Some, [], ap, arith, cond, false, filter_map, is_none, nat_lt, refl, subst, sym, true, ℕ, ◌&&◌, ◌++◌, ◌<◌, ◌∙◌, ◌∷◌, ◌≡◌, ◌≤◌, and_from, and_parts, lt-ltb, ltb-true, append_assoc, filter_map-append, cons_option, last_or, IsGoodValue, AreFit, IsGoodChange, behind, gives_at, last_value_is, latest, IsWord, each_after, declared_code, IdCode, same_code, final_value, gives_to, value_before, value_in, BodyItem, Change, Entry, entries, entry_after, open_section, time_after, Value, value_of}
+use Rattle.vcd_model.specs.Backward.{each_some}
+use Rattle.vcd_model.specs.Laws.{IsPrefixOf}
+use Rattle.vcd_model.specs.Strobe.{Clock, edges_in, initial_value, is_edge, is_vars, sampled, value_from_start}
+use Rattle.vcd_model.proofs.Growing.{each_after-append, entries-append}
+use Rattle.vcd_model.proofs.Latest.{newer, latest-append}
+use Rattle.vcd_model.proofs.StartSections.{given_good}
+use Rattle.vcd_model.proofs.CutKept.{before_is}
+use Rattle.vcd_model.proofs.Times.{time_after-append}
+use Rattle.vcd_model.proofs.StrobeGrows.{edges_after}
+use Rattle.vcd_laws.proofs.StrobeBase.{AllSteps}
+
+-- ---- edges
+
+-- an edge, which is the items before it, begins all items, and the edge before it begins it
+pub record IsEdgeOf (items : List BodyItem) (before : List (List BodyItem))
+    (edge : List BodyItem) : Type 0 where
+  pub within : IsPrefixOf edge items
+  pub later : (e : List BodyItem) → last_or None before ≡ Some e → IsPrefixOf e edge
+
+pub last_snoc : {X : Type 0} (o : Option X) (xs : List X) (x : X)
+    → last_or o (xs ++ x ∷ []) ≡ Some x
+last_snoc o [] x = refl
+last_snoc o (y ∷ xs) x = last_snoc (Some y) xs x
+
+edges_more : (ks : List Clock) (p q : List BodyItem) (before : List (List BodyItem))
+    → ((e : List BodyItem) → last_or None before ≡ Some e → IsPrefixOf e p)
+    → AllSteps (IsEdgeOf (p ++ q)) before (edges_after ks p q)
+edges_more ks p [] before h = tt
+edges_more ks p (x ∷ q) before h =
+    by_edge (is_edge ks p x) (edges_more ks (p ++ x ∷ []) q (before ++ p ∷ []) longer)
+    (edges_more ks (p ++ x ∷ []) q before also)
+  where
+    whole : p ++ x ∷ [] ++ q ≡ p ++ x ∷ q
+    whole = append_assoc p (x ∷ []) q
+
+    longer : (e : List BodyItem) → last_or None (before ++ p ∷ []) ≡ Some e
+        → IsPrefixOf e (p ++ x ∷ [])
+    longer e l = let same : p ≡ e = let m = last_snoc None before p in cc in
+        subst (λ (i : List BodyItem). IsPrefixOf i (p ++ x ∷ [])) same (x ∷ [], refl)
+
+    also : (e : List BodyItem) → last_or None before ≡ Some e → IsPrefixOf e (p ++ x ∷ [])
+    also e l = let r = h e l in
+        (r.0 ++ x ∷ [], ap (λ i. i ++ x ∷ []) r.1 ∙ append_assoc e r.0 (x ∷ []))
+
+    by_edge : (b : Bool) → AllSteps (IsEdgeOf (p ++ x ∷ [] ++ q)) (before ++ p ∷ [])
+        (edges_after ks (p ++ x ∷ []) q)
+        → AllSteps (IsEdgeOf (p ++ x ∷ [] ++ q)) before (edges_after ks (p ++ x ∷ []) q)
+        → AllSteps (IsEdgeOf (p ++ x ∷ q)) before
+        (cons_option (cond b (Some p) None) (edges_after ks (p ++ x ∷ []) q))
+    by_edge true with_it without = (
+      record { within = (x ∷ q, refl); later = h },
+      subst (λ (i : List BodyItem). AllSteps (IsEdgeOf i) (before ++ p ∷ [])
+          (edges_after ks (p ++ x ∷ []) q)) whole with_it,
+    )
+    by_edge false with_it without =
+        subst (λ (i : List BodyItem). AllSteps (IsEdgeOf i) before
+        (edges_after ks (p ++ x ∷ []) q)) whole without
+
+pub edges_are : (ks : List Clock) (items : List BodyItem)
+    → AllSteps (IsEdgeOf items) [] (edges_in ks items)
+unfolding edges_in
+edges_are ks items = edges_more ks [] items [] (λ e l. cc)
+
+-- ---- the values just before them
+
+module _ (codes : List IdCode) (c : IdCode) (declared : declared_code codes c.text ≡ Some c)
+    (quiet : c.event ≡ false) (filled : 0 < c.size) where
+  -- a value of the code that can be written
+  abbrev pub CanBeWritten : Value → Type 0
+  CanBeWritten v = IsWord c.text × IsGoodValue c v
+
+  change_good : (d : Change) → IsGoodChange codes d → same_code c d.code ≡ true
+      → CanBeWritten (value_of d)
+  change_good d good same =
+      given_good codes c (λ u. true) 0 false (BodyItem.Changes d ∷ []) (value_of d) declared quiet
+      filled (good, tt) (rw same refl)
+
+  first_value : List Value → Option Value
+  first_value vs = elim vs [ [] ↦ None | v ∷ ws ↦ Some v ]
+
+  starts_good : (t : ℕ) (o : Bool) (earlier xs : List BodyItem) (v : Value) → AreFit codes t o xs
+      → elim (filter_map (λ x. x) (each_after (value_from_start c) earlier xs)) [
+        | [] ↦ None
+        | w ∷ ws ↦ Some w
+      ] ≡ Some v → CanBeWritten v
+  starts_good t o earlier [] v fit e = cc
+  starts_good t o earlier (BodyItem.Time u ∷ xs) v fit e =
+      starts_good u o (earlier ++ BodyItem.Time u ∷ []) xs v fit.1 e
+  starts_good t o earlier (BodyItem.Begin s ∷ xs) v fit e =
+      starts_good t true (earlier ++ BodyItem.Begin s ∷ []) xs v fit.1 e
+  starts_good t o earlier (BodyItem.End ∷ xs) v fit e =
+      starts_good t false (earlier ++ BodyItem.End ∷ []) xs v fit.1 e
+  starts_good t o earlier (BodyItem.Changes d ∷ xs) v fit e =
+      by_test (same_code c d.code && is_none (final_value earlier c)
+      && is_vars (open_section earlier)) refl e
+      (starts_good t o (earlier ++ BodyItem.Changes d ∷ []) xs v fit.1)
+    where
+      rest : List Value
+      rest = filter_map (λ x. x)
+          (each_after (value_from_start c) (earlier ++ BodyItem.Changes d ∷ []) xs)
+
+      by_test : (b : Bool) → (same_code c d.code && is_none (final_value earlier c)
+          && is_vars (open_section earlier)) ≡ b
+          → elim (cons_option (cond b (Some (value_of d)) None) rest) [
+            | [] ↦ None
+            | w ∷ ws ↦ Some w
+          ] ≡ Some v
+          → (elim rest [ [] ↦ None | w ∷ ws ↦ Some w ] ≡ Some v → CanBeWritten v) → CanBeWritten v
+      by_test true f g more =
+          let same : value_of d ≡ v = cc in
+          let gives = (and_parts (same_code c d.code) (is_none (final_value earlier c))
+          (and_parts (same_code c d.code && is_none (final_value earlier c))
+          (is_vars (open_section earlier)) f).0).0 in
+          subst CanBeWritten same (change_good d fit.0 gives)
+      by_test false f g more = more g
+
+  -- the value just before an edge can be written
+  pub sampled_good : (edge : List BodyItem) (v : Value) → AreFit codes 0 false edge
+      → sampled edge c ≡ Some v → CanBeWritten v
+  unfolding sampled
+  sampled_good edge v fit e = by_value (value_before edge c (time_after edge)) refl e
+    where
+      by_value : (o : Option Value) → value_before edge c (time_after edge) ≡ o
+          → elim o [ Some w ↦ Some w | None ↦ initial_value edge c ] ≡ Some v → CanBeWritten v
+      by_value (Some w) f g =
+          given_good codes c (λ u. nat_lt u (time_after edge)) 0 false edge v declared quiet filled
+          fit (sym (before_is codes edge c (time_after edge) fit) ∙ f ∙ g)
+      by_value None f g = starts_good 0 false [] edge v fit g
+
+-- ---- and they stay
+
+-- there is a value
+abbrev pub HasValue : Option Value → Type 0
+HasValue o = (v : Value) × (o ≡ Some v)
+
+newer_some : (b : Bool) (v o : Option Value) → HasValue o → HasValue (newer b v o)
+newer_some b v o h = (h.0, rw h.1 refl)
+
+behind_some : (l o : Option Value) → HasValue o → HasValue (behind l o)
+behind_some (Some x) o h = (x, refl)
+behind_some None o h = h
+
+-- a weaker test finds a value too
+latest_weaker : (test other : Entry → Bool) (es : List Entry)
+    → ((e : Entry) → test e ≡ true → other e ≡ true) → HasValue (latest test es)
+    → HasValue (latest other es)
+latest_weaker test other [] f h = cc
+latest_weaker test other (e ∷ es) f h =
+    by_later (latest test es) (test e) refl refl h (latest_weaker test other es f)
+  where
+    last : (o : Option Value) → HasValue (value_in e) → HasValue (newer true (value_in e) o)
+    last (Some x) g = (x, refl)
+    last None g = g
+
+    by_later : (o : Option Value) (b : Bool) → latest test es ≡ o → test e ≡ b
+        → HasValue (newer b (value_in e) o)
+        → (HasValue (latest test es) → HasValue (latest other es))
+        → HasValue (newer (other e) (value_in e) (latest other es))
+    by_later (Some x) b l t g more =
+        newer_some (other e) (value_in e) (latest other es) (more (x, l))
+    by_later None true l t g more = rw (f e t) (last (latest other es) g)
+    by_later None false l t g more = cc
+
+each_some-append : {X Y : Type 0} (f : List X → X → Option Y) (xs ys : List X)
+    → each_some f (xs ++ ys) ≡ each_some f xs
+    ++ filter_map (λ o. o) (each_after f xs ys)
+each_some-append f xs ys = ap (filter_map (λ o. o)) (each_after-append f [] xs ys)
+    ∙ filter_map-append (λ (o : Option _). o) (each_after f [] xs) (each_after f xs ys)
+
+start_stays : (vs ws : List Value) → HasValue (elim vs [ [] ↦ None | v ∷ us ↦ Some v ])
+    → HasValue (elim (vs ++ ws) [ [] ↦ None | v ∷ us ↦ Some v ])
+start_stays [] ws h = cc
+start_stays (v ∷ vs) ws h = (v, refl)
+
+-- what has a value just before an edge has one just before every later edge
+pub sampled_stays : (c : IdCode) (e edge : List BodyItem) → IsPrefixOf e edge
+    → HasValue (sampled e c) → HasValue (sampled edge c)
+unfolding sampled
+sampled_stays c e edge begins h =
+    subst (λ (i : List BodyItem). HasValue (elim (value_before i c (time_after i)) [
+      | Some v ↦ Some v
+      | None ↦ initial_value i c
+    ])) (sym begins.1)
+    (by_value (value_before e c (time_after e)) refl h)
+  where
+    rest : List BodyItem
+    rest = begins.0
+
+    late : time_after e ≤ time_after (e ++ rest)
+    late = time_after-append e rest
+
+    given : HasValue (value_before e c (time_after e))
+        → HasValue (value_before (e ++ rest) c (time_after (e ++ rest)))
+    given g =
+        let at : ℕ → Bool = λ u. nat_lt u (time_after (e ++ rest)) in
+        let first : HasValue (latest (gives_at c at) (entries e)) =
+        latest_weaker (gives_at c (λ u. nat_lt u (time_after e))) (gives_at c at) (entries e)
+        (λ x t. let a = and_parts (gives_to c x.item) (nat_lt x.time (time_after e)) t in
+        let l = ltb-true x.time (time_after e) a.1 in
+        and_from (gives_to c x.item) (at x.time) a.0
+        (lt-ltb x.time (time_after (e ++ rest)) (omega (arith, late, l))))
+        (subst HasValue (last_value_is c (λ u. nat_lt u (time_after e)) e) g) in
+        subst HasValue (sym (last_value_is c at (e ++ rest)
+        ∙ ap (latest (gives_at c at)) (entries-append e rest)
+        ∙ latest-append (gives_at c at) (entries e) (each_after entry_after e rest)))
+        (behind_some (latest (gives_at c at) (each_after entry_after e rest))
+        (latest (gives_at c at) (entries e)) first)
+
+    either : (o p : Option Value) → HasValue p
+        → HasValue (elim o [ Some v ↦ Some v | None ↦ p ])
+    either (Some v) p g = (v, refl)
+    either None p g = g
+
+    first : (o p : Option Value) → HasValue o
+        → HasValue (elim o [ Some v ↦ Some v | None ↦ p ])
+    first (Some v) p g = (v, refl)
+    first None p g = cc
+
+    by_value : (o : Option Value) → value_before e c (time_after e) ≡ o
+        → HasValue (elim o [ Some v ↦ Some v | None ↦ initial_value e c ])
+        → HasValue (elim (value_before (e ++ rest) c (time_after (e ++ rest))) [
+          | Some v ↦ Some v
+          | None ↦ initial_value (e ++ rest) c
+        ])
+    by_value (Some v) f g =
+        first (value_before (e ++ rest) c (time_after (e ++ rest))) (initial_value (e ++ rest) c)
+        (given (v, f))
+    by_value None f g =
+        either (value_before (e ++ rest) c (time_after (e ++ rest))) (initial_value (e ++ rest) c)
+        (subst (λ (l : List Value). HasValue (elim l [ [] ↦ None | v ∷ us ↦ Some v ]))
+        (sym (each_some-append (value_from_start c) e rest))
+        (start_stays (each_some (value_from_start c) e)
+        (filter_map (λ o. o) (each_after (value_from_start c) e rest)) g))
