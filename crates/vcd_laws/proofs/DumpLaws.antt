@@ -1,5 +1,5 @@
 -- What runs with status 0 have written is a dump.
-use Rattle.vcd_laws.proofs.Cited.{◌≡◌, ℕ, ◌*◌, ◌≤◌, true, false, List, [], ◌∷◌, ◌++◌, length, filter, Option, Some, None, Result, Ok, Err, IsTrue, bytes_eq, refl, sym, ap, ◌∙◌, subst, arith, AllByRecursion, bytes_eq-Decides, Input, Stream, token_places, line_at, comes_before, end_at, first_halt, Variable, IdCode, has_text, Header, header_of, BodyItem, value_at, head_for, merged_head, Selected, selected, selects_code, Fault, phrases_of, read_header, header_fault_of, declared_code, read_body, body_items, Dump, factor, headers_of, first_fault, Moment, moment_ticks, Opened, dumps_of, declarations_allowed, items_in, Want, outcome, stream_over, read_text, renamed_code, merged_codes, Opens, KeepsValues, written_by, OpenAll, MergeKeepsValues, most_declared, IsShallow, most_merged, input_of, IsDumpFor, PickIsADump, CutIsADump, IsMergedDump, MergeIsADump, texts_from, texts_of-tokens, AreCodes, find-filter, all_kept, written}
+use Rattle.vcd_laws.proofs.Cited.{Err, IsTrue, List, None, Ok, Option, Result, Some, [], ap, arith, bytes_eq, false, filter, length, refl, subst, sym, true, ℕ, ◌*◌, ◌++◌, ◌∙◌, ◌∷◌, ◌≡◌, ◌≤◌, bytes_eq-Decides, AllByRecursion, CutIsADump, IsDumpFor, IsMergedDump, MergeIsADump, PickIsADump, input_of, IsHeadFor, IsMergedHead, IsShallow, most_declared, most_merged, KeepsValues, MergeKeepsValues, OpenAll, Opens, written_by, all_kept, find-filter, AreCodes, texts_from, texts_of-tokens, written, declared_code, body_fault_of, body_items, read_body, IdCode, Variable, has_text, head_for, merged_head, Header, header_of, header_fault_of, read_header, value_at, Input, BodyItem, Want, outcome, merged_codes, read_text, renamed_code, stream_over, Dump, factor, first_fault, headers_of, Opened, declarations_allowed, dumps_of, fault_in, items_in, Fault, phrases_of, texts_of, Selected, selected, selects_code, Moment, moment_ticks, Stream, comes_before, end_at, first_halt, line_at, token_places}
 use Rattle.vcd_model.specs.Tokens.{tokens_of, given_places, stream_of}
 use Rattle.vcd_model.specs.Outcome.{open_from, body_of}
 use Rattle.vcd_laws.proofs.OpenedBodies.{opens_good}
@@ -60,6 +60,60 @@ opens_stream limit input stream e none =
     (opens_own limit input (subst (λ (s : Stream). header_fault_of s
     (read_header declarations_allowed s) ≡ None) (sym e) none))
 
+-- ---- a text that is read again
+
+-- a whole text is read again: its header, and a body without a fault
+pub record IsReadAgain (limit : ℕ) (whole text : List ℕ) (declared : List IdCode)
+    (h : Header) : Type 0 where
+  pub dump : Opened
+  pub opens : Opens limit (input_of whole) dump
+  pub header : dump.header ≡ h
+  pub body : fault_in dump ≡ None
+  pub items : items_in dump ≡ body_items (read_text declared text)
+
+-- the stream of a text that nothing halts
+abbrev pub whole_stream : List ℕ → Stream
+whole_stream whole = record {
+  tokens = tokens_of whole;
+  halt = None;
+  line = line_at whole (length whole);
+}
+
+-- if its header has no fault and ends before a text, and finds the codes of that text's body
+pub read_again : (limit : ℕ) (whole text : List ℕ) (declared : List IdCode)
+    → first_halt limit (input_of whole) ≡ None
+    → header_fault_of (whole_stream whole) (read_header declarations_allowed (whole_stream whole))
+    ≡ None
+    → texts_of (read_header declarations_allowed (whole_stream whole)).rest
+    ≡ texts_of (tokens_of text)
+    → (AreCodes (header_of (phrases_of (read_header declarations_allowed
+    (whole_stream whole)).placed)).codes → (name : List ℕ) → declared_code (header_of (phrases_of (read_header declarations_allowed
+    (whole_stream whole)).placed)).codes name ≡ declared_code declared name)
+    → body_fault_of (stream_over text) (read_text declared text) ≡ None
+    → IsReadAgain limit whole text declared (header_of (phrases_of
+    (read_header declarations_allowed (whole_stream whole)).placed))
+unfolding body_of
+read_again limit whole text declared given none left same body =
+    let stream = whole_stream whole in
+    let r = read_header declarations_allowed stream in
+    let dump : Opened = record {
+      header = header_of (phrases_of r.placed);
+      stream = stream;
+      rest = r.rest;
+    } in
+    let opens : Opens limit (input_of whole) dump =
+    opens_stream limit (input_of whole) stream (clean_stream limit whole given) none in
+    let good = opens_good limit (input_of whole) dump opens in
+    let alike = bodies_alike dump.header.codes declared (same good.codes) r.rest (tokens_of text) left in
+    record {
+      dump = dump;
+      opens = opens;
+      header = refl;
+      body = same_whole stream (stream_over text) (read_body dump.header.codes r.rest)
+          (read_text declared text) refl alike body;
+      items = same_items (read_body dump.header.codes r.rest) (read_text declared text) alike;
+    }
+
 -- nothing halts the reading of a text, and a head for this header has no more declarations than are
 -- allowed
 abbrev pub CanOpen : ℕ → Header → List ℕ → Type 0
@@ -90,53 +144,40 @@ pub is_dump : (limit : ℕ) (input : Input) (o : Opened) (names : List (List ℕ
     → AreSelectedCodes o.header names declared
     → whole ≡ head_for o.header names ++ text → KeepsValues declared text InTime (items_in o)
     → CanOpen limit o.header whole → IsReadDump limit o names declared InTime text whole
-unfolding body_of
 is_dump limit input o names declared InTime text whole opens are e keeps can =
     let good = opens_good limit input o opens in
-    let stream : Stream = record {
-      tokens = tokens_of whole;
-      halt = None;
-      line = line_at whole (length whole);
-    } in
-    let r = read_header declarations_allowed stream in
-    let read : IsHeadRead o.header names stream r text =
-    head_read o.header names declarations_allowed stream text (opens_header limit input o opens)
-    good.codes can.1 (texts_of-tokens whole ∙ ap (texts_from true) e) in
-    let dump : Opened = record {
-      header = header_of (phrases_of r.placed);
-      stream = stream;
-      rest = r.rest;
-    } in
-    let back : Opens limit (input_of whole) dump =
-    opens_stream limit (input_of whole) stream (clean_stream limit whole can.0) read.whole in
-    let fine = opens_good limit (input_of whole) dump back in
-    let head = read.head in
-    let codes = head.codes in
-    let found = fine.codes in
-    let same = found_same dump.header.codes declared found.found are.found
-    (λ c i. let a = (codes c).0 (to_contained dump.header.codes c i) in
+    let r = read_header declarations_allowed (whole_stream whole) in
+    let read : IsHeadRead o.header names (whole_stream whole) r text =
+    head_read o.header names declarations_allowed (whole_stream whole) text
+    (opens_header limit input o opens) good.codes can.1
+    (texts_of-tokens whole ∙ ap (texts_from true) e) in
+    let k = header_of (phrases_of r.placed) in
+    let there = let head = read.head in head.codes in
+    let back : IsReadAgain limit whole text declared k =
+    read_again limit whole text declared can.0 read.whole read.left
+    (λ fine. found_same k.codes declared fine.found are.found
+    (λ c i. let a = (there c).0 (to_contained k.codes c i) in
     are.back c (from_contained o.header.codes c a.0) a.1)
     (λ c i. let a = are.there c i in
-    from_contained dump.header.codes c ((codes c).1
-    (to_contained o.header.codes c a.0, a.1))) in
-    let alike = bodies_alike dump.header.codes declared same r.rest (tokens_of text) read.left in
-    let items : items_in dump ≡ body_items (read_text declared text) =
-    same_items (read_body dump.header.codes r.rest) (read_text declared text) alike in
+    from_contained k.codes c ((there c).1
+    (to_contained o.header.codes c a.0, a.1)))) keeps.whole in
+    let head : IsHeadFor o.header names back.dump.header =
+    subst (IsHeadFor o.header names) (sym back.header) read.head in
+    let codes = head.codes in
     record {
       dump = record {
-        dump = dump;
-        opens = back;
+        dump = back.dump;
+        opens = back.opens;
         head = head;
-        whole = same_whole stream (stream_over text) (read_body dump.header.codes r.rest)
-            (read_text declared text) refl alike keeps.whole;
+        whole = back.body;
         values = λ c t i quiet in_time.
             let a = (codes c).0 i in
-            ap (λ (l : List BodyItem). value_at l c t) items
+            ap (λ (l : List BodyItem). value_at l c t) back.items
             ∙ keeps.values c t (to_contained declared c
             (are.back c (from_contained o.header.codes c a.0) a.1)) quiet in_time;
       };
-      items = items;
-      rows = read.rows;
+      items = back.items;
+      rows = ap (λ (h : Header). h.declarations) back.header ∙ read.rows;
     }
 
 -- ---- `pick` and `cut`
@@ -232,53 +273,35 @@ pub is_merged_dump : (limit : ℕ) (inputs : List Input) (os : List Opened) (tex
     → OpenAll limit inputs os → whole ≡ merged_head (headers_of (dumps_of os)) ++ text
     → MergeKeepsValues (dumps_of os) text
     → CanAllOpen limit (headers_of (dumps_of os)) whole → IsReadMerge limit (dumps_of os) text whole
-unfolding body_of
 is_merged_dump limit inputs os text whole opens e keeps can =
     let ds = dumps_of os in
     let hs = headers_of ds in
-    let stream : Stream = record {
-      tokens = tokens_of whole;
-      halt = None;
-      line = line_at whole (length whole);
-    } in
-    let r = read_header declarations_allowed stream in
+    let r = read_header declarations_allowed (whole_stream whole) in
     let all = all_can limit inputs os opens can.shallow in
-    let read : IsMergedRead hs stream r text =
-    merged_read hs declarations_allowed stream text all can.few (omega arith)
+    let read : IsMergedRead hs (whole_stream whole) r text =
+    merged_read hs declarations_allowed (whole_stream whole) text all can.few (omega arith)
     (texts_of-tokens whole ∙ ap (texts_from true) e) in
-    let dump : Opened = record {
-      header = header_of (phrases_of r.placed);
-      stream = stream;
-      rest = r.rest;
-    } in
-    let back : Opens limit (input_of whole) dump =
-    opens_stream limit (input_of whole) stream (clean_stream limit whole can.given)
-    read.whole in
-    let fine = opens_good limit (input_of whole) dump back in
-    let head = read.head in
-    let codes = head.codes in
-    let found = fine.codes in
-    let same = found_same dump.header.codes (merged_codes hs) found.found (merged_found hs all)
-    (λ c i. from_contained (merged_codes hs) c ((codes c).0 (to_contained dump.header.codes c i)))
-    (λ c i. from_contained dump.header.codes c
-    ((codes c).1 (to_contained (merged_codes hs) c i))) in
-    let alike = bodies_alike dump.header.codes (merged_codes hs) same r.rest (tokens_of text)
-    read.left in
-    let items : items_in dump ≡ body_items (read_text (merged_codes hs) text) =
-    same_items (read_body dump.header.codes r.rest) (read_text (merged_codes hs) text) alike in
+    let k = header_of (phrases_of r.placed) in
+    let there = let head = read.head in head.codes in
+    let back : IsReadAgain limit whole text (merged_codes hs) k =
+    read_again limit whole text (merged_codes hs) can.given read.whole read.left
+    (λ fine. found_same k.codes (merged_codes hs) fine.found (merged_found hs all)
+    (λ c i. from_contained (merged_codes hs) c ((there c).0 (to_contained k.codes c i)))
+    (λ c i. from_contained k.codes c
+    ((there c).1 (to_contained (merged_codes hs) c i)))) keeps.whole in
     record {
       dump = record {
-        dump = dump;
-        opens = back;
-        head = head;
-        whole = same_whole stream (stream_over text) (read_body dump.header.codes r.rest)
-            (read_text (merged_codes hs) text) refl alike keeps.whole;
+        dump = back.dump;
+        opens = back.opens;
+        head = subst (IsMergedHead hs) (sym back.header) read.head;
+        whole = back.body;
         values = λ earlier later d split c t i quiet.
             ap (λ (l : List BodyItem). value_at l (renamed_code (headers_of earlier) d.header c)
-            (factor hs d.header * t)) items ∙ keeps.values earlier later d split c t i quiet;
+            (factor hs d.header * t)) back.items
+            ∙ keeps.values earlier later d split c t i quiet;
       };
-      items = items;
-      rows = read.rows;
+      items = back.items;
+      rows = ap (λ (h : Header). h.declarations) back.header ∙ read.rows;
     }
 
 same_all : (limit : ℕ) (inputs : List Input) (os ps : List Opened) → OpenAll limit inputs os

@@ -100,6 +100,9 @@ pub mod StrobeChanges
 pub mod StrobeFacts
 pub mod StrobeCounts
 pub mod StrobeKeeps
+pub mod StrobeHead
+pub mod StrobeShort
+pub mod StrobeDump
 pub mod SuccessMatches
 pub mod MergedSuccess
 pub mod Cited

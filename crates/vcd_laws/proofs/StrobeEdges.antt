@@ -1,12 +1,11 @@
 -- The edges of a strobe, the values just before them, and the changes that it writes at them.
-use Rattle.vcd_laws.proofs.Cited.{Bool, List, None, Option, Some, [], ap, arith, cond, false, filter_map, is_none, nat_lt, refl, subst, sym, true, ℕ, ◌&&◌, ◌++◌, ◌<◌, ◌∙◌, ◌∷◌, ◌≡◌, ◌≤◌, and_from, and_parts, lt-ltb, ltb-true, append_assoc, filter_map-append, cons_option, last_or, IsGoodValue, AreFit, IsGoodChange, behind, gives_at, last_value_is, latest, IsWord, each_after, declared_code, IdCode, same_code, final_value, gives_to, value_before, value_in, BodyItem, Change, Entry, entries, entry_after, open_section, time_after, Value, value_of}
+use Rattle.vcd_laws.proofs.Cited.{Bool, List, None, Option, Some, [], ap, arith, cond, false, filter_map, is_none, nat_lt, option_map, refl, subst, sym, true, ℕ, ◌&&◌, ◌++◌, ◌<◌, ◌∙◌, ◌∷◌, ◌≡◌, ◌≤◌, and_from, and_parts, lt-ltb, ltb-true, append_assoc, filter_map-append, AllByRecursion, cons_option, last_or, IsGoodValue, AreFit, IsFit, IsGoodChange, next_open, next_time, behind, gives_at, last_value_is, latest, IsWord, each_after, declared_code, IdCode, same_code, final_value, gives_to, value_before, value_in, BodyItem, Change, Entry, change_of, entries, entry_after, open_section, time_after, Value, value_of}
 use Rattle.vcd_model.specs.Backward.{each_some}
 use Rattle.vcd_model.specs.Laws.{IsPrefixOf}
 use Rattle.vcd_model.specs.Strobe.{Clock, edges_in, initial_value, is_edge, is_vars, sampled, value_from_start}
 use Rattle.vcd_model.proofs.Growing.{each_after-append, entries-append}
 use Rattle.vcd_model.proofs.Latest.{newer, latest-append}
 use Rattle.vcd_model.proofs.StartSections.{given_good}
-use Rattle.vcd_model.proofs.CutKept.{before_is}
 use Rattle.vcd_model.proofs.Times.{time_after-append}
 use Rattle.vcd_model.proofs.StrobeGrows.{edges_after}
 use Rattle.vcd_laws.proofs.StrobeBase.{AllSteps}
@@ -65,6 +64,97 @@ edges_are ks items = edges_more ks [] items [] (λ e l. cc)
 
 -- ---- the values just before them
 
+module _ (P : Value → Type 0) (c : IdCode) where
+  -- this is said of the value that an item gives the code
+  abbrev pub GivesSuch : BodyItem → Type 0
+  GivesSuch (BodyItem.Changes d) = same_code c d.code ≡ true → P (value_of d)
+  GivesSuch item = Unit {0}
+
+  latest_such : (at : ℕ → Bool) (earlier xs : List BodyItem) (v : Value)
+      → AllByRecursion GivesSuch xs
+      → latest (gives_at c at) (each_after entry_after earlier xs) ≡ Some v → P v
+  latest_such at earlier [] v all e = cc
+  latest_such at earlier (x ∷ xs) v all e =
+      by_later (latest (gives_at c at) (each_after entry_after (earlier ++ x ∷ []) xs)) x all.0
+      (gives_to c x && at (time_after earlier)) refl e
+      (latest_such at (earlier ++ x ∷ []) xs v all.1)
+    where
+      by_later : (o : Option Value) (y : BodyItem) → GivesSuch y → (b : Bool)
+          → (gives_to c y && at (time_after earlier)) ≡ b
+          → newer b (option_map value_of (change_of y)) o ≡ Some v → (o ≡ Some v → P v) → P v
+      by_later (Some w) y g b f h more = more h
+      by_later None (BodyItem.Changes d) g true f h more =
+          let same : value_of d ≡ v = cc in
+          subst P same (g (and_parts (same_code c d.code) (at (time_after earlier)) f).0)
+      by_later None (BodyItem.Time t) g true f h more = cc
+      by_later None (BodyItem.Begin s) g true f h more = cc
+      by_later None BodyItem.End g true f h more = cc
+      by_later None y g false f h more = cc
+
+  starts_such : (earlier xs : List BodyItem) (v : Value) → AllByRecursion GivesSuch xs
+      → elim (filter_map (λ x. x) (each_after (value_from_start c) earlier xs)) [
+        | [] ↦ None
+        | w ∷ ws ↦ Some w
+      ] ≡ Some v → P v
+  starts_such earlier [] v all e = cc
+  starts_such earlier (BodyItem.Time u ∷ xs) v all e =
+      starts_such (earlier ++ BodyItem.Time u ∷ []) xs v all.1 e
+  starts_such earlier (BodyItem.Begin s ∷ xs) v all e =
+      starts_such (earlier ++ BodyItem.Begin s ∷ []) xs v all.1 e
+  starts_such earlier (BodyItem.End ∷ xs) v all e =
+      starts_such (earlier ++ BodyItem.End ∷ []) xs v all.1 e
+  starts_such earlier (BodyItem.Changes d ∷ xs) v all e =
+      by_test (same_code c d.code && is_none (final_value earlier c)
+      && is_vars (open_section earlier)) refl e
+      (starts_such (earlier ++ BodyItem.Changes d ∷ []) xs v all.1)
+    where
+      rest : List Value
+      rest = filter_map (λ x. x)
+          (each_after (value_from_start c) (earlier ++ BodyItem.Changes d ∷ []) xs)
+
+      by_test : (b : Bool) → (same_code c d.code && is_none (final_value earlier c)
+          && is_vars (open_section earlier)) ≡ b
+          → elim (cons_option (cond b (Some (value_of d)) None) rest) [
+            | [] ↦ None
+            | w ∷ ws ↦ Some w
+          ] ≡ Some v
+          → (elim rest [ [] ↦ None | w ∷ ws ↦ Some w ] ≡ Some v → P v) → P v
+      by_test true f g more =
+          let same : value_of d ≡ v = cc in
+          let gives = (and_parts (same_code c d.code) (is_none (final_value earlier c))
+          (and_parts (same_code c d.code && is_none (final_value earlier c))
+          (is_vars (open_section earlier)) f).0).0 in
+          subst P same (all.0 gives)
+      by_test false f g more = more g
+
+  -- .. and so of the value just before an edge
+  pub sampled_such : (edge : List BodyItem) (v : Value) → AllByRecursion GivesSuch edge
+      → sampled edge c ≡ Some v → P v
+  unfolding sampled
+  sampled_such edge v all e = by_value (value_before edge c (time_after edge)) refl e
+    where
+      by_value : (o : Option Value) → value_before edge c (time_after edge) ≡ o
+          → elim o [ Some w ↦ Some w | None ↦ initial_value edge c ] ≡ Some v → P v
+      by_value (Some w) f g =
+          latest_such (λ u. nat_lt u (time_after edge)) [] edge v all
+          (sym (last_value_is c (λ u. nat_lt u (time_after edge)) edge) ∙ f ∙ g)
+      by_value None f g = starts_such [] edge v all g
+
+  -- if it is said of all good changes
+  pub fit_such : (codes : List IdCode) (t : ℕ) (o : Bool) (xs : List BodyItem)
+      (Q : BodyItem → Type 0)
+      → ((d : Change) → IsGoodChange codes d → Q (BodyItem.Changes d) → same_code c d.code ≡ true
+      → P (value_of d)) → AreFit codes t o xs → AllByRecursion Q xs → AllByRecursion GivesSuch xs
+  fit_such codes t o [] Q f fit all = tt
+  fit_such codes t o (x ∷ xs) Q f fit all =
+      (one x fit.0 all.0, fit_such codes (next_time t x) (next_open o x) xs Q f fit.1 all.1)
+    where
+      one : (y : BodyItem) → IsFit codes t o y → Q y → GivesSuch y
+      one (BodyItem.Time u) is q = tt
+      one (BodyItem.Begin s) is q = tt
+      one BodyItem.End is q = tt
+      one (BodyItem.Changes d) is q = f d is q
+
 module _ (codes : List IdCode) (c : IdCode) (declared : declared_code codes c.text ≡ Some c)
     (quiet : c.event ≡ false) (filled : 0 < c.size) where
   -- a value of the code that can be written
@@ -77,57 +167,17 @@ module _ (codes : List IdCode) (c : IdCode) (declared : declared_code codes c.te
       given_good codes c (λ u. true) 0 false (BodyItem.Changes d ∷ []) (value_of d) declared quiet
       filled (good, tt) (rw same refl)
 
-  first_value : List Value → Option Value
-  first_value vs = elim vs [ [] ↦ None | v ∷ ws ↦ Some v ]
-
-  starts_good : (t : ℕ) (o : Bool) (earlier xs : List BodyItem) (v : Value) → AreFit codes t o xs
-      → elim (filter_map (λ x. x) (each_after (value_from_start c) earlier xs)) [
-        | [] ↦ None
-        | w ∷ ws ↦ Some w
-      ] ≡ Some v → CanBeWritten v
-  starts_good t o earlier [] v fit e = cc
-  starts_good t o earlier (BodyItem.Time u ∷ xs) v fit e =
-      starts_good u o (earlier ++ BodyItem.Time u ∷ []) xs v fit.1 e
-  starts_good t o earlier (BodyItem.Begin s ∷ xs) v fit e =
-      starts_good t true (earlier ++ BodyItem.Begin s ∷ []) xs v fit.1 e
-  starts_good t o earlier (BodyItem.End ∷ xs) v fit e =
-      starts_good t false (earlier ++ BodyItem.End ∷ []) xs v fit.1 e
-  starts_good t o earlier (BodyItem.Changes d ∷ xs) v fit e =
-      by_test (same_code c d.code && is_none (final_value earlier c)
-      && is_vars (open_section earlier)) refl e
-      (starts_good t o (earlier ++ BodyItem.Changes d ∷ []) xs v fit.1)
-    where
-      rest : List Value
-      rest = filter_map (λ x. x)
-          (each_after (value_from_start c) (earlier ++ BodyItem.Changes d ∷ []) xs)
-
-      by_test : (b : Bool) → (same_code c d.code && is_none (final_value earlier c)
-          && is_vars (open_section earlier)) ≡ b
-          → elim (cons_option (cond b (Some (value_of d)) None) rest) [
-            | [] ↦ None
-            | w ∷ ws ↦ Some w
-          ] ≡ Some v
-          → (elim rest [ [] ↦ None | w ∷ ws ↦ Some w ] ≡ Some v → CanBeWritten v) → CanBeWritten v
-      by_test true f g more =
-          let same : value_of d ≡ v = cc in
-          let gives = (and_parts (same_code c d.code) (is_none (final_value earlier c))
-          (and_parts (same_code c d.code && is_none (final_value earlier c))
-          (is_vars (open_section earlier)) f).0).0 in
-          subst CanBeWritten same (change_good d fit.0 gives)
-      by_test false f g more = more g
+  no_more : (xs : List BodyItem) → AllByRecursion (λ x. Unit {0}) xs
+  no_more [] = tt
+  no_more (x ∷ xs) = (tt, no_more xs)
 
   -- the value just before an edge can be written
   pub sampled_good : (edge : List BodyItem) (v : Value) → AreFit codes 0 false edge
       → sampled edge c ≡ Some v → CanBeWritten v
-  unfolding sampled
-  sampled_good edge v fit e = by_value (value_before edge c (time_after edge)) refl e
-    where
-      by_value : (o : Option Value) → value_before edge c (time_after edge) ≡ o
-          → elim o [ Some w ↦ Some w | None ↦ initial_value edge c ] ≡ Some v → CanBeWritten v
-      by_value (Some w) f g =
-          given_good codes c (λ u. nat_lt u (time_after edge)) 0 false edge v declared quiet filled
-          fit (sym (before_is codes edge c (time_after edge) fit) ∙ f ∙ g)
-      by_value None f g = starts_good 0 false [] edge v fit g
+  sampled_good edge v fit e =
+      sampled_such CanBeWritten c edge v
+      (fit_such CanBeWritten c codes 0 false edge (λ x. Unit {0}) (λ d good q. change_good d good)
+      fit (no_more edge)) e
 
 -- ---- and they stay
 

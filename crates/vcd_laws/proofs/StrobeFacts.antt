@@ -107,7 +107,7 @@ module _ (h : Header) (names : List (List ℕ)) (good : IsGoodHeader h) (found :
   -- ---- what is written can be read
 
   module _ (items : List BodyItem) (fit : AreFit h.codes 0 false items) where
-    edge_fit : (edge : List BodyItem) → IsPrefixOf edge items → AreFit h.codes 0 false edge
+    pub edge_fit : (edge : List BodyItem) → IsPrefixOf edge items → AreFit h.codes 0 false edge
     edge_fit edge begins = fit_front h.codes 0 false edge begins.0
         (subst (AreFit h.codes 0 false) begins.1 fit)
 

@@ -82,7 +82,7 @@ module _ {X : Type 0} (f : List X → X → List Change) (codes : List IdCode) (
 
 -- ---- the text
 
-all_text : (h : Header) (names : List (List ℕ)) (before es : List (List BodyItem))
+pub all_text : (h : Header) (names : List (List ℕ)) (before es : List (List BodyItem))
     → concat (each_after (edge_text h names) before es)
     ≡ flat_map plain_line (steps (edge_changes h names) before es)
 all_text h names before [] = refl
