@@ -103,10 +103,10 @@ fit_even p e =
     ∙ bytes_turned p.other.type (codes "event")
 
 -- what is known of a pair that is compared
-record IsKnown (one other : Header) (p : Pair) : Type 0 where
-  first : In (code_of p.one) one.codes
-  second : In (code_of p.other) other.codes
-  even : IsEven p
+pub record IsKnown (one other : Header) (p : Pair) : Type 0 where
+  pub first : In (code_of p.one) one.codes
+  pub second : In (code_of p.other) other.codes
+  pub even : IsEven p
 
 pairs_known : (q : Asked) (one other : Header) (p : Pair) → CanMerge one → CanMerge other
     → In p (pairs q one other) → IsKnown one other p
@@ -154,22 +154,25 @@ module _ (q : Asked) (limit : ℕ) (names : List (List ℕ)) (inputs : List Inpu
   both_can : AllByRecursion CanMerge hs
   both_can = subst (AllByRecursion CanMerge) headers (all_can limit inputs os can.opens can.shallow)
 
+  pub known : (x : Pair) → In x ps → IsKnown o.header p.header x
+  known x i = pairs_known q o.header p.header x both_can.0 both_can.1.0 i
+
   pub alike : (x : Pair) → In x ps → IsAlike a b items x (merged_pair o.header p.header x)
   alike x i =
-      let known = pairs_known q o.header p.header x both_can.0 both_can.1.0 i in
+      let codes = known x i in
       let kept = merge_kept (merged_items (dumps_of os)) in
       let mark = greatest_mark (merged_items (dumps_of os)) in
       let codes_of = merged_codes (headers_of (dumps_of os)) in
       let first : IsMergedCode o.header [] (factor (headers_of (dumps_of os)) o.header) codes_of (items_in o) kept mark (code_of x.one)
-      = is_merged_code limit names inputs os [] (p ∷ []) o can (among limit names inputs os [] (p ∷ []) o can refl) (code_of x.one) known.first in
+      = is_merged_code limit names inputs os [] (p ∷ []) o can (among limit names inputs os [] (p ∷ []) o can refl) (code_of x.one) codes.first in
       let second : IsMergedCode p.header (o.header ∷ []) (factor (headers_of (dumps_of os)) p.header) codes_of (items_in p) kept mark (code_of x.other)
-      = is_merged_code limit names inputs os (o ∷ []) [] p can (among limit names inputs os (o ∷ []) [] p can refl) (code_of x.other) known.second in
+      = is_merged_code limit names inputs os (o ∷ []) [] p can (among limit names inputs os (o ∷ []) [] p can refl) (code_of x.other) codes.second in
       record {
         one = λ t. states_alike o.header [] (factor (headers_of (dumps_of os)) o.header) codes_of (items_in o) kept mark (code_of x.one) first t
             ∙ ap (λ (l : List Header). state_at (factor l o.header) (items_in o) (code_of x.one) t) headers;
         other = λ t. states_alike p.header (o.header ∷ []) (factor (headers_of (dumps_of os)) p.header) codes_of (items_in p) kept mark (code_of x.other) second t
             ∙ ap (λ (l : List Header). state_at (factor l p.header) (items_in p) (code_of x.other) t) headers;
-        even = known.even;
+        even = codes.even;
         changes_one = λ quiet t. changes_alike o.header [] (factor (headers_of (dumps_of os)) o.header) codes_of (items_in o) kept mark (code_of x.one) first quiet t
             ∙ ap (λ (l : List Header). changes_at (side_of l o) (code_of x.one) t) headers;
         changes_other = λ quiet t. changes_alike p.header (o.header ∷ []) (factor (headers_of (dumps_of os)) p.header) codes_of (items_in p) kept mark (code_of x.other) second quiet t

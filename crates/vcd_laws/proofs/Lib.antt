@@ -103,7 +103,9 @@ pub mod StrobeKeeps
 pub mod StrobeHead
 pub mod StrobeShort
 pub mod StrobeDump
+mod StrobedRows
 pub mod SuccessMatches
 pub mod MergedSuccess
+pub mod StrobesMatch
 pub mod Cited
 pub mod Facts

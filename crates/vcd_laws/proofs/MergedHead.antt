@@ -47,7 +47,7 @@ numbered_more m n (v ∷ vs) l h = let a = h.0 in (
 abbrev HasOldCode : Header → Variable → Type 0
 HasOldCode h v = (c : IdCode) × (declared_code h.codes v.code ≡ Some c)
 
-apart_fits : (u v : Variable) → bytes_eq u.code v.code ≡ false → fits v u ≡ true
+pub apart_fits : (u v : Variable) → bytes_eq u.code v.code ≡ false → fits v u ≡ true
 apart_fits u v e = rw e refl
 
 all_apart : (marked : ℕ → Bool) (rename : List ℕ → List ℕ) (m n : ℕ) (v : Variable)

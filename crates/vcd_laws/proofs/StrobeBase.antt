@@ -36,7 +36,7 @@ steps_back P before (x ∷ xs) ys h =
 
 -- ---- the later of two values
 
-newer_behind : (b : Bool) (v o l : Option Value) → newer b v (behind l o) ≡ behind l (newer b v o)
+pub newer_behind : (b : Bool) (v o l : Option Value) → newer b v (behind l o) ≡ behind l (newer b v o)
 newer_behind b v o (Some x) = refl
 newer_behind b v o None = refl
 

@@ -9,7 +9,7 @@ use Rattle.vcd_model.proofs.Latest.{newer}
 use Rattle.vcd_model.proofs.Times.{greatest_from}
 use Rattle.vcd_laws.proofs.PickLaw.{behind-none}
 use Rattle.vcd_laws.proofs.WrittenCodes.{In}
-use Rattle.vcd_laws.proofs.StrobeBase.{as_items, last_given, has_change}
+use Rattle.vcd_laws.proofs.StrobeBase.{newer_behind, as_items, last_given, has_change}
 
 -- ---- changes of several codes
 
@@ -18,12 +18,7 @@ pub last_given-append : (c : IdCode) (xs ys : List Change)
 last_given-append c [] ys = sym (behind-none (last_given c ys))
 last_given-append c (d ∷ xs) ys =
     ap (newer (same_code c d.code) (Some (value_of d))) (last_given-append c xs ys)
-    ∙ by_later (same_code c d.code) (Some (value_of d)) (last_given c xs) (last_given c ys)
-  where
-    by_later : (b : Bool) (v o l : Option Value)
-        → newer b v (behind l o) ≡ behind l (newer b v o)
-    by_later b v o (Some x) = refl
-    by_later b v o None = refl
+    ∙ newer_behind (same_code c d.code) (Some (value_of d)) (last_given c xs) (last_given c ys)
 
 -- changes of this code
 abbrev pub AreOf : IdCode → List Change → Type 0

@@ -10,19 +10,11 @@ use Rattle.vcd_model.proofs.HeaderGrammar.{header_computes}
 use Rattle.vcd_model.proofs.BodyGrammar.{body_computes}
 use Rattle.vcd_model.proofs.Readings.{reading_is_one}
 use Rattle.vcd_model.proofs.StrobeGrows.{edges_after}
+use Rattle.vcd_laws.proofs.WrittenDeclared.{filter_fewer}
 use Rattle.vcd_laws.proofs.WrittenCodes.{In, in_left}
 use Rattle.vcd_laws.proofs.ShortTokens.{reduce_least}
 
 -- ---- tokens
-
-fewer : {X : Type 0} (test : X → Bool) (xs : List X) → length (filter test xs) ≤ length xs
-fewer test [] = omega arith
-fewer test (x ∷ xs) = by_test (test x) (fewer test xs)
-  where
-    by_test : (b : Bool) → length (filter test xs) ≤ length xs
-        → length (cond b (x ∷ filter test xs) (filter test xs)) ≤ length (x ∷ xs)
-    by_test true h = omega arith
-    by_test false h = omega arith
 
 range_length : (a n : ℕ) → length (range_with_len a n) ≡ n
 range_length a zero = refl
@@ -58,8 +50,8 @@ few_given limit input = by_size (nat_le (2 ^ 63) (length text)) refl
         → length (filter kept (token_places text)) < 2 ^ 63
     by_size false e =
         let l = leb-false (2 ^ 63) (length text) e in
-        let f = fewer kept (token_places text) in
-        let g = fewer (begins_token text) (range_with_len 0 (length text)) in
+        let f = filter_fewer kept (token_places text) in
+        let g = filter_fewer (begins_token text) (range_with_len 0 (length text)) in
         let n = range_length 0 (length text) in
         omega arith
     by_size true e =

@@ -8,6 +8,7 @@ use Rattle.vcd_model.proofs.Latest.{newer, latest-append}
 use Rattle.vcd_model.proofs.StartSections.{given_good}
 use Rattle.vcd_model.proofs.Times.{time_after-append}
 use Rattle.vcd_model.proofs.StrobeGrows.{edges_after}
+use Rattle.vcd_laws.proofs.MergedHead.{all_in}
 use Rattle.vcd_laws.proofs.StrobeBase.{AllSteps}
 
 -- ---- edges
@@ -167,17 +168,13 @@ module _ (codes : List IdCode) (c : IdCode) (declared : declared_code codes c.te
       given_good codes c (λ u. true) 0 false (BodyItem.Changes d ∷ []) (value_of d) declared quiet
       filled (good, tt) (rw same refl)
 
-  no_more : (xs : List BodyItem) → AllByRecursion (λ x. Unit {0}) xs
-  no_more [] = tt
-  no_more (x ∷ xs) = (tt, no_more xs)
-
   -- the value just before an edge can be written
   pub sampled_good : (edge : List BodyItem) (v : Value) → AreFit codes 0 false edge
       → sampled edge c ≡ Some v → CanBeWritten v
   sampled_good edge v fit e =
       sampled_such CanBeWritten c edge v
       (fit_such CanBeWritten c codes 0 false edge (λ x. Unit {0}) (λ d good q. change_good d good)
-      fit (no_more edge)) e
+      fit (all_in (λ x. Unit {0}) edge (λ x i. tt))) e
 
 -- ---- and they stay
 

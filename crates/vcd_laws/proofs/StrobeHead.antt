@@ -1,5 +1,5 @@
 -- The head of a strobe is read again as what it was written from.
-use Rattle.vcd_laws.proofs.Cited.{Bool, List, None, [], ap, arith, bytes_eq, codes, decimal, false, flat_map, inl, inr, length, map, refl, subst, sym, true, ℕ, ◌++◌, ◌+◌, ◌<◌, ◌∙◌, ◌∷◌, ◌≡◌, ◌≤◌, append_assoc, filter_map-append, most_declared, AreParts, declaration_line, head_of, header_back, plain_word, reads_head, AreDeclared, AreCodes, IsWord, texts_from, texts_of-tokens, HasOpen, has_none, has_scope, has_up, open_count, written, Declaration, IdCode, Variable, code_of, codes_of, open_scopes, variable_of, variables_of, end_line, scope_line, up_line, words, Header, HeaderPhrase, header_fault_of, Keyword, is_end, keyword_text, Reading, phrases_of, texts_of, Selected, selects_code, Stream, tokens_of}
+use Rattle.vcd_laws.proofs.Cited.{Bool, List, None, [], ap, arith, codes, decimal, false, flat_map, inl, inr, length, map, refl, subst, sym, true, ℕ, ◌++◌, ◌+◌, ◌<◌, ◌∙◌, ◌∷◌, ◌≡◌, ◌≤◌, append_assoc, filter_map-append, most_declared, AreParts, declaration_line, head_of, header_back, plain_word, reads_head, AreDeclared, AreCodes, IsWord, texts_from, texts_of-tokens, HasOpen, has_none, has_scope, has_up, open_count, written, Declaration, IdCode, Variable, code_of, codes_of, open_scopes, variable_of, variables_of, end_line, scope_line, up_line, words, Header, HeaderPhrase, header_fault_of, Keyword, is_end, keyword_text, Reading, phrases_of, texts_of, Selected, selects_code, Stream, tokens_of}
 use Rattle.std.specs.Fmt.{digits}
 use Rattle.vcd_model.specs.HeadText.{head_for, var_line}
 use Rattle.vcd_model.specs.HeaderPhrases.{HasNoEnd}
@@ -12,7 +12,8 @@ use Rattle.vcd_laws.specs.Strobes.{IsStrobeHead, time_variable, written_codes}
 use Rattle.vcd_model.proofs.HeadPhrases.{IsToken}
 use Rattle.vcd_model.proofs.WrittenRows.{has_var, path_is}
 use Rattle.vcd_laws.proofs.HeadersGood.{IsGoodHeader}
-use Rattle.vcd_laws.proofs.WrittenDeclared.{fits, IsRenaming, image, IsWritten, is_written}
+use Rattle.vcd_laws.proofs.WrittenDeclared.{IsRenaming, image, IsWritten, is_written}
+use Rattle.vcd_laws.proofs.MergedHead.{apart_fits}
 use Rattle.vcd_laws.proofs.WrittenCodes.{In, from_codes_of, from_contained, from_filter, in_right, to_codes_of, to_contained, to_filter}
 use Rattle.vcd_laws.proofs.HeadBack.{HasCode, all_ready, codes_back, codes_there, declared_at, head_is, marks, no_fault, no_scope, own_code, rows_declared, rows_few, rows_selected}
 use Rattle.vcd_laws.proofs.StrobeChanges.{longer_differ, time_code_new}
@@ -66,9 +67,6 @@ strobe_text h names =
 -- the code of a variable is shorter than that of the time
 abbrev IsOld : Header → Variable → Type 0
 IsOld h v = HasCode v × (length v.code < length (time_code h).text)
-
-apart_fits : (u v : Variable) → bytes_eq u.code v.code ≡ false → fits v u ≡ true
-apart_fits u v e = rw e refl
 
 old_codes : (h : Header) (marked : ℕ → Bool)
     → IsRenaming own_code marked (IsOld h) (time_declaration h ∷ [])

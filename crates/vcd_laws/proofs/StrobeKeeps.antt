@@ -1,5 +1,5 @@
 -- What `strobe` writes keeps what there is at the edges.
-use Rattle.vcd_laws.proofs.Cited.{Bool, List, None, Option, Some, [], ap, arith, false, flat_map, length, map, nat_le, refl, subst, suc, sym, take, zero, ℕ, ◌++◌, ◌<◌, ◌^◌, ◌∙◌, ◌∷◌, ◌≡◌, le-leb, lt-leb, append_assoc, flat_map-append, concat, list_any, entries_from-append, AreCodes, AreFit, at_start, entries_are, entries_from, open_behind, time_behind, behind, gives_at, last_value_is, latest, IsRead, is_read, plain_line, stands_behind, each_after, IdCode, Header, value_at, BodyItem, Change, time_after, items_in, Value}
+use Rattle.vcd_laws.proofs.Cited.{Bool, List, None, Option, Some, [], ap, arith, false, flat_map, inr, length, map, nat_le, refl, subst, suc, sym, take, zero, ℕ, ◌++◌, ◌<◌, ◌^◌, ◌∙◌, ◌∷◌, ◌≡◌, le-leb, lt-leb, append_assoc, flat_map-append, concat, list_any, entries_from-append, AreCodes, AreFit, at_start, entries_are, entries_from, open_behind, time_behind, behind, gives_at, last_value_is, latest, IsRead, is_read, plain_line, stands_behind, each_after, IdCode, Header, value_at, BodyItem, Change, time_after, items_in, Value}
 use Rattle.std.specs.Prelude.{slice_get}
 use Rattle.vcd_model.specs.Strobe.{Clock, binary, edge_text, edges_in, last_sampled, sampled, strobe_head, strobe_open, time_code}
 use Rattle.vcd_laws.specs.Strobes.{GivesEdges, KeepsEdges, StrobeKeeps, written_codes}
@@ -8,7 +8,7 @@ use Rattle.vcd_laws.proofs.OpenedBodies.{opened_fit, opens_good}
 use Rattle.vcd_laws.proofs.PickLaw.{behind-none}
 use Rattle.vcd_laws.proofs.HeadersGood.{IsGoodHeader}
 use Rattle.vcd_laws.proofs.HeadBack.{opens_header}
-use Rattle.vcd_laws.proofs.StrobeBase.{AllSteps, AreGoodChanges, Leads, triggers, length_snoc, step_triggers, steps, steps-append, steps_fit, steps_front, steps_none, steps_open, steps_time, steps_value, steps_weaker}
+use Rattle.vcd_laws.proofs.StrobeBase.{AllSteps, AreGoodChanges, Leads, triggers, length_snoc, step_triggers, steps, steps-append, steps_fit, steps_front, steps_none, steps_open, steps_quiet, steps_time, steps_value, steps_weaker}
 use Rattle.vcd_laws.proofs.StrobeEdges.{IsEdgeOf, edges_are, last_snoc}
 use Rattle.vcd_laws.proofs.StrobeChanges.{edge_changes, edge_lines}
 use Rattle.vcd_laws.proofs.StrobeFacts.{edge_good, edge_time, event_at, time_leads, value_leads}
@@ -143,6 +143,16 @@ module _ (h : Header) (names : List (List ℕ)) (good : IsGoodHeader h) (found :
         ∙ step_triggers (edge_changes h names) c [] (take k edges) is.later edge k
         (sym number ∙ omega arith)
         ∙ event_at h names good found items fit (take k edges) edge c i event;
+    start = λ c. (
+      last_value_is c (λ u. nat_le u 0) written_items
+          ∙ ap (latest (gives_at c (λ u. nat_le u 0)))
+          (entries_are (written_codes h names) [] 0 false written_items at_start written_fit)
+          ∙ steps_none (edge_changes h names) c (λ u. nat_le u 0) [] edges
+          (λ t l. lt-leb t 0 (omega arith)),
+      ap (list_any (triggers c 0 1))
+          (entries_are (written_codes h names) [] 0 false written_items at_start written_fit)
+          ∙ steps_quiet (edge_changes h names) c 0 1 [] edges (λ t l m. inr (omega arith)),
+    );
     last = (stands_behind (written_codes h names) [] 0 false written_items at_start
         written_fit).time ∙ steps_time (edge_changes h names) [] edges ∙ omega arith;
   }

@@ -50,7 +50,7 @@ AreDeclared-append earlier (x ∷ xs) ys h g = (
       (sym (append_assoc earlier (x ∷ []) xs)) g),
 )
 
-filter_fewer : {X : Type 0} (test : X → Bool) (xs : List X) → length (filter test xs) ≤ length xs
+pub filter_fewer : {X : Type 0} (test : X → Bool) (xs : List X) → length (filter test xs) ≤ length xs
 filter_fewer test [] = omega arith
 filter_fewer test (x ∷ xs) = by_test (test x) (filter_fewer test xs)
   where

@@ -13,3 +13,4 @@ pub mod Due
 pub mod CompareMerged
 pub mod Matching
 pub mod Strobes
+pub mod StrobesMerged

@@ -52,8 +52,8 @@ written_codes h names = time_code h ∷ strobe_codes h names
 
 -- At time k + 1 these other items have what there is at edge number k of the items, counted from 0:
 -- each code of the names that is no event has its value just before the edge, the code of the time
--- has the edge's time, and an event is triggered if it was since the edge before. The last time is
--- the number of edges.
+-- has the edge's time, and an event is triggered if it was since the edge before. Nothing comes at
+-- time 0, and the last time is the number of edges.
 pub record GivesEdges (ks : List Clock) (h : Header) (names : List (List ℕ))
     (items written : List BodyItem) : Type 0 where
   pub values : (c : IdCode) (k : ℕ) (edge : List BodyItem)
@@ -67,6 +67,7 @@ pub record GivesEdges (ks : List Clock) (h : Header) (names : List (List ℕ))
       → Contains (strobe_codes h names) c → IsTrue c.event
       → is_triggered written c (suc k) (suc (suc k))
       ≡ is_triggered edge c (last_time (edges_before ks items k)) (time_after edge)
+  pub start : (c : IdCode) → (value_at written c 0 ≡ None) × IsFalse (is_triggered written c 0 1)
   pub last : time_after written ≡ length (edges_in ks items)
 
 -- a text is a whole body against these codes, and gives what there is at the edges

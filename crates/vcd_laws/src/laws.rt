@@ -14,6 +14,7 @@ ghost use Rattle.vcd_laws.specs.OverMerge.{ListOfMerge, SampleOfMerge, EdgesOfMe
 ghost use Rattle.vcd_laws.specs.CompareMerged.{CompareOfMerge};
 ghost use Rattle.vcd_laws.specs.Matching.{ComparisonIsWithin, SuccessIsAMatch, MergedSuccessIsAMatch};
 ghost use Rattle.vcd_laws.specs.Strobes.{NothingRevisedInStrobe, SameStrobes, StrobeKeeps, StrobeIsADump};
+ghost use Rattle.vcd_laws.specs.StrobesMerged.{StrobeSuccessIsAMatch};
 ghost use Rattle.vcd_laws.specs.Counted.{CheckOfPick, CheckOfCut, CheckOfMerge};
 ghost use Rattle.vcd_laws.specs.Checked.{CheckedIsSafe, CheckNamesTheFault, CleanIsChecked, CheckedMergeIsSafe, MergeNamesTheFault};
 ghost use Rattle.vcd_laws.specs.Final.{SettledIsFinal, SettledIsFinalInMerge, SettledMergeIsFinal, SettledAloneSettlesMerge, UnsettledIsOpen, UnsettledMergeIsOpen};
@@ -304,6 +305,12 @@ pub fn strobe_keeps()
 /// selected variables, even if a fault of the input ends the run.
 pub fn strobe_is_a_dump()
     ensures { StrobeIsADump }
+{}
+
+/// Two merged strobes compare with status 0 if and only if what they have just before their edges
+/// matches, at each edge that both have.
+pub fn strobe_success_is_a_match()
+    ensures { StrobeSuccessIsAMatch }
 {}
 
 /// `check` of what `pick` wrote counts the selected variables and what was kept of the body.
