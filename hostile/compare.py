@@ -21,8 +21,9 @@ machine  The stack has 112 KB, and memory is limited, in steps of 16 KB; words a
 headers  A header of twice as many declarations takes at most three times the CPU time: in any
          order, with deep scopes, with one path or one code for all, with dots in names. So does a
          value of twice as many digits with twice as many changes of its counterpart, a comparison
-         of twice as many pairs that differ one after another, and a path of twice as many parts
-         with 99 names inside each other, in 32 MB of memory.
+         of twice as many pairs that differ one after another, one of twice as many pairs of one
+         code that have differed, with twice as many changes of it, and a path of twice as many
+         parts with 99 names inside each other, in 32 MB of memory.
 flat     Two streams of 64 MB are merged and compared, each program in 32 MB of memory. FLAT=2048
          takes streams of so many megabytes."""
 import itertools, os, random, subprocess, sys, tempfile, threading
@@ -351,6 +352,11 @@ def headers_of(count):
     yield ("that differ one after another", declared(parts, each) + b"".join(
         b"#%d\n0p%d\n1q%d\n" % (n, n, n) for n in range(each)), each, None, b"".join(
             b"differs %d p.v%d 0 1\n" % (n, n) for n in range(each)))
+    # A code goes on changing after each of its pairs has had its only line.
+    yield ("with one code that changes", declared(
+        parts, each, code=lambda part, n: b"p" if part == b"p" else b"q%d" % n) + b"".join(
+            b"#%d\n%dp\n" % (n, n % 2) for n in range(each)), each, None, b"".join(
+                b"differs 0 p.v%d 0 -\n" % n for n in range(each)))
 
 
 def cpu_of(command, given):

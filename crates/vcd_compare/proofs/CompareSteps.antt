@@ -1,5 +1,5 @@
 -- How a comparison stands with one item more.
-use Rattle.vcd_compare.proofs.Cited.{zero, ◌≡◌, ◌⊎◌, inl, inr, ℕ, suc, ◌+◌, ◌<◌, ◌≤◌, ◌*◌, ◌==◌, max, Bool, true, false, cond, ◌&&◌, nat_lt, List, [], ◌∷◌, ◌++◌, length, fold, filter, slice_get, get_or, Option, Some, None, refl, sym, ap, ◌∙◌, append-nil, arith, IfSome, AllByRecursion, AllZip, list_any, cases_lt, lt-ltb, ltb-false, or_from, or_parts, list_any-append, slice_get_cases, IdCode, code_of, Header, gives_to, BodyItem, marks, time_after, is_settled, Extent, Pair, differs, is_mark_above, Names, compared_in, side, times_in, within_open, fold-append, marks-append, time_after-append, IsItem, IsSection, Form, Item, Time, Begin, Change, Finish, held_still, model_asked, AreCurrent, AreFlags, Compares, IsCounted, IsLastTrigger, stops_before, differing, DoNotFall, codes_differ, had_line, lines_due, time_compared, ArePairs, IsPairAt, Comparison, Watched, Current, PairRow, Pairs}
+use Rattle.vcd_compare.proofs.Cited.{zero, ◌≡◌, ◌⊎◌, inl, inr, ℕ, suc, ◌+◌, ◌<◌, ◌≤◌, ◌*◌, ◌==◌, max, Bool, true, false, cond, ◌&&◌, nat_lt, List, [], ◌∷◌, ◌++◌, length, fold, filter, slice_get, get_or, Option, Some, None, refl, sym, ap, ◌∙◌, append-nil, arith, IfSome, AllByRecursion, AllZip, list_any, cases_lt, lt-ltb, ltb-false, or_from, or_parts, list_any-append, slice_get_cases, IdCode, code_of, Header, gives_to, BodyItem, marks, time_after, is_settled, Extent, Pair, differs, is_mark_above, Names, compared_in, side, times_in, within_open, fold-append, marks-append, time_after-append, IsItem, IsSection, Form, Item, Time, Begin, Change, Finish, held_still, model_asked, AreCurrent, AreFlags, AreSkips, Compares, IsCounted, IsLastTrigger, stops_before, differing, DoNotFall, codes_differ, had_line, lines_due, time_compared, ArePairs, IsPairAt, Comparison, Watched, Current, PairRow, Pairs}
 use Rattle.vcd_model.specs.Compare.{Asked as ModelAsked}
 use Rattle.vcd_body.specs.declared.item.Item.TheVariants.{End}
 use Rattle.vcd_compare.specs.Lines.{flag_of}
@@ -8,6 +8,7 @@ use Rattle.vcd_compare.proofs.DueFlags.{flag_for, none_due, none_had}
 use Rattle.vcd_compare.proofs.FlagLemmas.{compared_other, flag_after, flag_same, settled_flag, settled_other}
 use Rattle.vcd_compare.proofs.OpenGrows.{changes_other, later_compared, open_again, open_later, open_other, state_other, triggered_other}
 use Rattle.vcd_compare.proofs.PairLemmas.{class_events}
+use Rattle.vcd_compare.proofs.SkipLemmas.{skips_stay}
 use Rattle.vcd_compare.proofs.QuietLemmas.{compared_again, flag_again, no_fall-marks, no_fall-other, quiet_after, quiet_again, quiet_other}
 
 -- an item that is no timestamp is none above a time
@@ -59,11 +60,12 @@ module _ (h : Header) (exceptions : List (List ℕ)) (ns : List Names) (items : 
   -- with other states and flags
   pub compares_with : (c' : Comparison) (w' : Watched) → c'.current.pairs.now ≡ c.current.pairs.now → c'.current.asked ≡ c.current.asked
       → w'.at ≡ w.at → AreCurrent c'.current h (items ++ x ∷ []) → AreFlags c.current.pairs.now h q (items ++ x ∷ []) c'.flags.bytes.now
-      → Compares h exceptions ns (items ++ x ∷ []) c' w'
-  compares_with c' w' pairs asked at current flags = record {
+      → AreSkips c.current.pairs.now.ends.items c'.flags.bytes.now c'.skips.now → Compares h exceptions ns (items ++ x ∷ []) c' w'
+  compares_with c' w' pairs asked at current flags skips = record {
     pairs = rw (pairs, asked) stands.pairs;
     current = current;
     flags = rw (pairs, asked) flags;
+    skips = rw pairs skips;
     at = at ∙ stands.at ∙ sym (compared_other q items x other) ∙ ap (λ a. time_compared (model_asked a exceptions) (items ++ x ∷ [])) (sym asked);
     up = no_fall-other items x other stands.up;
     quiet = rw asked (λ e. quiet_other q h ns items x other (stands.quiet e));
@@ -86,6 +88,7 @@ module _ (h : Header) (exceptions : List (List ℕ)) (ns : List Names) (items : 
     pairs = stands.pairs;
     current = current_still c.current h items x none stands.current;
     flags = flags_still none;
+    skips = stands.skips;
     at = stands.at ∙ sym (compared_other q items x other);
     up = no_fall-other items x other stands.up;
     quiet = λ e. quiet_other q h ns items x other (stands.quiet e);
@@ -120,6 +123,7 @@ module _ (h : Header) (exceptions : List (List ℕ)) (ns : List Names) (items : 
           each = λ class p below is. stands.flags.each class p below is
               ∙ sym (flag_again asked items t stands.up up_after low (code_of p.one) (code_of p.other));
         };
+        skips = stands.skips;
         at = same ∙ stands.at ∙ sym (compared_again asked items t stands.up up_after low);
         up = up_after;
         quiet = λ e. quiet_again asked h ns items t stands.up up_after low (stands.quiet e);
@@ -141,19 +145,22 @@ module _ (h : Header) (exceptions : List (List ℕ)) (ns : List Names) (items : 
     abbrev NoneNow : Type 0
     NoneNow = asked.extent ≡ Extent.First → list_any (λ p. differs asked.rule (side items) (side items) p (time_compared asked items)) (compared_in asked h ns) ≡ false
 
-    pub compares_later : (c' : Comparison) (w' : Watched) → c'.current ≡ c.current → w'.at ≡ t → length c'.flags.bytes.now ≡ length c.flags.bytes.now
-        → ((k : ℕ) → k < length c.flags.bytes.now → get_or c'.flags.bytes.now k 0 ≡ settled_flag asked.extent (get_or c.flags.bytes.now k 0))
+    pub compares_later : (c' : Comparison) (w' : Watched) → c'.current ≡ c.current → c'.skips.now ≡ c.skips.now → w'.at ≡ t
+        → length c'.flags.bytes.now ≡ length c.flags.bytes.now
+        → ((k : ℕ) → get_or c'.flags.bytes.now k 0 ≡ settled_flag asked.extent (get_or c.flags.bytes.now k 0))
         → NoneNow → Compares h exceptions ns after c' w'
-    compares_later c' w' same at many each none = record {
+    compares_later c' w' same skips at many each none = record {
       pairs = rw same stands.pairs;
       current = rw same current_after;
       flags = rw same (record {
         many = many ∙ stands.flags.many;
         each = λ class p below is.
-            each class (let all = stands.flags.many in omega arith)
+            each class
             ∙ ap (settled_flag asked.extent) (stands.flags.each class p below is)
             ∙ sym (flag_after asked items t stands.up up_after above in_window (code_of p.one) (code_of p.other) (class_events c.current.pairs.now h asked ns class p stands.pairs below is));
       });
+      skips = rw (same, skips) (skips_stay c.current.pairs.now.ends.items c.flags.bytes.now c'.flags.bytes.now c.skips.now
+          (λ k two. each k ∙ ap (settled_flag asked.extent) two) stands.skips);
       at = at ∙ sym (later_compared asked h ns items t stands.up up_after above) ∙ ap (λ (k : Current). time_compared (model_asked k.asked exceptions) after) (sym same);
       up = up_after;
       quiet = rw same (λ e. quiet_after asked h ns items t stands.up up_after above in_window (none e) (stands.quiet e));
@@ -272,7 +279,7 @@ module _ (h : Header) (exceptions : List (List ℕ)) (ns : List Names) (items : 
       by_order (inl high) =
           let none = none_one high in
           let flags = none_for_all c.current.pairs.now h its ns items c.flags.bytes.now stands.pairs stands.flags none in (
-            compares_later h exceptions ns items t c w stands forth high within_window c w' refl (at ∙ omega arith) refl (λ k below. rw (none_flagged c.flags.bytes.now k none) refl)
+            compares_later h exceptions ns items t c w stands forth high within_window c w' refl refl (at ∙ omega arith) refl (λ k. rw (none_flagged c.flags.bytes.now k none) refl)
                 (λ e. none_differ its items (compared_in its h ns) e flags (none_had its items (compared_in its h ns) (filter (is_settled items) (times_in its items)) (stands.quiet e))),
             open_grows h exceptions ns items t c w stands forth high
                 ∙ ap (λ l. within_open its h ns items ++ l) (none_due its h ns items stands.up stands.quiet flags)

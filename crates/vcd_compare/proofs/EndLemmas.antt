@@ -1,5 +1,5 @@
 -- The flags of the classes of a code, end by end.
-use Rattle.vcd_compare.proofs.Cited.{◌≡◌, ◌≢◌, ◌⊎◌, inl, inr, ℕ, suc, ◌<◌, ◌≤◌, ◌*◌, ◌+◌, ◌-◌, ◌/◌, ◌%◌, ◌==◌, min, Bool, true, false, cond, List, [], ◌∷◌, ◌++◌, length, slice_get, get_or, Some, None, refl, sym, ap, subst, ◌∙◌, arith, unwrap_or, cases_lt, eqb-true, eqb-false, same_Some, slice_get-get_or, slice_get_cases, IdCode, code_of, Header, gives_to, BodyItem, time_after, Pair, is_fit, Names, HeadView, model_asked, rule_of, AreCodes, AreFlags, AreMarked, GivesNew, HasNoEnd, differ_from, partner, marked, codes_differ, flag_of, time_compared, IsClassOf, IsLastEnd, Current, End, Pairs}
+use Rattle.vcd_compare.proofs.Cited.{◌≡◌, ◌≢◌, ◌⊎◌, inl, inr, ℕ, suc, ◌<◌, ◌≤◌, ◌*◌, ◌+◌, ◌-◌, ◌/◌, ◌%◌, ◌==◌, min, Bool, true, false, cond, List, [], ◌∷◌, ◌++◌, length, slice_get, get_or, Some, None, refl, sym, ap, subst, ◌∙◌, arith, unwrap_or, cases_eq, cases_lt, eqb-true, eqb-false, same_Some, slice_get-get_or, slice_get_cases, IdCode, code_of, Header, gives_to, BodyItem, time_after, Pair, is_fit, Names, HeadView, model_asked, rule_of, AreCodes, AreFlags, AreMarked, GivesNew, HasNoEnd, differ_from, partner, marked, codes_differ, flag_of, time_compared, IsClassOf, IsLastEnd, IsNextEnd, Current, End, Pairs}
 use Rattle.vcd_model.specs.Compare.{Asked as ModelAsked}
 use Rattle.vcd_compare.proofs.FlagLemmas.{compared_is, compared_other, flag_changed, flag_same, settled_other}
 use Rattle.vcd_compare.proofs.OpenGrows.{changes_other, state_other}
@@ -42,8 +42,8 @@ new_flag old now d e f (inl is) = rw is (by_tests (old == 2) d e)
     by_tests false true e = rw e refl
     by_tests false false e = rw e refl
 
-module _ (v : HeadView) (c : Current) (n at : ℕ) (old : List ℕ) (h : Header) (exceptions : List (List ℕ)) (ns : List Names) (items : List BodyItem)
-    (x : BodyItem) (a : IdCode) (g : GivesNew v c n at old h exceptions ns items x a) where
+module _ (v : HeadView) (c : Current) (n at : ℕ) (old skips : List ℕ) (h : Header) (exceptions : List (List ℕ)) (ns : List Names) (items : List BodyItem)
+    (x : BodyItem) (a : IdCode) (g : GivesNew v c n at old skips h exceptions ns items x a) where
   abbrev q : ModelAsked
   q = model_asked c.asked exceptions
 
@@ -111,6 +111,19 @@ module _ (v : HeadView) (c : Current) (n at : ℕ) (old : List ℕ) (h : Header)
   flag_stays one other e f =
       flag_same q items (items ++ x ∷ []) one other (state_other items x one e) (state_other items x other f) (compared_other q items x g.other)
       (settled_other q items x g.other) (changes_other items x one e) (changes_other items x other f)
+
+  -- a pair that had its only line before the item has had it after it
+  done_stays : (one other : IdCode) → flag_of q items one other ≡ 2 → flag_of q (items ++ x ∷ []) one other ≡ 2
+  done_stays one other two = by_tests (gives_to one x) (gives_to other x) refl refl
+    where
+      gives : (gives_to one x ≡ true) ⊎ (gives_to other x ≡ true) → flag_of q (items ++ x ∷ []) one other ≡ 2
+      gives either = flag_changed q items x g.other one other either
+          ∙ ap (λ f. cond (f == 2) 2 (cond (codes_differ (rule_of c.asked) (items ++ x ∷ []) one other (time_compared q items)) 1 0)) two
+
+      by_tests : (b d : Bool) → gives_to one x ≡ b → gives_to other x ≡ d → flag_of q (items ++ x ∷ []) one other ≡ 2
+      by_tests true d e f = gives (inl e)
+      by_tests false true e f = gives (inr f)
+      by_tests false false e f = flag_stays one other e f ∙ two
 
   pub marked_last : (flags : List ℕ) → AreMarked ps h q items (items ++ x ∷ []) n 0 flags → AreFlags ps h q (items ++ x ∷ []) flags
   marked_last flags m = record { many = m.many; each = λ class p below is. by_case class p is (m.each class p below is) }
@@ -203,41 +216,51 @@ module _ (v : HeadView) (c : Current) (n at : ℕ) (old : List ℕ) (h : Header)
           was (inl done) = inl done
           was (inr stays) = inr stays.0
 
-      linked : IsLastEnd ends i e.code e.earlier
-      linked = g.pairs.linked.each i e there
+      -- the next end that was found, with the flags that are set now
+      module _ (low : ℕ) (next : IsNextEnd ends (marked flags class d) i e.code low) where
+        -- an end of another class comes in between only if that had its only line
+        none_between : (k : ℕ) → k ≢ class → get_or flags k 0 ≢ 2 → HasNoEnd ends n k (suc i) → HasNoEnd ends n k (min low i)
+        none_between k apart lacks none j y le half at_j = by_order (cases_lt j i)
+          where
+            by_order : (j < i) ⊎ (i ≤ j) → y.code ≢ n
+            by_order (inl less) = λ is.
+                lacks (sym (marked_other flags class k d apart) ∙ ap (λ (m : ℕ). get_or (marked flags class d) m 0) (sym half)
+                ∙ next.none j y (let within = next.within in omega arith) less at_j (is ∙ sym code))
+            by_order (inr high) = again (cases_lt i j)
+              where
+                again : (i < j) ⊎ (j ≤ i) → y.code ≢ n
+                again (inl more) = none j y (omega arith) half at_j
+                again (inr back) = let same : j ≡ i = omega arith in absurd (apart (sym half ∙ ap (λ (m : ℕ). m / 2) same))
 
-      -- no end of another class comes in between
-      none_between : (k : ℕ) → k ≢ class → HasNoEnd ends n k (suc i) → HasNoEnd ends n k (min e.earlier i)
-      none_between k apart none j y le half at_j = by_order (cases_lt j i)
-        where
-          by_order : (j < i) ⊎ (i ≤ j) → y.code ≢ n
-          by_order (inl low) = λ is. linked.none j y (let within = linked.within in omega arith) low at_j (is ∙ sym code)
-          by_order (inr high) = again (cases_lt i j)
-            where
-              again : (i < j) ⊎ (j ≤ i) → y.code ≢ n
-              again (inl more) = none j y (omega arith) half at_j
-              again (inr back) = let same : j ≡ i = omega arith in absurd (apart (sym half ∙ ap (λ (m : ℕ). m / 2) same))
+        pub marked_on : AreMarked ps h q items (items ++ x ∷ []) n (min low i) (marked flags class d)
+        marked_on = record {
+          many = marked_many flags class d ∙ m.many;
+          within = (let ends_in = in_ends in
+              omega arith);
+          next = λ j y at at_j. let within = next.within in let its = next.is j (omega arith) in
+              let same : its.0 ≡ y = same_Some its.0 y (sym its.1 ∙ at_j) in
+              ap (λ (z : End). z.code) (sym same) ∙ its.2 ∙ code;
+          each = λ k p below is. by_class k p below is (k == class) refl;
+        }
+          where
+            by_class : (k : ℕ) (p : Pair) → k < ps.classes → IsClassOf h ends k p → (b : Bool) → (k == class) ≡ b
+                → (get_or (marked flags class d) k 0 ≡ flag_of q (items ++ x ∷ []) (code_of p.one) (code_of p.other))
+                ⊎ ((get_or (marked flags class d) k 0 ≡ flag_of q items (code_of p.one) (code_of p.other)) × HasNoEnd ends n k (min low i))
+            by_class k p below is true same = inl (rw (eqb-true k class same) (new_there p (subst (λ (j : ℕ). IsClassOf h ends j p) (eqb-true k class same) is)))
+            by_class k p below is false other = by_case (m.each k p below is)
+              where
+                apart : k ≢ class
+                apart = eqb-false k class other
 
-      pub marked_on : AreMarked ps h q items (items ++ x ∷ []) n (min e.earlier i) (marked flags class d)
-      marked_on = record {
-        many = marked_many flags class d ∙ m.many;
-        within = (let low = linked.within in let ends_in = in_ends in
-            omega arith);
-        next = λ j y at at_j. let within = linked.within in let its = linked.is j (omega arith) in
-            let same : its.0 ≡ y = same_Some its.0 y (sym its.1 ∙ at_j) in
-            ap (λ (z : End). z.code) (sym same) ∙ its.2 ∙ code;
-        each = λ k p low is. by_class k p low is (k == class) refl;
-      }
-        where
-          by_class : (k : ℕ) (p : Pair) → k < ps.classes → IsClassOf h ends k p → (b : Bool) → (k == class) ≡ b
-              → (get_or (marked flags class d) k 0 ≡ flag_of q (items ++ x ∷ []) (code_of p.one) (code_of p.other))
-              ⊎ ((get_or (marked flags class d) k 0 ≡ flag_of q items (code_of p.one) (code_of p.other)) × HasNoEnd ends n k (min e.earlier i))
-          by_class k p low is true same = inl (rw (eqb-true k class same) (new_there p (subst (λ (j : ℕ). IsClassOf h ends j p) (eqb-true k class same) is)))
-          by_class k p low is false other = by_case (m.each k p low is)
-            where
-              by_case : (get_or flags k 0 ≡ flag_of q (items ++ x ∷ []) (code_of p.one) (code_of p.other))
-                  ⊎ ((get_or flags k 0 ≡ flag_of q items (code_of p.one) (code_of p.other)) × HasNoEnd ends n k (suc i))
-                  → (get_or (marked flags class d) k 0 ≡ flag_of q (items ++ x ∷ []) (code_of p.one) (code_of p.other))
-                  ⊎ ((get_or (marked flags class d) k 0 ≡ flag_of q items (code_of p.one) (code_of p.other)) × HasNoEnd ends n k (min e.earlier i))
-              by_case (inl done) = inl (marked_other flags class k d (eqb-false k class other) ∙ done)
-              by_case (inr stays) = inr (marked_other flags class k d (eqb-false k class other) ∙ stays.0, none_between k (eqb-false k class other) stays.1)
+                by_case : (get_or flags k 0 ≡ flag_of q (items ++ x ∷ []) (code_of p.one) (code_of p.other))
+                    ⊎ ((get_or flags k 0 ≡ flag_of q items (code_of p.one) (code_of p.other)) × HasNoEnd ends n k (suc i))
+                    → (get_or (marked flags class d) k 0 ≡ flag_of q (items ++ x ∷ []) (code_of p.one) (code_of p.other))
+                    ⊎ ((get_or (marked flags class d) k 0 ≡ flag_of q items (code_of p.one) (code_of p.other)) × HasNoEnd ends n k (min low i))
+                by_case (inl done) = inl (marked_other flags class k d apart ∙ done)
+                by_case (inr stays) = by_flag (cases_eq (get_or flags k 0) 2)
+                  where
+                    by_flag : (get_or flags k 0 ≡ 2) ⊎ (get_or flags k 0 ≢ 2)
+                        → (get_or (marked flags class d) k 0 ≡ flag_of q (items ++ x ∷ []) (code_of p.one) (code_of p.other))
+                        ⊎ ((get_or (marked flags class d) k 0 ≡ flag_of q items (code_of p.one) (code_of p.other)) × HasNoEnd ends n k (min low i))
+                    by_flag (inl two) = inl (marked_other flags class k d apart ∙ two ∙ sym (done_stays (code_of p.one) (code_of p.other) (sym stays.0 ∙ two)))
+                    by_flag (inr other) = inr (marked_other flags class k d apart ∙ stays.0, none_between k apart other stays.1)

@@ -16,6 +16,7 @@ pub use Rattle.vcd_compare.proofs.RowPaths.{NumbersSome, around_at, around_joine
 pub use Rattle.vcd_compare.proofs.RunEnds.{not_ended}
 pub use Rattle.vcd_compare.proofs.RunSteps.{begins_none, closes, takes_section, takes_quiet, takes_time, time_forth}
 pub use Rattle.vcd_compare.proofs.SelectedLemmas.{both_one, both_zip, named_below}
+pub use Rattle.vcd_compare.proofs.SkipLemmas.{marked_done, next_after, next_is, skips_after, skips_first, skips_stay}
 pub use Rattle.vcd_compare.proofs.StartLemmas.{compares_first, open_first}
 pub use Rattle.vcd_compare.proofs.StatesNow.{apart_from, bits_real, bits_there, both_real, few_match, held_final, held_state, lengths_match, next_digit, shown_digits, some_unset, told_same, triggered_now, unset_some}
 pub use Rattle.vcd_compare.proofs.TimeSteps.{counted_none, listed_none, differs_none, differs_some, none_now, puts_now, settles_due, settles_none, tells_again, tells_first, tells_later, tells_none}

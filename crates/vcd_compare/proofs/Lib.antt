@@ -14,7 +14,8 @@ pub mod TriggerLemmas
 pub mod StateLemmas
 pub mod MatchLemmas
 pub mod PathTexts
-pub mod SliceLemmas
+pub mod SkipLemmas
+mod SliceLemmas
 pub mod UnselectedLemmas
 pub mod VariableLemmas
 pub mod RowPaths

@@ -4,6 +4,7 @@ use Rattle.vcd_model.specs.Compare.{Asked as ModelAsked}
 use Rattle.vcd_model.specs.Within.{within_open}
 use Rattle.vcd_compare.specs.Lines.{flag_of}
 use Rattle.vcd_compare.proofs.DueSome.{none_one}
+use Rattle.vcd_compare.proofs.SkipLemmas.{skips_first}
 
 -- ---- nothing is settled, and nothing differs
 
@@ -59,11 +60,12 @@ triggers_first v h views index c at event =
 pub compares_first : (v : HeadView) (h : Header) (exceptions : List (List ℕ)) (ns : List Names) (c : Comparison) (w : Watched) → IsViewOf v h
     → ArePairs c.current.pairs.now h (model_asked c.current.asked exceptions) ns → AreHeld c.current.table h []
     → c.current.triggers.now ≡ replicate (length v.codes.now) None → c.flags.bytes.now ≡ replicate c.current.pairs.now.classes 0
-    → w.at ≡ c.current.asked.from → Compares h exceptions ns [] c w
-compares_first v h exceptions ns c w views pairs held triggers flags at = record {
+    → c.skips.now ≡ replicate (length c.current.pairs.now.ends.items) 0 → w.at ≡ c.current.asked.from → Compares h exceptions ns [] c w
+compares_first v h exceptions ns c w views pairs held triggers flags skips at = record {
   pairs = pairs;
   current = record { held = held; triggers = rw triggers (triggers_first v h views) };
   flags = rw flags (flags_first c.current.pairs.now h (model_asked c.current.asked exceptions));
+  skips = rw skips (skips_first c.current.pairs.now.ends.items c.current.pairs.now.last.items c.flags.bytes.now pairs.linked);
   at = at;
   up = tt;
   quiet = λ first. let q = model_asked c.current.asked exceptions in rw (none_settled q) refl;

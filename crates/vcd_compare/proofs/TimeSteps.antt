@@ -176,14 +176,15 @@ module _ (h : Header) (exceptions : List (List ℕ)) (ns : List Names) (items : 
         differs = differs ∙ differs_after;
       }
 
-      pub tells_later : (run' : Run) → run'.comparison.current ≡ run.comparison.current → run'.watched.at ≡ t
+      pub tells_later : (run' : Run) → run'.comparison.current ≡ run.comparison.current
+          → run'.comparison.skips.now ≡ run.comparison.skips.now → run'.watched.at ≡ t
           → length run'.comparison.flags.bytes.now ≡ length run.comparison.flags.bytes.now
-          → ((k : ℕ) → k < length run.comparison.flags.bytes.now → get_or run'.comparison.flags.bytes.now k 0 ≡ settled_as
+          → ((k : ℕ) → get_or run'.comparison.flags.bytes.now k 0 ≡ settled_as
           (flag_after request.extent) (get_or run.comparison.flags.bytes.now k 0)) → (request.extent ≡ Extent.First → ⊥) → run'.differs ≡ true
           → TellsEnd request h exceptions ns after run' (nat_lt to t)
-      tells_later run' same at many each others differs =
+      tells_later run' same skips at many each others differs =
           tells_past run' (ap (λ c. c.asked) same)
-          (λ on. compares_later h exceptions ns items t run.comparison run.watched stands.compares forth high on run'.comparison run'.watched same at many each (λ e. absurd (others e)))
+          (λ on. compares_later h exceptions ns items t run.comparison run.watched stands.compares forth high on run'.comparison run'.watched same skips at many each (λ e. absurd (others e)))
           (differs ∙ differs_after)
 
 -- the flags that are settled are counted as none

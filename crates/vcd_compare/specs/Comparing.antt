@@ -75,6 +75,17 @@ pub record AreMarked (ps : Pairs) (h : Header) (q : ModelAsked) (before items : 
       → (get_or flags class 0 ≡ flag_of q items (code_of p.one) (code_of p.other))
       ⊎ ((get_or flags class 0 ≡ flag_of q before (code_of p.one) (code_of p.other)) × HasNoEnd ps.ends.items code class low)
 
+-- n is 1 plus the index of an end below a bound that has the code, or 0; all classes that have an
+-- end with the code from there on, below the bound, had their only line
+pub record IsNextEnd (ends : List End) (flags : List ℕ) (below code n : ℕ) : Type 0 where
+  pub within : n ≤ below
+  pub is : (i : ℕ) → n ≡ suc i → (e : End) × (slice_get ends i ≡ Some e) × (e.code ≡ code)
+  pub none : (i : ℕ) (e : End) → n ≤ i → i < below → slice_get ends i ≡ Some e → e.code ≡ code → get_or flags (i / 2) 0 ≡ 2
+
+-- from each end, less what is skipped, the next one of the same code is found
+abbrev pub AreSkips : List End → (flags skips : List ℕ) → Type 0
+AreSkips ends flags skips = (i : ℕ) (e : End) → slice_get ends i ≡ Some e → IsNextEnd ends flags i e.code (e.earlier - get_or skips i 0)
+
 -- the index of the other end of a class
 abbrev pub partner : ℕ → ℕ
 partner i = cond (i % 2 == 0) (i + 1) (i - 1)
@@ -108,6 +119,7 @@ pub record Compares (h : Header) (exceptions : List (List ℕ)) (ns : List Names
   pub pairs : ArePairs c.current.pairs.now h (model_asked c.current.asked exceptions) ns
   pub current : AreCurrent c.current h items
   pub flags : AreFlags c.current.pairs.now h (model_asked c.current.asked exceptions) items c.flags.bytes.now
+  pub skips : AreSkips c.current.pairs.now.ends.items c.flags.bytes.now c.skips.now
   pub at : w.at ≡ time_compared (model_asked c.current.asked exceptions) items
   pub up : DoNotFall 0 (marks items)
   pub quiet : (model_asked c.current.asked exceptions).extent ≡ Extent.First → IsQuiet (model_asked c.current.asked exceptions) h ns items
@@ -127,6 +139,7 @@ pub record IsCounted (w : Watched) (c : Comparison) : Type 0 where
 -- the rows whose flag was 1 are due, in order, and their flags became another number
 pub record Settles (after : ℕ) (c c' : Comparison) (count : ℕ) : Type 0 where
   pub current : c'.current ≡ c.current
+  pub skips : c'.skips.now ≡ c.skips.now
   pub many : length c'.flags.bytes.now ≡ length c.flags.bytes.now
   pub each : (k : ℕ) → get_or c'.flags.bytes.now k 0 ≡ settled_as after (get_or c.flags.bytes.now k 0)
   pub rows : HaveRows c'.current.pairs.now.rows.items c'.flags c'.links c'.due.now
@@ -155,9 +168,9 @@ pub record ComparesOne (v : HeadView) (s t : Stage Watched Comparison) (result :
   pub same : SameRequest s.command t.command
   pub on : ComparesOn v scanned.text.now scanned.item s.regs s.command t.command s.visit t.visit
 
--- an item that is no timestamp gave the code at an index a new value, and these are the flags before
--- it
-pub record GivesNew (v : HeadView) (c : Current) (code at : ℕ) (old : List ℕ) (h : Header) (exceptions : List (List ℕ)) (ns : List Names)
+-- an item that is no timestamp gave the code at an index a new value, and these are the flags and
+-- skips before it
+pub record GivesNew (v : HeadView) (c : Current) (code at : ℕ) (old skips : List ℕ) (h : Header) (exceptions : List (List ℕ)) (ns : List Names)
     (items : List BodyItem) (x : BodyItem) (a : IdCode) : Type 0 where
   pub views : IsViewOf v h
   pub there : slice_get h.codes code ≡ Some a
@@ -167,9 +180,11 @@ pub record GivesNew (v : HeadView) (c : Current) (code at : ℕ) (old : List ℕ
   pub current : AreCurrent c h (items ++ x ∷ [])
   pub at_is : at ≡ time_compared (model_asked c.asked exceptions) items
   pub flags : AreFlags c.pairs.now h (model_asked c.asked exceptions) items old
+  pub skipping : AreSkips c.pairs.now.ends.items old skips
 
--- the flags are those after it
-abbrev pub MarksChange : HeadView → Current → (code at : ℕ) → (old new : List ℕ) → Type 0
-MarksChange v c code at old new = (h : Header) (exceptions : List (List ℕ)) (ns : List Names) (items : List BodyItem) (x : BodyItem) (a : IdCode)
-    → GivesNew v c code at old h exceptions ns items x a
+-- the flags are those after it, and the skips are right
+abbrev pub MarksChange : HeadView → Current → (code at : ℕ) → (old new skips new_skips : List ℕ) → Type 0
+MarksChange v c code at old new skips new_skips = (h : Header) (exceptions : List (List ℕ)) (ns : List Names) (items : List BodyItem) (x : BodyItem) (a : IdCode)
+    → GivesNew v c code at old skips h exceptions ns items x a
     → AreFlags c.pairs.now h (model_asked c.asked exceptions) (items ++ x ∷ []) new
+    × AreSkips c.pairs.now.ends.items new new_skips

@@ -8,14 +8,15 @@ ghost use Rattle.vcd_model.specs.Declarations.{IdCode};
 ghost use Rattle.vcd_model.specs.Header.{Header};
 ghost use Rattle.vcd_model.specs.Items.{BodyItem};
 ghost use Rattle.vcd_view.specs.Views.{IsViewOf};
-ghost use Rattle.vcd_compare.specs.Comparing.{ComparesOn, IsCounted, MarksChange, SameRequest, Settles, partner};
+ghost use Rattle.vcd_compare.specs.Comparing.{AreSkips, ComparesOn, IsCounted, IsNextEnd, MarksChange, SameRequest, Settles, partner};
 ghost use Rattle.vcd_compare.specs.Flags.{AreListed, differing, marked};
 ghost use Rattle.vcd_compare.specs.Rows.{HaveRows};
 
 use crate::current::{Current, note_trigger};
-use crate::flags::{Flags, mark};
+use crate::flags::{Flags, is_done, mark};
 use crate::pairs::End;
-use crate::rows::{Links, sort_front, take_due};
+use crate::rows::{Links, put_at, sort_front, take_due};
+use crate::variables::number_at;
 use vcd_body::{Bits, Item, Regs, ScannedItem, Visit, set_shortest};
 use vcd_text::{Sink, WriteFailed};
 use vcd_view::{Code, HeadView};
@@ -28,6 +29,8 @@ pub(crate) struct Comparison<'p, 'r> {
     pub flags: Flags<'r>,
     pub links: Links<'r>,
     pub due: &'r mut [usize],
+    /// For each end how much lower than its `earlier` the next end is that is still of use.
+    pub skips: &'r mut [usize],
 }
 
 /// What a walk keeps in registers.
@@ -64,13 +67,41 @@ fn last_end(last: &[usize], code: usize) -> usize
     last.get(code).copied().unwrap_or(0)
 }
 
+/// Returns 1 plus the index of the next end before this one, at `index`, that has the same code; 0
+/// if there is none. If the class of that one has had its only line, it is left out from now on.
+// Without this the time would grow with the changes of a code times the classes that it is in. It
+// is not inlined since most codes have one end: that costs 4 % of the instructions of a comparison.
+#[inline(never)]
+fn next_end(ends: &[End], flags: &mut [u8], skips: &mut [usize], index: usize, end: End) -> usize
+    ensures same { flags.new ≡ flags.old }
+    ensures next { AreSkips ends.now flags.old skips.old → slice_get ends.now index ≡ Some end
+        → IsNextEnd ends.now flags.old index end.code result }
+    ensures skips { AreSkips ends.now flags.old skips.old → slice_get ends.now index ≡ Some end
+        → AreSkips ends.now flags.old skips.new }
+{
+    let next = end.earlier.saturating_sub(number_at(skips, index));
+    let Some(before) = next.checked_sub(1) else {
+        return 0;
+    };
+    if !is_done(flags, before / 2) {
+        return next;
+    }
+    let Some(done) = end_at(ends, before) else {
+        return next;
+    };
+    let further = done.earlier.saturating_sub(number_at(skips, before));
+    put_at(skips, index, end.earlier.saturating_sub(further));
+    further
+}
+
 /// Sets the flags of all classes of the code at index `code`, which is declared so and has just got
-/// a new value. `at` is the time at which values are compared next, and `count` is how many flags
-/// are 1; returns how many are after it.
+/// a new value, but of those that have had their only line. `at` is the time at which values are
+/// compared next, and `count` is how many flags are 1; returns how many are after it.
 #[inline(always)]
 fn mark_ends(
     current: &Current<'_, '_>,
     flags: &mut Flags<'_>,
+    skips: &mut [usize],
     view: HeadView<'_>,
     code: usize,
     declared: Code,
@@ -84,7 +115,7 @@ fn mark_ends(
     ensures listed { AreListed flags.new.bytes.now flags.new.classes.now flags.new.listed }
     ensures many { length flags.new.bytes.now ≡ length flags.old.bytes.now }
     ensures marks { MarksChange view.entry current.now code at
-        flags.old.bytes.now flags.new.bytes.now }
+        flags.old.bytes.now flags.new.bytes.now skips.old skips.new }
 {
     let mut count = count;
     let mut left = last_end(&current.pairs.last, code);
@@ -97,7 +128,10 @@ fn mark_ends(
         };
         let differs = current.differs(view, code, declared, other.code, index % 2 == 0, at);
         count = mark(flags, index / 2, differs, count);
-        left = end.earlier.min(index);
+        if end.earlier == 0 {
+            return count;
+        }
+        left = next_end(&current.pairs.ends, flags.bytes, skips, index, end).min(index);
     }
     count
 }
@@ -137,6 +171,7 @@ impl Comparison<'_, '_> {
         mark_ends(
             &self.current,
             &mut self.flags,
+            self.skips,
             view,
             code,
             declared,

@@ -61,6 +61,14 @@ pub(crate) fn mark(flags: &mut Flags<'_>, class: usize, differs: bool, count: us
     }
 }
 
+/// Returns whether the class has had its only line.
+#[inline(always)]
+pub(crate) fn is_done(flags: &[u8], class: usize) -> bool
+    ensures { result ≡ (get_or flags.now class 0 == 2) }
+{
+    class < flags.len() && flags[class] == 2
+}
+
 /// Sets the flag of a class, if it is 1, to `after`, and returns whether it was 1.
 pub(crate) fn take_flag(flags: &mut [u8], class: usize, after: u8) -> bool
     ensures is { result ≡ (get_or flags.old class 0 == 1) }

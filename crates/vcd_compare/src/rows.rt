@@ -18,7 +18,7 @@ pub(crate) struct Links<'r> {
 }
 
 /// Sets the number at this index, if there is one.
-fn put_at(numbers: &mut [usize], index: usize, number: usize)
+pub(crate) fn put_at(numbers: &mut [usize], index: usize, number: usize)
     ensures { numbers.new ≡ set numbers.old index number }
 {
     if index < numbers.len() {

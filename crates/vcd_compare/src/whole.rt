@@ -50,6 +50,8 @@ pub struct Room<'r> {
     pub earlier: &'r mut [usize],
     /// A number for each pair, whatever it is.
     pub due: &'r mut [usize],
+    /// A 0 for each end of the classes: two for each class of the pairs.
+    pub skips: &'r mut [usize],
 }
 
 /// How a comparison ended.
@@ -77,6 +79,13 @@ impl Pairs {
     {
         self.classes
     }
+
+    /// Returns how many ends the classes have: two for each class.
+    pub fn end_count(&self) -> usize
+        ensures { result ≡ length self.now.ends.items }
+    {
+        self.ends.len()
+    }
 }
 
 /// A comparison between two items of a body.
@@ -101,6 +110,7 @@ impl<'p, 'r> Run<'p, 'r> {
         requires last { room.last.now ≡ replicate pairs.now.classes 0 }
         requires earlier { length pairs.now.rows.items ≤ length room.earlier.now }
         requires due { length pairs.now.rows.items ≤ length room.due.now }
+        requires skips { room.skips.now ≡ replicate (length pairs.now.ends.items) 0 }
         ensures stands { (h : Header) (exceptions : List (List ℕ)) (ns : List Names)
             → IsViewOf view.entry h → ArePairs pairs.now h (model_asked asked exceptions) ns
             → RunStands h exceptions ns [] result }
@@ -122,6 +132,7 @@ impl<'p, 'r> Run<'p, 'r> {
                 },
                 links: Links::new(&pairs.rows, room.last, room.earlier),
                 due: room.due,
+                skips: room.skips,
             },
             watched: Watched {
                 at: asked.from,
@@ -307,6 +318,7 @@ pub fn compare<S: Source, W: Sink>(
     requires last { room.last.now ≡ replicate pairs.now.classes 0 }
     requires earlier { length pairs.now.rows.items ≤ length room.earlier.now }
     requires due { length pairs.now.rows.items ≤ length room.due.now }
+    requires skips { room.skips.now ≡ replicate (length pairs.now.ends.items) 0 }
     ensures gives { (h : Header) (exceptions : List (List ℕ)) (ns : List Names) (i : Input)
         (front : List Token) → IsViewOf view.entry h
         → ArePairs pairs.now h (model_asked asked exceptions) ns → HasGiven i front feed.old

@@ -36,6 +36,7 @@ module _ (limit chunk : ℕ) (v : HeadView) (h : Header) (ps : Pairs) (r : Room)
       let triggers = ap length room.triggers ∙ length-replicate (length v.codes.now) None in
       let flags = ap length room.flags ∙ length-replicate ps.classes 0 in
       let last = ap length room.last ∙ length-replicate ps.classes 0 in
+      let skips = ap length room.skips ∙ length-replicate (length ps.ends.items) 0 in
       let ends = are.classes in
       let rows = are.few in
-      omega (arith, table_fits, codes, triggers, flags, last, ends, rows, room.classes, room.earlier, room.due, few)
+      omega (arith, table_fits, codes, triggers, flags, last, skips, ends, rows, room.classes, room.earlier, room.due, few)

@@ -34,7 +34,7 @@ abbrev pub table_room : Room → RoomSize
 table_room r = record { values = length r.values.now; slots = max (length r.slots.now) (length r.shares.now); marks = 0 }
 
 abbrev pub lists_count : Room → ℕ
-lists_count r = 9 * length r.triggers.now + length r.flags.now + 8 * length r.classes.now + 8 * length r.last.now + 8 * length r.earlier.now + 8 * length r.due.now
+lists_count r = 9 * length r.triggers.now + length r.flags.now + 8 * length r.classes.now + 8 * length r.last.now + 8 * length r.earlier.now + 8 * length r.due.now + 8 * length r.skips.now
 
 -- windows of these lengths, the view, the pairs and the room count at most the bounds of the header
 -- that is shown and of these names, with 512 bytes to spare

@@ -58,6 +58,7 @@ pub record IsMemoryFor (need : Need) (ps : Pairs) (m : RoomMemory) : Type 0 wher
   pub last : m.last.items ≡ replicate ps.classes 0
   pub earlier : vec_len m.earlier ≡ length ps.rows.items
   pub due : vec_len m.due ≡ length ps.rows.items
+  pub skips : m.skips.items ≡ replicate (length ps.ends.items) 0
 
 -- room that is enough for these pairs, and no more than it has to be
 pub record IsRoomFor (v : HeadView) (ps : Pairs) (r : Room) : Type 0 where
@@ -70,6 +71,7 @@ pub record IsRoomFor (v : HeadView) (ps : Pairs) (r : Room) : Type 0 where
   pub last : r.last.now ≡ replicate ps.classes 0
   pub earlier : length r.earlier.now ≡ length ps.rows.items
   pub due : length r.due.now ≡ length ps.rows.items
+  pub skips : r.skips.now ≡ replicate (length ps.ends.items) 0
 
 -- the dump was read to its end, which is before the first time at which values are compared
 abbrev pub is_whole : Done → Bool

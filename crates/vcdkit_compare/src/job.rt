@@ -133,6 +133,7 @@ fn compare_body<S: Source, W: Sink>(
         last: &mut memory.last,
         earlier: &mut memory.earlier,
         due: &mut memory.due,
+        skips: &mut memory.skips,
     };
     compare_in(job, view, feed, room, &pairs, out)
 }

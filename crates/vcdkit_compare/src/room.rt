@@ -19,6 +19,7 @@ pub(crate) struct RoomMemory {
     pub last: Vec<usize>,
     pub earlier: Vec<usize>,
     pub due: Vec<usize>,
+    pub skips: Vec<usize>,
 }
 
 /// Returns new memory for the room of a comparison of these pairs, of a header with this need.
@@ -36,5 +37,6 @@ pub(crate) fn room_for(alloc: Global, need: Need, pairs: &Pairs) -> Result<RoomM
         last: vec![in alloc; 0usize; pairs.class_count()]?,
         earlier: vec![in alloc; 0usize; pairs.count()]?,
         due: vec![in alloc; 0usize; pairs.count()]?,
+        skips: vec![in alloc; 0usize; pairs.end_count()]?,
     })
 }

@@ -19,6 +19,7 @@ returns c =
     ∙ due.once i) in
     record {
       current = refl;
+      skips = refl;
       many = c.take_due-count.ensures.many;
       each = c.take_due-count.ensures.settled;
       rows = record {

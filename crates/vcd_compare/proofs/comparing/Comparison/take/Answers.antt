@@ -26,17 +26,18 @@ returns-clause-on c = λ h exceptions ns items x views is before after stands.
     let triggers = subst (λ (ts : List (Option ℕ)). AreTriggers ts h (items ++ x ∷ [])) (sym c.note_trigger.ensures)
     (triggers_after v h views items x code a change.1 gives (same_time items x other) c.args.regs before own.current.triggers.now c.in-Some.declared.event event stands.current.triggers) in
     let good = subst (λ (i : Item). HasGoodText v.codes.now c.args.text.now i) c.in-Change.is c.requires.sound in
-    let held = c.set_shortest.ensures.held v h items x views good change stands.current.held in (
-      compares_with h exceptions ns items x own c.args.watched stands other _ _ refl refl refl (record { held = held; triggers = triggers })
-          (c.mark_ends.ensures.marks h exceptions ns items x a (record {
-            views = views;
-            there = change.1;
-            gives = gives;
-            other = other;
-            pairs = stands.pairs;
-            current = record { held = held; triggers = triggers };
-            at_is = stands.at;
-            flags = stands.flags;
-          })),
+    let held = c.set_shortest.ensures.held v h items x views good change stands.current.held in
+    let marks = c.mark_ends.ensures.marks h exceptions ns items x a (record {
+      views = views;
+      there = change.1;
+      gives = gives;
+      other = other;
+      pairs = stands.pairs;
+      current = record { held = held; triggers = triggers };
+      at_is = stands.at;
+      flags = stands.flags;
+      skipping = stands.skips;
+    }) in (
+      compares_with h exceptions ns items x own c.args.watched stands other _ _ refl refl refl (record { held = held; triggers = triggers }) marks.0 marks.1,
       open_same h exceptions ns items x own c.args.watched stands other,
     )

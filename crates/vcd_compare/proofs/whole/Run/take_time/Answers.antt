@@ -59,8 +59,8 @@ returns-clause-takes g c = λ h exceptions ns items views forth stands.
     let due = sym c.in_ok-put_due.ensures.tells ∙ c.if-not-branch.false in
     let first = ap (λ (k : Current). k.asked.extent) left.1.current in (
       rw (settles_due h exceptions ns items t run stands forth c.if-time-self.false c.requires.counted) (c.in_ok-put_due.ensures.puts h exceptions ns items views stands.compares),
-      tells_later h exceptions ns items t run stands forth c.if-time-self.false c.requires.counted due _ left.1.current refl left.1.many
-          (λ k low. left.1.each k) (others run.comparison.current.asked.extent (λ e. c.in_default.not-First (first ∙ e))) refl,
+      tells_later h exceptions ns items t run stands forth c.if-time-self.false c.requires.counted due _ left.1.current left.1.skips refl left.1.many
+          left.1.each (others run.comparison.current.asked.extent (λ e. c.in_default.not-First (first ∙ e))) refl,
     )
 
 pub returns-clause-counted : goal.returns-clause-counted
