@@ -1,5 +1,5 @@
 -- The words of names, one after the other.
-use Rattle.vcd_compare_words.proofs.Cited.{◌≡◌, ◌∙◌, append-nil, ap₂, ◌∷◌, ◌++◌, ◌<◌, [], ℕ, suc, Bool, false, true, List, length, map, take, drop, get_or, filter_map, Option, Some, None, option_map, Result, Ok, Err, ap, refl, sym, arith, bytes_eq, take-append-drop, drop-cons, take-suc, map-append, filter_map-append, Bor, Text, NamePair, Names, UseFault, HasFault, names_asked, names_in, names_of, texts, two_names, two_or_fault, with_names}
+use Rattle.vcd_compare_words.proofs.Cited.{◌≡◌, ◌∙◌, append-nil, ap₂, ◌∷◌, ◌++◌, ◌<◌, [], ℕ, suc, Bool, false, true, List, length, take, drop, get_or, filter_map, Option, Some, None, Result, Ok, Err, ap, refl, sym, bytes_eq, take-append-drop, drop-cons, take-suc, map-append, filter_map-append, Bor, Text, NamePair, Names, UseFault, HasFault, names_asked, names_in, names_of, texts, two_names, two_or_fault, with_names}
 
 -- two names that are not the same
 pub two-are : (word : Text) (two : Names) → Some two ≡ two_names word → bytes_eq two.0 two.1 ≡ false → names_of word ≡ Ok two

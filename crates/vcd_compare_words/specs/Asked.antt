@@ -6,16 +6,16 @@ use Rattle.std.specs.Str.{byte}
 use Rattle.clap.specs.Words.{Text}
 use Rattle.clap.specs.declared.parser.matches.ArgMatches.{ArgMatches}
 use Rattle.vcd_model.specs.Bytes.{decimal_value, is_empty}
-use Rattle.vcd_model.specs.Compare.{Asked, Extent, exactly}
+use Rattle.vcd_model.specs.Compare.{Asked, Extent}
 use Rattle.vcd_model.specs.Job.{is_number}
 use Rattle.vcd_model.specs.Within.{Names}
 use Rattle.vcd_model.specs.Words as model
+use Rattle.vcd_words.specs.Matches.{is_set, word_of, words_of}
 use Rattle.vcd_words.specs.Words.{use_text}
 use Rattle.vcd_words.specs.declared.job.UseFault.{UseFault}
 use Rattle.vcd_words.specs.declared.job.UseFault.TheVariants.{OutOfMemory}
 use Rattle.vcd_compare.specs.Asked.{model_asked}
 use Rattle.vcd_compare.specs.Pairs.{names_in}
-use Rattle.vcd_compare_words.specs.Words.{is_set, word_of, words_of}
 use Rattle.vcd_compare_words.specs.declared.job.Comparing.{Comparing}
 
 -- ---- times
@@ -113,15 +113,6 @@ abbrev pub asked_in : Comparing → Asked × List Names
 asked_in job = (model_asked job.asked (texts_in job.exceptions.items), names_in job.names.items)
 
 -- ---- faults
-
--- a fault of words, and not of memory
-abbrev pub IsOfWords : UseFault → Type 0
-IsOfWords OutOfMemory = ⊥
-IsOfWords fault = Unit {0}
-
--- the fault is the one that is said
-abbrev pub HasFault : {X : Type 0} → UseFault → Result X Text → Type 0
-HasFault fault asked = IsOfWords fault × (asked ≡ Err (use_text fault))
 
 -- the words ask for this job, or have this fault; memory may run out only if they have none
 abbrev pub Asks : ArgMatches → Result Comparing UseFault → Type 0

@@ -2,12 +2,11 @@
 ghost use Rattle.std.specs.Prelude.{◌≡◌, Ok, IfErr, IfOk, [], codes, unwrap_or};
 ghost use Rattle.vcd_compare_words.specs.Names.{Asks, asked_by, extent_of, HasFault, model_asked, model_extent, ticks_asked, word_of, words_of};
 
-use crate::matches::{is_set, word_of, words_of};
 use crate::names::{check_names, copied_names, copied_words};
 use clap::ArgMatches;
 use std::alloc::Global;
 use vcd_compare::{Asked, Extent, NamePair};
-use vcd_words::{UseFault, number_of};
+use vcd_words::{UseFault, is_set, number_of, word_of, words_of};
 
 /// What is compared.
 #[derive(Drop)]

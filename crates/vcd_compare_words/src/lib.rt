@@ -6,7 +6,6 @@
 //! # The modules
 //!
 //! - `command`: the words that the command line accepts
-//! - `matches`: what a parsed command line has for an option
 //! - `names`: the names of what is compared, and of what is not
 //! - `job`: `Comparing`; `job_of`
 //!
@@ -15,9 +14,7 @@
 
 mod command;
 mod job;
-mod matches;
 mod names;
 
 pub use command::command_of;
 pub use job::{Comparing, job_of};
-pub use matches::input_of;

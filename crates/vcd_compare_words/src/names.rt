@@ -1,6 +1,6 @@
 //! The names of what is compared, and of what is not.
 ghost use Rattle.std.specs.Prelude.{◌≡◌, ◌++◌, ◌∷◌, [], List, Ok, Some, IfErr, IfOk, OnOk, filter_map, option_map, unwrap_or};
-ghost use Rattle.vcd_compare_words.specs.Names.{HasFault, Names, names_asked, names_in, names_of, some_names_asked, some_texts, texts, texts_in, two_names};
+ghost use Rattle.vcd_compare_words.specs.Names.{HasFault, Names, names_asked, names_in, names_of, some_names_asked, texts, texts_in, texts_of, two_names};
 
 use std::alloc::{AllocError, Global};
 use vcd_compare::NamePair;
@@ -114,7 +114,7 @@ pub(crate) fn copied_words(
     words: Option<&[&str]>,
 ) -> Result<Vec<Vec<u8>>, AllocError>
     ensures { IfOk result (λ copies.
-        texts_in copies.items ≡ unwrap_or (some_texts words.entry) []) }
+        texts_in copies.items ≡ unwrap_or (texts_of words.entry) []) }
 {
     match words {
         Some(words) => copied(alloc, words),

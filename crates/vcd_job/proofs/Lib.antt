@@ -3,5 +3,7 @@ pub mod OutcomeLemmas
 pub mod HeaderLemmas
 pub mod OpenLemmas
 pub mod RunLemmas
+pub mod AfterLemmas
+pub mod ProgramLemmas
 pub mod Cited
 pub mod Facts

@@ -1,12 +1,10 @@
 -- How a run over one input ends, and what it leaves.
 use Rattle.vcd_job.proofs.Cited.{◌≡◌, ◌≢◌, ◌==◌, ℕ, Bool, true, false, cond, zero, suc, ◌+◌, ◌<◌, ◌≤◌, ◌++◌, inl, inr, List, [], ◌∷◌, length, nat_lt, map, slice_set, Option, Some, Result, Err, refl, sym, ap, subst, ◌∙◌, arith, Input, is_header_over, IsWhole, HeaderPhrase, Header, header_of, header_grammar, codes, decimal, name_at, Outcome, fault_outcome, declarations_allowed, Fault, Placed, phrases_of, Token, stream_of, Device, failures_then, Supply, Writes, ReadsAsNeeded, Nothing, appends-none, KeepsUp, is_more_due, Dump, Read, Write, Unmatched, Failure, Stopped, OutOfMemory, CountsRead, EndsAtRead, EndsAtReadOf, failure_status, whole, Shows, Tells, HasFailed, HasFault, Stop, IsBegun, Lane, set_last, failure_of, Answer, Work, Speech, Ends, HasRun, IsOutcome, IsAfter, IsOfWork, Leaves, end_message, end_status, settled_for, settled_by, settled_of, due_by, due_of, fault_as, outcome_of, over_header, NoMemory, WithOutcome, Part, Whole}
+use Rattle.vcd_body.proofs.Results.{writes-none}
 use Rattle.vcd_job.specs.Failure.{writes_failed}
 use Rattle.vcd_model.specs.Outcome.{fault_text}
 use Rattle.vcd_job.proofs.HeaderLemmas.{all_read, due_run, left_since, reads_for, settled_header, settled_run, undue_header, unsettled_header}
 use Rattle.vcd_job.proofs.OutcomeLemmas.{after_header, at_header}
-
-writes-none : (out : Device) → Writes out out []
-writes-none out = (appends-none out.held, refl)
 
 -- nothing is said
 pub shows_nothing : (err : Device) → Shows err err []

@@ -1,6 +1,7 @@
 -- What a run over one input leaves, whatever its job.
 use Rattle.std.specs.Prelude.{◌≡◌, ℕ, Bool, List, [], ◌∷◌, ◌++◌, codes, Result, Ok, Err}
-use Rattle.vcd_job.specs.Cited.{Header, Input, Outcome, declarations_allowed, name_at, is_header_over, Token, stream_of, whole, Device, Supply, Writes, WritesSome, ReadsAsNeeded, IsLeft, KeepsUp, Dump, Read, Write, Unmatched}
+use Rattle.vcd_job.specs.Cited.{Header, Input, Outcome, declarations_allowed, name_at, is_header_over, Token, stream_of, whole, Device, Supply, Writes, WritesSome, ReadsAsNeeded, IsLeft, KeepsUp, Done, Stop, Dump, Read, Write, Unmatched}
+use Rattle.vcd_job.specs.Failure.{stop_failure}
 use Rattle.vcd_job.specs.Message.{Tells, failure_message, failure_status}
 use Rattle.vcd_job.specs.Work.{Work, due_of, outcome_of, over_header, settled_of}
 use Rattle.vcd_job.specs.declared.failure.Failure.{Failure}
@@ -28,6 +29,11 @@ abbrev pub end_status : {R : Type 0} → Speech R → (names : List (List ℕ)) 
 end_status s names (Ok (Status n)) = n
 end_status s names (Ok (Refused why)) = (s.refusal why (name_at names 0)).status
 end_status s names (Err failure) = failure_status s.faulty failure
+
+-- what a job answers whose task returned this
+abbrev pub answer_end : {R : Type 0} → Result Done Stop → Result (Answer R) Failure
+answer_end (Ok done) = Ok (Status 0)
+answer_end (Err stop) = Err (stop_failure stop 0)
 
 -- ---- how a run ends
 

@@ -6,6 +6,7 @@ pub mod Message
 pub mod Ends
 pub mod Calls
 pub mod OneRun
+pub mod OneProgram
 pub mod Lent
 pub mod Parts
 pub mod Names

@@ -15,7 +15,8 @@
 //! - `again`: devices whose interrupted calls are made again
 //!
 //! In `specs/`: `Work`, what a job is; `Ends`, what a run leaves; `Calls` and `OneRun`, what a call
-//! promises of a run; `Inputs`, how far inputs were read; `Failure`; `Message`.
+//! promises of a run; `OneProgram`, what a program over one input says of itself; `Inputs`, how far
+//! inputs were read; `Failure`; `Message`.
 #![tactic(auto)]
 
 mod again;
@@ -27,7 +28,7 @@ mod one_input;
 mod one_run;
 
 pub use again::Again;
-pub use answer::Answer;
+pub use answer::{Answer, answered};
 pub use failure::Failure;
 pub use inputs::{Inputs, Lengths, WindowMemory, read_heads, windows_for};
 pub use message::{name_at, open_fault, report, say, say_both, use_fault, write_fault};

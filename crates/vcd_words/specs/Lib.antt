@@ -4,3 +4,4 @@ pub mod Times
 pub mod Job
 pub mod Refusal
 pub mod Names
+pub mod Matches

@@ -8,6 +8,7 @@ pub use Rattle.vcd_model.specs.Ticks.{Moment as ModelMoment}
 pub use Rattle.vcd_model.specs.Words.{is_limit, is_standard_input, limit_of, sample_of, time_of, times_of, want_of}
 pub use Rattle.vcd_view.specs.Views.{IsViewOf}
 pub use Rattle.vcd_head.specs.Moments.{asked}
+pub use Rattle.vcd_words.specs.Matches.{file_asked, is_set, word_of, words_of}
 pub use Rattle.vcd_words.specs.Job.{HasTicks, is_asked, is_merge, model_want, names_asked}
 pub use Rattle.vcd_words.specs.Refusal.{model_refusal, tick_refusal}
 pub use Rattle.vcd_words.specs.Ticks.{all_ticks, AreRefused, AreTicks, has_units, KeepsRequest, times_with}

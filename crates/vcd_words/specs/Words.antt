@@ -171,12 +171,15 @@ AsksFor matches want limit = job_asked matches ≡ Ok (record { want = model_wan
 abbrev pub some_names : Option (Bor (List (Bor Text))) → List Text
 some_names names = unwrap_or (option_map (λ some. map (λ name. name.now) some.now) names) []
 
--- a borrowed text, and borrowed texts
+-- a borrowed text, borrowed texts, and a borrowed list of them
 abbrev pub text_of : Option (Bor Text) → Option Text
 text_of word = option_map (λ text. text.now) word
 
+abbrev pub texts : List (Bor Text) → List Text
+texts words = map (λ word. word.now) words
+
 abbrev pub texts_of : Option (Bor (List (Bor Text))) → Option (List Text)
-texts_of words = option_map (λ words. map (λ word. word.now) words.now) words
+texts_of words = option_map (λ words. texts words.now) words
 
 -- the command of borrowed words, such as a merge of these files
 abbrev pub merge_command : List (Bor Text) → model.Command
@@ -219,6 +222,15 @@ IsFaultIn {X} OutOfMemory asked = ⊥
 abbrev pub IsFaultOf : {X : Type 0} → UseFault → Result X model.UseFault → Type 0
 IsFaultOf {X} OutOfMemory asked = (x : X) × (asked ≡ Ok x)
 IsFaultOf {X} fault asked = IsFaultIn fault asked
+
+-- a fault of words, and not of memory
+abbrev pub IsOfWords : UseFault → Type 0
+IsOfWords OutOfMemory = ⊥
+IsOfWords fault = Unit {0}
+
+-- the fault is the one that is said
+abbrev pub HasFault : {X : Type 0} → UseFault → Result X Text → Type 0
+HasFault fault asked = IsOfWords fault × (asked ≡ Err (use_text fault))
 
 -- the words ask for this, which words can ask for, or have this fault; memory may run out if they
 -- have no fault

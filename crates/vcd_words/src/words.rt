@@ -108,7 +108,7 @@ fn copied(alloc: Global, names: &[&str]) -> Result<Vec<String>, AllocError>
 }
 
 /// Returns copies of these names; no names if `names` is `None`. Fails if memory runs out.
-pub(crate) fn copied_some(alloc: Global, names: Option<&[&str]>) -> Result<Vec<String>, AllocError>
+pub fn copied_some(alloc: Global, names: Option<&[&str]>) -> Result<Vec<String>, AllocError>
     ensures { IfOk result (λ copies. map string_bytes copies.items ≡ some_names names.entry) }
 {
     match names {

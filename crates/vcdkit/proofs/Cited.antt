@@ -47,4 +47,4 @@ pub use Rattle.vcdkit.specs.Run.{AreInTurn, AreMergedInTurn, AreNeeded, AreRead,
 pub use Rattle.vcdkit.specs.Run.AreMergedInTurn.{InBodies, InHeaders}
 pub use Rattle.vcdkit.specs.Run.HasRun.{NoMemory, WithOutcome}
 pub use Rattle.vcdkit.specs.Tasks.{request_for, task_request, taskless}
-pub use Rattle.vcdkit.specs.Work.{answer_end, course_by, course_if, course_of, program_name, refusal_of, work_of}
+pub use Rattle.vcdkit.specs.Work.{course_by, course_if, course_of, program_name, refusal_of, work_of}

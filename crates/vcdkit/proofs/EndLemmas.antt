@@ -1,15 +1,13 @@
 -- How a run over its inputs ends, and what it leaves then.
-use Rattle.vcdkit.proofs.Cited.{◌≡◌, ◌==◌, ℕ, ◌+◌, ◌*◌, ◌/◌, ◌<◌, ◌≤◌, Bool, true, false, List, [], length, map, Option, Result, Ok, Err, refl, sym, ap, subst, ◌∙◌, arith, add-zero, get_or, slice_set, set-get_or, mul-div_cancel_left, mul-le, map_map, Head, AreParts, part_len, Seat, Input, Want, is_header_over, is_settled, Opened, Outcome, dumps_of, fault_outcome, merge_outcome, name_at, open_from, Fault, Token, Device, Supply, Writes, supply, appends-none, NamesInput, MergeIsWithinBound, windows_size, AreLentWithin, failures_with, Lane, Done, Stop, Dump, Read, Write, Unmatched, Windows, Failure, Stopped, OutOfMemory, failure_of, merge_end, CountsReads, CountsReadsOf, AreBegun, AreParked, AreShown, HaveBegun, Stops, failure_message, failure_status, program_name, Tells, AreNeeded, EndsAll, HasRun, LeavesAll, InBodies, InHeaders, WithOutcome, NoMemory, Whole, Part, is_merge, names_asked, model_want}
+use Rattle.vcdkit.proofs.Cited.{◌≡◌, ◌==◌, ℕ, ◌+◌, ◌*◌, ◌/◌, ◌<◌, ◌≤◌, Bool, true, false, List, [], length, map, Option, Result, Ok, Err, refl, sym, ap, subst, ◌∙◌, arith, add-zero, get_or, slice_set, set-get_or, mul-div_cancel_left, mul-le, map_map, Head, AreParts, part_len, Seat, Input, Want, is_header_over, is_settled, Opened, Outcome, dumps_of, fault_outcome, merge_outcome, name_at, open_from, Fault, Token, Device, Supply, Writes, supply, NamesInput, MergeIsWithinBound, windows_size, AreLentWithin, failures_with, Lane, Done, Stop, Dump, Read, Write, Unmatched, Windows, Failure, Stopped, OutOfMemory, failure_of, merge_end, CountsReads, CountsReadsOf, AreBegun, AreParked, AreShown, HaveBegun, Stops, failure_message, failure_status, program_name, Tells, AreNeeded, EndsAll, HasRun, LeavesAll, InBodies, InHeaders, WithOutcome, NoMemory, Whole, Part, is_merge, names_asked, model_want}
 use Rattle.vcd_model.specs.Job.{outcome, request_of}
+use Rattle.vcd_body.proofs.Results.{writes-none}
 use Rattle.vcd_merge.specs.MergeRun.{Belongs, Follows}
 use Rattle.vcd_body.specs.declared.answer.Done.TheVariants as done
 use Rattle.vcdkit.proofs.InputsLemmas.{HaveStopped, merged_read, stops_read, unsettled_header}
 use Rattle.vcd_words.specs.declared.job.Want as words
 use Rattle.vcdkit.proofs.WorkLemmas.{merge_wanted}
 use Rattle.vcdkit.proofs.NeededLemmas.{merge_needed, needed_all, none_passed}
-
-writes-none : (out : Device) → Writes out out []
-writes-none out = (appends-none out.held, refl)
 
 -- ---- what is said
 

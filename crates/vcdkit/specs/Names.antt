@@ -6,4 +6,4 @@ pub use Rattle.vcd_body.specs.Prompt.{HasPassedOn as HasPassedOnAt}
 pub use Rattle.vcd_engine.specs.Engine.{request_of as request_of_task}
 pub use Rattle.vcdkit.specs.Calls.{AreReaders, AreWithin, EndsSo, FailOnce, MayFailOnce, Merges, Narrows, RunsJob}
 pub use Rattle.vcdkit.specs.Tasks.{cut_request, IsEnough, request_for, task_request}
-pub use Rattle.vcdkit.specs.Work.{answer_end, program_name, refusal_of, work_of}
+pub use Rattle.vcdkit.specs.Work.{program_name, refusal_of, work_of}

@@ -1,6 +1,6 @@
 -- What a command over one input is, as a job.
 use Rattle.std.specs.Prelude.{ℕ, List, codes, Option, Some, None, Result, Ok, Err}
-use Rattle.vcdkit.specs.Cited.{list_text, Header, Outcome, Request, clean_outcome, fault_outcome, name_at, names_of, unmatched_outcome, first_unmatched, Ways, model_refusal, Refusal, plan_of, Done, Stop, stop_failure, Course, Work, Answer, Status, Failure}
+use Rattle.vcdkit.specs.Cited.{list_text, Header, Outcome, Request, clean_outcome, fault_outcome, name_at, names_of, unmatched_outcome, first_unmatched, Ways, model_refusal, Refusal, plan_of, Course, Work}
 use Rattle.vcd_model.specs.Job as model
 
 -- the name of the program
@@ -33,8 +33,3 @@ work_of want = record { course = λ name h. course_by (model.request_of h.scale 
 -- what is said of times that are refused, over an input of this name
 abbrev pub refusal_of : Refusal → List ℕ → Outcome
 refusal_of why name = model.refusal_outcome name (model_refusal why)
-
--- what a run answers whose task returned this
-abbrev pub answer_end : Result Done Stop → Result (Answer Refusal) Failure
-answer_end (Ok done) = Ok (Status 0)
-answer_end (Err stop) = Err (stop_failure stop 0)

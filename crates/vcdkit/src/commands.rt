@@ -1,28 +1,18 @@
 //! A command over one input, as a job.
 ghost use Rattle.std.specs.Prelude.{◌≡◌, ◌+◌, ◌-◌, ◌^◌, ◌<◌, IfSome, false};
-ghost use Rattle.vcdkit.specs.Names.{answer_end, AreWithinBound, chunk_len_of, CountsWrites, Does, EndsAtStop, HasNotFailed, HasPassedOnAt, is_merge, IsEnough, IsLentWithin, IsValid, limit_of, model_want, names_asked, program_name, reads_failed, refusal_of, request_for, request_of_task, room_size, SameLoans, source_of, stop_writes, work_of};
+ghost use Rattle.vcdkit.specs.Names.{AreWithinBound, chunk_len_of, CountsWrites, Does, EndsAtStop, HasNotFailed, HasPassedOnAt, is_merge, IsEnough, IsLentWithin, IsValid, limit_of, model_want, names_asked, program_name, reads_failed, refusal_of, request_for, request_of_task, room_size, SameLoans, source_of, stop_writes, work_of};
 
 use crate::tasks::{need_of, room_for, task_of};
 use std::alloc::Global;
 use vcd_body::{Done, Stop};
 use vcd_engine::{Room, Task, list, run_task};
-use vcd_job::{Answer, Failure, Lengths, OneInput, say, say_both};
+use vcd_job::{Answer, Failure, Lengths, OneInput, answered, say, say_both};
 use vcd_text::{Feed, Sink, Source};
 use vcd_view::HeadView;
 use vcd_words::{Job, Refusal, Want};
 
 /// The name of the program in its messages.
 pub const PROGRAM: &str = "vcdkit";
-
-/// Returns what a run answers whose task returned `end`.
-fn answered(end: Result<Done, Stop>) -> Result<Answer<Refusal>, Failure>
-    ensures { result ≡ answer_end end }
-{
-    match end {
-        Ok(_) => Ok(Answer::Status(0)),
-        Err(stop) => Err(Failure::of_stop(stop, 0)),
-    }
-}
 
 /// Runs the task over the body that follows the header of `view`, in this room, which has the
 /// lengths that `need_of` returns, or writes the list of variables if `task` is `None`. Returns

@@ -1,31 +1,24 @@
 -- How a run of the job ends, from what the comparison and the line after it leave.
-use Rattle.std.proofs.Common.{◌≡◌, ◌==◌, ◌||◌, ◌&&◌, ℕ, ◌+◌, Bool, true, false, not, cond, nat_lt, List, [], ◌++◌, length, unwrap_or, take, inl, Option, Some, Result, Ok, Err, refl, sym, ap, subst, ◌∙◌, arith, codes}
-use Rattle.std.proofs.lemmas.Bool.{le-ltb, ltb-false}
-use Rattle.std.proofs.lemmas.List.{length-append}
+use Rattle.std.proofs.Common.{◌≡◌, ◌==◌, ◌||◌, ◌&&◌, ℕ, ◌+◌, Bool, true, false, not, cond, nat_lt, List, [], ◌++◌, length, unwrap_or, take, Option, Some, Result, Ok, Err, refl, sym, ap, subst, ◌∙◌}
 use Rattle.std.specs.Io.KnownBytes.{Appends}
-use Rattle.vcd_model.specs.BodyReading.{body_fault_of, body_items, read_body}
 use Rattle.vcd_model.specs.Bytes.{is_empty}
 use Rattle.vcd_model.specs.Compare.{Asked as Query, count_line}
 use Rattle.vcd_model.specs.Header.{Header}
 use Rattle.vcd_model.specs.Input.{Input}
 use Rattle.vcd_model.specs.Items.{time_after}
-use Rattle.vcd_model.specs.Outcome.{Opened, Outcome, fault_outcome}
-use Rattle.vcd_model.specs.Tokens.{Token, stream_of}
+use Rattle.vcd_model.specs.Outcome.{Outcome}
+use Rattle.vcd_model.specs.Tokens.{Token}
 use Rattle.vcd_model.specs.Within.{Names, answer_in, late, outermost, refused, unselected}
-use Rattle.vcd_text.proofs.Writes.{appends-none, appends-twice, both-written, some-behind}
+use Rattle.vcd_text.proofs.Writes.{appends-none, both-written, some-behind}
 use Rattle.vcd_text.specs.Device.{Device, Supply, Writes, WritesSome}
 use Rattle.vcd_text.specs.Feed.{HasGiven, limit_of}
-use Rattle.vcd_text.specs.ReadAhead.{ReadsAsNeeded}
-use Rattle.vcd_text.specs.ReadAhead.ReadsAsNeeded.{Nothing}
 use Rattle.vcd_text.specs.declared.device.Source.{Ghosts}
 use Rattle.vcd_text.specs.declared.feed.Feed.{Feed}
-use Rattle.vcd_body.specs.Pace.{KeepsUp, is_more_due}
 use Rattle.vcd_body.specs.declared.answer.Done.{Done}
 use Rattle.vcd_body.specs.declared.answer.Done.TheVariants.{Early, Whole}
 use Rattle.vcd_body.specs.declared.answer.Stop.{Stop}
 use Rattle.vcd_body.specs.declared.answer.Stop.TheVariants.{Dump, Read, Write, Unmatched}
-use Rattle.vcd_run.proofs.OutcomeLemmas.{gives_outcome}
-use Rattle.vcd_run.specs.Outcomes.{Belongs, over_plan}
+use Rattle.vcd_run.specs.Outcomes.{Belongs}
 use Rattle.vcd_run.specs.Run.{BodyGives, ReadsNeeded, left_of}
 use Rattle.vcd_compare.proofs.Outcomes.{answers_give_outcomes, left_same, sound}
 use Rattle.vcd_compare.specs.Pairs.{ArePairs}
@@ -36,10 +29,10 @@ use Rattle.vcd_compare.specs.declared.unselected.PairsFault.{PairsFault}
 use Rattle.vcd_compare.specs.declared.unselected.PairsFault.TheVariants as fault
 use Rattle.vcd_compare.specs.declared.whole.Answer.{Answer as Compared}
 use Rattle.vcd_compare_words.specs.declared.job.Comparing.{Comparing}
-use Rattle.vcd_job.proofs.HeaderLemmas.{reads_for}
-use Rattle.vcd_job.specs.Ends.{Ends, IsAfter, Leaves, settled_for}
+use Rattle.vcd_body.proofs.Results.{writes-none}
+use Rattle.vcd_job.proofs.AfterLemmas.{Adds, EndsAfter, no_room, ran_over, refused_here, stop_leaves}
+use Rattle.vcd_job.specs.Ends.{Leaves, settled_for}
 use Rattle.vcd_job.specs.Failure.{stop_failure}
-use Rattle.vcd_job.specs.Work.{Course, due_by, over_header, settled_by}
 use Rattle.vcd_job.specs.declared.answer.Answer.{Answer}
 use Rattle.vcd_job.specs.declared.answer.Answer.TheVariants.{Status, Refused}
 use Rattle.vcd_job.specs.declared.failure.Failure.{Failure}
@@ -48,16 +41,7 @@ use Rattle.vcdkit_compare.specs.Calls.{Finishes, HasPairsOf, fault_end, is_whole
 use Rattle.vcdkit_compare.specs.Work.{course_if, course_of, name_of, names_of, query_of, ways_of, work_in}
 use Rattle.vcdkit_compare.specs.declared.job.Refusal.{Refusal}
 use Rattle.vcdkit_compare.specs.declared.job.Refusal.TheVariants.{Late, Unselected}
-use Rattle.vcdkit_compare.proofs.WorkLemmas.{kept, over_course, planned}
-
-writes-none : (out : Device) → Writes out out []
-writes-none out = (appends-none out.held, refl)
-
--- how a run ends after the header
-abbrev pub EndsAfter : Comparing → (limit chunk : ℕ) → Input → List Token → Header → List ℕ → (old new : Supply) → (out out' : Device) → Result (Answer Refusal) Failure → Type 0
-EndsAfter job limit chunk i front h name old new out out' r =
-    let course = (work_in job).course name h in
-    Ends (speech_in job) (IsAfter (work_in job) limit front h name) limit chunk i name front (settled_for r (settled_by course h) (λ _. true)) (due_by course h) old new out out' r
+use Rattle.vcdkit_compare.proofs.WorkLemmas.{kept}
 
 -- ---- the line after the comparison
 
@@ -65,10 +49,6 @@ EndsAfter job limit chunk i front h name old new out out' r =
 abbrev pub EndsWith : Comparing → ℕ → Result Compared Stop → (mid out' : Device) → Result (Answer Refusal) Failure → Type 0
 EndsWith job count (Ok answer) mid out' end = Finishes job.asked answer count mid out' end
 EndsWith job count (Err stop) mid out' end = (end ≡ Err (stop_failure stop 0)) × (out' ≡ mid)
-
--- no more is written than some bytes
-abbrev Adds : Device → Device → Type 0
-Adds mid out' = (more : List ℕ) × Appends mid.held out'.held more
 
 module _ (job : Comparing) (count : ℕ) (mid out' : Device) where
   added : (r : Result Compared Stop) (end : Result (Answer Refusal) Failure) → EndsWith job count r mid out' end → Adds mid out'
@@ -81,18 +61,6 @@ module _ (job : Comparing) (count : ℕ) (mid out' : Device) where
   added (Ok answer) (Err (Stopped (Unmatched place))) given = absurd given
   added (Ok answer) (Err OutOfMemory) given = absurd given
   added (Err stop) end (is, same) = ([], subst (λ (d : Device). Appends mid.held d.held []) (sym same) (appends-none mid.held))
-
--- an output that keeps up still does with more bytes
-more_kept : (due : List Token → List ℕ) (limit chunk : ℕ) (i : Input) (front : List Token) (old new : Supply) (out mid out' : Device)
-    → KeepsUp due limit chunk i front old new out mid → Adds mid out' → KeepsUp due limit chunk i front old new out out'
-more_kept due limit chunk i front old new out mid out' up more = (
-  up.0 ++ more.0,
-  appends-twice out.held mid.held out'.held up.0 more.0 up.1 more.1,
-  reads_for limit chunk old new i front (is_more_due due (length up.0)) (is_more_due due (length (up.0 ++ more.0))) (λ ts e. still (length (due ts)) e) up.2,
-)
-  where
-    still : (n : ℕ) → nat_lt (length up.0) n ≡ false → nat_lt (length (up.0 ++ more.0)) n ≡ false
-    still n e = let long = length-append up.0 more.0 in let low = ltb-false (length up.0) n e in le-ltb (length (up.0 ++ more.0)) n (omega (arith, long, low))
 
 -- ---- the outcome
 
@@ -166,29 +134,12 @@ module _ (job : Comparing) (h : Header) (name : List ℕ) (ps : Pairs) (are : Ar
     answer_leaves answer d (Err (Stopped (Unmatched place))) done b given = absurd given
     answer_leaves answer d (Err OutOfMemory) done b given = absurd given
 
-    -- a run that stopped
-    stop_leaves : (stop : Stop) → Belongs (λ items lines. Unit {0}) (ways_of q h ns name) o out mid (Err stop) → out' ≡ mid → left_as (Err (stop_failure stop 0))
-    stop_leaves (Dump input line f) (lines, first, other, is, written) same =
-        let output : o.output ≡ lines = ap (λ (x : Outcome). x.output) is ∙ rw (other, fault_outcome) refl in (
-          refl,
-          ap (λ (x : Outcome). x.message) is ∙ rw (other, fault_outcome) refl,
-          ap (λ (x : Outcome). x.status) is ∙ rw (other, fault_outcome) refl,
-          subst (λ (d : Device). Writes out d o.output) (sym same) (subst (λ (l : List ℕ). Writes out mid l) (sym output) written),
-        )
-    stop_leaves (Read input) (lines, line, first, is, written) same = (
-      refl,
-      ap (λ (x : Outcome). x.message) is,
-      ap (λ (x : Outcome). x.status) is,
-      subst (λ (d : Device). Writes out d o.output) (sym same) (subst (λ (l : List ℕ). Writes out mid l) (sym (ap (λ (x : Outcome). x.output) is)) written),
-    )
-    stop_leaves Write some same = subst (λ (d : Device). WritesSome out d o.output) (sym same) some
-    stop_leaves (Unmatched place) given same = absurd given
-
   leaves : (r : Result Compared Stop) (end : Result (Answer Refusal) Failure) (o : Outcome) (out mid out' : Device)
       → Belongs (Told r) (ways_of q h ns name) o out mid (done_of r) → EndsWith job pairs r mid out' end → Leaves (speech_in job) o name out out' end
   leaves (Ok answer) end o out mid out' belongs finishes = answer_leaves o out mid out' answer answer.done end refl belongs finishes
-  leaves (Err stop) end o out mid out' belongs (is, same) = subst (λ (e : Result (Answer Refusal) Failure). Leaves (speech_in job) o name out out' e)
-      (sym is) (stop_leaves o out mid out' stop belongs same)
+  leaves (Err stop) end o out mid out' belongs (is, same) = subst (λ (e : Result (Answer Refusal) Failure). Leaves (speech_in job) o name out out' e) (sym is)
+      (subst (λ (d : Device). Leaves (speech_in job) o name out d (Err (stop_failure stop 0))) (sym same)
+      (stop_leaves (speech_in job) (Told (Err stop)) (ways_of q h ns name) name (λ text f. refl) o out mid stop belongs))
 
 -- ---- a run over a body
 
@@ -209,84 +160,31 @@ pub compared : (job : Comparing) (limit chunk read : ℕ) (i : Input) (front : L
     → BodyGives (Told r) (plan_within (query_of job) h (outermost (names_of job))) h i front limit read out mid (done_of r)
     → ReadsNeeded (plan_within (query_of job) h (outermost (names_of job))) h limit chunk i (left_of i read r) front before after out mid
     → EndsWith job (length ps.rows.items) r mid out' end
-    → EndsAfter job limit chunk i front h name before after out out' end
+    → EndsAfter (work_in job) (speech_in job) limit chunk i front h name before after out out' end
 compared job limit chunk read i front h name ps before after out mid out' r end has gives needed ended =
     let q = query_of job in
     let ns = outermost (names_of job) in
-    let left = left_of i read r in
-    let c : Course = course_of q ns name h in
-    let course : (work_in job).course name h ≡ Ok c = ap (λ u. course_if u q (names_of job) name h) has.selected in
-    let given = gives_outcome (plan_within q h ns) (ways_of q h ns name) (kept q h ns name) (Told r) h (sound q h ns) i front limit read out mid (done_of r) gives in
-    let opened : Opened = record { header = h; stream = stream_of limit left; rest = given.rest } in
-    let tokens : (stream_of limit left).tokens ≡ front ++ given.rest = ap (λ (l : Input). (stream_of limit l).tokens) (sym (left_same i read r)) ∙ given.tokens in
-    let o : Outcome = over_header (Ok c) opened in
-    let planned_is = over_course q name ns opened ∙ sym (planned q name ns h (stream_of limit left) given.rest) in
-    let belongs : Belongs (Told r) (ways_of q h ns name) o out mid (done_of r) = subst
-    (λ (x : Outcome). Belongs (Told r) (ways_of q h ns name) x out mid (done_of r)) (sym planned_is)
-    (subst (λ (l : Input). Belongs (Told r) (ways_of q h ns name)
-    (over_plan (plan_within q h ns) (ways_of q h ns name) (body_items (read_body h.codes given.rest))
-    (body_fault_of (stream_of limit l) (read_body h.codes given.rest))) out mid (done_of r)) (left_same i read r) given.belongs) in
-    let up : KeepsUp (due_by (Ok c) h) limit chunk left front before after out out' = more_kept
-    (due_by (Ok c) h) limit chunk left front before after out mid out' needed.keeps_up (added job (length ps.rows.items) mid out' r end ended) in
-    record {
-      left = left;
-      is_left = needed.is_left;
-      read = subst (ReadsAsNeeded limit chunk before after left front) (sym (settled_placed job (length ps.rows.items) mid out' r end _ _ ended))
-          (subst (λ k. ReadsAsNeeded limit chunk before after left front (settled_by k h)) (sym course) needed.read);
-      keeps_up = subst (λ k. KeepsUp (due_by k h) limit chunk left front before after out out') (sym course) up;
-      due = o;
-      is_due = (given.rest, tokens, sym (ap (λ k. over_header k opened) course));
-      leaves = leaves job h name ps has.are r end o out mid out' belongs ended;
-    }
+    ran_over (work_in job) (speech_in job) limit chunk i front h name (Told r) (course_of q ns name h) read before after out mid out' (done_of r) end
+    (ap (λ u. course_if u q (names_of job) name h) has.selected) (kept q h ns name) (sound q h ns) gives
+    (subst (λ (l : Input). ReadsNeeded (plan_within q h ns) h limit chunk i l front before after out mid) (sym (left_same i read r)) needed)
+    (added job (length ps.rows.items) mid out' r end ended) (λ run header. settled_placed job (length ps.rows.items) mid out' r end run header ended)
+    (λ o belongs. leaves job h name ps has.are r end o out mid out' belongs ended)
 
 -- ---- an end without output, before anything was read after the header
 
 module _ {X : Type 0} {x : Ghosts X} (job : Comparing) (limit chunk : ℕ) (i : Input) (front : List Token) (h : Header) (name : List ℕ)
     (before : Supply) (feed : Feed X x) (out : Device) (l : limit_of feed ≡ limit) (st : HasGiven i front feed) where
-  abbrev opened_here : Opened
-  opened_here = record { header = h; stream = stream_of limit i; rest = st.given_first.0 }
-
-  abbrev due_here : Outcome
-  due_here = over_header ((work_in job).course name h) opened_here
-
-  tokens_here : (stream_of limit i).tokens ≡ front ++ st.given_first.0
-  tokens_here = ap (λ n. (stream_of n i).tokens) (sym l) ∙ st.given_first.1
-
-  -- memory ran out
-  pub no_room : EndsAfter job limit chunk i front h name before before out out (Err OutOfMemory)
-  no_room = record {
-    left = i;
-    is_left = inl (refl, refl);
-    read = Nothing refl;
-    keeps_up = ([], appends-none out.held, Nothing refl);
-    due = due_here;
-    is_due = (st.given_first.0, tokens_here, refl);
-    leaves = writes-none out;
-  }
-
   -- a name selects nothing
   unselected_ends : (f : PairsFault) (one : List ℕ) → unselected (query_of job) h (names_of job) ≡ Some one → name_of job f ≡ one
-      → EndsAfter job limit chunk i front h name before before out out (Ok (Refused (Unselected f)))
+      → EndsAfter (work_in job) (speech_in job) limit chunk i front h name before before out out (Ok (Refused (Unselected f)))
   unselected_ends f one found named =
-      let course : (work_in job).course name h ≡ Err (refused one) = ap (λ u. course_if u (query_of job) (names_of job) name h) found in
-      let o : due_here ≡ refused one = ap (λ k. over_header k opened_here) course in
-      record {
-        left = i;
-        is_left = inl (refl, refl);
-        read = Nothing refl;
-        keeps_up = ([], appends-none out.held, Nothing refl);
-        due = due_here;
-        is_due = (st.given_first.0, tokens_here, refl);
-        leaves = (
-          ap (λ (x : Outcome). x.message) o ∙ ap (λ n. (refused n).message) (sym named),
-          ap (λ (x : Outcome). x.status) o,
-          subst (λ (l : List ℕ). Writes out out l) (sym (ap (λ (x : Outcome). x.output) o)) (writes-none out),
-        );
-      }
+      refused_here (work_in job) (speech_in job) limit chunk i front h name before feed out l st (refused one) (Ok (Refused (Unselected f)))
+      (ap (λ u. course_if u (query_of job) (names_of job) name h) found) (ap (λ n. (refused n).message) (sym named), refl, writes-none out)
 
   -- there are no pairs
-  pub no_pairs : (f : PairsFault) → IsFaultOf (query_of job) h (names_of job) f → EndsAfter job limit chunk i front h name before before out out (fault_end f)
+  pub no_pairs : (f : PairsFault) → IsFaultOf (query_of job) h (names_of job) f
+      → EndsAfter (work_in job) (speech_in job) limit chunk i front h name before before out out (fault_end f)
   no_pairs (fault.One at) (one, there, found) = unselected_ends (fault.One at) one found (ap (λ (n : Option (List ℕ)). unwrap_or n []) there)
   no_pairs (fault.Other at) (one, there, found) = unselected_ends (fault.Other at) one found (ap (λ (n : Option (List ℕ)). unwrap_or n []) there)
   no_pairs (fault.Exception at) (one, there, found) = unselected_ends (fault.Exception at) one found (ap (λ (n : Option (List ℕ)). unwrap_or n []) there)
-  no_pairs fault.OutOfMemory given = no_room
+  no_pairs fault.OutOfMemory given = no_room (work_in job) (speech_in job) limit chunk i front h name before feed out l st

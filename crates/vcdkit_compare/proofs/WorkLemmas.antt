@@ -19,13 +19,7 @@ use Rattle.vcdkit_compare.specs.Work.{WorkIsComparison, course_if, course_of, wa
 
 module _ (q : Asked) (name : List ℕ) where
   -- the outcome of a dump whose header is read is that of its plan
-  pub planned : (ns : List Names) (h : Header) (stream : Stream) (rest : List Token)
-      → over_plan (plan_within q h ns) (ways_of q h ns name) (body_items (read_body h.codes rest)) (body_fault_of stream (read_body h.codes rest))
-      ≡ from_dump q ns name (record { header = h; stream = stream; rest = rest })
-  unfolding from_dump body_of over_plan
-  planned ns h stream rest = refl
-
-  pub over_course : (ns : List Names) (o : Opened) → over_header (Ok (course_of q ns name o.header)) o ≡ from_dump q ns name o
+  over_course : (ns : List Names) (o : Opened) → over_header (Ok (course_of q ns name o.header)) o ≡ from_dump q ns name o
   unfolding from_dump body_of over_plan
   over_course ns o = refl
 

@@ -1,6 +1,6 @@
 //! `vcdkit-compare` as a program.
 ghost use Rattle.std.specs.Prelude.{◌≡◌, option_and_then};
-ghost use Rattle.vcdkit_compare.specs.ProgramNames.{Asks, compare_app, EndsSo, input_asked, input_named, inputs_asked, outcome_of, program_name, Reads, text_of, use_outcome};
+ghost use Rattle.vcdkit_compare.specs.ProgramNames.{Asks, compare_app, EndsSo, file_asked, input_named, inputs_asked, outcome_of, program_name, Reads, text_of, use_outcome};
 
 use clap::{ArgMatches, Command};
 use std::alloc::{AllocError, Global};
@@ -9,7 +9,7 @@ use vcd_compare_words::Comparing;
 use vcd_job::run_one;
 use vcd_program::Program;
 use vcd_text::{Sink, Source};
-use vcd_words::{UseFault, is_standard_input};
+use vcd_words::{UseFault, file_of, is_standard_input};
 
 /// The name of the program in its messages.
 pub(crate) const PROGRAM: &str = "vcdkit-compare";
@@ -20,9 +20,9 @@ pub struct VcdkitCompare;
 /// Returns the name of the input of a parsed command line. `None` if it is standard input: if no
 /// file is named, or the file `-`.
 fn input_of<'a>(matches: &ArgMatches<'a>) -> Option<&'a str>
-    ensures { text_of result ≡ option_and_then input_named (input_asked matches.now) }
+    ensures { text_of result ≡ option_and_then input_named (file_asked matches.now) }
 {
-    let word = vcd_compare_words::input_of(matches)?;
+    let word = file_of(matches)?;
     if is_standard_input(word) {
         return None;
     }

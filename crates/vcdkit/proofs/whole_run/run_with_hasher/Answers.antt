@@ -1,6 +1,8 @@
-use Rattle.vcdkit.proofs.Cited.{◌≡◌, ◌∙◌, arith, failure_of, get_or, length, length-map, map, string_bytes, sym, Ok, Err, None, Some, refl, Status}
-use Rattle.vcdkit.proofs.Facts.{counted_reads, counts_alone, done_well, failed_read, few_writes, merged_run, most_one, not_answered, one_last, one_of, passes_alone, ran_one, set_one, shown_once, shows_nothing}
+use Rattle.vcdkit.proofs.Cited.{◌≡◌, ◌∙◌, get_or, length, length-map, map, string_bytes, sym, Ok, Err, None, Some, refl, Status}
+use Rattle.vcdkit.proofs.Facts.{counted_reads, done_well, ends_alone, failed_read, few_writes, merged_run, most_one, not_answered, one_of, passes_alone, ran_one, set_one, shown_once, shows_nothing}
 use Rattle.vcd_job.specs.Failure.{writes_failed}
+use Rattle.vcdkit.specs.Calls.{speech_of}
+use Rattle.vcdkit.specs.Work.{program_name}
 use Rattle.vcdkit.proofs.whole_run.run_with_hasher.Goals as goal
 
 pub returns-clause-ends : goal.returns-clause-ends
@@ -8,15 +10,10 @@ returns-clause-ends g c =
     let alone : length c.args.readers.now ≡ 1 = c.requires.alone (sym c.is_merge.ensures ∙ c.if-is_merge.false) in
     let readers = c.args.readers.now in
     let after = c.run_one.new.reader in
-    let e = c.run_one.ensures.ends in (
-      e.0,
-      e.1,
-      counts_alone g.S.Source.failures readers _ (get_or readers 0 c.index-readers-0.result) after (one_of readers c.index-readers-0.result alone) (set_one readers after alone) (failure_of e.0) e.2,
-      e.3,
-      e.4,
-      e.5,
-      one_last g.S.Source.last_failed readers 0 _ _ after _ (omega arith) e.2 e.6,
-    )
+    ends_alone g.S.Source.failures readers _ (get_or readers 0 c.index-readers-0.result) after (one_of readers c.index-readers-0.result alone) (set_one readers after alone)
+    g.S.Source.last_failed program_name (λ n. n ≡ 0) (speech_of c.args.job.task) (map string_bytes c.args.names.now)
+    (g.W.Sink.device c.args.out.now) (g.W.Sink.device c.run_one.new.out) (g.E.Sink.device c.args.err.now) (g.E.Sink.device c.run_one.new.err) c.run_one.result
+    c.run_one.ensures.ends
 
 pub returns-clause-passed_on : goal.returns-clause-passed_on
 returns-clause-passed_on g c =

@@ -4,9 +4,11 @@ use Rattle.vcd_text.specs.Feed.{chunk_len_of, limit_of, supply_of}
 use Rattle.vcd_compare.specs.Pairs.{AreFew, ArePairs, names_in}
 use Rattle.vcd_compare.specs.Unselected.{IsFaultOf}
 use Rattle.vcd_compare_words.specs.Asked.{texts_in}
+use Rattle.vcd_job.proofs.AfterLemmas.{no_room}
 use Rattle.vcd_job.specs.declared.failure.Failure.TheVariants.{OutOfMemory}
-use Rattle.vcdkit_compare.proofs.EndLemmas.{no_pairs, no_room}
-use Rattle.vcdkit_compare.specs.Work.{query_of}
+use Rattle.vcdkit_compare.proofs.EndLemmas.{no_pairs}
+use Rattle.vcdkit_compare.specs.Calls.{speech_in}
+use Rattle.vcdkit_compare.specs.Work.{query_of, work_in}
 use Rattle.vcdkit_compare.proofs.job.compare_body.Goals as goal
 
 pub compare_in-requires-clause-pairs : goal.compare_in-requires-clause-pairs
@@ -34,4 +36,4 @@ returns-in-Err-clause-ends g c = λ h i front name views given.
 pub returns-in_err-memory-clause-ends : goal.returns-in_err-memory-clause-ends
 returns-in_err-memory-clause-ends g c = λ h i front name views given.
     let e : c.from_residual.result ≡ Err OutOfMemory = search rules in
-    rw e (no_room c.args.job.now (limit_of c.args.feed.now) (chunk_len_of c.args.feed.now) i front h name (supply_of c.args.feed.now) c.args.feed.now (g.W.Sink.device c.args.out.now) refl given)
+    rw e (no_room (work_in c.args.job.now) (speech_in c.args.job.now) (limit_of c.args.feed.now) (chunk_len_of c.args.feed.now) i front h name (supply_of c.args.feed.now) c.args.feed.now (g.W.Sink.device c.args.out.now) refl given)
