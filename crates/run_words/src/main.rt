@@ -1,4 +1,4 @@
-//! A stored run of both programs on the machine: command lines of fixed words, one after the other.
+//! A stored run of the programs on the machine: command lines of fixed words, one after the other.
 //! It prints each line, what the program writes to standard output for it, its status, and what it
 //! writes to the error stream. At the end it runs `vcdkit` on its own arguments and its own
 //! standard error, and prints how much was written there.
@@ -10,6 +10,7 @@ use std::{fs, io};
 use vcd_program::{Program, Vcdkit, run_on_machine, run_words_on_machine};
 use vcd_text::Watch;
 use vcdkit_compare::VcdkitCompare;
+use vcdkit_strobe::VcdkitStrobe;
 
 /// The command lines of `vcdkit`, without its name.
 const LINES: [&str; 13] = [
@@ -36,6 +37,17 @@ const COMPARED: [&str; 6] = [
     "--from 10 -i two.vcd in1=in2",
     "-i two.vcd in1=in3",
     "-i none.vcd in1=in2",
+];
+
+/// The command lines of `vcdkit-strobe`, without its name.
+const STROBED: [&str; 7] = [
+    "--rise in1.b@0 --fall in2.a -i two.vcd in1.b in2",
+    "--rise in1.a -i two.vcd in1",
+    "--rise in1.b -i two.vcd",
+    "--fall in1.a -i two.vcd in3",
+    "-i two.vcd in1",
+    "--rise bad -i bad.vcd",
+    "--rise a -i none.vcd",
 ];
 
 /// Returns the words of a command line, the program's name first.
@@ -92,6 +104,10 @@ fn main(rt: HostRuntime) -> io::Result<()> {
     for line in COMPARED {
         println!(rt; "$ vcdkit-compare {line}")?;
         run_line::<VcdkitCompare>(&rt, "vcdkit-compare", line)?;
+    }
+    for line in STROBED {
+        println!(rt; "$ vcdkit-strobe {line}")?;
+        run_line::<VcdkitStrobe>(&rt, "vcdkit-strobe", line)?;
     }
     run_arguments(&rt)
 }

@@ -14,7 +14,10 @@ pub mod PlaceSteps
 pub mod TurnSteps
 pub mod ChangeSteps
 pub mod TaskSteps
+pub mod AheadSteps
 pub mod StartSteps
 pub mod HeadSteps
 pub mod CopySteps
 pub mod LongSteps
+pub mod NamedSteps
+pub mod Outcomes

@@ -7,3 +7,5 @@ pub mod Clocks
 pub mod Codes
 pub mod Strobes
 pub mod Heads
+pub mod Named
+pub mod Ahead

@@ -10,17 +10,21 @@
 //! - `touched`: the list of codes that may have a line at the next edge
 //! - `edge_lines`: the lines of an edge
 //! - `clocks`: `Clock`, and whether a change is a turn of one
+//! - `named`: `ClockName`; the clocks that names select
 //! - `whole`: `Strobe`, and what it does with a change
 //! - `longest`: the length of the longest code
 //! - `places`: a header that has each code four times
 //! - `start`: `Room`, `set_roles`, and a `Strobe` before the first item
+//! - `ahead`: the visit of the items that lie completely in the chunk
 //! - `task`: `Strobe` as a `Task`
 //! - `run`: a whole strobe over a body, with its head
 #![tactic(auto)]
 
+mod ahead;
 mod clocks;
 mod edge_lines;
 mod longest;
+mod named;
 mod places;
 mod role;
 mod run;
@@ -31,6 +35,7 @@ mod whole;
 
 pub use clocks::Clock;
 pub use longest::longest_code;
+pub use named::{ClockName, find_clocks};
 pub use places::places_of;
 pub use role::{Role, Wanted};
 pub use run::strobe;

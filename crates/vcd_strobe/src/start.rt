@@ -28,7 +28,7 @@ pub struct Room<'r> {
 
 /// Returns whether the flag at an index is 1; false if there is none.
 #[inline(always)]
-fn is_set(flags: &[u8], index: usize) -> bool
+pub(crate) fn is_set(flags: &[u8], index: usize) -> bool
     ensures { result ≡ is_marked flags.now index }
 {
     flags.get(index).copied().unwrap_or(0) == 1

@@ -4,8 +4,9 @@ ghost use Rattle.vcd_body.specs.Given.{IsGoodText};
 ghost use Rattle.vcd_text.specs.Device.{Counts};
 ghost use Rattle.vcd_strobe.specs.Strobes.{HasStrobed, TakesAny};
 
+use crate::ahead::{EachItem, done_of};
 use crate::whole::Strobe;
-use vcd_body::{Form, Item, Regs};
+use vcd_body::{Form, Item, Regs, walk_ahead};
 use vcd_run::{AheadEnd, Task};
 use vcd_text::{Ahead, Sink, WriteFailed};
 use vcd_view::HeadView;
@@ -13,7 +14,7 @@ use vcd_view::HeadView;
 impl Strobe<'_> {
     /// Handles a change of the code at index `code` of the header of `view`. `regs` are the
     /// registers. Fails if a write does.
-    fn take_any<W: Sink>(
+    pub(crate) fn take_any<W: Sink>(
         &mut self,
         view: HeadView<'_>,
         regs: Regs,
@@ -52,18 +53,19 @@ impl Task for Strobe<'_> {
 
     ghost may_end = { λ _. false };
 
-    /// Takes nothing ahead.
+    /// Handles the items that lie completely in the chunk. Fails if a write does.
     fn take_ahead<W: Sink>(
         &mut self,
-        _view: HeadView<'_>,
+        view: HeadView<'_>,
         regs: Regs,
-        _ahead: Ahead<'_>,
-        _out: &mut W,
+        ahead: Ahead<'_>,
+        out: &mut W,
     ) -> AheadEnd {
+        let walked = walk_ahead(self, EachItem, view, regs, ahead, out);
         AheadEnd {
-            passed: 0,
-            regs,
-            written: Ok(()),
+            passed: walked.ahead.passed(),
+            regs: walked.regs,
+            written: done_of(walked.ended),
         }
     }
 

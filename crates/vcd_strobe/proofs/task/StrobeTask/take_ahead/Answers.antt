@@ -1,6 +1,12 @@
-use Rattle.vcd_run.proofs.AheadSteps.{takes_none}
-use Rattle.vcd_strobe.specs.Strobes.{HasStrobed}
+use Rattle.vcd_strobe.proofs.AheadSteps.{ready_ahead, runs_ahead}
 use Rattle.vcd_strobe.proofs.task.StrobeTask.take_ahead.Goals as goal
 
 pub returns-clause-runs : goal.returns-clause-runs
-returns-clause-runs g c = takes_none (λ strobe p h items. HasStrobed strobe p h items) c.args._view c.args._ahead c.args.regs c.args.self.now (g.W.Sink.device c.args._out.now)
+returns-clause-runs g c =
+    let walked = c.walk_ahead-walked in
+    rw (c.passed.ensures.passed, c.done_of.ensures) (runs_ahead c.args.view _ _ walked.result.ended walked.ensures)
+
+pub returns-clause-ready : goal.returns-clause-ready
+returns-clause-ready g c =
+    let walked = c.walk_ahead-walked in
+    rw c.done_of.ensures (ready_ahead c.args.view _ _ walked.result.ended walked.ensures)

@@ -1,0 +1,4 @@
+mod CommandRows
+pub mod Cited
+pub mod ClocksLemmas
+pub mod JobLemmas

@@ -1,0 +1,4 @@
+mod WorkLemmas
+mod EndLemmas
+mod BoundLemmas
+mod ProgramLemmas

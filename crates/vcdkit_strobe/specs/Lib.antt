@@ -1,0 +1,7 @@
+pub mod Work
+pub mod Bound
+pub mod Calls
+pub mod Names
+pub mod Program
+pub mod ProgramNames
+pub mod Whole

@@ -1,0 +1,13 @@
+//! `vcdkit-strobe`: values of a value change dump at the edges of its clocks (IEEE Std 1364-2005, clause 18).
+//!
+//! It is the program `VcdkitStrobe` of `vcdkit_strobe`, over the arguments, the files and the
+//! streams of the process.
+#![tactic(auto)]
+
+use std::process::ExitCode;
+use vcd_program::run_on_machine;
+use vcdkit_strobe::VcdkitStrobe;
+
+fn main(rt: HostRuntime) -> ExitCode {
+    ExitCode::from(run_on_machine::<VcdkitStrobe>(&rt))
+}
