@@ -189,6 +189,13 @@ class Data(Case):
         self.assertEqual((data["begin"], data["span"]), (str(LATE - 1), 10))
         self.assertEqual(run(wave, "--html", "--mark", "5", "--from", "9", long, "q")[0], 2)
 
+    def test_the_end_of_a_picture(self):
+        """A change at the last time is an edge, also behind a block."""
+        dump = self.file("end.vcd", b"$var wire 1 ! q $end $enddefinitions $end "
+                                    b"#0 1! #998 0! #999 z! #1000 0!\n")
+        self.assertRegex(run(wave, "--width", "100", dump, "q")[1],
+                         r'"bit" d="M\d+\.0 34\.0V34\.0H\d+\.0M\d+\.0 42\.0V50\.0H')
+
     def test_two_scales_and_clocks(self):
         with open(NESTED, "rb") as file:
             text = file.read()

@@ -169,9 +169,11 @@ def same_page_of_two(of: Asker, words: List[str], path: str,
 
 def same_pixels(of: Asker, words: List[Any], row: Row, shapes: Dict[str, List[Span]]) -> None:
     """Compares the pixels of a row: red if and only if the signal is x there, and a block if and
-    only if it changes there more than once. A value that begins at the end may be drawn."""
+    only if it changes there more than once. A value that begins at the end has no length."""
     reds, blocks = shapes.get("x", []) + shapes.get("manyX", []), shapes.get("several", [])
-    places, pixels = row.pixels(), range(row.width - (row.width in row.pixels()))
+    places = row.pixels()
+    is_edge = row.points[-1:] and row.points[-1][0] == row.end and places.count(places[-1]) < 2
+    pixels = [place for place in range(row.width) if not is_edge or place != places[-1]]
     of.same("pixels, red", words, [place for place in pixels if is_in(place, reds)],
             [place for place in pixels if row.has_x(place)])
     of.same("pixels, a block", words, [place for place in pixels if is_in(place, blocks)],
@@ -218,8 +220,9 @@ def ask_shown(of: Asker) -> None:
         if not one.is_real and (end - begin) * width < 2**53:  # else floats are not exact
             shapes = {kind: [(shape[0], shape[1]) for shape in its] for kind, its in row["shapes"]}
             first, last = map(Fraction, view or (0, max(1, end - begin)))
-            same_pixels(of, [*words, one.path, view, str(width)], Row(one, wanted_points(
-                dump, one, begin, end), begin + first, last - first, width, ""), shapes)
+            same_pixels(of, [*words, one.path, view, str(width)], Row(
+                one, wanted_points(dump, one, begin, end), max(end, begin + 1), begin + first,
+                last - first, width, ""), shapes)
 
 
 # ---- Pictures.
@@ -239,8 +242,10 @@ def ask_picture(of: Asker) -> None:
             "picture", words, (said.status, said.message), (0, "")):
         return  # else floats are not exact
     rows = rows_of(said.text, width)
-    wanted = [(one.path, Row(one, wanted_points(dump, one, window.begin, end), window.begin, max(
-        1, end - window.begin), width, form or "--hex").shapes()) for one in its]
+    stop = max(end, window.begin + 1)
+    wanted = [(one.path, Row(
+        one, wanted_points(dump, one, window.begin, end), stop, window.begin, stop - window.begin,
+        width, form or "--hex").shapes()) for one in its]
     is_alike = [path for path, _ in rows] == [path for path, _ in wanted] and all(
         len(got) == len(shapes) and all(one.is_like(other) for one, other in zip(got, shapes))
         for (_, got), (_, shapes) in zip(rows, wanted))

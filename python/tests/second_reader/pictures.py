@@ -42,10 +42,12 @@ class Shape(NamedTuple):
 
 
 class Row(NamedTuple):
-    """A row of so many pixels that shows the values of a window at their times."""
+    """A row of so many pixels that shows the values at their times, the last one up to an end, in a
+    window from a time on."""
 
     of: Variable
     points: Points
+    end: int
     begin: Union[int, Fraction]
     length: Union[int, Fraction]
     width: int
@@ -71,7 +73,7 @@ class Row(NamedTuple):
                 text = self._text(value, to - x) if of.size > 1 and not of.is_real else ""
                 found.append(Shape(self._class(value), text, x, to, heights))
             before = height
-        return sorted(found)
+        return sorted(found, key=lambda one: (one.kind, one.begin))
 
     def _place(self, time: int) -> float:
         return float((time - self.begin) * self.width / self.length)
@@ -99,7 +101,7 @@ class Row(NamedTuple):
 
     def has_x(self, at: int) -> bool:
         """Whether a value has an x at some time of a pixel."""
-        ends = [time for time, _ in self.points[1:]] + [self.begin + self.length]
+        ends = [time for time, _ in self.points[1:]] + [self.end]
         return any(isinstance(value, str) and "x" in value
                    and (time - self.begin) * self.width < (at + 1) * self.length
                    and (to - self.begin) * self.width > at * self.length
@@ -155,7 +157,7 @@ def rows_of(text: str, width: int) -> List[Tuple[str, List[Shape]]]:
             its, place = rows[-1][1], float(one.get("x", "")) - left
             at = min(range(len(its)), key=lambda at: abs(its[at].begin + its[at].end - 2 * place))
             its[at] = its[at]._replace(text=one.text or "")
-    return [(path, sorted(its)) for path, its in rows]
+    return [(path, sorted(its, key=lambda one: one.kind)) for path, its in rows]
 
 
 def shape_of(kind: str, part: str, left: float, top: float) -> Shape:

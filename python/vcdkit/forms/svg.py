@@ -65,7 +65,8 @@ def short(name: str) -> str:
     return name if len(name) <= MAX_NAME else ".." + name[2 - MAX_NAME:]
 
 
-Piece = Tuple[float, float, object]  # where a value or a block begins and ends, and what it is
+# Where a value or a block begins and ends, what it is, and what was there just before.
+Piece = Tuple[float, float, object, object]
 
 
 class Picture:
@@ -120,8 +121,8 @@ class Picture:
             places.append(self.left + self.pixels.of(time) if is_block
                           else places[-1] + 1 if isinstance(last, Several) else self.x(time))
             last = value
-        return [(x, to, value) for x, to, (_, value) in zip(
-            places, [*places[1:], self.right], points)]
+        return [(x, to, value, before) for x, to, (_, value), (_, before) in zip(
+            places, [*places[1:], self.right], points, [(0, None), *points])]
 
     def pieces(self, points: List[Point]) -> List[Piece]:
         """Returns where each value begins and ends, but for one that ends where it begins; blocks
@@ -130,29 +131,27 @@ class Picture:
         its = [one for one in its[:-1] if one[0] < one[1]] + its[-1:]
         its = [one for at, one in enumerate(its) if not at or one[2] != its[at - 1][2]]
         ends = [x for x, *_ in its[1:]] + [self.right]
-        return [(x, to, value) for (x, _, value), to in zip(its, ends)]
+        return [(x, to, value, before) for (x, _, value, before), to in zip(its, ends)]
 
     def bit(self, y: int, points: List[Point]) -> None:
         """Draws a line, high or low; z in the middle."""
         height: Dict[object, float] = {"0": y + HIGH, "1": y, "z": y + HIGH / 2}
         of_kind: Shapes = {}
-        last: object = None
-        for x, to, value in self.pieces(points):
+        for x, to, value, before in self.pieces(points):
             if isinstance(value, Several):
                 of_kind.setdefault(value.kind, []).append(box(x, to, y, HIGH))
             elif value not in height:  # x, or the text of a real number
                 of_kind.setdefault("x", []).append(box(x, to, y, HIGH))
             else:
-                edge = "M%.1f %.1fV%.1f" % (x, height.get(last, height[value]), height[value])
+                edge = "M%.1f %.1fV%.1f" % (x, height.get(before, height[value]), height[value])
                 of_kind.setdefault(kind_of(value, "bit"), []).append(edge + "H%.1f" % to)
-            last = value
         self.shapes(of_kind)
 
     def lane(self, y: int, points: List[Point], form: Union[str, Form]) -> None:
         """Draws a lane with slanted ends, and the values that fit."""
         of_kind: Shapes = {}
         texts = []
-        for x, to, value in self.pieces(points):
+        for x, to, value, _ in self.pieces(points):
             if isinstance(value, Several):
                 of_kind.setdefault(value.kind, []).append(box(x, to, y, HIGH))
                 continue
@@ -169,26 +168,27 @@ class Picture:
 
     def curve(self, y: int, points: List[Point]) -> None:
         """Draws real numbers as steps between the least and the largest one, which it names."""
-        pieces, last = self.pieces(points), -1.0
+        pieces = self.pieces(points)
         of_kind: Shapes = {}
-        least, largest = bounds([value for _, _, value in pieces])
+        least, largest = bounds([value for _, _, value, _ in pieces])
 
         def height(number: float) -> float:  # halves, as a difference may be infinite
             part = (number / 2 - least / 2) / ((largest / 2 - least / 2) or 1)
             return y + CURVE * (1 - part)
 
-        for x, to, value in pieces:
-            at, kind = -1.0, "curve"
+        def level(value: object) -> Optional[float]:
+            return height(value) if isinstance(value, float) and math.isfinite(value) else None
+
+        for x, to, value, before in pieces:
+            at, was, kind = level(value), level(before), "curve"
             if isinstance(value, Several) and value.least <= value.largest:
                 ends = height(value.least), height(value.largest)
                 part = "".join("M%.1f %.1fV%.1f" % (pixel + 0.5, *ends)
                                for pixel in range(int(x), int(to)))
-            elif isinstance(value, float) and math.isfinite(value):
-                at = height(value)
-                part = "M%.1f %.1fV%.1fH%.1f" % (x, at if last < 0 else last, at, to)
+            elif at is not None:
+                part = "M%.1f %.1fV%.1fH%.1f" % (x, at if was is None else was, at, to)
             else:
                 part, kind = box(x, to, y, CURVE), "x"
-            last = at
             of_kind.setdefault(kind, []).append(part)
         self.shapes(of_kind)
         for number, below in (largest, y + 9), (least, y + CURVE - 2):
@@ -197,13 +197,11 @@ class Picture:
     def events(self, y: int, points: List[Point]) -> None:
         """Draws a tick for each time, a block for several."""
         of_kind: Shapes = {}
-        last: object = None
-        for x, to, value in self.places(points):
+        for x, to, value, before in self.places(points):
             if isinstance(value, Several):
                 of_kind.setdefault("several", []).append(box(x, to, y, HIGH))
-            elif not isinstance(last, Several):  # else it is in the block
+            elif not isinstance(before, Several):  # else it is in the block
                 of_kind.setdefault("bit", []).append("M%.1f %.1fv%d" % (x, y, HIGH))
-            last = value
         self.shapes(of_kind)
 
     def row(self, y: int, signal: Signal, points: List[Point], name: str,
