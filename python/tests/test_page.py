@@ -196,6 +196,12 @@ class Data(Case):
         self.assertRegex(run(wave, "--width", "100", dump, "q")[1],
                          r'"bit" d="M\d+\.0 34\.0V34\.0H\d+\.0M\d+\.0 42\.0V50\.0H')
 
+    def test_a_number_that_is_repeated_in_a_pixel(self):
+        dump = self.file("a.vcd", b"$var real 64 ! r $end $enddefinitions $end "
+                                  b"#0 r7 ! #501 r1000 ! #502 r1e3 ! #1000\n")
+        self.assertRegex(run(wave, "--width", "100", dump, "r")[1],
+                         r'"curve" d="M[^M"]*M[^M"]*"')
+
     def test_two_scales_and_clocks(self):
         with open(NESTED, "rb") as file:
             text = file.read()

@@ -9,7 +9,7 @@ from typing import BinaryIO, Dict, FrozenSet, Iterator, List, NamedTuple, Tuple
 
 from ..model.signals import Signal
 from ..model.times import Window
-from ..model.values import Value, value_in
+from ..model.values import Value, same, value_in
 from ..reading import body
 from ..reading.source import Source
 
@@ -74,6 +74,7 @@ class Lane:
 
     def note(self, time: int, text: bytes) -> None:
         """Takes a value from a time on."""
+        text = same(text) if self.is_real else text
         if text == self.text and not self.is_event:
             return
         if self.first and self.time < time:  # else the last value was there for no time
