@@ -7,6 +7,7 @@ from dumps import LAST, Dump, State, Value, Variable
 from shown import same
 
 Edges = Set[Tuple[str, str, str]]  # a code, and the digits from which and to which it goes
+Span = Tuple[bool, int, int]  # of edges (True) or ticks (False) the least and the greatest number
 
 
 class Look(NamedTuple):
@@ -108,18 +109,18 @@ def starts(looks: Sequence[Look], test: Test, is_clocked: bool, every: bool = Fa
     return found
 
 
-def waits(looks: Sequence[Look], begins: Sequence[bool], answer: Test, span: Tuple[bool, int],
-          end: int) -> List[Wait]:
-    """Returns the requests that get an answer within so many edges (True) or ticks (False), and
-    those that are late; not those that the end leaves open."""
-    is_edges, most = span
+def waits(looks: Sequence[Look], begins: Sequence[bool], answer: Test, span: Span, end: int
+          ) -> List[Wait]:
+    """Returns the requests that get an answer in time, and those that are late; not those that the
+    end leaves open."""
+    is_edges, least, most = span
     found = []
     for at, look in enumerate(looks):
         if not begins[at]:
             continue
         lengths = [(other - at if is_edges else its.time - look.time, its)
                    for other, its in enumerate(looks) if other >= at]
-        answers = [one for one in lengths if one[0] <= most and holds(answer, one[1])]
+        answers = [one for one in lengths if least <= one[0] <= most and holds(answer, one[1])]
         if answers:
             found.append(Wait(look.time, answers[0][1].time, answers[0][0]))
         elif at + most < len(looks) if is_edges else look.time + most <= end:
@@ -127,12 +128,13 @@ def waits(looks: Sequence[Look], begins: Sequence[bool], answer: Test, span: Tup
     return found
 
 
-def in_order(looks: Sequence[Look], before: Test, after: Test, span: Tuple[bool, int], end: int
+def in_order(looks: Sequence[Look], before: Test, after: Test, span: Span, end: int
              ) -> Tuple[List[int], List[int], int]:
     """Returns the times of requests without an answer and of answers without a request, if each
-    answer belongs to the first request that still waits; then how many wait at the end."""
+    answer belongs to the first request that still waits, if it is not too early for that; then how
+    many wait at the end."""
     lost, surplus, waiting = [], [], []  # type: List[int], List[int], List[Tuple[int, int]]
-    is_edges, most = span
+    is_edges, least, most = span
     for at, look in enumerate([*looks, Look(end + 1, {}, set())]):
         now = at if is_edges else look.time
         while waiting and waiting[0][0] + most < now:
@@ -140,7 +142,7 @@ def in_order(looks: Sequence[Look], before: Test, after: Test, span: Tuple[bool,
         if at < len(looks) and holds(before, look):
             waiting.append((now, look.time))
         if at < len(looks) and holds(after, look):
-            if waiting:
+            if waiting and waiting[0][0] + least <= now:
                 waiting.pop(0)
             else:
                 surplus.append(look.time)
@@ -166,12 +168,13 @@ def transfers(each: Sequence[Sequence[Look]], tests: Sequence[Test], flushes: Se
     return lines
 
 
-def is_overlapping(looks: Sequence[Look], begins: Sequence[bool], answer: Test,
-                   span: Tuple[bool, int]) -> bool:
+def is_overlapping(looks: Sequence[Look], begins: Sequence[bool], answer: Test, span: Span
+                   ) -> bool:
     """Whether a request begins while another one still waits for its answer."""
     places = [at for at, is_one in enumerate(begins) if is_one]
     for one, other in zip(places, places[1:]):
         length = other - one if span[0] else looks[other].time - looks[one].time
-        if length <= span[1] and not any(holds(answer, look) for look in looks[one:other]):
+        if length <= span[2] and not any(
+                holds(answer, look) for look in looks[one + span[1]:other]):
             return True
     return False

@@ -9,7 +9,7 @@ from asker import Asker, Said, Skip, Window, run
 from conditions import Condition, Conditions, quoted
 from dumps import UNITS, Dump
 from expressions import joined
-from looks import (Edges, Look, in_order, is_overlapping, looks_at_changes, looks_at_edges,
+from looks import (Edges, Look, Span, in_order, is_overlapping, looks_at_changes, looks_at_edges,
                    starts, waits)
 from shown import all_from_json
 
@@ -59,17 +59,19 @@ def question(of: Asker, clocked: float = .5) -> Question:
     return Question(words, window, edges, every)
 
 
-def span_of(of: Asker, is_clocked: bool) -> Tuple[str, Tuple[bool, int]]:
-    """Returns the N of `within N`, and what it means: edges or ticks, and how many."""
+def span_of(of: Asker, is_clocked: bool) -> Tuple[str, Span]:
+    """Returns the N or the M..N of `within N`, and what it means."""
     dump, choice = of.dump, of.random.choice
     if is_clocked and of.happens(.6):
         count = choice([0, 1, 2, 3, 5, 50])
-        return str(count), (True, count)
+        least = of.random.randint(0, count) if of.happens(.3) else 0
+        return "%d..%d" % (least, count) if least or of.happens(.1) else str(count), (
+            True, least, count)
     gaps = [after - before for before, after in zip(dump.times, dump.times[1:])] or [1]
     count = max(0, choice(gaps) * choice([0, 1, 1, 2, 3]) + choice([-1, 0, 0, 1]))
     unit = choice(UNITS) if dump.scale and of.happens(.5) else ""
     text = dump.time_in(count, unit) + unit if unit else ""
-    return text if 0 < len(text) < 20 else "%dtick" % count, (False, count)
+    return text if 0 < len(text) < 20 else "%dtick" % count, (False, 0, count)
 
 
 def ask_when(of: Asker) -> None:

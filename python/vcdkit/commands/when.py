@@ -6,7 +6,7 @@ clock, with the values just before. It is an expression of Verilog over paths:
   tb.bus[7:4] + 1 == 0xff    "tb.a&b" === 4'b1x0z    tb.q is not x    signed(tb.a) < -1
   tb.q inside {1, [4:7]}    age(tb.clk) > 20ns    $onehot(tb.grant)
   past(tb.q, 2) == 3 & rose(tb.a)  at edges of the clock; also fell, stable and changed
-  req -> ack within 5  req begins to hold, and ack holds at most 5 edges later; or within 20ns
+  req -> ack within 5  req begins to hold, and ack holds at most 5 edges later; or within 2..5, 20ns
   !(req -> ack within 5)  it does not
 A result that depends on x is x, and x does not hold. More is in extras/README.md.
 

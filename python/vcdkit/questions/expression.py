@@ -21,7 +21,7 @@ TOKEN = re.compile(
     r"|\d[\d_]*(?:\.\d+)?[eE][-+]?\d+(?![\w.])|\d[\w.]*)"
     r"|(%s)" % "|".join(map(re.escape, SIGNS)) +
     r'|((?:[^\s"&|!=<>()+\-*/%^~?:,{}\'\[\]]|\[[^\s\]]*\])+)')
-SPAN = re.compile(r"%s\Z" % AMOUNT)
+SPAN = re.compile(r"(?:(\d+)\.\.(?=\d+\Z))?%s\Z" % AMOUNT)
 BASED = re.compile(r"([\d_]*)\s*'\s*([sS]?)([bodhBODH])\s*(.+)")
 FUNCTIONS = [sign for sign, one in OPERATORS.items() if sign.isidentifier() and not one.level]
 TIME = re.compile(r"\d+(\.\d+)?(%s)\Z" % "|".join(UNITS))
@@ -36,9 +36,11 @@ INSTEAD = {**{word: "use %s instead of %s" % (sign, word) for word, sign in (
 
 
 class Span(NamedTuple):
-    """How long `within` waits: a number and a unit, which is empty for edges of the clock."""
+    """How long `within` waits: at least, in edges, and at most: a number and a unit, which is empty
+    for edges of the clock."""
 
     text: str
+    least: int
     number: str
     unit: str
 
@@ -179,12 +181,14 @@ class ConditionText:
         self._take()
         text, _, number, *_ = self._tokens[self._at - 1]
         span = SPAN.match(text)
-        if not number or not span or span.group(3) or span.group(2) and not span.group(4):
-            raise bad("within takes a number of edges or a time, such as 5 or 20ns")
+        if not number or not span or span.group(4) or span.group(3) and not span.group(5):
+            raise bad("within takes a number of edges, a range of it or a time, as 5, 2..5 or 20ns")
         if self._next in (*UNITS, "tick"):
             raise bad("write %s%s" % (text, self._next))
-        unit = span.group(4) or ""
-        return Node("->", parts, Span(text, text[:len(text) - len(unit)], unit))
+        least, unit, most = int(span.group(1) or 0), span.group(5) or "", text.split("..")[-1]
+        if span.group(1) and least > int(most):
+            raise bad("nothing is in %s: write the lower end first" % text)
+        return Node("->", parts, Span(text, least, most[:len(most) - len(unit)], unit))
 
     def _choice(self) -> Node:
         """Reads an expression, which may have ?:."""

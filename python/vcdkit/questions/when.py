@@ -51,6 +51,7 @@ class _Question:
     def __init__(self, asked: Asked, condition: Condition, ticks: int, clock: int):
         self.asked, self.condition, self.ticks, self.clock = asked, condition, ticks, clock
         self.has_time = bool(condition.span and condition.span.unit)  # and counts no edges
+        self.least = condition.span.least if condition.span else 0
         self.front = asked.name and asked.name + ": "  # of messages
         self.overlaps = 0  # requests that began before the answer of the one before
         self.alone: Tuple[List[int], List[int]] = [], []  # requests, and answers, without the other
@@ -69,16 +70,14 @@ class _Question:
         if starts & bits.bit:
             self.overlaps += bool(waiting)
             waiting.append((time, now + self.ticks))
-        if holding & bits.answer and self.asked.in_order:
-            if waiting:
-                begin, until = waiting.popleft()
-                found.append((begin, time, now - until + self.ticks))
-            else:
-                self.alone[1].append(time)
-                found.append((time, None, 0))
-        elif waiting and holding & bits.answer:
-            found += [(begin, time, now - until + self.ticks) for begin, until in waiting]
-            waiting.clear()
+        answers = holding & bits.answer
+        while answers and waiting and waiting[0][1] <= now + self.ticks - self.least:
+            begin, until = waiting.popleft()
+            found.append((begin, time, now - until + self.ticks))
+            answers &= -(not self.asked.in_order)
+        if answers and self.asked.in_order:
+            self.alone[1].append(time)
+            found.append((time, None, 0))
         if not self.has_time:  # each edge is looked at once
             found += self.late(now + 1)
         if len(waiting) > MAX_WAITING:
@@ -283,5 +282,5 @@ def _ticks_of(span: Optional[Span], dump: Source, has_clock: bool) -> int:
         return 0
     if not span.unit and not has_clock:
         raise UsageError("within %s counts edges: %s, or give a time, such as %sns" % (
-            span.text, NAME_A_CLOCK, span.text))
+            span.text, NAME_A_CLOCK, span.number))
     return dump.span(span.number + span.unit.replace("tick", ""))
