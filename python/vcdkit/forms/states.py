@@ -24,7 +24,7 @@ def names_in(path: str) -> Dict[str, str]:
         try:
             value = number_of("0x" * bool(is_hex) + its.group(1))
         except UsageError as error:
-            raise UsageError(place + str(error)) from None
+            raise UsageError(place + str(error).replace("bad condition: ", "", 1)) from None
         if not value.kind.width:
             raise UsageError("%sa value is digits, and not %s" % (place, its.group(1)))
         found[shortest(digits_of(value.value, value.kind.width))] = its.group(2)
