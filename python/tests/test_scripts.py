@@ -1221,6 +1221,8 @@ class Conditions(Case):
                 ("each req -> ack within 5", "30ns, 1 time: 1 without an answer (30ns), 0 wi", 0),
                 ("each req -> ack within 1", "10ns, 5 times: 3 without an answer (10ns, ..), "
                  "2 without a request (50ns, ..)", 0),
+                ("each req -> ack within 4..6", "40ns, 2 times: 1 without an answer (20ns), "
+                 "1 without a request (40ns)", 0),
                 ("each ack -> req within 3", "10ns, 4 times: 1 without an answer (50ns), "
                  "3 without a request (10ns, ..)", 1),
                 ("each req -> ack & req within 90", "", 4),

@@ -207,8 +207,10 @@ class Conditions:
         gaps = [later - time for time, later in zip(dump.times, dump.times[1:])] or [1]
         ticks = max(0, self.random.choice(gaps) * self.random.choice([1, 1, 2, 5])
                     + self.random.choice([0, 0, -1, 1]))
+        sign = self.random.choice([*expressions.ORDERS, "==", "!="])
         self.codes.add(of.code)
-        self.ages |= {(of.code, ticks), (of.code, ticks + 1)}
+        self.ages |= {(of.code, age) for age in {">": [ticks + 1], "<=": [ticks + 1], "<": [ticks],
+                                                 ">=": [ticks]}.get(sign, [ticks, ticks + 1])}
 
         def value(look: Any) -> str:
             its = dates(dump, of.code, look.time - is_clocked) if look else []
@@ -216,10 +218,8 @@ class Conditions:
         text = dump.time_in(ticks, "fs") + "fs" if dump.scale and self.random.random() < .3 else ""
         number = expressions.fixed(str(ticks), ticks)
         return expressions.joined(
-            self.random.choice([*expressions.ORDERS, "==", "!="]),
-            expressions.own("age(%s)" % quoted(self.name(of)), expressions.OPERAND, 64, False,
-                            value),
-            number._replace(text=text or number.text))
+            sign, expressions.own("age(%s)" % quoted(self.name(of)), expressions.OPERAND, 64, False,
+                                  value), number._replace(text=text or number.text))
 
     def _comparison(self, one: Operand) -> Expression:
         """Returns a comparison with a name, with digits or with a number."""

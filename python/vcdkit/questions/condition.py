@@ -5,6 +5,7 @@ in Verilog. Then each expression becomes a Python function of values in the kind
 asked for, with a line for each operator. What it returned for the last values is kept."""
 import collections
 import functools
+import heapq
 import itertools
 import math
 import re
@@ -309,6 +310,8 @@ class Conditions:
         """Takes it that a time is over that has edges of some clocks: for these, what it has then
         is the past, and no event is triggered; returns the conditions that name those that were."""
         found = 0
+        if not self._samples and not self._events:
+            return found
         for (place, kept, _, clock), value in zip(self._samples, self._sampled()):
             if clock & clocks:
                 kept.append(value)
@@ -340,32 +343,45 @@ class Conditions:
         """Returns looks without a clock, and those at times at which an age becomes one that is
         asked for."""
         dates: Dict[bytes, int] = {}
-        last, fault = 0, None  # type: int, Optional[DumpFault]
+        due: List[Tuple[int, bytes, int]] = []  # a heap: of each code and age the time when it is
+        ages: Dict[bytes, Dict[int, bool]] = {}  # of each code, and whether they are in the heap
+        for code, age in self._ages:
+            ages.setdefault(code, {})[age] = False
+
+        def passed(until: float) -> Iterator[Look]:
+            """Returns the looks that ages need up to a time."""
+            while due and due[0][0] <= until:
+                time, code, age = due[0]
+                if time < dates[code] + age:  # there was a change since
+                    heapq.heapreplace(due, (dates[code] + age, code, age))
+                else:
+                    heapq.heappop(due)
+                    ages[code][age] = False
+                    yield time, [(code, b"%d" % dates[code])], 0
+
+        fault: Optional[DumpFault] = None
         try:
             for time, changes, _ in looks:
-                for look in self._due(dates, last, time):
+                for look in passed(time) if due and due[0][0] <= time else ():
                     if look[0] < time:
                         yield look
                     else:
                         changes = look[1] + changes
                 yield time, changes, 0
-                dates.update((code, int(raw)) for code, raw in changes if code[-1:] == b" ")
-                last = time
+                for code, raw in changes:
+                    if code in ages:
+                        dates[code] = date = int(raw)
+                        for age, is_there in ages[code].items():
+                            if not is_there and date + age > time:
+                                ages[code][age] = True
+                                heapq.heappush(due, (date + age, code, age))
         except DumpFault as error:
             fault = error
         if dates:
             is_over = self._dump.is_over(fault)
-            yield from itertools.takewhile(lambda look: is_over(look[0]), self._due(dates, last))
+            yield from itertools.takewhile(lambda look: is_over(look[0]), passed(math.inf))
         if fault:
             raise fault
-
-    def _due(self, dates: Dict[bytes, int], after: int, before: float = math.inf
-             ) -> Iterator[Look]:
-        """Returns the looks from after one time to another one that ages need, by their dates."""
-        for due, code in sorted((dates[code] + age, code) for code, age in self._ages
-                                if code in dates):
-            if after < due <= before:
-                yield due, [(code, b"%d" % dates[code])], 0
 
     def compiled(self) -> Callable[..., int]:
         """Returns what returns those of some conditions that hold at the values that there are."""
@@ -409,11 +425,13 @@ class Conditions:
             order += node.parts
         for node in reversed(order):
             _type(node)
-            for one, other in zip(node.parts, node.parts[::-1]):
+            for one, other, sign in zip(node.parts, node.parts[::-1], (
+                    node.sign, MIRRORED.get(node.sign, node.sign))):
                 if one.sign == "age" and isinstance(other.value, (int, float)):
                     code = one.parts[0].value.signal.code.encode() + b" "
-                    self._ages.update((code, at) for at in (
-                        math.ceil(other.value), math.floor(other.value) + 1))
+                    self._ages.update((code, age) for age, others in (
+                        (math.ceil(other.value), (">", "<=")),
+                        (math.floor(other.value) + 1, ("<", ">="))) if sign.strip() not in others)
 
     def _call(self, tree: Node, result: str = "{}") -> str:
         """Returns a call of a function of values, which is what an expression is. It has a line for
@@ -431,7 +449,9 @@ class Conditions:
                     node.text = "t%d" % (len(lines) - 1)
         lines.append("return " + result.format(tree.text))
         values = sorted(set(re.findall(r"\bv\d+", " ".join(lines))))
-        kept = functools.lru_cache(maxsize=1 << 10)(self._function(", ".join(values), lines))
+        kept = self._function(", ".join(values), lines)
+        if "v0" not in values:  # the time is another one each time
+            kept = functools.lru_cache(maxsize=1 << 10)(kept)
         return "%s(%s)" % (self._named(kept), ", ".join("v[%s]" % name[1:] for name in values))
 
     def _named(self, value: Any) -> str:

@@ -134,9 +134,13 @@ def _dated(part: "Source", its: Iterator[Step], dated: Collection[bytes]) -> Ite
     last: Dict[bytes, bytes] = {}
     known: Dict[bytes, bytes] = {}
     for time, before, changes in itertools.chain(earlier, its):
-        now = {code: same(text) for code, text in dict(before + changes).items() if code in dated}
-        dates = [(code + b" ", b"%d" % time) for code in now if last.get(code) != now[code]]
-        last.update(now)
+        dates, every = [], before + changes if before else changes
+        for code, text in every if len(every) < 2 else dict(every).items():
+            was = last.get(code, b"")
+            if code in dated and text != was:
+                if was[:1] != b"r" or same(was) != same(text):
+                    dates.append((code + b" ", b"%d" % time))
+                last[code] = text
         if time < begin:
             known.update(dates)
             continue
