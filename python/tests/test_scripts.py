@@ -1012,6 +1012,16 @@ class Conditions(Case):
         self.assertEqual(said("vcdkit-when", "--latency", dump, "req -> ack within 25ns"),
                          ["status 1"])
 
+    def test_an_expression_before_a_fault(self):
+        """An expression has the rows that a name has."""
+        head = b"$var wire 4 ! a $end $enddefinitions $end #0 b1 ! #5 b10 ! #9 b11 !\n"
+        for end, at_9 in (b"#11\n#7\n", ["9,3"]), (b"#11\nq\n", ["9,3"]), (b"#7\n", []):
+            dump = self.file("a.vcd", head + end)
+            for name in "a", "b = a":
+                words = ["vcdkit-table", "--decimal", dump, name]
+                self.assertEqual(said(*words)[1:], ["0,1", "5,2", "9,3", "status 1"])
+                self.assertEqual(said(*words, "--at", "5,9,11")[1:], ["5,2", *at_9, "status 1"])
+
     def test_events_at_the_begin_of_a_window(self):
         dump = self.file("a.vcd", self.HEAD + b"#0 0! 1e #5 1! #9 1e #10\n")
         # A condition is evaluated there if a signal of it has a value.

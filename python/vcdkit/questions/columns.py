@@ -54,7 +54,7 @@ class _Columns:
         for block in body.blocks(file):
             out: List[bytes] = []
             for line in io.BytesIO(block):
-                if line[:1] == b"#" or line == b"$end\n":
+                if line[:1] in (b"#", b"\n") or line == b"$end\n":  # a fault has an empty line
                     out += self._lines(values(), last) if is_due else ()
                     is_due = False
                 else:

@@ -10,7 +10,7 @@ from ..model.times import LAST_TICK
 from ..model.values import Cell, Row, same, value_in, value_of
 from ..reading import body
 from ..reading.source import Source
-from ..reading.texts import Made
+from ..reading.texts import Headed, Made
 
 if TYPE_CHECKING:
     from .condition import Conditions
@@ -19,6 +19,15 @@ TIMES_OF_A_CALL = 5000  # a word of Linux has at most 131,071 bytes
 RISE, FALL = (b"0", b"1"), (b"1", b"0")
 Pair = Tuple[int, List[Cell]]  # a time and the values of a row
 Clock = Tuple[Signal, int]  # a signal, and the place of the clock's bit in it, from the right
+
+
+def first_ones(its: Sequence[int], are: Callable[[int], bool]) -> Sequence[int]:
+    """Returns those up to the first one of which something is not true, nor of any later one."""
+    low, high = 0, len(its)
+    while low < high:
+        middle = (low + high) // 2
+        low, high = (middle + 1, high) if are(its[middle]) else (low, middle)
+    return its[:low]
 
 
 def states(places: Dict[int, Signal]) -> Dict[int, Signal]:
@@ -33,11 +42,13 @@ def sampled(source: Source, times: Iterable[int], names: List[str],
     are returned."""
     words = utf8_names(names)
     places = sorted(states(source.places(words)))
-    every = sorted(set(times))
+    every, has_more = sorted(set(times)), isinstance(source.text, Headed)  # expressions
     found: Dict[int, Dict[int, Cell]] = {}
     for begin in range(0, len(every), TIMES_OF_A_CALL):
         some = every[begin:begin + TIMES_OF_A_CALL]
-        asked = source.made("sample", ["--at", ",".join(map(str, some)), "--", *words])
+        # Expressions are those of a cut, which ends before a later fault.
+        asked = (source.cut(0, some[-1]) if has_more else source).made(
+            "sample", ["--at", ",".join(map(str, some)), "--", *words])
         text: List[bytes] = []
         try:
             text += asked.blocks()
@@ -45,6 +56,9 @@ def sampled(source: Source, times: Iterable[int], names: List[str],
             if faults is None:
                 raise
             faults.append(fault)
+            if has_more:
+                known = first_ones(some, source.goes_beyond)
+                return {**found, **(sampled(source, known, names) if known else {})}
         values = [*map(value_of, words_of(b"".join(text).decode("utf-8", "surrogateescape"))[2::3])]
         size = len(places)
         found.update((time, dict(zip(places, values[at * size:(at + 1) * size])))

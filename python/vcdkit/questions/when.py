@@ -11,7 +11,7 @@ from ..reading import body
 from ..reading.source import Source
 from .condition import NAME_A_CLOCK, Condition, Conditions
 from .expression import Span
-from .rows import Cells, edges_of
+from .rows import Cells, edges_of, first_ones
 
 MAX_WAITING = 1_000_000  # starts without an answer, or open transactions
 Numbers = Tuple[int, ...]  # of conditions
@@ -106,12 +106,8 @@ class _Question:
     def late_at_end(self, is_over: Callable[[int], bool]) -> List[Outcome]:
         """Returns the requests that waited until a time that is over where the dump ends. What else
         is left open there is neither in time nor late."""
-        low, high = 0, len(self.waiting)
-        while low < high:
-            middle = (low + high) // 2
-            is_late = is_over(self.waiting[middle][1])
-            low, high = (middle + 1, high) if is_late else (low, middle)
-        return self.late(self.waiting[low - 1][1] + 1) if low else []
+        late = first_ones([until for _, until in self.waiting], is_over)
+        return self.late(late[-1] + 1) if late else []
 
 
 class Questions:
