@@ -33,14 +33,17 @@ LINES = "differs 0 t.r 1 1.5\n"
 REFUSED = ["a none", "none a", "a .", "a empty", "empty a", "a fault", "a binary", "binary binary",
            "a b none", "a b t.none", "a b t.q.q", "a other t", "--map=none=t a b",
            "--except=none a b", "--context=foo a b", "--context=1ns a b", "--context= a b",
+           "--within=foo a b", "--within=1ns a b",
            "--common a other", "--rise=none a b", "--rise=t a b", "--rise=t.r a b",
            "--fall=t.q a b",
            "--fall=t.c a b",
            "--rise=t.c a other", "--junit=none/j.xml a a", "--junit=. a a"]
 MISUSED = ["", "a", "- -", "--into=x a b", "--map=t a b", "--map==t a b", "--real-tolerance=x a b",
            "--real-tolerance=-1 a b", "--real-tolerance=nan a b", "--rise=t.c --fall=t.c a b",
+           "--within=1 --rise=t.c a b",
            "--none a b", "--common=1 a b"]
 ANSWERED = [("a a", "", 0), ("a b", LINES, 1), ("--every a b", LINES + "differs 1 t.q - 0001\n", 1),
+            ("--every --within=0 a b", LINES, 1), ("--always --within=1 a b", "", 0),
             ("--real-tolerance=.5 a b", "differs 1 t.q - 0001\n", 1), ("a b t.c", "", 0),
             ("--except=t.r --except=t.q a b", "", 0),
             ("--rise=t.c a b", LINES.replace("0", "1", 1), 1),

@@ -31,6 +31,7 @@ class Asked(NamedTuple):
     every: bool
     tolerance: float
     x_matches: bool
+    within: str = ""
 
     def renamed(self, path: str) -> str:
         """Returns a path as --map has it; the longest OLD counts."""
@@ -75,6 +76,17 @@ class Sides:
         texts = dict(zip(words[::2], words[1::2]))
         return (-int(-one.ticks(texts.get("--from", "0")) * factor // 1),
                 int(one.ticks(texts["--to"]) * factor // 1) if "--to" in texts else LAST * LAST)
+
+    def end(self) -> int:
+        """Returns the last common tick that is compared without a clock."""
+        begin, end = self.window
+        return min(end, *(max(begin, dump.end * factor)
+                          for dump, factor in zip(self.dumps, self.factors)))
+
+    def is_long(self, begin: int, end: int) -> bool:
+        """Whether a difference from one common tick to another counts."""
+        within = self.asked.within
+        return not within or end - begin > self.dumps[0].ticks(within) * self.factors[0] // 1
 
     def windows(self, is_clocked: bool) -> List[Tuple[int, int]]:
         """Returns the window of each dump: if its ends are between two ticks, it is longer, or with
@@ -257,10 +269,9 @@ class Difference(NamedTuple):
 def looks_at_times(sides: Sides) -> List[Tuple[Look, Look]]:
     """Returns what both dumps have at each time at which one of them has a change, up to the end of
     the shorter one; times are in common ticks."""
-    begin, end = sides.window
-    pairs = list(zip(sides.dumps, sides.factors))
+    begin, pairs = sides.window[0], list(zip(sides.dumps, sides.factors))
     times = {begin} | {step.time * factor for dump, factor in pairs for step in dump.steps}
-    last = min(end, *(max(begin, dump.end * factor) for dump, factor in pairs))
+    last = sides.end()
     return [tuple(Look(time, dump.at(time // factor), events_of(dump, time, factor))  # type: ignore
                   for dump, factor in pairs) for time in sorted(times) if begin <= time <= last]
 
@@ -271,9 +282,11 @@ def events_of(dump: Dump, time: int, factor: int) -> Set[str]:
 
 
 def differences(sides: Sides, looks: Sequence[Tuple[Look, Look]], factor: int) -> List[Difference]:
-    """Returns the first differences of each name, those of one time in the order of their names."""
+    """Returns the first differences of each name, those of one time in the order of their names. If
+    they have to be longer than a time, those of events are."""
     found = []
     for name, one, other in sides.pairs:
+        last = None
         for mark, (mine, its) in enumerate(looks):
             if one.is_event:
                 values: Tuple[Any, Any] = one.code in mine.events, other.code in its.events
@@ -281,9 +294,14 @@ def differences(sides: Sides, looks: Sequence[Tuple[Look, Look]], factor: int) -
             else:
                 values = mine.values.get(one.code), its.values.get(other.code)
                 is_alike = sides.asked.are_alike(*values)
-            if not is_alike:
-                found.append(Difference(mark, mine.time // factor, name, one.is_event, values))
+            if last and is_alike and sides.is_long(last[1], mine.time):
                 break
+            last = None if is_alike else last or (Difference(
+                mark, mine.time // factor, name, one.is_event, values), mine.time)
+            if last and (one.is_event or not sides.asked.within):
+                break
+        if last and (one.is_event or sides.is_long(last[1], sides.end())):
+            found.append(last[0])
     first = {name: min(one.mark for one in found if one.name == name)
              for name in {one.name for one in found}}
     return sorted((one for one in found if one.mark == first[one.name]),
@@ -343,6 +361,13 @@ def ask_diff(of: Asker) -> None:
     words, form, unit, clock = *of.form(), of.unit(.2), of.happens(.35) and sides.clocks()
     is_json, page, report = of.happens(.4), of.path + ".html", of.path + ".xml"
     counts, looks = [1, 1], looks_at_times(sides)
+    if not clock and of.happens(.4):
+        begin, end = sorted(look.time for look, _ in of.random.choices(looks, k=2))
+        ticks = max(0, (end - begin) // factors[0] + of.random.choice([-1, 0, 0, 1]))
+        has_unit = of.dump.scale and of.happens(.5)
+        asked = sides.asked = asked._replace(
+            within=of.dump.time_in(ticks, "fs") + "fs" if has_unit else str(ticks))
+        words.append("--within=" + asked.within)
     if clock:
         name, one, its = of.random.choice(clock)
         edge = of.random.choice([("--rise", "0", "1"), ("--fall", "1", "0")])

@@ -50,6 +50,8 @@ def compare(asked: argparse.Namespace, report: Lines) -> None:
     scales = [side.scale for side in sides if side.scale]
     if not clocks and is_part(asked) and len(set(scales)) > 1:
         comparison.window = window_of_both(scales, asked.begin, asked.end)
+    if asked.within is not None:
+        comparison.within = sides[0].ticks_of_both(asked.within, comparison.factors[0])
     comparison.start()
     pairs = comparison.compared
     if asked.common and not pairs and not comparison.sizes:
@@ -101,6 +103,8 @@ def words_of(words: List[str]) -> argparse.Namespace:
                          default=0.0, help="let real numbers differ by T, or T times the larger")
     options.add_argument("--x-matches", action="store_true",
                          help="let a digit that is x or z match any digit")
+    options.add_argument("--within", metavar="TIME", help="leave out differences that last no "
+                         "longer than this; not with a clock")
     options.add("--waive").window()
     options.clock("compare at the %s edges of this signal", is_one=True)
     options.add_argument("--if", dest="condition", metavar="CONDITION",
@@ -130,10 +134,13 @@ def words_of(words: List[str]) -> argparse.Namespace:
         options.error("standard input twice")
     if asked.condition is not None and not (asked.rise or asked.fall):
         options.error("--if goes with --rise or --fall")
+    if asked.within is not None and (asked.rise or asked.fall):
+        options.error("--within goes with neither --rise nor --fall")
     if asked.into is not None and not asked.context:
         options.error("--into is for the files of --context")
-    if asked.context is not None:
-        amount_of(asked.context)
+    for name in "context", "within":
+        if getattr(asked, name) is not None:
+            amount_of(getattr(asked, name))
     parts = [part_in(asked.into, letter) for letter in "ab" if asked.context]
     check_outputs([asked.html, asked.junit, *parts], 
                   [asked.one, asked.other, asked.names_of, asked.waive])

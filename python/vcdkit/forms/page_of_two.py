@@ -7,7 +7,7 @@ from typing import Dict, List, Optional, Sequence, Tuple
 from ..model.signals import Signal
 from ..model.times import Window
 from ..questions.compare import Difference, Same
-from ..questions.sides import Sides
+from ..questions.sides import Sides, pairs_called
 from ..questions.streams import Reader, TooMuch, differences
 from . import page
 from .page import Page, PageRow
@@ -89,8 +89,8 @@ def texts_of(sides: Sides, factors: Tuple[int, int], found: Sequence[Difference]
     """Returns the text of a page with the signals that differ, and the clocks, in parts. Without a
     span, it has as much time as there is room for."""
     pairs: List[Named] = [(clocks[0].path, (clocks[0], clocks[1]))] if clocks else []
-    pairs += [(name, (one, other)) for name in sorted(one.name for one in found)
-              for one, other in zip(*(side.signals(name) for side in sides))]
+    pairs += [(name, its) for name in sorted(one.name for one in found)
+              for _, its in pairs_called(sides, name)]
     # That of the first line: the first name of those that differ at the first time.
     first = min(one.name for one in found if one.times == found[0].times)
     row = 2 * [name for name, _ in pairs].index(first, bool(clocks))

@@ -17,7 +17,7 @@ from ..reading.comparing import are_alike, lines, renamed
 from ..reading.source import merge
 from ..reading.texts import Headed, Text
 from .rows import Clock
-from .sides import Sides
+from .sides import Sides, numbered, pairs_called
 
 if TYPE_CHECKING:
     from .condition import Conditions
@@ -71,6 +71,7 @@ class Comparison:
         self.counts = [0, 0]  # of edges, up to now
         self._times = array("Q"), array("Q")  # of the edges that both have
         self.window = (0, LAST_TICK)  # without a clock, in ticks of both
+        self.within: Optional[int] = None  # differences that last no longer do not count
         self.alone: Tuple[List[str], List[str]] = ([], [])
         self.sizes: List[Tuple[object, ...]] = []
         self._lines: Iterator[List[bytes]] = iter(())  # as vcdkit-compare writes them
@@ -107,7 +108,10 @@ class Comparison:
     def differences(self) -> Generator[List[Difference], None, None]:
         """Returns the differences of each time together, unless ALWAYS only the first of a name."""
         done: Set[str] = set()
-        for _, its in itertools.groupby(self._differing(), itemgetter(0)):
+        every = self._differing()
+        if self.within is not None:
+            every = self._lasting(sorted({one.name for one in every}), self.within)
+        for _, its in itertools.groupby(every, itemgetter(0)):
             found = [one for one in its if one.name not in done]
             if self._extent != ALWAYS:
                 done.update(one.name for one in found)
@@ -130,13 +134,33 @@ class Comparison:
         if count != self.compared:
             raise RunFailed("vcdkit-compare has compared %d of %d pairs" % (count, self.compared))
 
+    def _lasting(self, names: List[str], within: int) -> Iterator[Difference]:
+        """Returns of some pairs the differences that last longer than so many ticks of both."""
+        from .lasting import Pair, longer
+        pairs = [(name, places, its[0]) for name in names
+                 for places, its in pairs_called(self._sides, name)]
+        if not pairs:
+            return
+        text, begin, end = self._merged([*zip(*(places for _, places, _ in pairs))])
+        merged = self._sides[0].dump.like(text)
+        paths, _, _, codes = merged.signals.columns()
+        code_of = dict(zip(numbered(paths), codes))
+        keys = [side.keys() for side in self._sides]
+        found = [Pair(name, signal, [code_of[key[at]].encode() for key, at in zip(keys, places)])
+                 for name, places, signal in pairs]
+        steps = body.steps(merged.cut(begin, end), {code for one in found for code in one.codes})
+        for time, name, values in longer(found, steps, self._same, within, end):
+            first, second = (time // factor for factor in self.factors)
+            yield Difference((first, second), name, values)
+
     def _written(self, places: Sequence[Sequence[int]]) -> Iterator[List[bytes]]:
         """Returns what vcdkit-compare writes. If values that are not equal may be the same, it
         looks at each time at which they are not equal."""
         one, other = self._sides
         is_loose = self._same(b"x", b"1") or any(
             Signal("", name, 0, "").is_real for name in {one.types[at] for at in places[0]})
-        words = [ALWAYS if is_loose else self._extent] * bool(is_loose or self._extent)
+        extent = self._extent if self.within is None else EACH_PAIR
+        words = [ALWAYS if is_loose else extent] * bool(is_loose or extent)
         names = {**one.moved(), **other.moved()}
         front: Callable[[bytes], bytes] = functools.partial(renamed, names)
         if self._clocks:

@@ -1,8 +1,9 @@
 """Two dumps side by side, for vcdkit-diff: what their variables are called, and which are asked
 for. Which of them belong together, vcdkit-compare says: by their names and ranges."""
 import functools
+import itertools
 from concurrent.futures import ThreadPoolExecutor
-from typing import Any, Dict, List, Sequence, Set, Tuple
+from typing import Any, Dict, Iterable, Iterator, List, Sequence, Set, Tuple
 
 from ..errors import UnknownName, UsageError
 from ..model.names import (FIELD, RANGE, bare, field_of, fronts, full_names, hint, names_for,
@@ -98,13 +99,21 @@ class Side:
         name = path if path in self.of_name else FIELD.sub("", path)
         return name if len(self.of_name.get(name, ())) == 1 else path
 
-    def signals(self, name: str) -> List[Signal]:
-        """Returns the signals that lines call by a name."""
+    def places_called(self, name: str) -> List[int]:
+        """Returns the places of the variables that lines call by a name."""
         own = name if name in self.of_name else FIELD.sub("", name)
         near = self.of_name[own]
-        its = [at for at in near if len(near) > 1 and
-               self.dump.declarations[at].declared == field_of(name[len(own):])]
-        return [self.dump.signals[at] for at in its or near]
+        return [at for at in near if len(near) > 1 and self.dump.declarations[at].declared ==
+                field_of(name[len(own):])] or near
+
+    def ticks_of_both(self, time: str, factor: int) -> int:
+        """Returns how many ticks of both a time is, of which so many are a tick of this dump."""
+        return (self.scale.span(time) * factor // self.scale.femtoseconds if self.scale
+                else self.dump.ticks(time))
+
+    def keys(self) -> List[Tuple[str, int]]:
+        """Returns the paths of its variables in the merge, as numbered() does."""
+        return numbered("%s.%s" % (self._scope, path) for path in self.paths)
 
     def clock(self, name: str) -> Clock:
         """Returns the clock that a name selects."""
@@ -126,6 +135,22 @@ class Side:
 
 
 Sides = Tuple[Side, Side]
+Pair = Tuple[int, int]  # the places of two variables
+
+
+def pairs_called(sides: Sides, name: str) -> List[Tuple[Pair, Tuple[Signal, Signal]]]:
+    """Returns the pairs of variables that are compared and that lines call by a name."""
+    one, other = sides
+    found = [((at, place), (one.dump.signals[at], other.dump.signals[place]))
+             for at, place in zip(one.places_called(name), other.places_called(name))]
+    return [(places, its) for places, its in found if len({(
+        signal.size, signal.is_real, signal.type == "event") for signal in its}) == 1]
+
+
+def numbered(paths: Iterable[str]) -> List[Tuple[str, int]]:
+    """Returns paths, each with how many of the same one are before it."""
+    counts: Dict[str, Iterator[int]] = {}
+    return [(path, next(counts.setdefault(path, itertools.count()))) for path in paths]
 
 
 def sides_of(dumps: Sequence[Source], maps: Sequence[Map], names: Sequence[str],
