@@ -4,6 +4,7 @@ program for an answer. (What it finds, the second reader compares.)"""
 import contextlib
 import io
 import os
+import shutil
 import sys
 import tempfile
 import xml.etree.ElementTree as xml
@@ -30,6 +31,7 @@ FILES = {"a": HEADER + "#0\n0!\nr1 @\n#1\n1!\n", "b": HEADER + "#0\n0!\nr1.5 @\n
          "other": HEADER.replace("module t", "module u<&"), "empty": "", "fault": HEADER + "#x",
          "binary": "".join(map(chr, range(256))) * 9}
 LINES = "differs 0 t.r 1 1.5\n"
+LACKING = "d/c.vcd: No such file or directory"
 REFUSED = ["a none", "none a", "a .", "a empty", "empty a", "a fault", "a binary", "binary binary",
            "a b none", "a b t.none", "a b t.q.q", "a other t", "--map=none=t a b",
            "--except=none a b", "--context=foo a b", "--context=1ns a b", "--context= a b",
@@ -40,7 +42,7 @@ REFUSED = ["a none", "none a", "a .", "a empty", "empty a", "a fault", "a binary
            "--rise=t.c a other", "--junit=none/j.xml a a", "--junit=. a a"]
 MISUSED = ["", "a", "- -", "--into=x a b", "--map=t a b", "--map==t a b", "--real-tolerance=x a b",
            "--real-tolerance=-1 a b", "--real-tolerance=nan a b", "--rise=t.c --fall=t.c a b",
-           "--within=1 --rise=t.c a b",
+           "--within=1 --rise=t.c a b", "--html=x . .",
            "--none a b", "--common=1 a b"]
 ANSWERED = [("a a", "", 0), ("a b", LINES, 1), ("--every a b", LINES + "differs 1 t.q - 0001\n", 1),
             ("--every --within=0 a b", LINES, 1), ("--always --within=1 a b", "", 0),
@@ -91,6 +93,18 @@ def tried():
                 if got != (line, errors, failures, messages) or of.get("tests") != str(
                         len(of.findall("testcase"))):
                     yield line, "", (errors, failures, messages), got
+            for path in "d/a.vcd", "e/a.vcd", "d/b.vcd", "e/b.vcd", "e/c.vcd":
+                os.makedirs(path[0], exist_ok=True)
+                shutil.copy("b" if path == "e/b.vcd" else "a", path)
+            for jobs in "12":
+                got = said(["--junit=j.xml", "--jobs", jobs, "d", "e"])
+                tests = [(one.get("classname"), its.tag, its.get("message"))
+                         for one in xml.parse("j.xml").getroot() for its in one
+                         if its.get("message")]
+                wanted = ("e/b.vcd: " + LINES, "vcdkit-diff: e/c.vcd: %s\n" % LACKING, 3)
+                if (got, tests) != (wanted, [("e/b.vcd", "failure", LINES.strip()),
+                                             ("e/c.vcd", "error", LACKING)]):
+                    yield "d e", "", "", (got, tests)
         finally:
             os.chdir(here)
 

@@ -39,8 +39,8 @@ ANSWERS = [
     (["--rise", "bench.clock", "!(%s == 10 -> %s == 11 within 1)" % (COUNT, COUNT)], "")]
 REFUSED = ["", " ", "(", ")", "q q", "q ==", "q == = 1", "q = 1", "== 1", "!", "!!q", "- -q", "q &",
            "q & ~ ~q", "1", "1 == 1", "q -> q", "q within 5", "q -> q within", "q -> q within c",
-           "(q -> q within 5) & q", "q -> q -> q within 5 within 5", "q -> q within 5", "q -> q within 5..2",
-           "q -> q within 2..5ns", "q is",
+           "(q -> q within 5) & q", "q -> q -> q within 5 within 5", "q -> q within 5",
+           "q -> q within 5..2", "q -> q within 2..5ns", "q is",
            "q is 5", "q is not", "q == 5ns", "q == 16", "q == -9", "q == 0b1xx00", "q == 0xg",
            "q == 1.2.3", "q[4]", "q[0:1]", "r[0]", "r == 0bx", "r === 1", "r & c", "~r", "r % 2",
            "r << 1", "{r}", "signed(r) == 1", "rose(r)", "signed(q, q)", "q(c)", "p == 1", "u",

@@ -124,6 +124,14 @@ class Parser(argparse.ArgumentParser):
         self.set_defaults(forms={})
         return self
 
+    def many(self, junit: str) -> "Parser":
+        """Adds --jobs and --junit, of a command that takes many dumps."""
+        self.add_argument("--jobs", type=natural, default=os.cpu_count() or 1, metavar="N",
+                          help="how many dumps to take at a time [default: the number of "
+                          "processors]")
+        self.add_argument("--junit", metavar="FILE", help="write a JUnit report" + junit)
+        return self
+
     def unit(self, default: str = UNIT) -> "Parser":
         """Adds --unit."""
         self.add_argument("--unit", choices=(*UNITS, "tick"), metavar="UNIT", help="show times in "

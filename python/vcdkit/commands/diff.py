@@ -15,18 +15,21 @@ examples:
   vcdkit-diff --map TOP.tb=tb --common --rise tb.clk verilator.vcd icarus.vcd
   vcdkit-diff --every --junit diff.xml --except tb.dut.seed golden.vcd sim.vcd"""
 import argparse
+import os
 import sys
 from typing import List
 
-from ..errors import UsageError, VcdkitError
+from ..errors import UsageError
 from ..forms.differences import Lines, part_in, say_ends, say_headers, say_values, write_parts
+from ..forms.junit import Test
+from ..forms.many import answer_all, each_of
 from ..forms.text import counted
 from ..model.times import amount_of
 from ..questions.compare import ALWAYS, EACH_PAIR, FIRST, Comparison, same_within
 from ..questions.rows import FALL, RISE
 from ..questions.saved import Exceptions
 from ..questions.sides import sides_of
-from ..reading.files import check_outputs, write
+from ..reading.files import check_outputs, files_of, write
 from . import (FAULT, command, dump_of, is_part, natural, pair_of, parser, parts_of_both, question,
                times_of, warn_of, window_of_both)
 
@@ -114,7 +117,7 @@ def words_of(words: List[str]) -> argparse.Namespace:
                         default=FIRST, help="show the first difference of each signal")
     extent.add_argument("--always", dest="extent", action="store_const", const=ALWAYS,
                         help="show all differences of each signal")
-    options.add_argument("--junit", metavar="FILE", help="also write a JUnit report")
+    options.many("")
     options.add_argument("--context", metavar="TIME",
                          help="if values differ, write both dumps from TIME before the first "
                          "difference to TIME after it")
@@ -132,6 +135,9 @@ def words_of(words: List[str]) -> argparse.Namespace:
         options.error("--real-tolerance takes a number from 0, such as 1e-9")
     if asked.one == asked.other == "-":
         options.error("standard input twice")
+    asked.is_many = os.path.isdir(asked.one) and os.path.isdir(asked.other)
+    if asked.is_many and (asked.html, asked.context) != (None, None):
+        options.error("--html and --context are for two dumps")
     if asked.condition is not None and not (asked.rise or asked.fall):
         options.error("--if goes with --rise or --fall")
     if asked.within is not None and (asked.rise or asked.fall):
@@ -141,24 +147,39 @@ def words_of(words: List[str]) -> argparse.Namespace:
     for name in "context", "within":
         if getattr(asked, name) is not None:
             amount_of(getattr(asked, name))
-    parts = [part_in(asked.into, letter) for letter in "ab" if asked.context]
-    check_outputs([asked.html, asked.junit, *parts], 
-                  [asked.one, asked.other, asked.names_of, asked.waive])
     return asked
+
+
+def pairs_of(asked: argparse.Namespace) -> List[argparse.Namespace]:
+    """Returns what is asked of each pair of dumps: of two directories, of the dumps in both that
+    have one name, and also of one that only one of them has, which then cannot be read."""
+    names = {os.path.relpath(file, folder) for folder in (asked.one, asked.other)
+             for file in files_of([folder])} if asked.is_many else {""}
+    ones, others = ([os.path.join(folder, name) if name else folder for name in sorted(names)]
+                    for folder in (asked.one, asked.other))
+    parts = [part_in(asked.into, letter) for letter in "ab" if asked.context]
+    check_outputs([asked.html, asked.junit, *parts],
+                  [*ones, *others, asked.names_of, asked.waive])
+    each = each_of(asked, others)
+    for one, its in zip(ones, each):
+        its.one, its.other = one, its.file
+    return each
+
+
+def answer(asked: argparse.Namespace, tests: List[Test]) -> int:
+    """Writes the answer, and returns the status. Adds a test for each kind of line."""
+    report = Lines(asked)
+    try:
+        compare(asked, report)
+    finally:
+        tests += report.tests()
+    if asked.common and not report.differs():
+        print("vcdkit-diff: " + report.compared, file=sys.stderr)
+    return 1 if report.differs() else 0
 
 
 @command
 @question
 def main(words: List[str]) -> int:
     asked = words_of(words)
-    report = Lines(asked)
-    try:
-        compare(asked, report)
-    except VcdkitError as error:
-        report.fault = str(error)
-        raise
-    finally:
-        report.write()
-    if asked.common and not report.differs():
-        print("vcdkit-diff: " + report.compared, file=sys.stderr)
-    return 1 if report.differs() else 0
+    return answer_all("vcdkit-diff", answer, pairs_of(asked), asked.is_many)

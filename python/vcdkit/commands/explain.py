@@ -31,10 +31,10 @@ from ..model.times import amount_of
 from ..questions.causes import BROKEN, CUT_OFF, NO_HEADER, look_at
 from ..questions.dump import Dump
 from ..questions.salvage import Good, has_header
-from ..questions.verdicts import Verdict, files_of, summary, verdict_on, verdicts
-from ..reading.files import check_outputs, write
+from ..questions.verdicts import Verdict, summary, verdict_on, verdicts
+from ..reading.files import check_outputs, files_of, write
 from ..reading.formats import PACKED
-from . import command, dump_of, natural, parser, times_of
+from . import command, dump_of, parser, times_of
 
 OUTPUT = ("-", "/dev/stdout")
 Unpacker = Optional[List[str]]
@@ -101,12 +101,7 @@ def words_of(words: List[str]) -> argparse.Namespace:
                          "length: 64 to 16777216 bytes [default: 1048576]")
     options.add_argument("--reach", metavar="TIME",
                          help="treat a dump that ends before TIME as faulty")
-    options.add_argument("--jobs", type=natural, default=os.cpu_count() or 1, metavar="N",
-                         help="how many dumps to check at a time [default: the number of "
-                         "processors]")
-    options.add_argument("--junit", metavar="FILE",
-                         help="write a JUnit report, with a test for each dump")
-    options.unit().json().add("--four-state")
+    options.many(", with a test for each dump").unit().json().add("--four-state")
     options.add_argument("files", metavar="FILE", nargs="+", help="a dump, or a directory of dumps")
     asked = options.parse_args(words)
     if asked.reach is not None:

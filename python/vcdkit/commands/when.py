@@ -22,12 +22,13 @@ import re
 import sys
 from typing import Callable, Dict, Iterable, List, NamedTuple
 
-from ..errors import UsageError, VcdkitError
-from ..forms.junit import Test, write_tests
+from ..errors import UsageError
+from ..forms.junit import Test
+from ..forms.many import answer_all, each_of
 from ..forms.text import counted, mean_text, write_json
 from ..questions.dump import Dump
 from ..questions.when import Asked, Questions, named
-from ..reading.files import check_outputs, lines_in
+from ..reading.files import check_outputs, files_of, lines_in
 from . import FAULT, command, dump_of, parser, part_of, question, times_of, warn_of_quotes
 
 WORDED = re.compile(r"(never +|always +|each +|)(.*)", re.S)
@@ -72,8 +73,7 @@ def words_of(words: List[str]) -> argparse.Namespace:
                          "`name: always ..`, or `name: each req -> ack within N`, which gives each "
                          "request an answer of its own. A name@CLOCK has the rising edges of a "
                          "clock of its own, name@!CLOCK the falling ones")
-    options.add_argument("--junit", metavar="FILE", help="with --rules: also write a JUnit report, "
-                         "with a test for each rule")
+    options.many(", with a test for each rule")
     options.clock("evaluate at the %s edges of this signal")
     options.add_argument("--every", action="store_true", help="list each edge at which it holds, "
                          "not only those at which it begins to")
@@ -179,10 +179,9 @@ def list_rules(asking: Questions, rules: List[Rule], text: Callable[[int], str],
                         len(times) > 1)) if times else "") for sign, what, times in zip(
                             ":,", ("an answer", "a request"), one.alone))
             if its and asked.json:
-                write_json({**({"file": asked.file} if asked.front else {}), "rule": name,
-                            "first": its[0], "count": its[1], **alone})
+                write_json({"rule": name, "first": its[0], "count": its[1], **alone})
             elif its:
-                print("%s%s: %s" % (asked.front, name, line))
+                print("%s: %s" % (name, line))
             is_wrong = not rule.is_met(bool(its), asked.never) and (its or is_whole)
             tests.append(Test(asking.dump.name, name, "failure" if is_wrong else "",
                               line or "it never held", rule.condition, one.warning()))
@@ -210,7 +209,7 @@ def answer(asked: argparse.Namespace, tests: List[Test]) -> int:
                  else list_times((time for time, _ in asking.times()), text, asked))
         status, is_known = int((count > 0) == asked.never), count > 0
     for line in filter(None, (one.warning() for one in asking.each)):
-        print("vcdkit-when: warning: " + asked.front + line, file=sys.stderr)
+        print("vcdkit-when: warning: " + line, file=sys.stderr)
     for rule, one in zip(rules, () if asked.first and is_known else asking.each):
         if one.clock and not asking.counts[one.clock] and (asked.never or rule.word):
             raise UsageError(one.front + "its clock has no edge in this window, so it was never "
@@ -218,8 +217,8 @@ def answer(asked: argparse.Namespace, tests: List[Test]) -> int:
     if asked.rules is not None:
         sys.stdout.flush()
         names = ", ".join(missed[:3]) + ", .." * (len(missed) > 3)
-        print("vcdkit-when: %s%s, %s" % (
-            asked.front, counted(len(rules), "rule"), "not met: " + names if missed else "all met"),
+        print("vcdkit-when: %s, %s" % (
+            counted(len(rules), "rule"), "not met: " + names if missed else "all met"),
               file=sys.stderr)
     return status
 
@@ -227,26 +226,7 @@ def answer(asked: argparse.Namespace, tests: List[Test]) -> int:
 @command
 @question
 def main(words: List[str]) -> int:
-    asked, tests, status = words_of(words), [], 0  # type: argparse.Namespace, List[Test], int
-    is_many, files = os.path.isdir(asked.file), [asked.file]
-    if is_many:
-        from ..questions.verdicts import files_of
-        files = files_of(files)
+    asked = words_of(words)
+    files = files_of([asked.file])
     check_outputs([asked.junit], [*files, asked.rules])
-    try:
-        for asked.file in files:
-            asked.front = (asked.file + ": ") * is_many
-            try:
-                status = max(status, answer(asked, tests))
-            except VcdkitError as error:
-                tests.append(Test(asked.file, "fault", "error", str(error), ""))
-                if not is_many:
-                    raise
-                sys.stdout.flush()
-                text = str(error)
-                print("vcdkit-when: " + asked.front * (asked.file not in text) + text,
-                      file=sys.stderr)
-                status = max(status, error.status, 2)
-    finally:
-        write_tests(asked.junit, "vcdkit-when", tests)
-    return status
+    return answer_all("vcdkit-when", answer, each_of(asked, files), os.path.isdir(asked.file))

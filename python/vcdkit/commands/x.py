@@ -13,18 +13,22 @@ not say which signal drives which.
 examples:
   vcdkit-x --trace --from 100ns sim.vcd | head
   vcdkit-x --z --from 1us --to 2us sim.vcd tb.cpu"""
+import argparse
+import os
 from typing import List, Set
 
+from ..forms.junit import Test
+from ..forms.many import answer_all, each_of
 from ..forms.text import in_json, shown, write_json
 from ..model.values import value_in
 from ..questions.saved import Exceptions
 from ..questions.unknown import Signals, values_of
+from ..reading.files import check_outputs, files_of
 from . import FAULT, command, dump_of, form_for, parser, question, times_of, warn_of, window_of
 
 
-@command
-@question
-def main(words: List[str]) -> int:
+def words_of(words: List[str]) -> argparse.Namespace:
+    """Reads the command line."""
     options = parser("vcdkit-x FILE [NAME ..]", __doc__, "no such value", "there is one",
                      "usage error, " + FAULT)
     extent = options.add_mutually_exclusive_group()
@@ -33,8 +37,13 @@ def main(words: List[str]) -> int:
     options.add_argument("--trace", action="store_true",
                          help="list only the first one of each path")
     options.add_argument("--z", action="store_true", help="list values with a z too")
-    options.add("--waive").window().form().unit().json().file("*")
-    asked = options.parse_args(words)
+    options.many(", with a test for each dump").add("--waive").window().form().unit().json()
+    options.file("*")
+    return options.parse_args(words)
+
+
+def answer(asked: argparse.Namespace, tests: List[Test]) -> int:
+    """Writes the answer, and returns the status. Adds a test for the dump."""
     dump = dump_of(asked)
     text_of = times_of(dump, asked)
     signals: Signals = {}
@@ -45,7 +54,7 @@ def main(words: List[str]) -> int:
         one.path for one in dump.select([name] if dump.has(name) else [])])
     window = window_of(dump, asked)
     part = dump.cut(window.begin, window.last).part(asked.names)
-    count = 0
+    count, first = 0, ""
     traced: Set[str] = set()  # paths
     for time, code, text in values_of(part, signals, b"xz" if asked.z else b"x"):
         for one in signals[code]:
@@ -56,6 +65,8 @@ def main(words: List[str]) -> int:
                 break
             count += 1
             value, form = value_in(text, one.size), form_for(asked, one)
+            if not first:
+                first = "%s %s %s" % (text_of(time), one.path, shown(value, form))
             if asked.json and not asked.count:
                 write_json({"time": time, "path": one.path, "value": in_json(value, form)})
             elif not asked.count:
@@ -66,4 +77,14 @@ def main(words: List[str]) -> int:
         warn_of("vcdkit-x", exceptions)
     if asked.count:
         write_json({"count": count}) if asked.json else print(count)
+    tests.append(Test("vcdkit-x", asked.file, "failure" if count else "", first, first))
     return 1 if count else 0
+
+
+@command
+@question
+def main(words: List[str]) -> int:
+    asked = words_of(words)
+    files = files_of([asked.file])
+    check_outputs([asked.junit], [*files, asked.names_of, asked.waive])
+    return answer_all("vcdkit-x", answer, each_of(asked, files), os.path.isdir(asked.file))

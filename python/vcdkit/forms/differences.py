@@ -11,7 +11,7 @@ from ..questions.compare import FIRST, Comparison, Difference
 from ..questions.saved import Exceptions
 from ..questions.sides import Side, Sides
 from ..reading.files import write
-from .junit import Test, write_tests
+from .junit import Test
 from .text import AnyForm, form_of, in_json, shown, write_json
 
 MAX_LINES = 20
@@ -30,7 +30,7 @@ class Lines:
         self._asked = asked
         self.times: List[Callable[[int], str]] = [str, str]  # what shows ticks of each
         self.lines: Dict[str, List[str]] = {}
-        self.fault = self.compared = ""
+        self.compared = ""
 
     def _form(self, line: Line) -> AnyForm:
         """Returns the form of both values, binary if they have one text in that which is asked for:
@@ -82,14 +82,11 @@ class Lines:
     def differs(self) -> bool:
         return any(self.lines.values())
 
-    def write(self) -> None:
-        """Writes the JUnit file: a test for each kind of line that was looked for."""
-        files = "%s %s" % (self._asked.one, self._asked.other)
-        tests = [Test(files, what, "failure" if lines else "", "".join(lines[:1]), "\n".join(lines),
-                      self.compared * (what == "differs")) for what, lines in self.lines.items()]
-        if self.fault:
-            tests.append(Test(files, "fault", "error", self.fault, ""))
-        write_tests(self._asked.junit, "vcdkit-diff", tests)
+    def tests(self) -> List[Test]:
+        """Returns a test for each kind of line that was looked for."""
+        return [Test(self._asked.file, what, "failure" if lines else "", "".join(lines[:1]),
+                     "\n".join(lines), self.compared * (what == "differs"))
+                for what, lines in self.lines.items()]
 
 
 def cell_of(value: Optional[bytes], is_event: bool) -> Cell:

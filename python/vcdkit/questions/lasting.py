@@ -55,7 +55,8 @@ def longer(pairs: Sequence[Pair], steps: Iterable[body.Step], same: Same, least:
                 pair.now = None
             elif not is_same and pair.now is None:
                 ends = [2 * LAST_TICK] * pair.is_event
-                waiting.append(_Waiting((time, pair.name, (pair.full(one), pair.full(other))), ends))
+                both = pair.full(one), pair.full(other)
+                waiting.append(_Waiting((time, pair.name, both), ends))
                 pair.now = None if pair.is_event else ends
         yield from _known(waiting, time, least)
     for one_left in waiting:

@@ -1,11 +1,9 @@
 """Verdicts on many dumps, which are checked side by side."""
 import collections
-import os
 from typing import Any, Callable, Dict, Iterator, List, NamedTuple, Optional, Sequence
 
-from ..errors import DumpFault, UsageError, VcdkitError
+from ..errors import DumpFault, VcdkitError
 from ..reading import progress
-from ..reading.formats import DUMP
 from ..reading.source import Source
 from .causes import look_at
 
@@ -20,21 +18,6 @@ class Verdict(NamedTuple):
     text: str
     around: List[str]
     facts: Dict[str, Any]
-
-
-def files_of(words: Sequence[str]) -> List[str]:
-    """Returns the dumps that words name: of a directory those in it and below it."""
-    files: List[str] = []
-    for word in words:
-        if not os.path.isdir(word):
-            files.append(word)
-            continue
-        found = sorted(os.path.join(folder, name) for folder, _, names in os.walk(word)
-                       for name in names if DUMP.search(name))
-        if not found:
-            raise UsageError("%s: there is no dump in this directory" % word)
-        files += found
-    return files
 
 
 def verdict_on(dump: Source, file: str, reach: Optional[str],

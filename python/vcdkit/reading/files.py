@@ -4,9 +4,10 @@ import stat
 import sys
 import threading
 from functools import partial
-from typing import Iterable, List, Optional, Tuple, Union
+from typing import Iterable, List, Optional, Sequence, Tuple, Union
 
 from ..errors import UsageError, failing
+from .formats import DUMP
 
 Path = Union[str, "os.PathLike[str]"]
 
@@ -23,6 +24,21 @@ def lines_in(path: str) -> List[Tuple[str, str]]:
     lines = [line.strip() for line in text_of_file(path).splitlines()]
     return [("%s:%d: " % (path, number), line) for number, line in enumerate(lines, 1)
             if line and line[0] != "#"]
+
+
+def files_of(words: Sequence[str]) -> List[str]:
+    """Returns the dumps that words name: of a directory those in it and below it."""
+    files: List[str] = []
+    for word in words:
+        if not os.path.isdir(word):
+            files.append(word)
+            continue
+        found = sorted(os.path.join(folder, name) for folder, _, names in os.walk(word)
+                       for name in names if DUMP.search(name))
+        if not found:
+            raise UsageError("%s: there is no dump in this directory" % word)
+        files += found
+    return files
 
 
 def check_outputs(outputs: Iterable[Optional[str]], inputs: Iterable[Optional[str]]) -> None:
