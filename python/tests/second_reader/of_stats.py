@@ -105,6 +105,29 @@ def is_near(got: Any, wanted: Any) -> bool:
     return got is not None and abs(Fraction(got) - wanted) <= abs(wanted) / 10**9
 
 
+def ask_glitch(of: Asker) -> None:
+    """Asks which signals have short pulses."""
+    dump, names, window, unit = of.dump, of.names(2), of.window(), of.unit(.2)
+    gaps = [after - before for before, after in zip(dump.times, dump.times[1:])] or [1]
+    short = of.random.choice(gaps) * of.random.choice([1, 1, 2, 5]) + of.random.choice([0, 1])
+    words = of.placed([*window.words, "--glitch=%d" % short, *(["--unit", unit] if unit else [])],
+                      [of.path, *names])
+    said = run("stats", words)
+    if of.is_late(window, "glitch", words, said) or of.has_fault(window, "glitch", words, said):
+        return
+    its, found = [one for one in dump.selected(names) if not one.is_event], []
+    for one in its:
+        states = states_of(dump, one, window.begin, window.end)
+        pulses = [(after - time, time) for (time, _), (after, _) in zip(states[1:], states[2:])
+                  if after - time < short]
+        if pulses:
+            found.append((-len(pulses), "%s %d %s %s" % (one.path, len(pulses), *(
+                dump.time_text(ticks, unit) for ticks in (min(pulses)[0], pulses[0][1])))))
+    of.same("glitch", words, (said.status, said.message, said.lines), (0, "", [
+        line for _, line in sorted(found, key=lambda pair: pair[0])] + [
+            "%d signal%s, %d with a glitch" % (len(its), "s" * (len(its) != 1), len(found))]))
+
+
 def ask_stats(of: Asker) -> None:
     """Asks how signals change, in JSON."""
     dump, names, window, (words, form) = of.dump, of.names(2), of.window(), of.form()

@@ -89,6 +89,23 @@ def write_toggles(bits: Sequence[Any], asked: argparse.Namespace) -> None:
             counted(len(bits), "bit"), both, len(bits) - both - never, never))
 
 
+def write_glitches(dump: Dump, window: Window, asked: argparse.Namespace) -> None:
+    """Writes a line for each signal with short pulses, those with most first, and how many are."""
+    time, every = times_of(dump, asked), [
+        (signal.path, one.glitches, one.first_glitch) for signal, one in statistics_of(
+            dump, asked.names, window, dump.span(asked.glitch, is_up=True))
+        if signal.type != "event"]
+    found = sorted((one for one in every if one[1].count), key=lambda one: -one[1].count)
+    for path, its, first in found:
+        if asked.json:
+            write_json({"path": path, "glitches": its.count, "shortest": its.shortest,
+                        "first": first})
+        else:
+            print(path, its.count, time(its.shortest or 0), time(first))
+    if not asked.json:
+        print("%s, %d with a glitch" % (counted(len(every), "signal"), len(found)))
+
+
 def write_bits(dump: Dump, window: Window, asked: argparse.Namespace) -> None:
     """Writes what each bit does."""
     from ..forms import saif
@@ -112,13 +129,21 @@ def main(words: List[str]) -> int:
                          "10]")
     options.add_argument("--toggle", action="store_true", help="list how often each bit toggles")
     options.add_argument("--saif", metavar="FILE", help="write a SAIF file (-: standard output)")
+    options.add_argument("--glitch", metavar="TIME", help="list how many pulses of each signal are "
+                         "shorter than this, the shortest and when the first one begins")
     options.window().form().unit().json().file("+")
     asked = options.parse_args(words)
+    if asked.glitch is not None and (asked.toggle, asked.saif, asked.form, asked.states) != (
+            False, None, None, []):
+        options.error("--glitch goes with neither --toggle nor --saif, and shows no values")
     check_outputs([asked.saif], [asked.file, asked.names_of])
     dump = dump_of(asked)
     times_of(dump, asked)  # a unit needs a time scale
     dump.select(asked.names)
     window = window_of(dump, asked)
+    if asked.glitch is not None:
+        write_glitches(dump, window, asked)
+        return 0
     if asked.toggle or asked.saif is not None:
         write_bits(dump, window, asked)
         return 0

@@ -50,8 +50,10 @@ class Held:
 class Statistics:
     """What is counted of the values of one code, as they come."""
 
-    def __init__(self, signal: Signal):
-        self.signal = signal
+    def __init__(self, signal: Signal, short: int = 0):
+        self.signal, self._short = signal, short
+        self.glitches = Lengths()  # of the pulses that are shorter than that
+        self.first_glitch = 0
         self.values: Dict[bytes, Held] = {}
         self.changes, self.periods = 0, Lengths()
         # The value now, since when, and whether a change in the window began it.
@@ -73,6 +75,9 @@ class Statistics:
         value.times += 1
         if is_whole:
             value.pulses.add(length)
+        if is_whole and length < self._short:
+            self.first_glitch = self.first_glitch if self.glitches.count else self._begin
+            self.glitches.add(length)
         if self._text == b"1":
             self._high += length
 
@@ -138,11 +143,11 @@ def shares_of(counted: Statistics, count: Optional[int]) -> List[Dict[str, Any]]
         for one in every[:count]]
 
 
-def statistics_of(dump: Source, names: List[str], window: Window) -> Sequence[
+def statistics_of(dump: Source, names: List[str], window: Window, short: int = 0) -> Sequence[
         Tuple[Signal, Statistics]]:
     """Returns the signals that names select, each with what is counted of its code."""
     signals = dump.select(names)
-    found = {one.code.encode(): Statistics(one) for one in signals}
+    found = {one.code.encode(): Statistics(one, short) for one in signals}
     part = dump.cut(window.begin, window.last).part(names)
     for time, before, changes in body.steps(part, found, is_cut=True):
         for code, text in before:
