@@ -1,8 +1,7 @@
 #!/usr/bin/env python3
 """Tries what vcdkit-diff has to refuse, its JUnit file, and that it never takes the failure of a
 program for an answer. (What it finds, the second reader compares.)"""
-import contextlib
-import io
+import functools
 import os
 import shutil
 import sys
@@ -11,19 +10,10 @@ import xml.etree.ElementTree as xml
 
 sys.path.insert(0, ABOVE := os.path.dirname(os.path.dirname(os.path.abspath(__file__))))
 os.environ.update(VCDKIT=os.environ.get("VCDKIT", ABOVE + "/../vcdkit"), VCDKIT_WAY="program")
+import cases
 from vcdkit.commands import diff
 
-def said(words):
-    """What vcdkit-diff prints, its message, and its status."""
-    out, text = io.TextIOWrapper(io.BytesIO()), io.TextIOWrapper(io.BytesIO())
-    with contextlib.redirect_stdout(out), contextlib.redirect_stderr(text):
-        try:
-            status = diff.main(words)
-        except SystemExit as end:
-            status = end.code
-        sys.stderr.flush()
-    return (out.buffer.getvalue().decode(), text.buffer.getvalue().decode(errors="replace"), status)
-
+said = functools.partial(cases.said_by, diff.main)
 
 HEADER = ("$scope module t $end $var wire 1 ! c $end $var real 64 @ r $end $var reg 4 \" q $end "
           "$upscope $end $enddefinitions $end\n")

@@ -16,7 +16,6 @@ import os
 import random
 import re
 import sys
-import tempfile
 import unittest
 
 HERE = os.path.dirname(os.path.abspath(__file__))
@@ -25,6 +24,7 @@ sys.path[:0] = [os.path.dirname(HERE), HERE]
 os.environ.setdefault("VCDKIT", os.path.join(TOP, "vcdkit"))
 
 import browser
+import cases
 from vcdkit import Dump, Signal, Value
 from vcdkit.commands import diff, wave
 from vcdkit.forms import page
@@ -89,19 +89,8 @@ def is_same(one, other):
     return one == other or one != one and other != other
 
 
-class Case(unittest.TestCase):
-    """A case that writes files."""
-
-    def setUp(self):
-        self.folder = tempfile.TemporaryDirectory()
-        self.addCleanup(self.folder.cleanup)
-
-    def file(self, name, data):
-        """Returns the path of a new file."""
-        path = os.path.join(self.folder.name, name)
-        with open(path, "wb") as file:
-            file.write(data)
-        return path
+class Case(cases.Case):
+    """A case that makes pages."""
 
     def page(self, *words):
         """Returns the text of a page of vcdkit-wave, which has to be written."""

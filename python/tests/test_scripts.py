@@ -35,6 +35,7 @@ sys.path.insert(0, os.path.dirname(HERE))
 os.environ.update(PYTHONDONTWRITEBYTECODE="1", COLUMNS="80", VCDKIT=os.path.abspath(
     shutil.which(os.environ.get("VCDKIT", "")) or os.path.join(TOP, "vcdkit")))
 
+from cases import Case
 from vcdkit import Dump
 from vcdkit.forms import saif
 from vcdkit.model.names import names_for
@@ -125,21 +126,6 @@ def options(name):
     _, out, _ = run(name, ["--help"])
     found = re.findall(r"(?m)^  (?:-\w, )?(--[a-z-]+)( [A-Z])?", out.decode())
     return {option: bool(word) for option, word in found if option not in ("--help", "--version")}
-
-
-class Case(unittest.TestCase):
-    """A case that writes files."""
-
-    def setUp(self):
-        self.folder = tempfile.TemporaryDirectory()
-        self.addCleanup(self.folder.cleanup)
-
-    def file(self, name, data):
-        """Returns the path of a new file."""
-        path = os.path.join(self.folder.name, name)
-        with open(path, "wb") as file:
-            file.write(data)
-        return path
 
 
 class Scripts(Case):

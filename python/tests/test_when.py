@@ -1,8 +1,7 @@
 #!/usr/bin/env python3
 """Tries vcdkit-when, over the program, on a sample, of which the wanted times were read off, and on
 what it has to refuse, by one line."""
-import contextlib
-import io
+import functools
 import os
 import re
 import sys
@@ -10,7 +9,10 @@ import tempfile
 
 sys.path.insert(0, ABOVE := os.path.dirname(os.path.dirname(os.path.abspath(__file__))))
 os.environ.update(VCDKIT=os.environ.get("VCDKIT", ABOVE + "/../vcdkit"), VCDKIT_WAY="program")
+import cases
 from vcdkit.commands import when
+
+said = functools.partial(cases.said_by, when.main)
 
 HEADER = ("$timescale 10ns $end $scope module t $end $var wire 1 ! c $end $var reg 4 \" q [3:0] "
           "$end $var real 64 @ r $end $var event 1 $ e $end $var reg 4 \" k[7:4] $end\n"
@@ -50,18 +52,6 @@ REFUSED = ["", " ", "(", ")", "q q", "q ==", "q == = 1", "q = 1", "== 1", "!", "
            "past(q)", "past(q, 0)", "past(q, q)", "stable(q)", "rose()", "\udcff", "*", "...",
            "(" * 5000 + "q" + ")" * 5000, "q\n==", "!(" * 5000 + "q" + ")" * 5000, "a" * 100000,
            "0x" + "f" * 100000 + " == q", "9" * 100000 + " == q"]
-
-
-def said(words):
-    """What vcdkit-when prints, its message, and its status."""
-    out, text = io.TextIOWrapper(io.BytesIO()), io.TextIOWrapper(io.BytesIO())
-    with contextlib.redirect_stdout(out), contextlib.redirect_stderr(text):
-        try:
-            status = when.main(words)
-        except SystemExit as end:
-            status = end.code
-        sys.stderr.flush()
-    return (out.buffer.getvalue().decode(), text.buffer.getvalue().decode(errors="replace"), status)
 
 
 def tried():

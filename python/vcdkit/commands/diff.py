@@ -22,7 +22,7 @@ from typing import List
 from ..errors import UsageError
 from ..forms.differences import Lines, part_in, say_ends, say_headers, say_values, write_parts
 from ..forms.junit import Test
-from ..forms.many import answer_all, each_of
+from ..forms.many import answer_all, each_of, read_by
 from ..forms.text import counted
 from ..model.times import amount_of
 from ..questions.compare import ALWAYS, EACH_PAIR, FIRST, Comparison, same_within
@@ -158,8 +158,7 @@ def pairs_of(asked: argparse.Namespace) -> List[argparse.Namespace]:
     ones, others = ([os.path.join(folder, name) if name else folder for name in sorted(names)]
                     for folder in (asked.one, asked.other))
     parts = [part_in(asked.into, letter) for letter in "ab" if asked.context]
-    check_outputs([asked.html, asked.junit, *parts],
-                  [*ones, *others, asked.names_of, asked.waive])
+    check_outputs([asked.html, asked.junit, *parts], [*ones, *others, *read_by(asked)])
     each = each_of(asked, others)
     for one, its in zip(ones, each):
         its.one, its.other = one, its.file

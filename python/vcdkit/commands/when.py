@@ -24,11 +24,11 @@ from typing import Callable, Dict, Iterable, List, NamedTuple
 
 from ..errors import UsageError
 from ..forms.junit import Test
-from ..forms.many import answer_all, each_of
+from ..forms.many import answer_file
 from ..forms.text import counted, mean_text, write_json
 from ..questions.dump import Dump
 from ..questions.when import Asked, Questions, named
-from ..reading.files import check_outputs, files_of, lines_in
+from ..reading.files import lines_in
 from . import FAULT, command, dump_of, parser, part_of, question, times_of, warn_of_quotes
 
 WORDED = re.compile(r"(never +|always +|each +|)(.*)", re.S)
@@ -226,7 +226,4 @@ def answer(asked: argparse.Namespace, tests: List[Test]) -> int:
 @command
 @question
 def main(words: List[str]) -> int:
-    asked = words_of(words)
-    files = files_of([asked.file])
-    check_outputs([asked.junit], [*files, asked.rules])
-    return answer_all("vcdkit-when", answer, each_of(asked, files), os.path.isdir(asked.file))
+    return answer_file("vcdkit-when", answer, words_of(words))

@@ -14,16 +14,14 @@ examples:
   vcdkit-x --trace --from 100ns sim.vcd | head
   vcdkit-x --z --from 1us --to 2us sim.vcd tb.cpu"""
 import argparse
-import os
 from typing import List, Set
 
 from ..forms.junit import Test
-from ..forms.many import answer_all, each_of
+from ..forms.many import answer_file
 from ..forms.text import in_json, shown, write_json
 from ..model.values import value_in
 from ..questions.saved import Exceptions
 from ..questions.unknown import Signals, values_of
-from ..reading.files import check_outputs, files_of
 from . import FAULT, command, dump_of, form_for, parser, question, times_of, warn_of, window_of
 
 
@@ -84,7 +82,4 @@ def answer(asked: argparse.Namespace, tests: List[Test]) -> int:
 @command
 @question
 def main(words: List[str]) -> int:
-    asked = words_of(words)
-    files = files_of([asked.file])
-    check_outputs([asked.junit], [*files, asked.names_of, asked.waive])
-    return answer_all("vcdkit-x", answer, each_of(asked, files), os.path.isdir(asked.file))
+    return answer_file("vcdkit-x", answer, words_of(words))

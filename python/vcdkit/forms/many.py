@@ -1,60 +1,80 @@
 """The answers about one dump, or about many in one run: of these, each comes from a process."""
 import argparse
+import collections
 import contextlib
 import io
 import json
+import os
 import re
 import signal
 import sys
-from typing import Callable, Iterator, List, Sequence, Tuple
+from typing import Callable, Iterator, List, Optional, Sequence, Tuple
 
 from ..errors import RunFailed, UsageError, VcdkitError
 from ..reading import progress
+from ..reading.files import check_outputs, files_of
 from .junit import Test, write_tests
 
 Answer = Callable[[argparse.Namespace, List[Test]], int]
+READ = ("names_of", "rules", "waive")  # what is asked may name files to read
+
+
+def answer_file(name: str, answer: Answer, asked: argparse.Namespace) -> int:
+    """Answers what is asked of FILE; of a directory, of each dump in it and below it."""
+    each = each_of(asked, files_of([asked.file]))
+    check_outputs([asked.junit], [*(one.file for one in each), *read_by(asked)])
+    return answer_all(name, answer, each, os.path.isdir(asked.file))
+
+
+def each_of(asked: argparse.Namespace, files: Sequence[str]) -> List[argparse.Namespace]:
+    """Returns what is asked of each of some files."""
+    return [argparse.Namespace(**{**vars(asked), "file": file}) for file in files]
+
+
+def read_by(asked: argparse.Namespace) -> List[Optional[str]]:
+    """Returns the files that are read besides dumps."""
+    return [getattr(asked, key, None) for key in READ]
 
 
 def answer_all(name: str, answer: Answer, each: Sequence[argparse.Namespace], is_many: bool) -> int:
     """Answers what is asked, `jobs` at a time, and writes the JUnit file; returns the highest
     status. If there are many, each line begins with its file."""
     tests: List[Test] = []
-    first, status = each[0], 0
     try:
-        for its_tests, its_status in (_side_by_side(name, answer, each) if is_many else
-                                      [(tests, answer(first, tests))]):
-            tests += its_tests if is_many else ()
-            status = max(status, its_status)
-    except VcdkitError as error:
-        tests.append(_fault(first, error))
-        raise
+        return (max(_side_by_side(name, answer, each, tests)) if is_many
+                else _with_fault(answer, each[0], tests))
     finally:
-        write_tests(first.junit, name, tests)
-    return status
+        write_tests(each[0].junit, name, tests)
 
 
-def _fault(asked: argparse.Namespace, error: VcdkitError) -> Test:
-    return Test(asked.file, "fault", "error", str(error), "")
+def _with_fault(answer: Answer, asked: argparse.Namespace, tests: List[Test]) -> int:
+    """Answers, and adds a test for what prevents that."""
+    try:
+        return answer(asked, tests)
+    except VcdkitError as error:
+        tests.append(Test(asked.file, "fault", "error", str(error), ""))
+        raise
 
 
-def _side_by_side(name: str, answer: Answer, each: Sequence[argparse.Namespace]
-                  ) -> Iterator[Tuple[List[Test], int]]:
-    """Writes the answers in order, and returns the tests and the status of each."""
+def _side_by_side(name: str, answer: Answer, each: Sequence[argparse.Namespace], tests: List[Test]
+                  ) -> Iterator[int]:
+    """Writes the answers in order, adds the tests, and returns the status of each."""
     from concurrent.futures import ProcessPoolExecutor  # the import takes time
     from concurrent.futures.process import BrokenProcessPool
     from multiprocessing import get_context
-    if "-" in [getattr(each[0], key, None) for key in ("names_of", "rules", "waive")]:
+    if "-" in read_by(each[0]):
         raise UsageError("standard input can be read for only one dump")
     with ProcessPoolExecutor(max(1, min(each[0].jobs, len(each))), get_context("fork"),
-                             signal.signal, (signal.SIGINT, signal.SIG_IGN)) as pool:
-        its = [pool.submit(_answered, name, answer, one) for one in each]
+                             signal.signal, (signal.SIGINT, signal.SIG_DFL)) as pool:
+        its = collections.deque(pool.submit(_answered, name, answer, one) for one in each)
         try:
-            for count, one in enumerate(its, 1):
-                out, messages, tests, status = one.result()
-                progress.stage = "%d of %d" % (count, len(its))
+            while its:
+                out, messages, found, status = its.popleft().result()
+                progress.stage = "%d of %d" % (len(each) - len(its), len(each))
                 print(out, end="", flush=True)
                 print(messages, end="", file=sys.stderr, flush=True)
-                yield tests, status
+                tests += found
+                yield status
         except BrokenProcessPool:
             raise RunFailed("a process was ended") from None
         finally:
@@ -71,10 +91,9 @@ def _answered(name: str, answer: Answer, asked: argparse.Namespace
                        for one in written)
     with contextlib.redirect_stdout(to), contextlib.redirect_stderr(to_messages):
         try:
-            status = answer(asked, tests)
+            status = _with_fault(answer, asked, tests)
         except VcdkitError as error:
             status = max(error.status, 2)
-            tests.append(_fault(asked, error))
             print("%s: %s" % (name, error), file=sys.stderr)
     out, messages = (one.getvalue().decode("utf-8", "surrogateescape") for one in written)
     front: str = asked.file + ": "
@@ -83,8 +102,3 @@ def _answered(name: str, answer: Answer, asked: argparse.Namespace
             re.sub("(?m)^(?=.)", lambda _: front, out),
             re.sub("(?m)^%s: (?!.*%s)" % (name, re.escape(asked.file)),
                    lambda found: found.group() + front, messages), tests, status)
-
-
-def each_of(asked: argparse.Namespace, files: Sequence[str]) -> List[argparse.Namespace]:
-    """Returns what is asked of each of some files."""
-    return [argparse.Namespace(**{**vars(asked), "file": file}) for file in files]
