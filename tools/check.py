@@ -122,13 +122,13 @@ def check(documents, programs):
 
 def main(documents):
     folder, name = os.path.split(PROGRAM)
-    compare = os.path.join(folder, name.replace("vcdkit", "vcdkit-compare", 1))
     with tempfile.TemporaryDirectory() as programs:
-        for name, program in (("vcdkit", PROGRAM), ("vcdkit-compare", compare)):
+        for own in "vcdkit", "vcdkit-compare", "vcdkit-strobe":
+            program = os.path.join(folder, name.replace("vcdkit", own, 1))
             if not os.access(program, os.X_OK):
                 print("tools/check.py: there is no %s: run make" % program, file=sys.stderr)
                 return 2
-            os.symlink(program, os.path.join(programs, name))
+            os.symlink(program, os.path.join(programs, own))
         return check(documents or DOCUMENTS, programs)
 
 

@@ -347,12 +347,14 @@ class Questions:
         dump = Dump(b'$var wire 1 ! c $end $var wire 2 " q $end $enddefinitions $end '
                     b'#0 0! b1 " #10 1! b10 " #20 0! #30 1! b11 " #40 0! #50 1! b0 "')
         both = merge(dump.cut(30, 40), dump, dump.cut(10))
-        for name, wanted in (("in1", [(30, [2])]), ("in2", [(10, [1]), (30, [2]), (50, [3])]),
-                             ("in3", [(10, [1]), (30, [2]), (50, [3])])):
+        # A merge has no sections, so the values with which a cut begins have its first time.
+        for name, wanted in (("in1", [(30, [None])]), ("in2", [(10, [1]), (30, [2]), (50, [3])]),
+                             ("in3", [(10, [None]), (30, [2]), (50, [3])])):
             self.assertEqual(list(both.rows(name + ".q", rise=name + ".c")), wanted)
             self.assertEqual(list(merge(both).rows("in1.%s.q" % name, rise="in1.%s.c" % name)),
                              wanted)
-            self.assertEqual(list(both.when(name + ".q == 2", rise=name + ".c")), [30])
+            self.assertEqual(list(both.when(name + ".q == 2", rise=name + ".c")),
+                             [30][:name != "in1"])
             for part in both.cut(30, 49), both.pick(["in1", "in2", "in3"]).cut(30, 49):
                 self.assertEqual(list(part.rows(name + ".q", rise=name + ".c")), [
                     row for row in wanted if 30 <= row[0] <= 49])
@@ -599,11 +601,11 @@ class ByProgram(Questions, unittest.TestCase):
         self.assertEqual(next(changes), (30, 1))
         changes.close()
         edges = dump.rows("q", rise="c")
-        os.write(back, b'#40 0!\n')
+        os.write(back, b'#40 0!\n#50 1!\n')  # the next edge ends what is there at one
         self.assertEqual([next(edges), next(edges)], [(10, [1]), (30, [3])])
         edges.close()
         os.close(back)
-        self.assertEqual((list(rows), dump.check().last), ([(20, [3])], 40))
+        self.assertEqual((list(rows), dump.check().last), ([(20, [3])], 50))
         os.close(front)
 
     def test_no_program(self):

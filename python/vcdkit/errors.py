@@ -75,7 +75,9 @@ def failing(name: str) -> Iterator[None]:
 def error_of(text: str, status: int, names: Dict[str, str]) -> VcdkitError:
     """Returns the exception for the message and the status of a run. `names` has, of each name that
     the message may have for an input, the name that the caller knows."""
-    text = re.sub(r"\A(vcdkit|error): ", "", text.strip()).split("\n")[0]
+    if text.startswith("vcdkit-strobe: "):
+        status -= status == 2  # vcdkit has 1 for these
+    text = re.sub(r"\A(vcdkit|vcdkit-strobe|error): ", "", text.strip()).split("\n")[0]
     fault = re.match(r"(.*):(\d+): ([^:]*)\Z", text)
     if status == 1 and fault:
         file = names.get(fault.group(1), fault.group(1))

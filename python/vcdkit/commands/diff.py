@@ -26,7 +26,6 @@ from ..forms.many import answer_all, each_of, read_by
 from ..forms.text import counted
 from ..model.times import amount_of
 from ..questions.compare import ALWAYS, EACH_PAIR, FIRST, Comparison, same_within
-from ..questions.rows import FALL, RISE
 from ..questions.saved import Exceptions
 from ..questions.sides import sides_of
 from ..reading.files import check_outputs, files_of, write
@@ -43,15 +42,15 @@ def compare(asked: argparse.Namespace, report: Lines) -> None:
     report.times = [times_of(side.dump, asked) for side in sides]
     spans = [side.dump.ticks(asked.context) for side in sides] if asked.context else []
     name = asked.rise or asked.fall
-    clocks = [side.clock(name) for side in sides] if name else []
+    edges = [side.edge(asked.rise, asked.fall) for side in sides] if name else []
     same = same_within(asked.tolerance, asked.x_matches)
     extent = EACH_PAIR if asked.waive is not None and asked.extent == FIRST else asked.extent
-    comparison = Comparison(sides, same, extent, clocks, RISE if asked.rise else FALL)
+    comparison = Comparison(sides, same, extent, edges)
     if asked.condition is not None:
         from ..questions.when import state
         comparison.only = [state(side.named, asked.condition, True) for side in sides]
     scales = [side.scale for side in sides if side.scale]
-    if not clocks and is_part(asked) and len(set(scales)) > 1:
+    if not edges and is_part(asked) and len(set(scales)) > 1:
         comparison.window = window_of_both(scales, asked.begin, asked.end)
     if asked.within is not None:
         comparison.within = sides[0].ticks_of_both(asked.within, comparison.factors[0])
@@ -69,13 +68,13 @@ def compare(asked: argparse.Namespace, report: Lines) -> None:
     found = say_values(report, asked, sides, comparison, exceptions)
     if not found or asked.extent != FIRST:
         warn_of("vcdkit-diff", exceptions)
-    if clocks and pairs and not any(comparison.counts):
+    if edges and pairs and not any(comparison.times):
         raise UsageError("in both dumps, %s never %s%s%s" % (
             name, "rises" if asked.rise else "falls", " where --if holds" * bool(asked.condition),
             " in this window" * is_part(asked)))
-    is_idle = clocks and not all(comparison.counts)  # then nothing was compared
-    if is_idle or not asked.common and not (clocks and found):
-        say_ends(report, sides, comparison, bool(clocks))
+    is_idle = edges and not all(comparison.times)  # then nothing was compared
+    if is_idle or not asked.common and not (edges and found):
+        say_ends(report, sides, comparison, bool(edges))
     if not pairs and not report.differs():
         raise UsageError("no variable is compared")
     if found and asked.context:
@@ -83,7 +82,7 @@ def compare(asked: argparse.Namespace, report: Lines) -> None:
     if found and asked.html is not None:
         from ..forms import page_of_two
         page = page_of_two.texts_of(
-            sides, comparison.factors, found, [one for one, _ in clocks], same,
+            sides, comparison.factors, found, edges, same,
             spans[0] * comparison.factors[0] if spans else None, asked.forms)
         write(asked.html, (text.encode("ascii") for text in page))
         report.put("page " + asked.html, kind="page", file=asked.html)

@@ -116,8 +116,8 @@ def say_headers(report: Lines, sides: Sides, comparison: Comparison, is_common: 
 def say_ends(report: Lines, sides: Sides, comparison: Comparison, has_clock: bool) -> None:
     """Says whether one of them is longer. Without a timestamp, a dump ends at 0."""
     if has_clock:
-        report.say("edges", [("edges", *comparison.counts)]
-                   if len(set(comparison.counts)) > 1 else [])
+        counts = [*map(len, comparison.times)]
+        report.say("edges", [("edges", *counts)] if len(set(counts)) > 1 else [])
         return
     ends = [side.report.last for side in sides]
     spans = {min((end or 0) * factor, comparison.window[1])

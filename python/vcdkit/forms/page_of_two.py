@@ -9,6 +9,7 @@ from ..model.times import Window
 from ..questions.compare import Difference, Same
 from ..questions.sides import Sides, pairs_called
 from ..questions.streams import Reader, TooMuch, differences
+from ..reading.source import Edge
 from . import page
 from .page import Page, PageRow
 from .text import Form
@@ -84,22 +85,23 @@ def page_of(window: Surroundings, sides: Sides, rows: Sequence[PageRow], row: in
 
 
 def texts_of(sides: Sides, factors: Tuple[int, int], found: Sequence[Difference],
-             clocks: Sequence[Signal], same: Same, span: Optional[int],
+             edges: Sequence[Edge], same: Same, span: Optional[int],
              forms: Dict[str, Form]) -> List[str]:
     """Returns the text of a page with the signals that differ, and the clocks, in parts. Without a
     span, it has as much time as there is room for."""
+    clocks = [side.dump.signals[side.of_name[name][0]] for side, (name, *_) in zip(sides, edges)]
     pairs: List[Named] = [(clocks[0].path, (clocks[0], clocks[1]))] if clocks else []
     pairs += [(name, its) for name in sorted(one.name for one in found)
               for _, its in pairs_called(sides, name)]
     # That of the first line: the first name of those that differ at the first time.
     first = min(one.name for one in found if one.times == found[0].times)
-    row = 2 * [name for name, _ in pairs].index(first, bool(clocks))
+    row = 2 * [name for name, _ in pairs].index(first, bool(edges))
     tried = max((side.report.last or 0) * factor for side, factor in zip(sides, factors))
     while True:
         window = Surroundings(sides, factors, found[0], tried if span is None else span)
         try:
             rows = rows_of(window, sides, pairs, same, forms)
-            return page.texts_of(page_of(window, sides, rows, row, bool(clocks)), rows)
+            return page.texts_of(page_of(window, sides, rows, row, bool(edges)), rows)
         except TooMuch:
             if span is not None or tried < 2:
                 raise

@@ -5,18 +5,19 @@ import re
 from array import array
 from math import gcd, isclose, isnan
 from operator import itemgetter
-from typing import (TYPE_CHECKING, Callable, Dict, Generator, Iterator, List, NamedTuple, Optional,
-                    Sequence, Set, Tuple)
+from typing import (TYPE_CHECKING, BinaryIO, Callable, Dict, Generator, Iterator, List, NamedTuple,
+                    Optional, Sequence, Set, Tuple)
 
 from ..errors import RunFailed, UsageError
 from ..model.signals import Signal
 from ..model.times import LAST_TICK
 from ..model.values import full, real_of
 from ..reading import body
-from ..reading.comparing import are_alike, lines, renamed
-from ..reading.source import merge
+from ..reading.comparing import are_alike, lines
+from ..reading.header import renamed
+from ..reading.source import Edge, Source, merge
+from ..reading.strobes import at_clocks
 from ..reading.texts import Headed, Text
-from .rows import Clock
 from .sides import Sides, numbered, pairs_called
 
 if TYPE_CHECKING:
@@ -60,16 +61,14 @@ class Comparison:
     both have, at which a condition holds. `alone` are the variables that only one of them has,
     `sizes` those that cannot be compared."""
 
-    def __init__(self, sides: Sides, same: Same, extent: str, clocks: Sequence[Clock],
-                 edge: Tuple[bytes, bytes]):
-        self._sides, self._same, self._extent = sides, same, extent
-        self._clocks, self._edge = clocks, edge
+    def __init__(self, sides: Sides, same: Same, extent: str, edges: Sequence[Edge]):
+        """The edges are those of a clock in both dumps, with the names that these have here."""
+        self._sides, self._same, self._extent, self._edges = sides, same, extent, edges
         self.only: List[Optional["Conditions"]] = [None, None]  # of a clock, for each dump
         spans = [side.scale.femtoseconds if side.scale else 0 for side in sides]
         one, other = (span // gcd(*spans) if all(spans) else 1 for span in spans)
         self.factors = one, other  # by which the ticks of each become those of both
-        self.counts = [0, 0]  # of edges, up to now
-        self._times = array("Q"), array("Q")  # of the edges that both have
+        self.times = array("Q"), array("Q")  # of edges, up to now
         self.window = (0, LAST_TICK)  # without a clock, in ticks of both
         self.within: Optional[int] = None  # differences that last no longer do not count
         self.alone: Tuple[List[str], List[str]] = ([], [])
@@ -83,7 +82,7 @@ class Comparison:
         if not all(places):
             for names, its, side in zip(self.alone, places, self._sides):
                 names += [side.names[at] for at in its]
-        elif self._clocks or self.factors[0] != self.factors[1] or not are_alike(
+        elif self._edges or self.factors[0] != self.factors[1] or not are_alike(
                 *(side.dump for side in self._sides)):
             self._lines = self._written(places)
         for what, *words in self._lines:
@@ -127,8 +126,10 @@ class Comparison:
                 continue
             at, path = int(words[0]), words[1]
             one, other = (None if value == b"-" else value for value in words[2:])
+            if self._edges and at > min(map(len, self.times)):
+                continue  # there is no such edge in one of them
             if not self._same(one, other):
-                first, second = (its[at] for its in self._times) if self._clocks else (
+                first, second = (its[at - 1] for its in self.times) if self._edges else (
                     at // factor for factor in self.factors)
                 yield Difference((first, second), self._called(path), (one, other))
         if count != self.compared:
@@ -162,12 +163,14 @@ class Comparison:
         extent = self._extent if self.within is None else EACH_PAIR
         words = [ALWAYS if is_loose else extent] * bool(is_loose or extent)
         names = {**one.moved(), **other.moved()}
-        front: Callable[[bytes], bytes] = functools.partial(renamed, names)
-        if self._clocks:
-            return lines(words, Headed(front, merge(one.dump, other.dump).text, self._at_edges))
-        text, begin, end = self._merged(places)
-        words += ["--from", str(begin), "--to", str(end)]
-        return lines(words, Headed(front, text) if names else text)
+        if self._edges:
+            own = "~" * (1 + max(map(len, one.paths + other.paths)))  # no path has it
+            text = merge(self._strobe(0, own), self._strobe(1, own)).text
+            words += ["--except", "in1." + own]
+        else:
+            text, begin, end = self._merged(places)
+            words += ["--from", str(begin), "--to", str(end)]
+        return lines(words, Headed(functools.partial(renamed, names), text) if names else text)
 
     def _merged(self, places: Sequence[Sequence[int]]) -> Tuple[Text, int, int]:
         """Returns a merge of both, and the window in which they are compared."""
@@ -187,39 +190,46 @@ class Comparison:
             end = min(end, last)
         return merge(*dumps).text, begin, end
 
-    def _at_edges(self, _: object) -> Generator[bytes, None, None]:
-        """Returns the body of a merge whose times are the numbers of the edges that both have."""
-        for edges in itertools.zip_longest(self._edges_of(0), self._edges_of(1)):
-            self.counts = [count + bool(edge) for count, edge in zip(self.counts, edges)]
-            if None in edges:
-                continue
-            number = len(self._times[0])
-            for times, (time, _) in zip(self._times, edges):
-                times.append(time)
-            yield b"#%d\n" % number + b"".join(
-                b"%b%b %b\n" % (b"b" * (value[:1] != b"r"), value, code)
-                for _, its in edges for code, value in its)
-
-    def _edges_of(self, at: int) -> Iterator[Tuple[int, body.Changes]]:
-        """Returns the times of the edges of a dump at which the condition holds, and what changed
-        since the one before, with the codes of the merge."""
-        side, (clock, place), only = self._sides[at], self._clocks[at], self.only[at]
+    def _strobe(self, at: int, own: str) -> Source:
+        """Returns a dump whose times are the numbers of the edges of one of both, with the times of
+        these in a scope of their own."""
+        side, edge, only = self._sides[at], self._edges[at], self.only[at]
+        names = [edge[0], *(only.paths if only else ())]
+        paths = [side.paths[one] for one in [side.of_name[its][0] for its in names] + side.places]
+        names, edges = side.naming(paths), {(paths[0], *edge[1:]): 1}
         codes = side.dump.signals.columns()[3]
-        its = {codes[one].encode(): side.codes[one].encode() for one in side.places}
-        edges = {(clock.code.encode(), place, *self._edge): 1}
-        part = side.named if only else side.picked([
-            *(side.paths[one] for one in side.places), clock.path])
-        holds = only.compiled() if only else None
+        mark = b" %b\n" % (b"!" * (1 + max(map(len, codes))))  # the end of a line of a time
+        blocks = body.blocks
         if only:
-            only.look_back([], edges)
-        found: Dict[bytes, bytes] = {}
-        over = only.over if only else ()
-        for time, changes, _ in body.at_clocks(part, [], {*its, *over}, edges):
-            found.update(changes)
-            if only:
-                only.take(changes, time)
-            if holds is None or holds():
-                yield time, [(its[code], value) for code, value in found.items() if code in its]
-                found = {}
-            if only:
-                only.end()
+            its = {codes[one].encode() for one in side.places}
+            looks = at_clocks(side.dump, names, {*its, *only.over}, edges)
+            blocks = functools.partial(_holding, only, edge, looks, its, mark)
+        found = side.dump.strobe([*edges], names)
+        return found.like(Headed(lambda text: text.replace(b" strobe ", b" %b " % own.encode(), 1),
+                                 found.text, functools.partial(_timed, blocks, self.times[at], mark)))
+
+
+def _timed(blocks: Callable[[BinaryIO], Iterator[bytes]], times: "array[int]", mark: bytes,
+           file: BinaryIO) -> Iterator[bytes]:
+    """Returns the body of a strobe in blocks, and keeps the times of its edges."""
+    for block in blocks(file):
+        times.extend(int(text[text.rindex(b"b") + 1:], 2) for text in block.split(mark)[:-1])
+        yield block
+
+
+def _holding(only: "Conditions", edge: Edge, looks: Iterator[Tuple[int, body.Changes, int]],
+             codes: Set[bytes], mark: bytes, _: BinaryIO) -> Iterator[bytes]:
+    """Returns the body of a strobe that has only the edges at which a condition holds."""
+    number, found = 0, {}  # type: int, Dict[bytes, bytes]
+    holds = only.compiled()
+    only.look_back({edge: 1})
+    for time, changes, _bits in looks:
+        found.update(changes)
+        only.take(changes, time)
+        if holds():
+            number += 1
+            yield b"#%d\nb%b%b" % (number, bin(time)[2:].encode(), mark) + b"".join(
+                b"%b%b %b\n" % (b"b" * (value[:1] != b"r"), value, code)
+                for code, value in found.items() if code in codes)
+            found.clear()
+        only.end()

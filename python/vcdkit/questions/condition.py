@@ -19,7 +19,8 @@ from ..model.operators import (BIT, OPERATORS, REAL, TAKES, Kind, Operator, Valu
 from ..model.signals import Signal
 from ..model.values import extension, real_of
 from ..reading import body
-from ..reading.source import Source
+from ..reading.source import Edge, Source
+from ..reading.strobes import at_clocks
 from .expression import BITS, ConditionText, Node, Span, bad, number_of
 
 MIRRORED = {sign: sign.translate({60: ">", 62: "<"}) for sign, one in OPERATORS.items()
@@ -228,7 +229,6 @@ class Conditions:
         self._pasts: List[Tuple[int, Node]] = []  # places of the last condition, and what is past
         # A call has the value at this edge of a clock.
         self._samples: List[Tuple[int, Deque[Value], str, int]] = []
-        self._depths: Dict[int, int] = {}  # how many edges of each clock they go back at most
         self._sampled: Callable[[], Sequence[Value]] = tuple  # the values of all calls
         self._known: Dict[str, Any] = {"v": self._values, "converted": converted}
         self._tests: List[str] = []  # a call for each bit
@@ -282,9 +282,6 @@ class Conditions:
             self._samples.append((place, collections.deque([value] * count, count), call, clock))
         if calls and not clock:
             raise bad("past, rose, fell, stable and changed look at edges: " + NAME_A_CLOCK)
-        if calls:  # the first of these edges says only which events are over
-            depth = 1 + sum(count for _, count, _ in calls)
-            self._depths[clock] = max(self._depths.get(clock, 0), depth)
         bits = found.bit | answer
         self.with_more |= bits if answer or self._pasts else 0
         for signal in (name.signal for name in names):
@@ -322,22 +319,14 @@ class Conditions:
                 self._values[place] = 0
         return found
 
-    def look_back(self, names: List[str], edges: Dict[body.Edge, int]) -> None:
+    def look_back(self, edges: Dict[Edge, int]) -> None:
         """Takes the past that a part has where it begins: the values at the edges before."""
-        begin, span = self._dump.begin(), 1 << 10
-        whole = self._dump.like(self._dump.whole("pick", "cut"))
-        is_enough = not begin or not self._depths
-        while not is_enough:
-            part, names = whole.cut(max(begin - span, 0), begin - 1), self._dump.full(names)
-            counts = collections.Counter(its for *_, its in body.at_clocks(part, names, (), edges))
-            is_enough = span >= begin or all(depth <= sum(
-                count for its, count in counts.items() if its & clock)
-                                             for clock, depth in self._depths.items())
-            if is_enough:
-                for time, changes, clocks in body.at_clocks(part, names, self.over, edges):
-                    self.take(changes, time)
-                    self.end(clocks)
-            span *= 16
+        begin = self._dump.begin()
+        if begin and self._samples:
+            its = self._dump.like(self._dump.whole("pick", "cut")).cut(0, begin - 1)
+            for time, changes, clocks in at_clocks(its, [*self.paths], self.over, edges):
+                self.take(changes, time)
+                self.end(clocks)
 
     def woken(self, looks: Iterable[Look]) -> Iterator[Look]:
         """Returns looks without a clock, and those at times at which an age becomes one that is

@@ -137,7 +137,7 @@ class Dump(Source):
         the signals has another value than before; none for a time that a fault leaves unfinished.
         With `rise` and `fall`, paths of clocks of one bit, there is a row for each such edge, even
         if the clock comes back within its time, with the values just before that time: first values
-        in a `$dumpvars` are from before it. UsageError if a path is not such a clock. With `at`
+        in a `$dumpvars` before the edge count. UsageError if a path is not such a clock. With `at`
         there is a row for each of these times, in this order. With `condition`, as when() takes it,
         there are only those of these rows at which it holds, by the values that the row has."""
         its = self.full(names)
@@ -153,7 +153,7 @@ class Dump(Source):
             only = state(self, condition, rise is not None or fall is not None)
         if at is not None:
             return at_times(self, columns, [self.ticks(time) for time in _each(at)], its, only)
-        every = [*its, *edges.values(), *(only.paths if only else ())]
+        every = [*its, *(path for path, *_ in edges), *(only.paths if only else ())]
         return as_they_come(self, every, list(columns.values()), edges, only)
 
     def table(self, names: Names, at: Optional[Iterable[Time]] = None, rise: Optional[str] = None,

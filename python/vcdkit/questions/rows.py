@@ -9,16 +9,15 @@ from ..model.signals import Signal, words_of
 from ..model.times import LAST_TICK
 from ..model.values import Cell, Row, same, value_in, value_of
 from ..reading import body
-from ..reading.source import Source
+from ..reading.source import Edge, Source
+from ..reading.strobes import at_clocks
 from ..reading.texts import Headed, Made
 
 if TYPE_CHECKING:
     from .condition import Conditions
 
 TIMES_OF_A_CALL = 5000  # a word of Linux has at most 131,071 bytes
-RISE, FALL = (b"0", b"1"), (b"1", b"0")
 Pair = Tuple[int, List[Cell]]  # a time and the values of a row
-Clock = Tuple[Signal, int]  # a signal, and the place of the clock's bit in it, from the right
 
 
 def first_ones(its: Sequence[int], are: Callable[[int], bool]) -> Sequence[int]:
@@ -101,29 +100,28 @@ def _holding(source: Source, condition: "Conditions", times: Iterable[int]) -> S
     return found
 
 
-def edges_of(source: Source, rise: Optional[str], fall: Optional[str]) -> Dict[body.Edge, str]:
-    """Returns the edges of the clocks that are named, and the paths of these."""
-    named = [(clock_of(source, name), edge) for name, edge in ((rise, RISE), (fall, FALL))
-             if name is not None]
-    return {(clock.code.encode(), place, *edge): clock.path for (clock, place), edge in named}
+def edges_of(source: Source, rise: Optional[str], fall: Optional[str]) -> List[Edge]:
+    """Returns the edges of the clocks that are named."""
+    return [(*_clock_of(source, name), falls) for name, falls in ((rise, False), (fall, True))
+            if name is not None]
 
 
-def clock_of(source: Source, name: str) -> Clock:
-    """Returns the clock that a name selects; UsageError if it is none."""
+def _clock_of(source: Source, name: str) -> Tuple[str, int]:
+    """Returns the path and the place of the bit that a name selects; UsageError if it is none."""
     try:
         clock = source[name]
     except UnknownName:
         from .condition import names_in
         its = names_in(source, [name], [])[name] if field_of(name) else None
         if its and its.end - its.begin == 1:
-            return its.signal, its.signal.size - its.end
+            return its.signal.path, its.signal.size - its.end
         raise
     is_what = ("it is an event" if clock.type == "event"
                else "it is a real number" if clock.is_real
                else "it has %d bits" % clock.size if clock.size != 1 else "")
     if is_what:
         raise UsageError("%s: is not a one-bit clock: %s" % (name, is_what))
-    return clock, 0
+    return clock.path, 0
 
 
 class Cells:
@@ -154,29 +152,26 @@ class Cells:
 
 
 def as_they_come(source: Source, names: List[str], columns: Sequence[Signal],
-                 edges: Collection[body.Edge], only: Optional["Conditions"]) -> Iterator[Row]:
+                 edges: Sequence[Edge], only: Optional["Conditions"]) -> Iterator[Row]:
     """Returns a row for each of some edges, with the values just before it; without edges, for each
     time at whose end a value of a column is another one than before, with the values then. With a
     condition, it returns only rows at which that holds. The names select all these signals."""
     codes = {one.code.encode() for one in columns}.union(only.over if only else ())
     holds = only.compiled() if only else None
     if only:
-        only.look_back(names, dict.fromkeys(edges, 1))
-    pairs = (((time, changes) for time, changes, _ in body.at_clocks(
-        source, names, codes, dict.fromkeys(edges, 1))) if edges
-             else ((time, before + changes if before else changes)
-                   for time, before, changes in body.steps(source.part(names), codes)))
+        only.look_back(dict.fromkeys(edges, 1))
+    looks = at_clocks(source, names, codes, dict.fromkeys(edges, 1))
     rows: Iterator[Row] = map(tuple.__new__, itertools.repeat(Row),  # Row() would take longer
-                              _rows(pairs, columns, bool(edges), only, holds))
+                              _rows(looks, columns, bool(edges), only, holds))
     yield from rows
 
 
-def _rows(pairs: Iterable[Tuple[int, body.Changes]], columns: Sequence[Signal], is_every: bool,
+def _rows(looks: Iterable[Tuple[int, body.Changes, int]], columns: Sequence[Signal], is_every: bool,
           only: Optional["Conditions"], holds: Optional[Callable[..., int]]) -> Iterator[Pair]:
     """Returns a row for each time with its changes, unless no value of a column is another one, if
     not every one is asked for."""
     cells = Cells(columns)
-    for time, changes in pairs:
+    for time, changes, _ in looks:
         is_other = cells.take(changes)
         if only:
             only.take(changes, time)

@@ -3,7 +3,7 @@ for. Which of them belong together, vcdkit-compare says: by their names and rang
 import functools
 import itertools
 from concurrent.futures import ThreadPoolExecutor
-from typing import Any, Dict, Iterable, Iterator, List, Sequence, Set, Tuple
+from typing import Any, Dict, Iterable, Iterator, List, Optional, Sequence, Set, Tuple
 
 from ..errors import UnknownName, UsageError
 from ..model.names import (FIELD, RANGE, bare, field_of, fronts, full_names, hint, names_for,
@@ -11,11 +11,11 @@ from ..model.names import (FIELD, RANGE, bare, field_of, fronts, full_names, hin
 from ..model.signals import Signal
 from ..model.values import Report
 from ..reading import header
-from ..reading.comparing import header_of, raw_header, renamed
-from ..reading.source import Source
+from ..reading.comparing import header_of, raw_header
+from ..reading.source import Edge, Source
 from ..reading.texts import Headed, Made, Text
 from .picked import MAX_NAMES
-from .rows import Clock, clock_of
+from .rows import edges_of
 
 Map = Tuple[str, str]  # the path of a scope or a signal, and what it becomes
 
@@ -75,17 +75,22 @@ class Side:
         """The dump with these names."""
         names = {path: name for path, name in zip(self.paths, self.names) if path != name}
         whole = self.dump.like(self.dump.whole("cut"))
-        text: Text = Headed(functools.partial(renamed, names), whole.cut().text)
+        text: Text = Headed(functools.partial(header.renamed, names), whole.cut().text)
         if isinstance(self.dump.text, Made):
             text = self.dump.text._replace(of=(text,))
         return self.dump.like(text) if names else self.dump
 
+    def naming(self, paths: Sequence[str]) -> List[str]:
+        """Returns names that select these paths; they may be none, which means all."""
+        is_all = len({*paths}) == len({*self.paths})
+        names = [] if is_all else names_for(paths, self.paths)
+        return names if sum(map(len, names)) <= MAX_NAMES else []
+
     def picked(self, paths: Sequence[str]) -> Source:
         """Returns a dump that has these paths; it may have others if not all names are UTF-8, or if
         a command line has no room for them."""
-        names = names_for(paths, self.paths)
-        is_all = len({*paths}) == len({*self.paths}) or sum(map(len, names)) > MAX_NAMES
-        return self.dump if is_all else self.dump.part(names)
+        names = self.naming(paths)
+        return self.dump.part(names) if names else self.dump
 
     def selected(self, asked: Sequence[str]) -> Dict[str, Set[str]]:
         """Returns of each name that is asked for the names of the variables that it selects."""
@@ -115,13 +120,13 @@ class Side:
         """Returns the paths of its variables in the merge, as numbered() does."""
         return numbered("%s.%s" % (self._scope, path) for path in self.paths)
 
-    def clock(self, name: str) -> Clock:
-        """Returns the clock that a name selects."""
+    def edge(self, rise: Optional[str], fall: Optional[str]) -> Edge:
+        """Returns the edge of a clock that a name selects."""
         try:
-            clock, place = clock_of(self.named, name)
+            return edges_of(self.named, rise, fall)[0]
         except UnknownName:
+            name = rise or fall or ""
             raise UnknownName("%s: %s" % (self.dump.name, name), hint(name, self.names)) from None
-        return self.dump.signals[self.of_name[clock.path][0]], place
 
     def alone(self, names: Sequence[str], other: "Side") -> List[Tuple[str, int]]:
         """Returns what the other one does not have, of the variables that it lacks: their names, or

@@ -7,8 +7,8 @@ from typing import (Any, Callable, Deque, Dict, Iterator, List, NamedTuple, Opti
 from ..errors import DumpFault, UnknownName, UsageError
 from ..model.signals import Signal
 from ..model.values import Row
-from ..reading import body
-from ..reading.source import Source
+from ..reading.source import Edge, Source
+from ..reading.strobes import at_clocks
 from .condition import NAME_A_CLOCK, Condition, Conditions
 from .expression import Span
 from .rows import Cells, edges_of, first_ones
@@ -126,7 +126,7 @@ class Questions:
         self.columns, self.cells = columns, [Cells(its) for its in columns]
         self.conditions, self.again = Conditions(dump), -1 if every else 0
         self.each: List[_Question] = []
-        self.edges: Dict[body.Edge, int] = {}
+        self.edges: Dict[Edge, int] = {}
         has_clock = (rise, fall) != (None, None)
         self._of_clock = dict.fromkeys(bits.values(), 0)  # the conditions at its edges
         self.counts = dict.fromkeys(bits.values(), 0)  # how many edges each clock had
@@ -157,8 +157,8 @@ class Questions:
 
     def _add_edges(self, clock: int, rise: Optional[str], fall: Optional[str]) -> None:
         """Adds the edges of a clock."""
-        for edge, path in edges_of(self.dump, rise, fall).items():
-            self.clocks.append(path)
+        for edge in edges_of(self.dump, rise, fall):
+            self.clocks.append(edge[0])
             self.edges[edge] = self.edges.get(edge, 0) | clock
 
     def outcomes(self) -> Iterator[Tuple[Numbers, Outcome]]:
@@ -247,11 +247,9 @@ class Questions:
         codes = {*conditions.over, *(one.code.encode() for one in columns)}
         always = self.again | conditions.with_more if self.edges else 0
         due = -1 if self.edges else 0
-        conditions.look_back(names, self.edges)
-        for time, changes, clocks in (
-                body.at_clocks(self.dump, names, codes, self.edges) if self.edges
-                else conditions.woken((time, [*before, *changes], 0) for time, before, changes
-                                      in body.steps(self.dump.part(names), codes))):
+        conditions.look_back(self.edges)
+        looks = at_clocks(self.dump, names, codes, self.edges)
+        for time, changes, clocks in looks if self.edges else conditions.woken(looks):
             for cells in self.cells:
                 cells.take(changes)
             due |= conditions.take(changes, time) | always

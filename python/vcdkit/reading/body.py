@@ -8,13 +8,13 @@ import io
 import itertools
 import re
 from typing import (TYPE_CHECKING, BinaryIO, Callable, Collection, Dict, FrozenSet, Iterable,
-                    Iterator, List, Optional, Set, Tuple, cast)
+                    Iterator, List, Optional, Tuple, cast)
 
 from ..errors import DumpFault, UsageError, failing
 from ..model.values import same
 from . import progress
 from .formats import FRONT, format_of
-from .texts import File, Made
+from .texts import File
 
 if TYPE_CHECKING:
     from .source import Source
@@ -25,8 +25,6 @@ BLOCK = 1 << 16
 Changes = List[Tuple[bytes, bytes]]  # a code and a value each
 Step = Tuple[int, Changes, Changes]  # a time, the values from before it, and the others
 Blocks = Callable[[BinaryIO], Iterable[bytes]]
-# The code of a clock, the place of its bit from the right, a digit and the digit after it.
-Edge = Tuple[bytes, int, bytes, bytes]
 
 
 def change(line: bytes) -> Tuple[bytes, bytes]:
@@ -96,26 +94,26 @@ def timed(part: "Source", some: Optional[Blocks] = None) -> Iterator[Tuple[int, 
         raise fault
 
 
-def steps(part: "Source", codes: Collection[bytes], lead: Collection[bytes] = (),
-          is_cut: bool = False, some: Optional[Blocks] = None) -> Iterator[Step]:
+def steps(part: "Source", codes: Collection[bytes], is_cut: bool = False,
+          some: Optional[Blocks] = None) -> Iterator[Step]:
     """Returns of each timestamp of a part of a dump the changes of some codes: those that are
     values from before it, and the others. What comes before the first timestamp has time 0. No two
     steps that follow each other have one time. A time that a fault leaves unfinished has no step.
 
-    The first value of a code is from before its time if it is in a `$dumpvars`, or if the code is
-    in `lead`: `cut` begins with the values just before its first time, and goes on with what
-    changes at it. With `is_cut`, only the section with which `cut` begins has such values. `some`
-    is that of timed. A code with a blank behind it stands for the time since which the code has its
-    value, which comes with each change to another one."""
+    The first value of a code is from before its time if it is in a `$dumpvars`: `cut` begins
+    with the values just before its first time, and goes on with what changes at it. With
+    `is_cut`, only the section with which `cut` begins has such values. `some` is that of timed.
+    A code with a blank behind it stands for the time since which the code has its value, which
+    comes with each change to another one."""
     dated = {code[:-1] for code in codes if code[-1:] == b" "}
-    its = _steps(part, {code for code in codes if code[-1:] != b" "}, lead, is_cut, some)
+    its = _steps(part, {code for code in codes if code[-1:] != b" "}, is_cut, some)
     return _dated(part, its, dated) if dated else its
 
 
-def _steps(part: "Source", codes: Collection[bytes], lead: Collection[bytes], is_cut: bool,
-           some: Optional[Blocks]) -> Iterator[Step]:
+def _steps(part: "Source", codes: Collection[bytes], is_cut: bool, some: Optional[Blocks]
+           ) -> Iterator[Step]:
     """Returns steps without the times since which codes have their values."""
-    known, first = Known(codes), _First(codes, lead, is_cut)
+    known, first = Known(codes), _First(codes, is_cut)
     changes_of, waiting = known.__getitem__, first.waiting  # faster than known[..]
     none: Changes = []
     for time, text in timed(part, some):
@@ -130,7 +128,7 @@ def _dated(part: "Source", its: Iterator[Step], dated: Collection[bytes]) -> Ite
     """Returns steps with the times since which some codes have their values: those at the begin of
     a part, from before it, come with the first step."""
     begin = part.begin()
-    earlier = _up_to_fault(part.before(begin), dated) if begin else ()
+    earlier = up_to_fault(part.before(begin), dated) if begin else ()
     last: Dict[bytes, bytes] = {}
     known: Dict[bytes, bytes] = {}
     for time, before, changes in itertools.chain(earlier, its):
@@ -148,7 +146,7 @@ def _dated(part: "Source", its: Iterator[Step], dated: Collection[bytes]) -> Ite
         known.clear()
 
 
-def _up_to_fault(part: "Source", codes: Collection[bytes]) -> Iterator[Step]:
+def up_to_fault(part: "Source", codes: Collection[bytes]) -> Iterator[Step]:
     """Returns the steps before a fault."""
     with contextlib.suppress(DumpFault):
         yield from steps(part, codes)
@@ -180,8 +178,8 @@ class Known(Dict[bytes, Changes]):
 class _First:
     """Which values are from before their time: `waiting` are the codes that have no value yet."""
 
-    def __init__(self, codes: Iterable[bytes], lead: Collection[bytes], is_cut: bool = False):
-        self.waiting, self._lead, self._is_cut = set(codes), lead, is_cut
+    def __init__(self, codes: Iterable[bytes], is_cut: bool):
+        self.waiting, self._is_cut = set(codes), is_cut
         self._is_begin = self._has_section = False
 
     def parted(self, text: bytes, changes: Changes, known: Known) -> Tuple[Changes, Changes]:
@@ -195,15 +193,9 @@ class _First:
                 self._is_begin = line == b"$dumpvars" and not (self._is_cut and self._has_section)
                 self._has_section = True
             for one in known[line]:
-                (before if self._is_before(one[0]) else others).append(one)
+                (before if self._is_begin and one[0] in self.waiting else others).append(one)
+                self.waiting.discard(one[0])
         return before, others
-
-    def _is_before(self, code: bytes) -> bool:
-        """Whether the value of a code is from before its time."""
-        if code not in self.waiting:
-            return False
-        self.waiting.discard(code)
-        return self._is_begin or code in self._lead
 
 
 def at_once(part: "Source", code: bytes) -> Iterator[Tuple[int, bytes]]:
@@ -216,66 +208,6 @@ def at_once(part: "Source", code: bytes) -> Iterator[Tuple[int, bytes]]:
             else:
                 for _, value in known[line[:-1]]:
                     yield now, value
-
-
-def at_clocks(source: "Source", names: List[str], codes: Collection[bytes], edges: Dict[Edge, int]
-              ) -> Iterator[Tuple[int, Changes, int]]:
-    """Returns each time that has one of some edges, with the changes of some codes, and of the
-    clocks, since the last such time, up to just before this one: those at the last one are among
-    them, and so are values from before this one; then the bits of the edges there. The names select
-    all these signals."""
-    last = {clock[:2]: b"" for clock in edges}
-    places = {code: [place for one, place in last if one == code] for code, _ in last}
-    found: Changes = []
-    its = {*codes, *places}
-    for time, before, changes in steps(source.part(names), its, _led(source, its)):
-        bits = 0
-        for code, text in before + changes if before else changes:
-            for place in places.get(code, ()):
-                digit, key = _digit(text, place), (code, place)
-                bits |= edges.get((code, place, last[key], digit), 0)
-                last[key] = digit
-        found += before
-        if bits:
-            yield time, found, bits
-            found = []
-        elif len(found) > MAX_SEEN:
-            found = list(dict(found).items())
-        found += changes
-
-
-def _digit(text: bytes, place: int) -> bytes:
-    """Returns the digit at a place from the right; the first one goes on to the left."""
-    return text[~place:][:1] if place < len(text) else text[:1] if text[:1] in b"xz" else b"0"
-
-
-def _led(source: "Source", codes: Collection[bytes]) -> Set[bytes]:
-    """Returns those of some codes of a merge whose values begin with a `$dumpvars`, as a merge
-    writes no sections; its codes are those of its dumps, anew, in the order of declaration."""
-    text, found = source.whole("pick", "cut"), set()
-    if not codes or not isinstance(text, Made) or text.command != "merge":
-        return set()
-    made = iter(dict.fromkeys(source.like(text).signals.columns()[3]))
-    for dump in map(source.like, text.of):
-        its = {code.encode(): new.encode()
-               for code, new in zip(dict.fromkeys(dump.signals.columns()[3]), made)
-               if new.encode() in codes}
-        names = [one.path for one in dump.signals if one.code.encode() in its]
-        if names:
-            found |= {its[code] for code in _begun(dump.part(names), its) | _led(dump, its)}
-    return found
-
-
-def _begun(part: "Source", codes: Collection[bytes]) -> Set[bytes]:
-    """Returns those of some codes whose first value is in a `$dumpvars`, up to a fault."""
-    left = set(codes)
-    found: Set[bytes] = set()
-    for _, before, changes in _up_to_fault(part, codes):
-        found.update(dict(before))
-        left.difference_update(dict(before + changes))
-        if not left:
-            break
-    return found
 
 
 def last_time(text: bytes) -> Optional[int]:

@@ -1,10 +1,8 @@
-"""What differs between two dumps, as `vcdkit merge A B | vcdkit-compare in1=in2` finds it. On the
-way, variables of the merge may get other names."""
+"""What differs between two dumps, as `vcdkit merge A B | vcdkit-compare in1=in2` finds it."""
 import functools
 import itertools
-from typing import BinaryIO, Dict, Iterator, List, Sequence
+from typing import BinaryIO, Iterator, List, Sequence
 
-from ..model.names import RANGE, bare
 from . import header, program
 from .source import Source, merge
 from .texts import Made, Text
@@ -30,25 +28,6 @@ def raw_header(dump: Source) -> bytes:
             if header.LAST in text:
                 break
     return text
-
-
-def renamed(names: Dict[str, str], text: bytes) -> bytes:
-    """Returns a header that vcdkit writes, in which variables get other paths: these come last. A
-    new path with a range has that of the variable; else a range in the old one comes after it."""
-    fronts, kept, moved = [""], [], []
-    for line in text.decode("utf-8", "surrogateescape").split("\n"):
-        words = line.split(" ")
-        if words[0] == "$scope":
-            fronts.append(fronts[-1] + words[2] + ".")
-        elif words[0] == "$upscope":
-            fronts.pop()
-        new = names.get(fronts[-1] + words[4]) if words[0] == "$var" else None
-        if new is None:
-            kept.append(line)
-            continue
-        declared = [] if RANGE.search(new) else words[5:-1] or [words[4][len(bare(words[4])):]]
-        moved.append(" ".join(filter(None, [*words[:4], new, *declared, "$end"])))
-    return "\n".join([*kept[:-2], *moved, *kept[-2:]]).encode("utf-8", "surrogateescape")
 
 
 def lines(words: Sequence[str], merged: Text) -> Iterator[List[bytes]]:

@@ -5,7 +5,7 @@ import itertools
 import re
 from typing import Collection, Dict, Iterable, Iterator, List, NamedTuple, Optional, Tuple
 
-from ..model.names import RANGE, field_of
+from ..model.names import RANGE, bare, field_of
 from ..model.signals import Columns, Declaration, Header, Scope, Signal, Signals
 from ..model.times import Timescale, amount_in
 
@@ -145,6 +145,25 @@ def with_variables(text: bytes, places: Collection[int]) -> Iterator[bytes]:
             at += 1
         elif one.keyword != b"$upscope" or opened.pop() is None:
             yield line
+
+
+def renamed(names: Dict[str, str], text: bytes) -> bytes:
+    """Returns a header that vcdkit writes, in which variables get other paths: these come last. A
+    new path with a range has that of the variable; else a range in the old one comes after it."""
+    fronts, kept, moved = [""], [], []
+    for line in text.decode("utf-8", "surrogateescape").split("\n"):
+        words = line.split(" ")
+        if words[0] == "$scope":
+            fronts.append(fronts[-1] + words[2] + ".")
+        elif words[0] == "$upscope":
+            fronts.pop()
+        new = names.get(fronts[-1] + words[4]) if words[0] == "$var" else None
+        if new is None:
+            kept.append(line)
+            continue
+        declared = [] if RANGE.search(new) else words[5:-1] or [words[4][len(bare(words[4])):]]
+        moved.append(" ".join(filter(None, [*words[:4], new, *declared, "$end"])))
+    return "\n".join([*kept[:-2], *moved, *kept[-2:]]).encode("utf-8", "surrogateescape")
 
 
 def is_alone(text: bytes, one: Command) -> bool:

@@ -14,16 +14,17 @@ from . import header, progress
 from .texts import Bytes, File, Headed, Text, program_path, unnamed_file
 
 NAMES = ("vcdkit", "vcdkit-static", "vcdkit-unproved")  # of the program
+OTHERS = {"compare": "vcdkit-compare", "strobe": "vcdkit-strobe"}
 
 
-def comparer() -> str:
-    """Returns the vcdkit-compare beside vcdkit, or beside the file to which that is a link."""
+def beside(name: str) -> str:
+    """Returns the program beside vcdkit, or beside the file to which that is a link."""
     its = program_path() or ""
     for one in its, os.path.realpath(its):
-        found = shutil.which(os.path.join(os.path.dirname(one), "vcdkit-compare"))
+        found = shutil.which(os.path.join(os.path.dirname(one), name))
         if found:
             return found
-    raise RunFailed("there is no program vcdkit-compare beside vcdkit: install both")
+    raise RunFailed("there is no program %s beside vcdkit: install both" % name)
 
 
 def refusal() -> str:
@@ -102,7 +103,7 @@ class _Part:
     def ended_early(self) -> bool:
         """Whether the next program did not read on: a script says so as a shell does."""
         return (self.status in (-signal.SIGPIPE, 128 + signal.SIGPIPE)
-                or self.said == "vcdkit: write failed")
+                or self.said in ("vcdkit: write failed", "vcdkit-strobe: write failed"))
 
     def error(self) -> VcdkitError:
         """Returns the exception of its status and message."""
@@ -159,15 +160,15 @@ class _Pipe:
             raise RunFailed(refusal())
         if not is_vcdkit(program):
             raise RunFailed("%s, which VCDKIT names, is not vcdkit" % program)
-        if text.command == "compare":
-            words, file = [comparer(), *text.words], self.feed(text.of[0], True)
-            out = self.start(words, file, {"(stdin)": text.name}, None)
-            self.parts[-1].answer = 1
-            return out
-        files = [self.feed(one, is_merged or text.command == "merge") for one in text.of]
+        files = [self.feed(one, is_merged or text.command in ("merge", "compare"))
+                 for one in text.of]
         if text.command != "merge":
-            return self.start([program, text.command, *text.words], files[0],
-                              {"(stdin)": text.of[0].name}, text.of[0], (), is_merged)
+            other = OTHERS.get(text.command)
+            out = self.start([*([beside(other)] if other else [program, text.command]),
+                              *text.words], files[0], {"(stdin)": text.of[0].name},
+                             None if text.command == "compare" else text.of[0], (), is_merged)
+            self.parts[-1].answer = int(text.command == "compare")
+            return out
         names = [self._name_of(file) for file in files[1:]]  # the first one is standard input
         try:
             return self.start([program, "merge", *text.words, "--", "-", *names], files[0],

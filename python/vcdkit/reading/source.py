@@ -1,5 +1,6 @@
 """Sources: texts of dumps that questions are asked of, with their headers, names and parts."""
 import contextlib
+import functools
 import os
 from types import ModuleType
 from typing import (BinaryIO, Callable, Dict, Iterable, Iterator, List, Optional, Sequence, Tuple,
@@ -15,6 +16,8 @@ from . import header, program
 from .texts import Bytes, File, Headed, Made, Text, library_path, narrowed
 
 Names = Union[str, Iterable[str]]
+# The path of a clock, the place of its bit from the right, and whether it falls there.
+Edge = Tuple[str, int, bool]
 Its = TypeVar("Its", bound="Source")
 
 
@@ -265,6 +268,24 @@ class Source:
         """Returns the dump in a window; the same one if that has all ticks."""
         is_whole = window == (0, LAST_TICK + 1)
         return self if is_whole else self.cut(window.begin, window.last)
+
+    def strobe(self: Its, edges: Sequence[Edge], names: List[str]) -> Its:
+        """Returns the dump of what names select, all without names, just before each of some edges:
+        its times are the numbers of these, and the time of each is its first change."""
+        paths = dict.fromkeys(path for path, *_ in edges)
+        # Only words of UTF-8 can be given to a program, so a clock may need another name.
+        new = {path: "~" * (1 + max(map(len, self.signals.columns()[0]))) + str(at)
+               for at, path in enumerate(paths) if utf8_names([path]) != [path]}
+        words = [word for path, place, falls in edges for word in (
+            "--fall" if falls else "--rise", "%s@%d" % (new.get(path, path), place))]
+        its = utf8_names(self.full([*names, *paths])) if names else []
+        words += ["--", *its, *(new.values() if its else ())]
+        text = self.cut().text if new or self.options else self.text
+        if not new:
+            return self.like(Made("strobe", tuple(words), (text,)))
+        front, back = (functools.partial(header.renamed, one) for one in (
+            new, dict(zip(new.values(), new))))
+        return self.like(Headed(back, Made("strobe", tuple(words), (Headed(front, text),))))
 
     def _word(self, time: Time, is_up: bool = False) -> str:
         """Returns a time as vcdkit accepts it: one of a unit whose number would be too large, as in

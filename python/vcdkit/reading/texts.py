@@ -21,13 +21,14 @@ BLOCK = 1 << 16
 
 def installed(name: str) -> Optional[str]:
     """Returns a program that comes with vcdkit: the one beside the running command (an
-    installation), else the one above it (a tarball), else the one on the PATH. `None` if there is
-    none."""
+    installation), else the one above it (a tarball), else the one on the PATH, else the one beside
+    Python. `None` if there is none."""
     script = sys.argv[0] if sys.argv else ""
     folder = os.path.dirname(os.path.realpath(script))
     is_command = os.path.basename(script).startswith("vcdkit-")
     near = [os.path.join(folder, above, name) for above in ("", "..")] if is_command else []
-    return next(filter(None, map(shutil.which, [*near, name])), None)
+    last = os.path.join(os.path.dirname(sys.executable or ""), name)  # of a wheel
+    return next(filter(None, map(shutil.which, [*near, name, last])), None)
 
 
 def program_path() -> Optional[str]:
@@ -169,7 +170,7 @@ class Bytes(NamedTuple):
 
 class Made(NamedTuple):
     """What `vcdkit COMMAND WORDS..` writes of other texts: of one, or for `merge` of some. For
-    `compare` it is what vcdkit-compare writes."""
+    `compare` and `strobe` it is what vcdkit-compare and vcdkit-strobe write."""
 
     command: str
     words: Tuple[str, ...]
