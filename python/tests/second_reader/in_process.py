@@ -3,7 +3,7 @@ this process, because a small dump is read faster than a program starts."""
 from typing import Any, Dict, Iterator, List, Optional, Sequence, Tuple
 
 from faulty_dumps import evaluator
-from reference import comparison  # type: ignore[import]
+from reference import comparison, strobe  # type: ignore[import]
 from vcdkit.questions import compare, dump
 from vcdkit.reading import library, program, source
 from vcdkit.reading.texts import Text, library_path, program_path
@@ -51,6 +51,13 @@ class Evaluator:
     def _run(command: str, words: List[str], inputs: Any) -> Tuple[bytes, bytes, int]:
         at = words.index("--") if "--" in words else len(words)
         names = [name.encode("utf-8", "surrogateescape") for name in words[at + 1:]]
+        if command == "strobe":
+            clocks = [(option, *word.rsplit("@", 1)) for option, word in zip(
+                words[:at:2], words[1:at:2])]
+            found: Tuple[bytes, bytes, int] = strobe.answered(
+                [(path.encode(), int(place), option == "--fall") for option, path, place in clocks],
+                names, *inputs[0])
+            return found
         times = [word for option in words[1:at:2] for word in option.split(",")]
         done: Tuple[bytes, bytes, int] = evaluator.run(
             command, [moment_of(time) for time in times],
@@ -67,6 +74,8 @@ def compared(words: Sequence[str], merged: Text) -> Iterator[List[bytes]]:
             asked.begin = int(next(times))
         elif word == "--to":
             asked.end = int(next(times))
+        elif word == "--except":
+            asked.exceptions.append(next(times).encode())
     with library.opened(merged) as file:
         text = file.read()
     out: bytes = comparison.within(asked, [(b"in1", b"in2")], b"(stdin)", text)[0]

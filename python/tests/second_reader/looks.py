@@ -3,7 +3,7 @@ are a transaction."""
 from typing import Iterable, List, NamedTuple, Optional, Sequence, Set, Tuple
 
 from conditions import Test, dates
-from dumps import LAST, Dump, State, Value, Variable
+from dumps import LAST, Dump, State, Step, Value, Variable
 from shown import same
 
 Edges = Set[Tuple[str, str, str]]  # a code, and the digits from which and to which it goes
@@ -28,32 +28,33 @@ class Wait(NamedTuple):
     length: int
 
 
-def edge_times(dump: Dump, edges: Edges) -> Set[int]:
-    """Returns the times of edges: two values in a row that a code is given, whatever comes later in
-    the time."""
-    found = set()
-    for step in dump.steps:
-        for code, was, now in edges:
-            its = [one.value for one in step.changes if one.code == code]
-            if code in step.known:
-                its.insert(0, step.before[code])
-            if (was, now) in zip(its, its[1:]):
-                found.add(step.time)
-    return found
+def state_before(step: Step, edges: Edges) -> Optional[State]:
+    """Returns the values just before the first edge of a time, if it has one: an edge is two values
+    in a row that a code is given. First values in a `$dumpvars` count if they come before it."""
+    last = {code: step.before[code] for code in step.known}
+    found = dict(last)
+    for one in step.changes:
+        if (one.code, last.get(one.code), one.value) in edges:
+            return found
+        if one.code not in last and one.section == "$dumpvars":
+            found[one.code] = one.value
+        last[one.code] = one.value
+    return None
 
 
 def looks_at_edges(dump: Dump, edges: Edges, begin: int = 0, end: int = LAST) -> List[Look]:
-    """Returns the edges of a window, with the values just before them. An event counts if it was
-    triggered since the last edge, and in the window. The first edge of the window has the edge
-    before it, if the dump has one."""
-    times, found = edge_times(dump, edges), []
+    """Returns the edges of a window up to a fault, with the values just before them. An event
+    counts if it was triggered since the last edge, and in the window. The first edge of the window
+    has the edge before it, if the dump has one."""
+    found: List[Look] = []
     events: Set[str] = set()
     is_inside = False
-    for step in dump.steps_in(0, min(end, dump.finished)):
+    for step in dump.steps_in(0, end):
         if step.time >= begin and not is_inside:
             is_inside, events = True, set()
-        if step.time in times:
-            found.append(Look(step.time, step.before, events, found[-1] if found else None))
+        before = state_before(step, edges)
+        if before is not None:
+            found.append(Look(step.time, before, events, found[-1] if found else None))
             events = set()
         events = events | step.events
     return [one for one in found if one.time >= begin]

@@ -375,15 +375,6 @@ class Side(NamedTuple):
     part: Part
     factor: int
 
-    def before(self, code: str, time: int) -> Optional[Value]:
-        """Returns the value just before a time of the merge."""
-        own = time // self.factor
-        steps = [step for step in self.dump.steps_in(self.part.begin, self.part.end)
-                 if step.time * self.factor == time]
-        if steps:
-            return steps[0].before.get(code)
-        return self.at(code, time) if own >= self.part.begin else None
-
     def at(self, code: str, time: int) -> Optional[Value]:
         """Returns the value at the end of a time of the merge."""
         own = time // self.factor
@@ -415,9 +406,10 @@ def ask_merge(of: Asker) -> None:
     if of.happens(.5):
         clock, edge = of.clock(), of.random.choice([("rise", "0", "1"), ("fall", "1", "0")])
         asked = {edge[0]: "in1." + clock.path}
-        wanted = [(look.time * sides[0].factor, [wanted_cell(sides[at].before(
-            one.code, look.time * sides[0].factor)) for at, one in its]) for look in looks_at_edges(
-                of.dump, {(clock.code, edge[1], edge[2])}, part.begin, part.end)]
+        # A merge has no sections, so no value is from before its time.
+        wanted = [(look.time * sides[0].factor, [wanted_cell(sides[at].at(
+            one.code, look.time * sides[0].factor - 1)) for at, one in its]) for look in
+                  looks_at_edges(of.dump, {(clock.code, edge[1], edge[2])}, part.begin, part.end)]
     for time in sorted(times) if not asked else ():
         values = [sides[at].at(one.code, time) for at, one in its]
         if not all(map(same, last, values)):
