@@ -1,6 +1,7 @@
 """Small dumps, each with a command. Together they use every part of the programs."""
 from reference import comparison
 from reference import evaluator
+from reference import strobe
 
 A = (b"$timescale 1ns $end\n$scope module tb $end\n$var wire 1 ! clk $end\n"
      b"$var reg 4 \" q [3:0] $end\n$upscope $end\n$enddefinitions $end\n")
@@ -91,6 +92,25 @@ class Comparison(Case):
         return output, message.replace(Case.program, self.program, 1), status
 
 
+class Strobing(Case):
+    """A case of vcdkit-strobe. Its clocks have a path, a place or None, and whether they fall."""
+    program = b"vcdkit-strobe"
+
+    def __init__(self, name, text, clocks, names=()):
+        super().__init__(name, "strobe", [text], names=names)
+        self.clocks = clocks
+
+    def words(self, files):
+        return ["--%s=%s%s" % ("fall" if falls else "rise", path.decode(),
+                               "" if place is None else "@%d" % place)
+                for path, place, falls in self.clocks] + ["-i", files[0], "--"] + [
+                    name.decode() for name in self.names]
+
+    def outcome(self, files, inputs):
+        name = files[0] if isinstance(files[0], bytes) else files[0].encode()
+        return strobe.answered(self.clocks, self.names, name, inputs[0])
+
+
 CASES = [
     Case("check", "check", [ON_D]),
     Case("check_cut_off", "check", [BAD]),
@@ -154,6 +174,22 @@ COMPARISONS = [
     Comparison("of_merge", OF_MERGE, [(b"in1", b"in2")]),
 ]
 
+OF_CLOCKS = C[:-21] + b"$var wire 1 ' c $end\n$enddefinitions $end\n" + (
+    b"#0\n$dumpvars\n0!\n0'\nb10 %\nr1 \"\n1#\n$end\n#3\n1#\n1!\nbx %\n0!\n1!\n#4\n1'\nr2 \"\n"
+    b"#5\n0!\n0'\n1#\n#6\n1!\n#7\nx!\n1!\n0!\n#8\n1!\nb0 %\n#9\n0!\n")
+
+STROBES = [
+    Strobing("rise", ON_A, [(b"tb.clk", None, False)]),
+    Strobing("fall", ON_A, [(b"tb.clk", 0, True)], [b"tb.q"]),
+    Strobing("both", OF_CLOCKS, [(b"a", None, False), (b"a", None, True)]),
+    Strobing("two", OF_CLOCKS, [(b"a", None, False), (b"c", None, False)], [b"r", b"e", b"u"]),
+    Strobing("a_bit", ON_D, [(b"top.data", 1, False), (b"top.wide", 69, True)]),
+    Strobing("no_clock", ON_C, [(b"a", None, False), (b"u", None, False)]),
+    Strobing("no_name", ON_C, [(b"a", None, False)], [b"a", b"v"]),
+    Strobing("broken", OF_CLOCKS + b"1!\n?\n", [(b"a", None, False)]),
+    Strobing("broken_header", A[:-25], [(b"tb.clk", None, False)]),
+]
+
 
 def base_94(n):
     """The code of a number, of one to three bytes."""
@@ -180,3 +216,6 @@ LARGE = [
 LARGE_COMPARISONS = [Comparison("compare_many", b"".join(
     b"$scope module %s $end\n" % part + MANY[:-len(b"$enddefinitions $end\n")] + b"$upscope $end\n"
     for part in (b"a", b"b")) + b"$enddefinitions $end\n#0\nb1010 !\n#5\nb1 \"\n", WHOLE)]
+
+LARGE_STROBES = [Strobing("strobe_many", MANY + b"#0\nb1010 !\nb0 \"\n#5\nb1 \"\n",
+                          [(b"s0.v1", 0, False)], [b"s0.v0", b"s8333"])]

@@ -20,15 +20,15 @@ devices  Each read and write transfers 1, 2, 3, 5 or 7 bytes: the whole outcome.
          signal interrupts call number 1 to 5 of each: the whole outcome, since the call is made
          again.
 cut_off  Each dump is read in whole chunks and byte by byte.
-pipes    `pick`, `cut`, `sample`, `merge` and vcdkit-compare read pipes that get one line at a time.
-         Before the next line is given, all output that the lines so far determine has come, and no
-         more."""
+pipes    `pick`, `cut`, `sample`, `merge`, vcdkit-compare and vcdkit-strobe read pipes that get one
+         line at a time. Before the next line is given, all output that the lines so far determine
+         has come, and no more."""
 import os, select, subprocess, sys, tempfile, time
 from concurrent.futures import ThreadPoolExecutor
 from itertools import zip_longest
 
 from reference import evaluator
-from cases import CASES, COMPARISONS, LARGE, LARGE_COMPARISONS
+from cases import CASES, COMPARISONS, LARGE, LARGE_COMPARISONS, LARGE_STROBES, STROBES
 
 LITTLE = [1, 2, 3, 5, 7]
 
@@ -91,6 +91,8 @@ def bound(case, limit=1_048_576):
         held += len(text) + 64 * len(head.rows) + sum(size + 192 for size, _ in head.codes.values())
         if case.command == "compare":  # a path has a number with its range too
             held += 16 * len(head.rows)
+        if case.command == "strobe":  # each code has four places
+            held += sum(3 * (size + 192) + 64 for size, _ in head.codes.values())
     return windows + 4 * held + COMMAND_LINE
 
 
@@ -259,7 +261,7 @@ class Live:
 
 
 def pipes(place, case):
-    if case.command not in ("pick", "cut", "sample", "merge", "compare"):
+    if case.command not in ("pick", "cut", "sample", "merge", "compare", "strobe"):
         yield 0
         return
     live, given = Live(place, case), [b""] * len(case.inputs)
@@ -290,7 +292,8 @@ def work(program, devices_, parts, commands):
     """Runs the parts over the cases of these commands, and returns how many runs differ."""
     bad = 0
     for part in parts:
-        runs, every = 0, LARGE + LARGE_COMPARISONS if part == "large" else CASES + COMPARISONS
+        runs, every = 0, (LARGE + LARGE_COMPARISONS + LARGE_STROBES if part == "large"
+                          else CASES + COMPARISONS + STROBES)
         cases = [case for case in every if case.command in commands]
         with tempfile.TemporaryDirectory() as folder, ThreadPoolExecutor(os.cpu_count()) as pool:
             place = Place(os.path.abspath(program), os.path.abspath(devices_), folder)

@@ -155,16 +155,16 @@ def transcript():
 
 def stored_runs(program):
     """The stored runs again, with their error streams, each on a standard input of its own. Lines
-    that begin with the name of the other program, which is beside this one, are for that."""
-    name = b"vcdkit-compare"
-    other = Program(os.path.join(os.path.dirname(program.path), name.decode()))
+    that begin with the name of another program, which is beside this one, are for that."""
+    others = {name: Program(os.path.join(os.path.dirname(program.path), name.decode()))
+              for name in (b"vcdkit-compare", b"vcdkit-strobe")}
     folder = os.path.join(CRATES, "run_words")
     with open(os.path.join(folder, "stdin"), "rb") as f:
         given = f.read()
     for line, want in transcript():
         words, run = line.split(), program.run
-        if words[:1] == [name]:
-            words, run = words[1:], other.run
+        if words[0] in others:
+            words, run = words[1:], others[words[0]].run
         got = run(words, os.path.join(folder, "data"), given)
         yield "the stored run %r" % line, [want], got
     folder = os.path.join(CRATES, "vcdkit_main")

@@ -1,6 +1,6 @@
 #!/usr/bin/env bash
 # run.sh all|check: runs the scripts of this directory, and those of python/tests that ask about
-# many dumps, with ./vcdkit and ./vcdkit-compare. `check` takes some ten CPU minutes: it runs fewer
+# many dumps, with the programs that are there. `check` takes some ten CPU minutes: it runs fewer
 # random dumps, and leaves out what takes minutes by itself. Each script runs, even if one before it
 # fails; then the status is 1.
 #
@@ -26,12 +26,14 @@ case $1 in
         run hostile/crafted.py ./vcdkit limits garbage
         RUNS=2000 run hostile/compare.py ./vcdkit ./vcdkit-compare "$devices" \
             rows pipe streams machine random
+        RUNS=5000 run hostile/strobe.py ./vcdkit-strobe "$devices" random streams machine
         ;;
     all)
         run hostile/hostile.py ./vcdkit "$devices" memory large devices cut_off pipes
         run hostile/random_runs.py ./vcdkit --devices "$devices" --runs 50000
         run hostile/crafted.py ./vcdkit
         run hostile/compare.py ./vcdkit ./vcdkit-compare "$devices"
+        run hostile/strobe.py ./vcdkit-strobe "$devices"
         stride=${STRIDE:-8}
         run python/tests/second_reader/ask.py --small "$stride:${FIRST:-$((RANDOM % stride))}"
         run python/tests/second_reader/ask.py --seconds 120
