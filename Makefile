@@ -1,10 +1,10 @@
-# make         proves the programs and the crates that they use, builds them as ./vcdkit and
-#     ./vcdkit-compare, and runs them on a sample. An idle processor proves vcd_changes too, which
-#     `make library` needs
+# make         proves the programs and the crates that they use, builds them as ./vcdkit,
+#     ./vcdkit-compare and ./vcdkit-strobe, and runs them on a sample. An idle processor proves
+#     vcd_changes too, which `make library` needs
 # make CPU=x86-64-v3    the same for newer processors, whose instructions the programs may use. On a
 #     processor without them, they say so and end
-# make trial   builds the programs as ./vcdkit-unproved and ./vcdkit-compare-unproved, for trying
-#     code. Nothing of them is proved: four CPU minutes
+# make trial   builds the programs as ./vcdkit-unproved, .., for trying code. Nothing of them is
+#     proved: six CPU minutes
 # make test    the gate: all proofs, the must-fail edits, the tests, and the programs as two
 #     compilers build them; then, with these programs, docs-check, completions-check, extras-check
 #     and hostile-check: 50 to 90 minutes
@@ -14,8 +14,7 @@
 # make hostile-check    is the part of it that takes ten CPU minutes, always with the same seeds
 # make docs-check runs the commands on the pages with ./vcdkit, and compares what they print with
 #     the pages. It also looks for links that lead nowhere: seconds
-# make static  links ./vcdkit-static and ./vcdkit-compare-static, which need no shared library:
-#     seconds after make
+# make static  links ./vcdkit-static, .., which need no shared library: seconds after make
 # make dist    packs them in dist/ as a tarball, Debian packages and a wheel, with documents, man
 #     page, completions, scripts and the Python package, and with ./libvcdkit.so if it is there
 # make library builds ./libvcdkit.a, ./libvcdkit.so and ./vcdkit.pc, for callers in C and Python:
@@ -33,8 +32,9 @@
 #     dumps that other readers read as well: two minutes
 
 sample := samples/counter.vcd
+programs := vcdkit vcdkit-compare vcdkit-strobe
 
-.PHONY: all trial test hostile hostile-check docs-check clean vcdkit vcdkit-compare toolchain \
+.PHONY: all trial test hostile hostile-check docs-check clean $(programs) toolchain \
     sources static library dist dist-check install uninstall completions-check extras-check
 
 # The processor to build for. If it is empty, any x86-64 with SSE4.2 runs the program.
@@ -47,7 +47,6 @@ bash_words := $(DESTDIR)$(PREFIX)/share/bash-completion/completions
 # On Debian, zsh has one directory for what packages bring and another one for everything else.
 ZSH_FOLDER ?= $(PREFIX)/share/zsh/$(if $(filter /usr,$(PREFIX)),vendor-completions,site-functions)
 zsh_words := $(DESTDIR)$(ZSH_FOLDER)
-programs := vcdkit vcdkit-compare
 # Under the name of each script the same file is installed.
 scripts := $(notdir $(wildcard extras/vcdkit-*))
 # The directory of the Python package. The scripts look there, and then where Python looks.
@@ -58,9 +57,9 @@ documents := $(DESTDIR)$(PREFIX)/share/doc/vcdkit
 library := $(DESTDIR)$(PREFIX)/lib
 headers := $(DESTDIR)$(PREFIX)/include
 
-all: vcdkit vcdkit-compare
+all: $(programs)
 	./vcdkit check < $(sample)
-	@echo "Built: ./vcdkit and ./vcdkit-compare, which need the C library of this machine." \
+	@echo "Built: $(addprefix ./,$(programs)), which need the C library of this machine." \
 	    "Next: make install, or make static, make dist; ./vcdkit --help"
 
 # prove.py starts a new log and shows the progress. If nothing changed, the program is only run.
@@ -75,14 +74,20 @@ vcdkit-compare: vcdkit
 	    < $(sample)
 	cp crates/vcdkit_compare_main/out/vcdkit_compare_main $@
 
+vcdkit-strobe: vcdkit-compare
+	tools/prove.py vcdkit_strobe_main run $(addprefix --cpu=,$(CPU)) -- --rise clk count0 \
+	    < $(sample)
+	cp crates/vcdkit_strobe_main/out/vcdkit_strobe_main $@
+
 trial: toolchain
 	tools/unproved.py
 	tools/unproved.py . vcdkit_compare_main
+	tools/unproved.py . vcdkit_strobe_main
 
 test: toolchain
 	.ci/run
 
-hostile: vcdkit vcdkit-compare
+hostile: $(programs)
 	hostile/run.sh all
 
 # These use the programs that are there, and build nothing.
@@ -98,9 +103,10 @@ docs-check:
 static: sources
 	packaging/static.sh vcdkit-static vcdkit_main
 	packaging/static.sh vcdkit-compare-static vcdkit_compare_main
+	packaging/static.sh vcdkit-strobe-static vcdkit_strobe_main
 
 dist: static
-	packaging/dist.sh vcdkit-static vcdkit-compare-static dist $(wildcard libvcdkit.so)
+	packaging/dist.sh $(addsuffix -static,$(programs)) dist $(wildcard libvcdkit.so)
 
 # A static library for C, which is proved like the program, and a shared one of the same code.
 library: toolchain
@@ -135,7 +141,7 @@ install:
 	if command -v python3 > /dev/null; then \
 	    packaging/manuals.py "$(man)" $(addprefix extras/,$(scripts)); fi
 	install -m 644 completions/vcdkit.bash "$(bash_words)/vcdkit"
-	for name in vcdkit-compare $(scripts); do ln -sf vcdkit "$(bash_words)/$$name"; done
+	for name in vcdkit-compare vcdkit-strobe $(scripts); do ln -sf vcdkit "$(bash_words)/$$name"; done
 	install -m 644 completions/_vcdkit "$(zsh_words)/_vcdkit"
 	install -m 644 python/vcdkit/*.py python/vcdkit/py.typed python/vcdkit/page.html "$(python)"
 	for name in $(layers); do \

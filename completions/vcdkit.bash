@@ -1,4 +1,4 @@
-# Completion of vcdkit, vcdkit-compare and the scripts for bash: commands, options and files, and
+# Completion of the programs and the scripts for bash: commands, options and files, and
 # the names of a dump if its file comes before them. Source this file, or let `make install` put it
 # where bash-completion finds it.
 
@@ -130,8 +130,8 @@ _vcdkit() {
     fi
 }
 
-# vcdkit-compare: its names are X=Y, of the dump of -i.
-_vcdkit_compare() {
+# vcdkit-compare and vcdkit-strobe: their names are of the dump of -i, those of the former X=Y.
+_vcdkit_other() {
     COMPREPLY=()
     local program=${1/#~\//$HOME/} words current word option= kind= file= ended=
     _vcdkit_split
@@ -148,14 +148,17 @@ _vcdkit_compare() {
     done
     if [[ $kind == FILE ]]; then
         compopt -o default 2> /dev/null
-    elif [[ $kind != '' && $kind != NAME ]]; then
+    elif [[ $kind != @(|NAME|CLOCK) ]]; then
         return
     elif [[ -z $kind$ended && $current == -* ]]; then
         COMPREPLY=($(compgen -W "$(sed 's/ .*//' <<< "$options")" -- "$current"))
     elif [[ -f $file ]]; then
-        [[ -z $kind && $current != *=* ]] && compopt -o nospace 2> /dev/null
-        [[ -z $kind ]] && current=${current#*=}
-        _vcdkit_complete_names "${program%-compare}" list -i "$file"
+        if [[ -z $kind && $program == *-compare ]]; then
+            [[ $current == *=* ]] || compopt -o nospace 2> /dev/null
+            current=${current#*=}
+        fi
+        program=${program%-compare}
+        _vcdkit_complete_names "${program%-strobe}" list -i "$file"
     fi
 }
 
@@ -192,7 +195,7 @@ _vcdkit_script() {
 }
 
 complete -F _vcdkit vcdkit
-complete -F _vcdkit_compare vcdkit-compare
+complete -F _vcdkit_other vcdkit-compare vcdkit-strobe
 complete -F _vcdkit_script vcdkit-close-sections vcdkit-diff vcdkit-explain vcdkit-find \
     vcdkit-four-state vcdkit-info vcdkit-join-bits vcdkit-stats vcdkit-table vcdkit-values \
     vcdkit-wave vcdkit-when vcdkit-x

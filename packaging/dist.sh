@@ -1,5 +1,5 @@
 #!/usr/bin/env bash
-# dist.sh PROGRAM COMPARE DIRECTORY [LIBRARY]: packs vcdkit and vcdkit-compare with documents, man
+# dist.sh PROGRAM COMPARE STROBE DIRECTORY [LIBRARY]: packs the three programs with documents, man
 # pages, completions, samples, scripts and the Python package, and writes to the directory:
 #   vcdkit-VERSION-x86_64-linux.tar.gz   to unpack and run, or `make install` in it
 #   vcdkit_VERSION_amd64.deb             a Debian package of the programs, if there is dpkg-deb
@@ -12,11 +12,12 @@
 # are fixed, and all times are SOURCE_DATE_EPOCH, or the time of the last commit. MAINTAINER is the
 # name in the Debian packages; without it, the author of that commit is named.
 set -eu
-[[ $# == 3 || $# == 4 ]] || { sed -n '2,/^set/s/^# //p' "$0"; exit 2; }
+[[ $# == 4 || $# == 5 ]] || { sed -n '2,/^set/s/^# //p' "$0"; exit 2; }
 top=$(cd "$(dirname "$0")/.." && pwd)
-program=$(realpath "$1") compare=$(realpath "$2") library=${4:+$(realpath -s "$4")}
-mkdir -p "$3"
-out=$(realpath "$3")
+program=$(realpath "$1") compare=$(realpath "$2") strobe=$(realpath "$3")
+library=${5:+$(realpath -s "$5")}
+mkdir -p "$4"
+out=$(realpath "$4")
 cd "$top"
 umask 022
 export LC_ALL=C TZ=UTC PYTHONDONTWRITEBYTECODE=1
@@ -59,6 +60,7 @@ packaging/pages.sh "$folder/$name"
 find "$folder/$name" -name __pycache__ -exec rm -rf {} +
 install -m 755 "$program" "$folder/$name/vcdkit"
 install -m 755 "$compare" "$folder/$name/vcdkit-compare"
+install -m 755 "$strobe" "$folder/$name/vcdkit-strobe"
 if [[ -n $library ]]; then
     for file in "${library%.so}".* "$(dirname "$library")/vcdkit.pc"; do
         [[ ! -e $file ]] || cp -P "$file" "$folder/$name"
@@ -68,7 +70,7 @@ licences "$folder/$name/licences"
 packed "$name"
 
 # The wheel: all for pip.
-"$folder/$name/packaging/wheel.py" "$out" "$folder/$name"/vcdkit{,-compare} $library
+"$folder/$name/packaging/wheel.py" "$out" "$folder/$name"/vcdkit{,-compare,-strobe} $library
 
 # deb PACKAGE ARCHITECTURE < CONTROL: the directory PACKAGE as a Debian package, with its changelog
 # and its copyright file
@@ -102,7 +104,7 @@ if command -v dpkg-deb > /dev/null; then
     mv "$tree/usr/lib/python3" "$python/usr/lib"
     rm -rf "$tree/usr/lib" "$tree/usr/include"  # the library for C is in the tarball
     for script in "$tree"/usr/bin/vcdkit-*; do
-        [[ $script != */vcdkit-compare ]] || continue
+        [[ $script != */vcdkit-@(compare|strobe) ]] || continue
         sed '1s,.*,#!/usr/bin/python3,' "$script" > "$python/usr/bin/${script##*/}"
         chmod 755 "$python/usr/bin/${script##*/}"
         rm "$script"
@@ -110,7 +112,7 @@ if command -v dpkg-deb > /dev/null; then
     done
     # They are static so that they run on any machine; NOTICE.md says what that asks.
     mkdir -p "$tree/usr/share/lintian/overrides"
-    for one in vcdkit vcdkit-compare; do
+    for one in vcdkit vcdkit-compare vcdkit-strobe; do
         printf "vcdkit: %s [usr/bin/$one]\n" statically-linked-binary \
             shared-library-lacks-prerequisites
     done > "$tree/usr/share/lintian/overrides/vcdkit"
@@ -121,9 +123,10 @@ Recommends: python3-vcdkit
 Suggests: gtkwave, pv
 Description: value change dumps (VCD): check, list, pick, cut, sample, edges, merge
  Seven commands that check the dumps of simulators, cut parts out of them and
- answer questions about their values, and a program that compares two dumps, or
- two parts of one. The memory that they take does not grow with the length of a
- dump. README.md says what is proved, and what is not.
+ answer questions about their values, a program that compares two dumps, or two
+ parts of one, and one that writes the values at the edges of clocks. The memory
+ that they take does not grow with the length of a dump. README.md says what is
+ proved, and what is not.
 END
     # Python is not a dependency, so that dpkg -i installs both packages on a machine without it.
     # The scripts then say that it is missing.
@@ -153,16 +156,16 @@ fi
 # What is needed to link the program again.
 relink=vcdkit-$version-relink
 mkdir "$folder/$relink"
-cp crates/vcdkit_main/out/vcdkit_main.o crates/vcdkit_compare_main/out/vcdkit_compare_main.o \
+cp crates/vcdkit{,_compare,_strobe}_main/out/vcdkit*_main.o \
     "$kit/c/libos_c.a" "$kit/c/liblibc_c.a" NOTICE.md "$folder/$relink"
 strip --strip-debug "$folder/$relink"/vcdkit_*.o
 licences "$folder/$relink/licences"
 cat > "$folder/$relink/relink.sh" <<'END'
 #!/bin/sh
-# Links vcdkit and vcdkit-compare anew, with the static C library of this machine: sh relink.sh;
-# without -static-pie with the shared one.
+# Links the programs anew, with the static C library of this machine: sh relink.sh; without
+# -static-pie with the shared one.
 cd "$(dirname "$0")" || exit
-for name in vcdkit vcdkit-compare; do
+for name in vcdkit vcdkit-compare vcdkit-strobe; do
     ${CC:-cc} ${LINK:--static-pie} -s -Wl,--gc-sections -o $name \
         "$(echo $name | tr - _)_main.o" libos_c.a liblibc_c.a -lm || exit
 done

@@ -35,7 +35,7 @@ mkdir "$folder/tar"
 tries 'the tarball is unpacked' tar -C "$folder/tar" -xzf "$tarball"
 unpacked=$(echo "$folder/tar"/*)
 cd "$unpacked" || exit 1
-for program in vcdkit vcdkit-compare; do
+for program in vcdkit vcdkit-compare vcdkit-strobe; do
     tries "$program needs no shared library" bash -c \
         '! readelf -d "$1" | grep NEEDED && ! readelf -l "$1" | grep INTERP' - $program
 done
@@ -55,13 +55,15 @@ tries 'uninstall leaves no file' bash -c '! find "$1" ! -type d | grep .' - "$fo
 
 # A root with the programs, a dump, and nothing else.
 mkdir "$folder/root"
-cp vcdkit vcdkit-compare samples/nested.vcd "$folder/root"
+cp vcdkit vcdkit-compare vcdkit-strobe samples/nested.vcd "$folder/root"
 into_root=(chroot)
 [[ $(id -u) == 0 ]] || into_root=(unshare -r chroot)
 tries 'the program alone in a root' bash -c '"$@" | grep -qx "last 1220"' - \
     "${into_root[@]}" "$folder/root" /vcdkit check -i nested.vcd
 tries 'vcdkit-compare in a root' bash -c '"$@" | grep -qx "compared [1-9][0-9]*"' - \
     "${into_root[@]}" "$folder/root" /vcdkit-compare -i nested.vcd 'bench.lane[0]=bench.lane[1]'
+tries 'vcdkit-strobe in a root' bash -c '"$@" | grep -qx "#2"' - \
+    "${into_root[@]}" "$folder/root" /vcdkit-strobe --rise bench.clock -i nested.vcd
 
 # The files that `make install` put into the current directory, by their names in the packages, but
 # for what the packages add or leave to the tarball.
@@ -73,7 +75,7 @@ added='/licences/|/copyright$|/changelog\.gz$|/lintian/'
 if [[ -n $package ]]; then
     tries 'the packages are unpacked' bash -c 'for package in "${@:2}"; do
         dpkg-deb -x "$package" "$1/deb" || exit 1; done' - "$folder" "$package" "$for_python"
-    for program in vcdkit vcdkit-compare; do
+    for program in vcdkit vcdkit-compare vcdkit-strobe; do
         tries "$program of the package" cmp $program "$folder/deb/usr/bin/$program"
     done
     make -s install DESTDIR="$folder/usr" PREFIX=/usr PYTHON_FOLDER=/usr/lib/python3/dist-packages
@@ -120,6 +122,7 @@ tries 'the wheel is installed, and answers' bash -c 'python3 -m venv "$2/venv" &
     export PATH="$2/venv/bin:/usr/bin:/bin" &&
     vcdkit-info samples/nested.vcd | grep -q "last 122ns" &&
     vcdkit merge samples/nested.vcd samples/nested.vcd | vcdkit-compare in1=in2 &&
+    vcdkit-diff --rise bench.clock samples/nested.vcd samples/nested.vcd &&
     vcdkit-values --four-state --at 20ns samples/ghdl.vcd tb.reset | grep -qx "tb.reset 0" &&
     vcdkit-wave --html samples/nested.vcd bench | tail -n 1 | grep -q html &&
     vcdkit-explain samples/counter.vcd samples/nested.vcd | grep -qx "2 dumps: 2 valid" &&
@@ -132,7 +135,8 @@ if [[ -n $relink ]] && command -v cc > /dev/null; then
     mkdir "$folder/relink"
     tries 'relink.sh' bash -c 'tar -C "$2/relink" -xzf "$1" && sh "$2"/relink/*/relink.sh &&
         "$2"/relink/*/vcdkit check -i samples/nested.vcd &&
-        "$2"/relink/*/vcdkit-compare -i samples/nested.vcd "bench.lane[0]=bench.lane[1]"' - \
+        "$2"/relink/*/vcdkit-compare -i samples/nested.vcd "bench.lane[0]=bench.lane[1]" &&
+        "$2"/relink/*/vcdkit-strobe --rise bench.clock -i samples/nested.vcd' - \
         "$relink" "$folder"
 fi
 
@@ -141,7 +145,7 @@ if [[ -e $top/vcdkit-static ]]; then
     SOURCE_DATE_EPOCH=$(stat -c %Y vcdkit)
     export SOURCE_DATE_EPOCH
     tries 'packing again, in another folder and at another umask' bash -c 'umask 077 &&
-        "$1/packaging/dist.sh" "$1"/vcdkit{,-compare}-static "$2/again" $3' - "$top" "$folder" \
+        "$1/packaging/dist.sh" "$1"/vcdkit{,-compare,-strobe}-static "$2/again" $3' - "$top" "$folder" \
         "$(ls "$unpacked/libvcdkit.so" 2> /dev/null)"
     for file in "$out"/vcdkit*.tar.gz "$out"/*vcdkit*.deb "$wheel"; do
         tries "the same bytes: ${file##*/}" cmp "$file" "$folder/again/${file##*/}"

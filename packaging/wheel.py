@@ -1,7 +1,7 @@
 #!/usr/bin/env python3
-"""wheel.py DIRECTORY PROGRAM COMPARE [LIBRARY]: writes the Python package as a wheel into the
-directory, with vcdkit and vcdkit-compare, and with libvcdkit.so if it is there. It needs no build
-tool and no network.
+"""wheel.py DIRECTORY PROGRAM COMPARE STROBE [LIBRARY]: writes the Python package as a wheel into
+the directory, with the three programs, and with libvcdkit.so if it is there. It needs no build tool
+and no network.
 
 After `pip install vcdkit-VERSION-py3-none-linux_x86_64.whl`, `import vcdkit` works, and the
 programs and the scripts are on the PATH. The same files are packed as the same bytes: all times are
@@ -34,7 +34,7 @@ def read(*path):
         return file.read()
 
 
-def files_of(version, program, compare, library):
+def files_of(version, programs, library):
     """Returns the names of the wheel's files, their bytes and whether each is a program."""
     for folder, _, names in os.walk(PACKAGE):
         for name in names:
@@ -44,8 +44,8 @@ def files_of(version, program, compare, library):
     if library:
         yield "vcdkit/libvcdkit.so", read(library), False
     scripts = "vcdkit-%s.data/scripts/" % version
-    yield scripts + "vcdkit", read(program), True
-    yield scripts + "vcdkit-compare", read(compare), True
+    for name, program in zip(("vcdkit", "vcdkit-compare", "vcdkit-strobe"), programs):
+        yield scripts + name, read(program), True
     commands = sorted(name[:-3] for name in os.listdir(os.path.join(PACKAGE, "commands"))
                       if name.endswith(".py") and name != "__init__.py")
     about = "vcdkit-%s.dist-info/" % version
@@ -59,7 +59,7 @@ def files_of(version, program, compare, library):
 
 
 def main(words):
-    if len(words) not in (3, 4):
+    if len(words) not in (4, 5):
         print(__doc__, file=sys.stderr)
         return 2
     version = re.search(r'__version__ = "(.*)"', read(PACKAGE, "__init__.py").decode()).group(1)
@@ -74,7 +74,7 @@ def main(words):
             entry.compress_type = zipfile.ZIP_DEFLATED
             wheel.writestr(entry, data)
 
-        for path, data, is_program in sorted(files_of(version, *(words[1:] + [""])[:3])):
+        for path, data, is_program in sorted(files_of(version, words[1:4], "".join(words[4:]))):
             sum_ = base64.urlsafe_b64encode(hashlib.sha256(data).digest()).rstrip(b"=").decode()
             record.append("%s,sha256=%s,%d\n" % (path, sum_, len(data)))
             add(path, data, is_program)
