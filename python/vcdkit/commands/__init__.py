@@ -126,9 +126,8 @@ class Parser(argparse.ArgumentParser):
 
     def many(self, junit: str) -> "Parser":
         """Adds --jobs and --junit, of a command that takes many dumps."""
-        self.add_argument("--jobs", type=natural, default=os.cpu_count() or 1, metavar="N",
-                          help="how many dumps to take at a time [default: the number of "
-                          "processors]")
+        self.add_argument("--jobs", type=natural, metavar="N", help="how many dumps to take at a "
+                          "time [default: the number of processors]")
         self.add_argument("--junit", metavar="FILE", help="write a JUnit report" + junit)
         return self
 

@@ -26,12 +26,13 @@ from typing import List, Optional, TextIO
 
 from ..errors import DumpFault, RunFailed
 from ..forms.junit import Test, write_tests
+from ..forms.many import each_of, side_by_side
 from ..forms.text import write_json
 from ..model.times import amount_of
 from ..questions.causes import BROKEN, CUT_OFF, NO_HEADER, look_at
 from ..questions.dump import Dump
 from ..questions.salvage import Good, has_header
-from ..questions.verdicts import Verdict, summary, verdict_on, verdicts
+from ..questions.verdicts import Verdict, summary, verdict_on
 from ..reading.files import check_outputs, files_of, write
 from ..reading.formats import PACKED
 from . import command, dump_of, parser, times_of
@@ -113,17 +114,18 @@ def words_of(words: List[str]) -> argparse.Namespace:
     return asked
 
 
+def verdict(asked: argparse.Namespace) -> Verdict:
+    """Returns the verdict on a dump."""
+    return verdict_on(dump_of(asked, None, asked.token_limit), asked.file, asked.reach,
+                      lambda dump, ticks: times_of(dump, asked)(ticks))
+
+
 def explain_all(asked: argparse.Namespace) -> int:
     """Writes a line for each dump, and how many have a fault; returns the highest status."""
     files = files_of(asked.files)
     check_outputs([asked.junit], files)
-
-    def verdict(file: str) -> Verdict:
-        return verdict_on(dump_of(asked, file, asked.token_limit), file, asked.reach,
-                          lambda dump, ticks: times_of(dump, asked)(ticks))
-
-    found = []
-    for one in verdicts(files, verdict, asked.jobs):
+    found, each = [], each_of(asked, files)
+    for one in side_by_side(verdict, each) if len(each) > 1 else map(verdict, each):
         found.append(one)
         row = {"file": one.file, "kind": one.kind, **one.facts}
         write_json(row) if asked.json else print(one.text, flush=True)

@@ -124,18 +124,19 @@ def write_bits(dump: Dump, window: Window, asked: argparse.Namespace) -> None:
 @command
 def main(words: List[str]) -> int:
     options = parser("vcdkit-stats FILE NAME ..", __doc__)
-    options.add_argument("--values", type=natural, default=10, metavar="N",
-                         help="how many values to list for a signal; --json lists all [default: "
-                         "10]")
+    options.add_argument("--values", type=natural, metavar="N", help="how many values to "
+                         "list for a signal [default: 10, with --json all]")
     options.add_argument("--toggle", action="store_true", help="list how often each bit toggles")
     options.add_argument("--saif", metavar="FILE", help="write a SAIF file (-: standard output)")
     options.add_argument("--glitch", metavar="TIME", help="list how many pulses of each signal are "
                          "shorter than this, the shortest and when the first one begins")
     options.window().form().unit().json().file("+")
     asked = options.parse_args(words)
-    if asked.glitch is not None and (asked.toggle, asked.saif, asked.form, asked.states) != (
-            False, None, None, []):
+    if asked.glitch is not None and (asked.toggle, asked.saif, asked.form, asked.states,
+                                     asked.values) != (False, None, None, [], None):
         options.error("--glitch goes with neither --toggle nor --saif, and shows no values")
+    if asked.values is not None and (asked.toggle or asked.json or asked.saif is not None):
+        options.error("--values goes with none of --toggle, --saif and --json")
     check_outputs([asked.saif], [asked.file, asked.names_of])
     dump = dump_of(asked)
     times_of(dump, asked)  # a unit needs a time scale
@@ -147,12 +148,12 @@ def main(words: List[str]) -> int:
     if asked.toggle or asked.saif is not None:
         write_bits(dump, window, asked)
         return 0
+    count = 10 if asked.values is None else asked.values
     for signal, counted in statistics_of(dump, asked.names, window):
-        facts = facts_of(signal, counted, form_for(asked, signal),
-                         None if asked.json else asked.values)
+        facts = facts_of(signal, counted, form_for(asked, signal), None if asked.json else count)
         if asked.json:
             write_json(facts)
         else:
-            rest = len(counted.values) - asked.values
+            rest = len(counted.values) - count
             print(*lines_of(dump, facts, rest, asked), sep="\n")
     return 0

@@ -8,7 +8,8 @@ import os
 import re
 import signal
 import sys
-from typing import Callable, Iterator, List, Optional, Sequence, Tuple
+from functools import partial
+from typing import Callable, Iterator, List, Optional, Sequence, Tuple, TypeVar
 
 from ..errors import RunFailed, UsageError, VcdkitError
 from ..reading import progress
@@ -16,6 +17,7 @@ from ..reading.files import check_outputs, files_of
 from .junit import Test, write_tests
 
 Answer = Callable[[argparse.Namespace, List[Test]], int]
+T = TypeVar("T")
 READ = ("names_of", "rules", "waive")  # what is asked may name files to read
 
 
@@ -39,10 +41,21 @@ def read_by(asked: argparse.Namespace) -> List[Optional[str]]:
 def answer_all(name: str, answer: Answer, each: Sequence[argparse.Namespace], is_many: bool) -> int:
     """Answers what is asked, `jobs` at a time, and writes the JUnit file; returns the highest
     status. If there are many, each line begins with its file."""
+    if each[0].jobs is not None and not is_many:
+        raise UsageError("--jobs is for a directory of dumps")
     tests: List[Test] = []
     try:
-        return (max(_side_by_side(name, answer, each, tests)) if is_many
-                else _with_fault(answer, each[0], tests))
+        if not is_many:
+            return _with_fault(answer, each[0], tests)
+        if "-" in read_by(each[0]):
+            raise UsageError("standard input can be read for only one dump")
+        statuses = []
+        for out, messages, found, status in side_by_side(partial(_answered, name, answer), each):
+            print(out, end="", flush=True)
+            print(messages, end="", file=sys.stderr, flush=True)
+            tests += found
+            statuses.append(status)
+        return max(statuses)
     finally:
         write_tests(each[0].junit, name, tests)
 
@@ -56,25 +69,21 @@ def _with_fault(answer: Answer, asked: argparse.Namespace, tests: List[Test]) ->
         raise
 
 
-def _side_by_side(name: str, answer: Answer, each: Sequence[argparse.Namespace], tests: List[Test]
-                  ) -> Iterator[int]:
-    """Writes the answers in order, adds the tests, and returns the status of each."""
+def side_by_side(of: Callable[[argparse.Namespace], T], each: Sequence[argparse.Namespace]
+                 ) -> Iterator[T]:
+    """Returns what a function makes of each, in order, `jobs` at a time."""
     from concurrent.futures import ProcessPoolExecutor  # the import takes time
     from concurrent.futures.process import BrokenProcessPool
     from multiprocessing import get_context
-    if "-" in read_by(each[0]):
-        raise UsageError("standard input can be read for only one dump")
-    with ProcessPoolExecutor(max(1, min(each[0].jobs, len(each))), get_context("fork"),
+    count = os.cpu_count() or 1 if each[0].jobs is None else each[0].jobs
+    with ProcessPoolExecutor(max(1, min(count, len(each))), get_context("fork"),
                              signal.signal, (signal.SIGINT, signal.SIG_DFL)) as pool:
-        its = collections.deque(pool.submit(_answered, name, answer, one) for one in each)
+        its = collections.deque(pool.submit(of, one) for one in each)
         try:
             while its:
-                out, messages, found, status = its.popleft().result()
+                found = its.popleft().result()
                 progress.stage = "%d of %d" % (len(each) - len(its), len(each))
-                print(out, end="", flush=True)
-                print(messages, end="", file=sys.stderr, flush=True)
-                tests += found
-                yield status
+                yield found
         except BrokenProcessPool:
             raise RunFailed("a process was ended") from None
         finally:

@@ -13,9 +13,10 @@ from .text import AnyForm, Form, form_of, shortest, shown
 LINE = re.compile(r"(\S+)\s+(?:\?\w+\?)?\s*(.*\S)")  # a value, maybe a colour, and a name
 
 
-def names_in(path: str) -> Dict[str, str]:
-    """Returns the names in a file by their values: in hexadecimal, or as conditions have them."""
-    found: Dict[str, str] = {}
+def names_in(path: str) -> Dict[str, Tuple[str, str]]:
+    """Returns the names in a file, and the places of their lines, by their values: in hexadecimal,
+    or as conditions have them."""
+    found: Dict[str, Tuple[str, str]] = {}
     for place, line in lines_in(path):
         its = LINE.match(line)
         if not its:
@@ -27,7 +28,7 @@ def names_in(path: str) -> Dict[str, str]:
             raise UsageError(place + str(error).replace("bad condition: ", "", 1)) from None
         if not value.kind.width:
             raise UsageError("%sa value is digits, and not %s" % (place, its.group(1)))
-        found[shortest(digits_of(value.value, value.kind.width))] = its.group(2)
+        found[shortest(digits_of(value.value, value.kind.width))] = its.group(2), place
     if not found:
         raise UsageError("%s: it has no line such as `1 IDLE`" % path)
     return found
@@ -38,11 +39,12 @@ def forms_of(dump: Source, states: Sequence[Tuple[str, str]], form: AnyForm) -> 
     other values are shown in a form."""
     found: Dict[str, Form] = {}
     for name, path in states:
-        names, its = names_in(path), [one for one in dump.select(name)
+        lines, its = names_in(path), [one for one in dump.select(name)
                                       if not one.is_real and one.type != "event"]
-        for digits in names:
+        for digits, (text, place) in lines.items():
             if all(len(digits) > one.size for one in its):
-                raise UsageError("%s: %s has more bits than %s" % (path, names[digits], name))
+                raise UsageError("%s%s has more bits than %s" % (place, text, name))
+        names = {digits: text for digits, (text, _) in lines.items()}
         found.update((one.path, _named(names, form)) for one in its)
     return found
 

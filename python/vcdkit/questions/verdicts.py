@@ -1,9 +1,8 @@
-"""Verdicts on many dumps, which are checked side by side."""
+"""Verdicts on many dumps."""
 import collections
-from typing import Any, Callable, Dict, Iterator, List, NamedTuple, Optional, Sequence
+from typing import Any, Callable, Dict, List, NamedTuple, Optional, Sequence
 
 from ..errors import DumpFault, VcdkitError
-from ..reading import progress
 from ..reading.source import Source
 from .causes import look_at
 
@@ -38,24 +37,6 @@ def verdict_on(dump: Source, file: str, reach: Optional[str],
                        around, {"line": fault.line, "fault": fault.fault, "cause": cause})
     except VcdkitError as error:
         return Verdict(file, error.status, "unread", str(error), [], {"message": str(error)})
-
-
-def verdicts(files: Sequence[str], one: Callable[[str], Verdict], jobs: int) -> Iterator[Verdict]:
-    """Returns the verdicts on files, in their order, so many of them at a time."""
-    from concurrent.futures import ThreadPoolExecutor  # the import takes time
-    ended: List[bool] = []
-
-    def of(file: str) -> Optional[Verdict]:
-        return None if ended else one(file)
-
-    with ThreadPoolExecutor(max(jobs, 1)) as pool:
-        try:
-            for count, verdict in enumerate(pool.map(of, files), 1):
-                progress.stage = "%d of %d" % (count, len(files))
-                if verdict:
-                    yield verdict
-        finally:
-            ended.append(True)  # those that wait are not begun
 
 
 def summary(kinds: Sequence[str]) -> str:
