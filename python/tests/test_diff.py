@@ -18,6 +18,7 @@ said = functools.partial(cases.said_by, diff.main)
 HEADER = ("$scope module t $end $var wire 1 ! c $end $var real 64 @ r $end $var reg 4 \" q $end "
           "$upscope $end $enddefinitions $end\n")
 FILES = {"a": HEADER + "#0\n0!\nr1 @\n#1\n1!\n", "b": HEADER + "#0\n0!\nr1.5 @\n#1\n1!\nb1 \"\n",
+         "short": HEADER.replace("real 64", "shortreal 32") + "#0\n0!\nr1.5 @\n#1\n1!\n",
          "other": HEADER.replace("module t", "module u<&"), "empty": "", "fault": HEADER + "#x",
          "binary": "".join(map(chr, range(256))) * 9}
 LINES = "differs 0 t.r 1 1.5\n"
@@ -35,7 +36,7 @@ MISUSED = ["", "a", "- -", "--into=x a b", "--map=t a b", "--map==t a b", "--rea
            "--within=1 --rise=t.c a b", "--html=x . .",
            "--none a b", "--common=1 a b"]
 ANSWERED = [("a a", "", 0), ("a b", LINES, 1), ("--every a b", LINES + "differs 1 t.q - 0001\n", 1),
-            ("--every --within=0 a b", LINES, 1), ("--always --within=1 a b", "", 0),
+            ("--every --within=0 a b", LINES, 1), ("--within=0 a short", LINES, 1), ("--always --within=1 a b", "", 0),
             ("--real-tolerance=.5 a b", "differs 1 t.q - 0001\n", 1), ("a b t.c", "", 0),
             ("--except=t.r --except=t.q a b", "", 0),
             ("--rise=t.c a b", LINES.replace("0", "1", 1), 1),

@@ -148,8 +148,8 @@ def pairs_called(sides: Sides, name: str) -> List[Tuple[Pair, Tuple[Signal, Sign
     one, other = sides
     found = [((at, place), (one.dump.signals[at], other.dump.signals[place]))
              for at, place in zip(one.places_called(name), other.places_called(name))]
-    return [(places, its) for places, its in found if len({(
-        signal.size, signal.is_real, signal.type == "event") for signal in its}) == 1]
+    return [(places, its) for places, its in found if len({
+        of.type if of.type == "event" else "real" if of.is_real else of.size for of in its}) == 1]
 
 
 def numbered(paths: Iterable[str]) -> List[Tuple[str, int]]:
