@@ -53,9 +53,11 @@ def _bits(source: Source, edges: Sequence[Edge], bits: int) -> Iterator[Part]:
 
 def _dates(part: Source, codes: Collection[bytes]) -> Iterator[Part]:
     """Returns the times since which codes have their values, up to a fault."""
-    for time, *both in body.up_to_fault(part, codes) if codes else ():
-        for what, changes in zip((0, 2), both):
-            yield time, what, [one for one in changes if one[0][-1:] == b" "], 0
+    begin = part.begin() if codes else 0
+    for of in ([part.before(begin)] if begin else []) + ([part] if codes else []):
+        for time, *both in body.up_to_fault(of, codes):
+            for what, changes in zip((0, 2), both):
+                yield time, what, [one for one in changes if one[0][-1:] == b" "], 0
 
 
 def _edges(strobe: Source, codes: Collection[bytes]) -> Iterator[Tuple[int, body.Changes]]:
