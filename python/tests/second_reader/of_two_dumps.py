@@ -165,7 +165,8 @@ class Sides:
             return all(sum(plain(other) == plain(name) or other.startswith(name + ".")
                            for other in names) == 1 for names in self.all_names)
         return [pair for pair in self.pairs if pair[1].kind == 1 and is_clear(pair[0])
-                and len(self.of_name[0].get(pair[0], ())) == 1]
+                and pair[1] in self.of_name[0].get(pair[0], ())
+                and len(self.of_name[0][pair[0]]) == 1]
 
     def alone(self) -> List[Tuple[str, str, int]]:
         """Returns what only one dump has: the outermost scope that the other has not, else the
