@@ -483,7 +483,9 @@ def ask_context(of: Asker) -> None:
         of.same("context, no files", words, os.path.exists(folder), False)
         return
     begin, end = max(0, times[0] - count), min(LAST, times[0] + count)
-    for dump, name in ((of.dump, "diff.a.vcd"), (other, "diff.b.vcd")):
+    both = (of.dump, "diff.a.vcd"), (other, "diff.b.vcd")
+    # The ticks of the line are those of the first dump, rounded down.
+    for dump, name in both if other.scale == of.dump.scale else both[:1]:
         with open(os.path.join(folder, name), "rb") as file:
             part = Dump(file.read())
         codes = {one.code for one in dump.variables if not one.is_event}
