@@ -198,8 +198,8 @@ pub(crate) fn counterpart_of(
     }
 }
 
-/// Returns the variable that has the same range, and equally many of this path and this range before
-/// it.
+/// Returns the variable that has the same range, and equally many of this path and this range
+/// before it.
 fn same_range(variables: &Variables, places: &[Option<usize>], index: usize) -> Option<usize>
     ensures { (q : Asked) (h : Header) (n : Names) (texts : List (List ℕ)) (j : ℕ) (v : Named)
         → FindPlaces q h n texts variables.now places.now → IsNth h index v

@@ -7,8 +7,8 @@
 //! # The modules
 //!
 //! - `asked`: `Asked`, `Extent`
-//! - `paths`, `slices`, `variables`: the paths of a header by number, with and without ranges, and its
-//!   variables by these
+//! - `paths`, `slices`, `variables`: the paths of a header by number, with and without ranges, and
+//!   its variables by these
 //! - `selected`: what each of some names selects; `unselected`: which of them select nothing;
 //!   `outermost`: which of them no other one covers
 //! - `counterparts`, `kinds`: what a variable is compared with, and whether it is of the same kind

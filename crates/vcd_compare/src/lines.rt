@@ -39,7 +39,8 @@ fn put_state<W: Sink>(
 ) -> Result<(), WriteFailed>
     requires failures { (W.device out.old).failures < 2 ^ 64 - 1 }
     ensures { PutsWhere W.device out.old out.new result (λ takes.
-        AtCode view.entry current.now code time (λ items c. takes (shown (state_at 1 items c time)))) }
+        AtCode view.entry current.now code time
+        (λ items c. takes (shown (state_at 1 items c time)))) }
 {
     if !view.is_event(code) {
         return put_full(view, &current.table, code, out);
@@ -84,8 +85,8 @@ fn put_states<W: Sink>(
     put(out, b"\n")
 }
 
-/// Writes the path of the variable at index `row`, and its range after it if `ranged` says so. Fails
-/// if a write does.
+/// Writes the path of the variable at index `row`, and its range after it if `ranged` says so.
+/// Fails if a write does.
 fn put_name<W: Sink>(
     view: HeadView<'_>,
     row: usize,

@@ -57,7 +57,8 @@ pub(crate) fn tail_of<'a>(view: HeadView<'a>, row: usize) -> &'a [u8]
     behind(view.reference_of(row), view.name_of(row))
 }
 
-/// Returns what follows the first bytes of a text, as many as `front` has; no bytes if there are fewer.
+/// Returns what follows the first bytes of a text, as many as `front` has; no bytes if there are
+/// fewer.
 fn behind<'a>(text: &'a [u8], front: &[u8]) -> &'a [u8]
     ensures { result.now ≡ drop (length front.now) text.now }
 {

@@ -266,8 +266,8 @@ pub fn success_is_a_match()
     ensures { SuccessIsAMatch }
 {}
 
-/// A comparison whose names all select something, and which reaches its first time, is `within`, the
-/// comparison of the other laws.
+/// A comparison whose names all select something, and which reaches its first time, is `within`,
+/// the comparison of the other laws.
 pub fn comparison_is_within()
     ensures { ComparisonIsWithin }
 {}

@@ -53,8 +53,8 @@ fn path_and_place(word: &str) -> (&str, Option<u64>)
     }
 }
 
-/// Returns the clock that a word names, whose falling edges count if `falls` is set. Fails if memory
-/// runs out.
+/// Returns the clock that a word names, whose falling edges count if `falls` is set. Fails if
+/// memory runs out.
 fn clock_name(alloc: Global, word: &str, falls: bool) -> Result<ClockName, AllocError>
     ensures { IfOk result (λ name. model_name name ≡ clock_asked falls word.now) }
 {

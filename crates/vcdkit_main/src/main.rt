@@ -1,7 +1,7 @@
 //! `vcdkit`: tools over four-state value change dumps (IEEE Std 1364-2005, clause 18).
 //!
-//! It is the program `Vcdkit` of `vcd_program`, over the arguments, the files and the streams of the
-//! process.
+//! It is the program `Vcdkit` of `vcd_program`, over the arguments, the files and the streams of
+//! the process.
 #![tactic(auto)]
 
 use std::process::ExitCode;

@@ -20,9 +20,9 @@ pub struct NoClock {
     pub index: usize,
 }
 
-/// Writes the strobe of the marked variables over the body that follows the header of `view`, whose
-/// places are `places`. Returns what is answered. Fails as the strobe does. It gets no allocator, so
-/// it takes no memory, and all that it is lent is within the bound.
+/// Writes the strobe of the marked variables over the body that follows the header of `view`,
+/// whose places are `places`. Returns what is answered. Fails as the strobe does. It gets no
+/// allocator, so it takes no memory, and all that it is lent is within the bound.
 fn strobe_in<S: Source, W: Sink>(
     job: &Strobing,
     view: HeadView<'_>,

@@ -1,4 +1,5 @@
-//! `vcdkit-strobe`: values of a value change dump at the edges of its clocks (IEEE Std 1364-2005, clause 18).
+//! `vcdkit-strobe`: values of a value change dump (IEEE Std 1364-2005, clause 18) just before the
+//! edges of its clocks.
 //!
 //! It is the program `VcdkitStrobe` of `vcdkit_strobe`, over the arguments, the files and the
 //! streams of the process.
