@@ -316,12 +316,13 @@ def deep(count):
 
 def nested(count):
     """Two paths of so many parts, and 99 names inside each other: each with the same path in the
-    other scope, or with that scope. Of the latter only the first has a pair."""
+    other scope, or with that scope. The former all have one pair, which counts once; of the latter
+    only the first has a pair."""
     path = b".".join([b"a"] * count)
     names = [b".".join([b"a"] * n) for n in range(100)]
     text = b"".join(b"$scope module %s $end $var wire 1 %s %s $end $upscope $end\n" % (
         part, part, path) for part in (b"a", b"b")) + b"$enddefinitions $end\n"
-    yield "of nested names", text, 99, [b"a.%s=b.%s" % (name, name) for name in names[1:]], b""
+    yield "of nested names", text, 1, [b"a.%s=b.%s" % (name, name) for name in names[1:]], b""
     yield ("of nested names and one", text, 1, [b"%s=b" % name for name in names[1:]],
            b"".join(b"alone %s %s.%s\n" % (part.upper(), part, path) * 98 for part in (b"a", b"b")))
 
