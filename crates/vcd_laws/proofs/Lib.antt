@@ -105,6 +105,8 @@ pub mod StrobeShort
 pub mod StrobeDump
 mod StrobedRows
 pub mod SuccessMatches
+pub mod OutermostPlaces
+pub mod OutermostOnce
 pub mod MergedSuccess
 pub mod StrobesMatch
 pub mod Cited

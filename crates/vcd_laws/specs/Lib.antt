@@ -12,5 +12,6 @@ pub mod Final
 pub mod Due
 pub mod CompareMerged
 pub mod Matching
+pub mod Selecting
 pub mod Strobes
 pub mod StrobesMerged

@@ -13,6 +13,7 @@ ghost use Rattle.vcd_laws.specs.OverCut.{ListOfCut, SampleOfCut, SampleOfCutAnyw
 ghost use Rattle.vcd_laws.specs.OverMerge.{ListOfMerge, SampleOfMerge, EdgesOfMerge, SampleOfOneMerged, SampleOfAllMerged, EdgesOfOneMerged, EdgesOfAllMerged, SampleOfAnyMerged, EdgesOfAnyMerged};
 ghost use Rattle.vcd_laws.specs.CompareMerged.{CompareOfMerge};
 ghost use Rattle.vcd_laws.specs.Matching.{ComparisonIsWithin, SuccessIsAMatch, MergedSuccessIsAMatch};
+ghost use Rattle.vcd_laws.specs.Selecting.{OutermostHaveAllPairs, OutermostHaveEachPairOnce};
 ghost use Rattle.vcd_laws.specs.Strobes.{NothingRevisedInStrobe, SameStrobes, StrobeKeeps, StrobeIsADump};
 ghost use Rattle.vcd_laws.specs.StrobesMerged.{StrobeSuccessIsAMatch};
 ghost use Rattle.vcd_laws.specs.Counted.{CheckOfPick, CheckOfCut, CheckOfMerge};
@@ -270,6 +271,17 @@ pub fn success_is_a_match()
 /// the comparison of the other laws.
 pub fn comparison_is_within()
     ensures { ComparisonIsWithin }
+{}
+
+/// The outermost pairs of names select the same pairs of variables as all pairs of names do, and
+/// leave the same variables without a counterpart.
+pub fn outermost_have_all_pairs()
+    ensures { OutermostHaveAllPairs }
+{}
+
+/// The outermost pairs of names select no pair of variables twice.
+pub fn outermost_have_each_pair_once()
+    ensures { OutermostHaveEachPairOnce }
 {}
 
 /// The two inputs in what `merge` wrote differ where the inputs themselves do, up to the end of the
