@@ -1,5 +1,5 @@
 -- A change of a code that is no event, step by step.
-use Rattle.std.proofs.Common.{◌≡◌, ℕ, ◌<◌, false, List, length, slice_get, Option, Some, sym, ap, subst, ◌∙◌, arith}
+use Rattle.std.proofs.Common.{◌≡◌, ℕ, ◌<◌, false, true, List, length, slice_get, Option, Some, sym, ap, subst, ◌∙◌, arith}
 use Rattle.std.proofs.lemmas.List.{length-map}
 use Rattle.std.proofs.lemmas.Option.{same_Some}
 use Rattle.std.specs.Char.{to_ascii_lowercase}
@@ -21,7 +21,7 @@ use Rattle.vcd_strobe.specs.Clocks.{AreClocks, turns_at}
 use Rattle.vcd_strobe.specs.Kept.{IsFull}
 use Rattle.vcd_strobe.specs.Lines.{in_places}
 use Rattle.vcd_strobe.specs.Moments.{EdgesStand}
-use Rattle.vcd_strobe.specs.Roles.{needs}
+use Rattle.vcd_strobe.specs.Roles.{is_followed, needs}
 use Rattle.vcd_strobe.specs.Strobes.{AreDistinct, HasStrobed, Stands}
 use Rattle.vcd_strobe.specs.declared.role.Role.{Role}
 use Rattle.vcd_strobe.specs.declared.whole.Strobe.{Strobe}
@@ -64,10 +64,10 @@ module _ (s s1 : Strobe) (p : _) (h : Header) (items : List BodyItem) (has : Has
   pub clocks_placed : AreClocks h.codes s1.clocks.now has.ks
   clocks_placed = subst (λ (x : Strobe). AreClocks h.codes x.clocks.now has.ks) (sym rest) has.clocks
 
-  pub turn_placed : list_any (turns_at s1.places s1.table code r.now to) s1.clocks.now ≡ is_turn has.ks items (BodyItem.Changes change)
-  turn_placed =
+  pub turn_placed : is_followed r.wanted ≡ true → list_any (turns_at s1.places s1.table code r.now to) s1.clocks.now ≡ is_turn has.ks items (BodyItem.Changes change)
+  turn_placed follows =
       let q = placed.roles_are code a declared in
-      let v = q.2.values event in
+      let v = q.2.values event (ap (λ (x : Role). is_followed x.wanted) (its q.0 q.1) ∙ follows) in
       let before = ap (λ (x : Role). in_places s1.table a.size code x.now) (sym (its q.0 q.1)) ∙ v.now_is in
       turn_is s1.places s1.table h.codes placed.places distinct items change code r.now to declared from_low to_low before value v.full
       (full_text f c text a.size good plain size some) s1.clocks.now has.ks clocks_placed

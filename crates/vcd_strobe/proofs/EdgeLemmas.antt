@@ -3,6 +3,7 @@ use Rattle.std.proofs.Common.{◌≡◌, ℕ, zero, suc, ◌<◌, ◌≤◌, ◌
 use Rattle.std.proofs.lemmas.List.Concat.{flat_map-append}
 use Rattle.std.proofs.lemmas.List.Elements.{filter-append}
 use Rattle.std.proofs.lemmas.List.Sorted.{sum_by-IsPermutation}
+use Rattle.std.specs.List.{AllByRecursion}
 use Rattle.std.specs.List.Sorted.{IsNonDecreasing, IsPermutation}
 use Rattle.vcd_model.specs.Declarations.{IdCode}
 use Rattle.vcd_model.specs.Items.{BodyItem, time_after}
@@ -13,13 +14,14 @@ use Rattle.vcd_strobe.proofs.Once.{sorted_is}
 use Rattle.vcd_strobe.proofs.RoleSteps.{line_is, no_line, role_past, role_settled}
 use Rattle.vcd_strobe.specs.Codes.{AreRoles}
 use Rattle.vcd_strobe.specs.Kept.{IsRole, role_line}
-use Rattle.vcd_strobe.specs.Listed.{AreListed, SettlesEach, chosen, listed_at, times}
-use Rattle.vcd_strobe.specs.Roles.{has_lines, is_idle, is_listed, settle}
+use Rattle.vcd_strobe.specs.Listed.{AreListed, SettlesEach, chosen, followed_at, listed_at, times}
+use Rattle.vcd_strobe.specs.Roles.{has_lines, is_at, is_followed, is_idle, is_listed, settle}
+use Rattle.vcd_strobe.specs.declared.clocks.Clock.{Clock}
 use Rattle.vcd_strobe.specs.declared.role.Role.{Role}
 use Rattle.vcd_strobe.specs.declared.role.Wanted.{Wanted}
-use Rattle.vcd_strobe.specs.declared.role.Wanted.TheVariants.{Idle, Listed, Never}
+use Rattle.vcd_strobe.specs.declared.role.Wanted.TheVariants.{Idle, Listed, Never, Silent}
 
-take_next : {X : Type 0} (xs : List X) (i : ℕ) (x : X) → slice_get xs i ≡ Some x → take (suc i) xs ≡ take i xs ++ x ∷ []
+pub take_next : {X : Type 0} (xs : List X) (i : ℕ) (x : X) → slice_get xs i ≡ Some x → take (suc i) xs ≡ take i xs ++ x ∷ []
 take_next [] i x at = cc
 take_next (y ∷ xs) zero x at = let same : y ≡ x = cc in ap (λ z. z ∷ []) same
 take_next (y ∷ xs) (suc i) x at = ap (λ l. y ∷ l) (take_next xs i x at)
@@ -52,6 +54,9 @@ module _ (at : IdCode → ℕ → ℕ → Option Value) (lines : IdCode → Bool
             let yes_lines : lines c ≡ true = sym r.2.lines_are ∙ ap has_lines e in
             let text : code_line es items c ≡ [] = no_line (at c i) es items c (lines c) r.0 r.2 low (ap is_idle e) in
             rw (its_listed i r.0 r.1 ∙ ap is_listed e, yes_lines) (sym (ap (λ l. l ++ []) text))
+        by_wanted Silent e =
+            let no_lines : lines c ≡ false = sym r.2.lines_are ∙ ap has_lines e in
+            rw (its_listed i r.0 r.1 ∙ ap is_listed e, no_lines) refl
         by_wanted Never e =
             let no_lines : lines c ≡ false = sym r.2.lines_are ∙ ap has_lines e in
             rw (its_listed i r.0 r.1 ∙ ap is_listed e, no_lines) refl
@@ -131,3 +136,27 @@ kept_listed roles roles' sorted kept count n t once settles within has = record 
         let none : times i sorted ≡ 0 = once i ∙ ap (λ b. cond b 1 0) e in
         let no = sym f ∙ ap (λ o. unwrap_or (option_map (λ (r : Role). is_listed r.wanted) o) false) (settles i) ∙ not_new (slice_get roles i) (times i sorted) none e in
         cc
+
+-- ---- the clocks' codes
+
+-- an edge has no code's values dropped
+pub still_followed : (sorted : List ℕ) (t : ℕ) (roles roles' : List Role) → SettlesEach sorted t roles roles' → (i : ℕ)
+    → followed_at roles i ≡ true → followed_at roles' i ≡ true
+still_followed sorted t roles roles' settles i was =
+    ap (λ o. unwrap_or (option_map (λ (r : Role). is_followed r.wanted) o) false) (settles i) ∙ by_role (slice_get roles i) was (nat_lt 0 (times i sorted))
+  where
+    by_wanted : (b : Bool) (w : Wanted) → is_followed w ≡ true → is_followed (cond b w Idle) ≡ true
+    by_wanted true w e = e
+    by_wanted false w e = refl
+
+    by_role : (o : Option Role) → unwrap_or (option_map (λ (r : Role). is_followed r.wanted) o) false ≡ true → (b : Bool)
+        → unwrap_or (option_map (λ (r : Role). is_followed r.wanted) (option_map (λ (r : Role). cond b (settle r t) r) o)) false ≡ true
+    by_role None e b = e
+    by_role (Some r) e true = by_wanted (is_at r.since t) r.wanted e
+    by_role (Some r) e false = e
+
+-- the clocks' codes are followed if all codes that were still are
+pub still_clocked : (roles roles' : List Role) → ((i : ℕ) → followed_at roles i ≡ true → followed_at roles' i ≡ true) → (clocks : List Clock)
+    → AllByRecursion (λ (k : Clock). followed_at roles k.code ≡ true) clocks → AllByRecursion (λ (k : Clock). followed_at roles' k.code ≡ true) clocks
+still_clocked roles roles' still [] all = tt
+still_clocked roles roles' still (k ∷ clocks) all = (still k.code all.0, still_clocked roles roles' still clocks all.1)

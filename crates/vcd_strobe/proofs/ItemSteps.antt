@@ -3,6 +3,7 @@ use Rattle.std.proofs.Common.{◌≡◌, ◌≢◌, ◌⊎◌, inl, inr, ℕ, �
 use Rattle.std.proofs.lemmas.Bool.{cases_eq}
 use Rattle.std.proofs.lemmas.List.{length-set}
 use Rattle.std.proofs.lemmas.Option.{same_Some}
+use Rattle.std.specs.List.{AllByRecursion}
 use Rattle.vcd_model.specs.Declarations.{IdCode, same_code}
 use Rattle.vcd_model.specs.Header.{Header}
 use Rattle.vcd_model.specs.History.{final_value, gives_to}
@@ -16,23 +17,25 @@ use Rattle.vcd_body.specs.declared.item.Section.{Section}
 use Rattle.vcd_body.specs.declared.item.Section.TheVariants as section
 use Rattle.vcd_body.specs.Contents.{IsLaidOut, codes_shown}
 use Rattle.vcd_body.specs.declared.values.table.Table.{Table}
-use Rattle.vcd_strobe.proofs.ListSteps.{enlists, set_at, set_other}
-use Rattle.vcd_strobe.proofs.RoleSteps.{role_changed, role_inside, role_other, role_time, role_triggered}
+use Rattle.vcd_strobe.proofs.ListSteps.{enlists, set_at, set_followed, set_other}
+use Rattle.vcd_strobe.proofs.EdgeLemmas.{still_clocked}
+use Rattle.vcd_strobe.proofs.RoleSteps.{role_changed, role_ignored, role_inside, role_other, role_time, role_triggered}
 use Rattle.std.proofs.lemmas.Option.{slice_get_within}
 use Rattle.vcd_strobe.proofs.Sampled.{time_still}
 use Rattle.vcd_strobe.specs.Codes.{AreRoles}
 use Rattle.vcd_strobe.specs.Kept.{IsFull, IsRole}
 use Rattle.vcd_strobe.specs.Lines.{ArePlaces, in_places}
-use Rattle.vcd_strobe.specs.Listed.{AreListed}
-use Rattle.vcd_strobe.specs.Roles.{changed, enlisted, is_idle, triggered}
+use Rattle.vcd_strobe.specs.Listed.{AreListed, followed_at}
+use Rattle.vcd_strobe.specs.Roles.{changed, enlisted, is_followed, is_idle, triggered}
 use Rattle.vcd_strobe.specs.Strobes.{HasShares, Stands, has_lines_in, is_start}
+use Rattle.vcd_strobe.specs.declared.clocks.Clock.{Clock}
 use Rattle.vcd_strobe.specs.declared.role.Role.{Role}
 use Rattle.vcd_strobe.specs.declared.whole.Strobe.{Strobe}
 
 module _ (s : Strobe) (h : Header) (names : List (List ℕ)) (es : List (List BodyItem)) (items : List BodyItem) (has : Stands s h names es items) where
   -- the roles after another item
   stands_with : (more : List BodyItem) → AreRoles (λ c code place. in_places s.table c.size code place) (has_lines_in h names) h.codes es more s.roles.now → Stands s h names es more
-  stands_with more roles = record { places = has.places; laid = has.laid; shares = has.shares; roles_are = roles; many = has.many; list = has.list; room = has.room; id = has.id }
+  stands_with more roles = record { places = has.places; laid = has.laid; shares = has.shares; roles_are = roles; many = has.many; list = has.list; room = has.room; id = has.id; clocked = has.clocked }
 
   -- a timestamp
   pub stands_time : (t : ℕ) → time_after items ≤ t → Stands s h names es (items ++ BodyItem.Time t ∷ [])
@@ -72,9 +75,32 @@ module _ (s : Strobe) (h : Header) (names : List (List ℕ)) (es : List (List Bo
                   (time_still items (BodyItem.Changes d) refl) (others i c there apart),
             )
 
+    -- of a code whose values are not kept
+    pub stands_ignored : (q : Role) → slice_get s.roles.now code ≡ Some q → a.event ≡ false → is_followed q.wanted ≡ false → Stands s h names es after
+    stands_ignored q its event ignored = stands_with after (λ i c there. by_place i c there (cases_eq i code))
+      where
+        by_place : (i : ℕ) (c : IdCode) → slice_get h.codes i ≡ Some c → (i ≡ code) ⊎ (i ≢ code) → (r : Role) × (slice_get s.roles.now i ≡ Some r)
+            × IsRole (λ place. in_places s.table c.size i place) es after c (has_lines_in h names c) r
+        by_place i c there (inl e) =
+            let r = has.roles_are i c there in
+            let one : c ≡ a = same_Some c a (sym there ∙ ap (slice_get h.codes) e ∙ declared) in
+            let same : r.0 ≡ q = same_Some r.0 q (sym r.1 ∙ ap (slice_get s.roles.now) e ∙ its) in (
+              r.0,
+              r.1,
+              role_ignored (λ place. in_places s.table c.size i place) es items c (has_lines_in h names c) r.0 r.2 (BodyItem.Changes d)
+                  (time_still items (BodyItem.Changes d) refl) (ap (λ (y : IdCode). y.event) one ∙ event) (ap (λ (x : Role). is_followed x.wanted) same ∙ ignored),
+            )
+        by_place i c there (inr apart) =
+            let r = has.roles_are i c there in (
+              r.0,
+              r.1,
+              role_other (λ place. in_places s.table c.size i place) es items c (has_lines_in h names c) r.0 r.2 (BodyItem.Changes d)
+                  (time_still items (BodyItem.Changes d) refl) (others i c there apart),
+            )
+
     -- with a new role of the code
     module _ (s' : Strobe) (r q : Role) (role : slice_get s.roles.now code ≡ Some r) (wanted : q.wanted ≡ r.wanted) (places : s'.places ≡ s.places)
-        (table : s'.table ≡ s.table) (id : s'.id ≡ s.id) (roles : s'.roles.now ≡ set s.roles.now code (enlisted q))
+        (table : s'.table ≡ s.table) (id : s'.id ≡ s.id) (clocks : s'.clocks ≡ s.clocks) (roles : s'.roles.now ≡ set s.roles.now code (enlisted q))
         (within : s.count ≤ length s.listed.now → s'.count ≤ length s'.listed.now) (long : length s'.listed.now ≡ length s.listed.now)
         (more : s.count < length s.listed.now → take s'.count s'.listed.now ≡ take s.count s.listed.now ++ cond (is_idle q.wanted) (code ∷ []) [])
         (same : is_idle q.wanted ≡ false → take s'.count s'.listed.now ≡ take s.count s.listed.now) where
@@ -116,6 +142,9 @@ module _ (s : Strobe) (h : Header) (names : List (List ℕ)) (es : List (List Bo
         list = new_list;
         room = (let room = has.room in omega (arith, room, long));
         id = ap (λ (b : _). b.now) id ∙ has.id;
+        clocked = subst (λ (rs : List Role). AllByRecursion (λ (k : Clock). followed_at rs k.code ≡ true) s'.clocks.now) (sym roles)
+            (subst (λ (b : _). AllByRecursion (λ (k : Clock). followed_at (set s.roles.now code (enlisted q)) k.code ≡ true) b.now) (sym clocks)
+            (still_clocked s.roles.now (set s.roles.now code (enlisted q)) (set_followed s.roles.now code r q role wanted) s.clocks.now has.clocked));
       }
 
     pub its_role : (r : Role) → slice_get s.roles.now code ≡ Some r → IsRole (λ place. in_places s.table a.size code place) es items a (has_lines_in h names a) r
@@ -124,13 +153,13 @@ module _ (s : Strobe) (h : Header) (names : List (List ℕ)) (es : List (List Bo
 
     -- a trigger
     pub stands_triggered : (s' : Strobe) (r : Role) (t : ℕ) → t ≡ time_after items → a.event ≡ true → leaves_open items ≡ false
-        → last_time es ≤ time_after items → slice_get s.roles.now code ≡ Some r → s'.places ≡ s.places → s'.table ≡ s.table → s'.id ≡ s.id
+        → last_time es ≤ time_after items → slice_get s.roles.now code ≡ Some r → s'.places ≡ s.places → s'.table ≡ s.table → s'.id ≡ s.id → s'.clocks ≡ s.clocks
         → s'.roles.now ≡ set s.roles.now code (enlisted (triggered r t))
         → (s.count ≤ length s.listed.now → s'.count ≤ length s'.listed.now) → length s'.listed.now ≡ length s.listed.now
         → (s.count < length s.listed.now → take s'.count s'.listed.now ≡ take s.count s.listed.now ++ cond (is_idle r.wanted) (code ∷ []) [])
         → (is_idle r.wanted ≡ false → take s'.count s'.listed.now ≡ take s.count s.listed.now) → Stands s' h names es after
-    stands_triggered s' r t is event outside low role places table id roles within long more same =
-        stands_set s' r (triggered r t) role refl places table id roles within long more same
+    stands_triggered s' r t is event outside low role places table id clocks roles within long more same =
+        stands_set s' r (triggered r t) role refl places table id clocks roles within long more same
         (subst (λ u. IsRole (λ place. in_places s.table a.size code place) es after a (has_lines_in h names a) (enlisted (triggered r u))) (sym is)
         (role_triggered (λ place. in_places s.table a.size code place) es items a (has_lines_in h names a) r
         (its_role r role) d gives event outside low))
@@ -138,13 +167,13 @@ module _ (s : Strobe) (h : Header) (names : List (List ℕ)) (es : List (List Bo
     -- a value, in one of its places
     pub stands_changed : (s' : Strobe) (r : Role) (t place : ℕ) (start : Bool) → t ≡ time_after items → a.event ≡ false → place < 4
         → in_places s.table a.size code place ≡ Some (value_of d) → IsFull a.size (Some (value_of d))
-        → start ≡ (is_none (final_value items a) && is_vars (open_section items)) → slice_get s.roles.now code ≡ Some r → s'.places ≡ s.places
-        → s'.table ≡ s.table → s'.id ≡ s.id → s'.roles.now ≡ set s.roles.now code (enlisted (changed r t place start))
+        → (is_followed r.wanted ≡ true → start ≡ (is_none (final_value items a) && is_vars (open_section items))) → slice_get s.roles.now code ≡ Some r → s'.places ≡ s.places
+        → s'.table ≡ s.table → s'.id ≡ s.id → s'.clocks ≡ s.clocks → s'.roles.now ≡ set s.roles.now code (enlisted (changed r t place start))
         → (s.count ≤ length s.listed.now → s'.count ≤ length s'.listed.now) → length s'.listed.now ≡ length s.listed.now
         → (s.count < length s.listed.now → take s'.count s'.listed.now ≡ take s.count s.listed.now ++ cond (is_idle r.wanted) (code ∷ []) [])
         → (is_idle r.wanted ≡ false → take s'.count s'.listed.now ≡ take s.count s.listed.now) → Stands s' h names es after
-    stands_changed s' r t place start is event few value full start_is role places table id roles within long more same =
-        stands_set s' r (changed r t place start) role refl places table id roles within long more same
+    stands_changed s' r t place start is event few value full start_is role places table id clocks roles within long more same =
+        stands_set s' r (changed r t place start) role refl places table id clocks roles within long more same
         (subst (λ u. IsRole (λ p. in_places s.table a.size code p) es after a (has_lines_in h names a) (enlisted (changed r u place start))) (sym is)
         (role_changed (λ p. in_places s.table a.size code p) es items a (has_lines_in h names a) r
         (its_role r role) d gives event place few value full start start_is))

@@ -15,6 +15,7 @@ pub mod TurnSteps
 pub mod ChangeSteps
 pub mod TaskSteps
 pub mod AheadSteps
+pub mod FollowSteps
 pub mod StartSteps
 pub mod HeadSteps
 pub mod CopySteps

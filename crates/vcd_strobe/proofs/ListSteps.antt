@@ -4,11 +4,11 @@ use Rattle.std.proofs.lemmas.Bool.{eq-eqb, ne_eqb, cases_eq, lt-ltb}
 use Rattle.std.proofs.lemmas.List.{length-take-le, length_push, take_more}
 use Rattle.std.proofs.lemmas.Option.{same_Some, slice_get_cases, slice_get_past, slice_get_within}
 use Rattle.vcd_strobe.proofs.Once.{fits, times_push}
-use Rattle.vcd_strobe.specs.Listed.{AreListed, SettlesEach, listed_at, times}
-use Rattle.vcd_strobe.specs.Roles.{enlisted, is_at, is_idle, is_listed, settle, settled}
+use Rattle.vcd_strobe.specs.Listed.{AreListed, SettlesEach, followed_at, listed_at, times}
+use Rattle.vcd_strobe.specs.Roles.{enlisted, is_at, is_followed, is_idle, is_listed, settle, settled}
 use Rattle.vcd_strobe.specs.declared.role.Role.{Role}
 use Rattle.vcd_strobe.specs.declared.role.Wanted.{Wanted}
-use Rattle.vcd_strobe.specs.declared.role.Wanted.TheVariants.{Idle, Listed, Never}
+use Rattle.vcd_strobe.specs.declared.role.Wanted.TheVariants.{Idle, Listed, Never, Silent}
 
 -- ---- an element that is set
 
@@ -188,9 +188,35 @@ module _ (roles : List Role) (codes : List ℕ) (count : ℕ) (listed : AreListe
                 by_same : (i ≡ code) ⊎ (i ≢ code) → listed_at (set roles code (enlisted q)) i ≡ listed_at roles i
                 by_same (inl f) = ap (listed_at (set roles code (enlisted q))) f ∙ now_listed ∙ ap (λ w. is_listed (cond (is_idle w) Listed w)) is ∙ true_is ∙ ap (listed_at roles) (sym f)
                 by_same (inr apart) = others i apart
+        by_wanted Silent e i = ap (times i) (none (ap is_idle (same ∙ e))) ∙ listed.once i ∙ ap (λ b. cond b 1 0) (sym (by_same (cases_eq i code)))
+          where
+            by_same : (i ≡ code) ⊎ (i ≢ code) → listed_at (set roles code (enlisted q)) i ≡ listed_at roles i
+            by_same (inl f) = ap (listed_at (set roles code (enlisted q))) f ∙ now_listed
+                ∙ ap (λ w. is_listed (cond (is_idle w) Listed w)) (same ∙ e) ∙ sym (was ∙ ap is_listed e) ∙ ap (listed_at roles) (sym f)
+            by_same (inr apart) = others i apart
         by_wanted Never e i = ap (times i) (none (ap is_idle (same ∙ e))) ∙ listed.once i ∙ ap (λ b. cond b 1 0) (sym (by_same (cases_eq i code)))
           where
             by_same : (i ≡ code) ⊎ (i ≢ code) → listed_at (set roles code (enlisted q)) i ≡ listed_at roles i
             by_same (inl f) = ap (listed_at (set roles code (enlisted q))) f ∙ now_listed
                 ∙ ap (λ w. is_listed (cond (is_idle w) Listed w)) (same ∙ e) ∙ sym (was ∙ ap is_listed e) ∙ ap (listed_at roles) (sym f)
             by_same (inr apart) = others i apart
+
+-- the code that is set is followed as it was
+pub set_followed : (roles : List Role) (code : ℕ) (r q : Role) → slice_get roles code ≡ Some r → q.wanted ≡ r.wanted → (i : ℕ)
+    → followed_at roles i ≡ true → followed_at (set roles code (enlisted q)) i ≡ true
+set_followed roles code r q there same i was = by_same (cases_eq i code)
+  where
+    enlisted_follows : (w : Wanted) → is_followed (cond (is_idle w) Listed w) ≡ is_followed w
+    enlisted_follows Listed = refl
+    enlisted_follows Idle = refl
+    enlisted_follows Silent = refl
+    enlisted_follows Never = refl
+
+    of : Option Role → Bool
+    of o = unwrap_or (option_map (λ (r : Role). is_followed r.wanted) o) false
+
+    by_same : (i ≡ code) ⊎ (i ≢ code) → followed_at (set roles code (enlisted q)) i ≡ true
+    by_same (inl e) =
+        ap (λ n. of (slice_get (set roles code (enlisted q)) n)) e ∙ ap of (set_at roles code (enlisted q) (slice_get_within roles code r there))
+        ∙ enlisted_follows q.wanted ∙ ap is_followed same ∙ sym (ap of there) ∙ sym (ap (followed_at roles) e) ∙ was
+    by_same (inr apart) = ap of (set_other roles code i (enlisted q) apart) ∙ was

@@ -26,7 +26,7 @@ role_by at at' es items c lines r now before written is = record {
   within = is.within;
   low = is.low;
   lines_are = is.lines_are;
-  values = λ e. let v = is.values e in record {
+  values = λ e w. let v = is.values e w in record {
     now_is = now ∙ v.now_is;
     settled_is = by_test (is_at r.since (time_after items)) ∙ v.settled_is;
     written_is = λ h. written ∙ v.written_is h;
@@ -109,6 +109,7 @@ module _ (s s' : Strobe) (h : Header) (names : List (List ℕ)) (es : List (List
     list = has.list;
     room = has.room;
     id = has.id;
+    clocked = has.clocked;
   })
 
   -- what it has then

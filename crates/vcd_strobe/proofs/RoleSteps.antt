@@ -16,10 +16,10 @@ use Rattle.vcd_model.proofs.Times.{time_after-append}
 use Rattle.vcd_strobe.proofs.Sampled.{sampled_later, sampled_other, sampled_start, sampled_stays, time_on, time_still}
 use Rattle.vcd_strobe.proofs.Triggers.{triggered_before, triggered_from, triggered_inside, triggered_never, triggered_now, triggered_other, triggered_past, triggered_up}
 use Rattle.vcd_strobe.specs.Kept.{HasTriggers, HasValues, IsFull, IsRole, role_line}
-use Rattle.vcd_strobe.specs.Roles.{changed, enlisted, has_lines, is_at, is_due, is_idle, is_listed, settle, settled, triggered}
+use Rattle.vcd_strobe.specs.Roles.{changed, enlisted, has_lines, is_at, is_due, is_followed, is_idle, is_listed, settle, settled, triggered}
 use Rattle.vcd_strobe.specs.declared.role.Role.{Role}
 use Rattle.vcd_strobe.specs.declared.role.Wanted.{Wanted}
-use Rattle.vcd_strobe.specs.declared.role.Wanted.TheVariants.{Idle, Listed, Never}
+use Rattle.vcd_strobe.specs.declared.role.Wanted.TheVariants.{Idle, Listed, Never, Silent}
 
 -- a moment that is not later than all items is not a later time
 not_later : (o : Option ℕ) (n t : ℕ) → n < t → IfSome o (λ u. u ≤ n) → is_at o t ≡ false
@@ -59,8 +59,18 @@ module _ (at : ℕ → Option Value) (es : List (List BodyItem)) (items : List B
       within = is.within;
       low = subst (λ t. IfSome r.since (λ u. u ≤ t)) (sym time) is.low;
       lines_are = is.lines_are;
-      values = λ e. values_other none (is.values e);
+      values = λ e f. values_other none (is.values e f);
       triggers = λ e. triggers_same (λ from to. triggered_other items x c from to none) (is.triggers e);
+    }
+
+    -- a code whose values are not kept
+    pub role_ignored : c.event ≡ false → is_followed r.wanted ≡ false → IsRole at es (items ++ x ∷ []) c lines r
+    role_ignored event ignored = record {
+      within = is.within;
+      low = subst (λ t. IfSome r.since (λ u. u ≤ t)) (sym time) is.low;
+      lines_are = is.lines_are;
+      values = λ e f. absurd (let no = sym f ∙ ignored in cc);
+      triggers = λ e. absurd (let no = sym event ∙ e in cc);
     }
 
     -- an event inside a section
@@ -69,7 +79,7 @@ module _ (at : ℕ → Option Value) (es : List (List BodyItem)) (items : List B
       within = is.within;
       low = subst (λ t. IfSome r.since (λ u. u ≤ t)) (sym time) is.low;
       lines_are = is.lines_are;
-      values = λ e. absurd (let no = sym e ∙ event in cc);
+      values = λ e f. absurd (let no = sym e ∙ event in cc);
       triggers = λ e. triggers_same (λ from to. triggered_inside items x c from to inside) (is.triggers e);
     }
 
@@ -114,7 +124,7 @@ module _ (at : ℕ → Option Value) (es : List (List BodyItem)) (items : List B
           within = is.within;
           low = still_low r.since (time_after items) (time_after after) (time_after-append items (BodyItem.Time t ∷ [])) is.low;
           lines_are = is.lines_are;
-          values = λ e. values_later lt (is.values e);
+          values = λ e f. values_later lt (is.values e f);
           triggers = λ e. triggers_later lt (is.triggers e);
         }
         by_order (inr le) = role_other (BodyItem.Time t) (now ∙ omega (arith, le, forth)) refl
@@ -130,16 +140,24 @@ module _ (at : ℕ → Option Value) (es : List (List BodyItem)) (items : List B
     lines_stay : (w : Wanted) → has_lines (cond (is_idle w) Listed w) ≡ has_lines w
     lines_stay Listed = refl
     lines_stay Idle = refl
+    lines_stay Silent = refl
     lines_stay Never = refl
+
+    followed_still : (w : Wanted) → is_followed (cond (is_idle w) Listed w) ≡ true → is_followed w ≡ true
+    followed_still Listed e = refl
+    followed_still Idle e = refl
+    followed_still Silent e = refl
+    followed_still Never e = e
 
     never_idle : (w : Wanted) → is_idle (cond (is_idle w) Listed w) ≡ false
     never_idle Listed = refl
     never_idle Idle = refl
+    never_idle Silent = refl
     never_idle Never = refl
 
     -- its value
     module _ (event : c.event ≡ false) (place : ℕ) (few : place < 4) (value : at place ≡ Some (value_of d))
-        (full : IsFull c.size (Some (value_of d))) (start : Bool) (start_is : start ≡
+        (full : IsFull c.size (Some (value_of d))) (start : Bool) (start_if : is_followed r.wanted ≡ true → start ≡
         (is_none (final_value items c) && is_vars (open_section items))) where
       abbrev next : Role
       next = enlisted (changed r (time_after items) place start)
@@ -168,34 +186,34 @@ module _ (at : ℕ → Option Value) (es : List (List BodyItem)) (items : List B
       itself : is_at (Some (time_after items)) (time_after items) ≡ true
       itself = eq-eqb (time_after items) (time_after items) refl
 
-      settles : (b s : Bool) → is_at r.since (time_after items) ≡ b → start ≡ s → at (settled next (time_after changes)) ≡ sampled changes c
-      settles true s e f =
+      settles : is_followed r.wanted ≡ true → (b s : Bool) → is_at r.since (time_after items) ≡ b → start ≡ s → at (settled next (time_after changes)) ≡ sampled changes c
+      settles w true s e f =
           ap (λ t. at (settled next t)) time_is
           ∙ rw (e, e) (ap (λ b. at (cond b r.before r.now)) (sym e) ∙ stays s f)
         where
           -- a value from the start has no change before it
           stays : (s : Bool) → start ≡ s → at (settled r (time_after items)) ≡ sampled changes c
-          stays false f = (is.values event).settled_is ∙ sym (sampled_stays items d c (sym start_is ∙ f))
+          stays false f = (is.values event w).settled_is ∙ sym (sampled_stays items d c (sym (start_if w) ∙ f))
           stays true f =
-              let p = parts (is_none (final_value items c)) (is_vars (open_section items)) (sym f ∙ start_is) in
-              let none = (is.values event).fresh (none_is (final_value items c) p.0) in
+              let p = parts (is_none (final_value items c)) (is_vars (open_section items)) (sym f ∙ start_if w) in
+              let none = (is.values event w).fresh (none_is (final_value items c) p.0) in
               absurd (let no = sym (ap (λ o. is_at o (time_after items)) none) ∙ e in cc)
-      settles false true e f =
-          let p = parts (is_none (final_value items c)) (is_vars (open_section items)) (sym f ∙ start_is) in
+      settles w false true e f =
+          let p = parts (is_none (final_value items c)) (is_vars (open_section items)) (sym f ∙ start_if w) in
           ap (λ t. at (settled next t)) time_is ∙ rw (e, f, e) value ∙ sym (sampled_start items d c gives (none_is (final_value items c) p.0) p.1)
-      settles false false e f =
-          ap (λ t. at (settled next t)) time_is ∙ rw (e, f, itself) (ap (λ b. at (cond b r.before r.now)) (sym e) ∙ (is.values event).settled_is)
-          ∙ sym (sampled_stays items d c (sym start_is ∙ f))
+      settles w false false e f =
+          ap (λ t. at (settled next t)) time_is ∙ rw (e, f, itself) (ap (λ b. at (cond b r.before r.now)) (sym e) ∙ (is.values event w).settled_is)
+          ∙ sym (sampled_stays items d c (sym (start_if w) ∙ f))
 
       pub role_changed : IsRole at es changes c lines next
       role_changed = record {
         within = record { now = few; before = before_within (is_at r.since (time_after items)); written = is.within.written };
         low = subst (λ t. IfSome next.since (λ u. u ≤ t)) (sym time_is) (since_low (is_at r.since (time_after items)) start);
         lines_are = lines_stay r.wanted ∙ is.lines_are;
-        values = λ e. record {
+        values = λ e w. let was = followed_still r.wanted w in record {
           now_is = value ∙ sym final_now;
-          settled_is = settles (is_at r.since (time_after items)) start refl refl;
-          written_is = λ h. (is.values event).written_is (sym (lines_stay r.wanted) ∙ h);
+          settled_is = settles was (is_at r.since (time_after items)) start refl refl;
+          written_is = λ h. (is.values event was).written_is (sym (lines_stay r.wanted) ∙ h);
           idle = λ h. absurd (let no = sym (never_idle r.wanted) ∙ h in cc);
           full = subst (IsFull c.size) (sym final_now) full;
           fresh = λ h. absurd (let no = sym final_now ∙ h in cc);
@@ -209,7 +227,7 @@ module _ (at : ℕ → Option Value) (es : List (List BodyItem)) (items : List B
       within = record { now = is.within.now; before = is.within.before; written = is.within.written };
       low = subst (λ t. time_after items ≤ t) (sym time_is) (omega arith);
       lines_are = lines_stay r.wanted ∙ is.lines_are;
-      values = λ e. absurd (let no = sym event ∙ e in cc);
+      values = λ e f. absurd (let no = sym event ∙ e in cc);
       triggers = λ e. record {
         here = ap (λ t. is_triggered changes c t (1 + t)) time_is ∙ triggered_now items (BodyItem.Changes d) c (time_after items)
             (1 + time_after items) gives outside (omega arith) (omega arith) ∙ sym (eq-eqb (time_after items) (time_after changes) (sym time_is));
@@ -226,6 +244,7 @@ module _ (at : ℕ → Option Value) (es : List (List BodyItem)) (items : List B
         listed_now : (w : Wanted) → has_lines w ≡ true → is_listed (cond (is_idle w) Listed w) ≡ true
         listed_now Listed e = refl
         listed_now Idle e = refl
+        listed_now Silent e = cc
         listed_now Never e = cc
 
   -- ---- an edge at the time of all items
@@ -253,7 +272,7 @@ module _ (at : ℕ → Option Value) (es : List (List BodyItem)) (items : List B
     within = is.within;
     low = is.low;
     lines_are = is.lines_are;
-    values = λ e. let v = is.values e in record {
+    values = λ e w. let v = is.values e w in record {
       now_is = v.now_is;
       settled_is = v.settled_is;
       written_is = λ h. let i = v.idle (idle_is r.wanted idle h) in v.written_is h ∙ i.0 ∙ sym i.1 ∙ sym last_is;
@@ -272,6 +291,7 @@ module _ (at : ℕ → Option Value) (es : List (List BodyItem)) (items : List B
       idle_is : (w : Wanted) → is_listed w ≡ false → has_lines w ≡ true → is_idle w ≡ true
       idle_is Listed e f = cc
       idle_is Idle e f = refl
+      idle_is Silent e f = cc
       idle_is Never e f = cc
 
   -- of one that has
@@ -280,7 +300,7 @@ module _ (at : ℕ → Option Value) (es : List (List BodyItem)) (items : List B
     within = record { now = is.within.now; before = is.within.before; written = settled_within (is_at r.since (time_after items)) };
     low = is.low;
     lines_are = lines_on r.wanted (is_at r.since (time_after items)) listed ∙ is.lines_are;
-    values = λ e. let v = is.values e in record {
+    values = λ e w. let v = is.values e (listed_follows r.wanted listed) in record {
       now_is = v.now_is;
       settled_is = v.settled_is;
       written_is = λ h. v.settled_is ∙ sym last_is;
@@ -303,12 +323,20 @@ module _ (at : ℕ → Option Value) (es : List (List BodyItem)) (items : List B
       lines_on Listed true e = refl
       lines_on Listed false e = refl
       lines_on Idle b e = cc
+      lines_on Silent b e = cc
       lines_on Never b e = cc
+
+      listed_follows : (w : Wanted) → is_listed w ≡ true → is_followed w ≡ true
+      listed_follows Listed e = refl
+      listed_follows Idle e = cc
+      listed_follows Silent e = cc
+      listed_follows Never e = cc
 
       listed_on : (w : Wanted) (b : Bool) → is_listed w ≡ true → is_listed (cond b w Idle) ≡ b
       listed_on Listed true e = refl
       listed_on Listed false e = refl
       listed_on Idle b e = cc
+      listed_on Silent b e = cc
       listed_on Never b e = cc
 
       none_due : (w : Wanted) (b : Bool) → cond b false (is_listed (cond b w Idle)) ≡ false
@@ -321,6 +349,7 @@ module _ (at : ℕ → Option Value) (es : List (List BodyItem)) (items : List B
           not_both : (w : Wanted) → is_listed w ≡ true → is_idle w ≡ true → ⊥
           not_both Listed e f = cc
           not_both Idle e f = cc
+          not_both Silent e f = cc
           not_both Never e f = cc
       by_idle v false e h = sym v.settled_is ∙ ap (λ b. at (cond b r.before r.now)) e ∙ v.now_is
 
@@ -328,9 +357,15 @@ module _ (at : ℕ → Option Value) (es : List (List BodyItem)) (items : List B
   abbrev value_line : Option Value → Option Value → List ℕ
   value_line written before = cond (same_state written before) [] (line_if_set c before)
 
+  lines_follow : (w : Wanted) → has_lines w ≡ true → is_followed w ≡ true
+  lines_follow Listed e = refl
+  lines_follow Idle e = refl
+  lines_follow Silent e = cc
+  lines_follow Never e = cc
+
   pub line_is : has_lines r.wanted ≡ true → role_line at c r (time_after items) ≡ code_line es items c
   line_is lined = same_cond c.event (λ e. ap (λ b. cond b (as_line (byte "1" ∷ c.text)) []) (sym ((is.triggers e).due lined))) (λ e.
-      let v = is.values e in ap₂ value_line (v.written_is lined) v.settled_is)
+      let v = is.values e (lines_follow r.wanted lined) in ap₂ value_line (v.written_is lined) v.settled_is)
     where
       same_cond : {x y x' y' : List ℕ} (b : Bool) → (b ≡ true → x ≡ x') → (b ≡ false → y ≡ y') → cond b x y ≡ cond b x' y'
       same_cond true f g = f refl
@@ -347,7 +382,7 @@ module _ (at : ℕ → Option Value) (es : List (List BodyItem)) (items : List B
       (λ e.
       let at_no = not_here e le (has r.wanted idle).0 (has r.wanted idle).1 in
       ap (λ b. cond b (as_line (byte "1" ∷ c.text)) []) ((is.triggers e).due (has r.wanted idle).0 ∙ ap (λ b. cond b r.early (is_listed r.wanted)) at_no ∙ (has r.wanted idle).1))
-      (λ e. let i = (is.values e).idle idle in ap₂ value_line i.0 i.1 ∙ ap (λ b. cond b [] (line_if_set c (final_value items c))) (same_self (final_value items c)))
+      (λ e. let i = (is.values e (lines_follow r.wanted (has r.wanted idle).0)).idle idle in ap₂ value_line i.0 i.1 ∙ ap (λ b. cond b [] (line_if_set c (final_value items c))) (same_self (final_value items c)))
     where
       none_cond : {x y : List ℕ} (b : Bool) → (b ≡ true → x ≡ []) → (b ≡ false → y ≡ []) → cond b x y ≡ []
       none_cond true f g = f refl
@@ -356,4 +391,5 @@ module _ (at : ℕ → Option Value) (es : List (List BodyItem)) (items : List B
       has : (w : Wanted) → is_idle w ≡ true → (has_lines w ≡ true) × (is_listed w ≡ false)
       has Idle e = (refl, refl)
       has Listed e = cc
+      has Silent e = cc
       has Never e = cc

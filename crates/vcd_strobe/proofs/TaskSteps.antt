@@ -31,6 +31,8 @@ use Rattle.vcd_strobe.proofs.EdgeSteps.{edges_more, edges_still, open_still}
 use Rattle.vcd_strobe.proofs.ItemSteps.{stands_other, stands_time}
 use Rattle.vcd_strobe.proofs.Sampled.{time_still}
 use Rattle.vcd_strobe.specs.Clocks.{AreClocks}
+use Rattle.vcd_strobe.specs.Listed.{followed_at}
+use Rattle.vcd_strobe.specs.declared.role.Role.{Role}
 use Rattle.vcd_strobe.specs.Strobes.{AreDistinct, ChangesOnly, HasStrobed, SameEdges, Stands}
 use Rattle.vcd_strobe.specs.declared.clocks.Clock.{Clock}
 use Rattle.vcd_strobe.specs.declared.whole.Strobe.{Strobe}
@@ -94,6 +96,26 @@ event_turn codes distinct code d there event items (c ∷ clocks) (k ∷ ks) are
         let place = distinct c.code code k.code d.code are.0.there there e in
         let same : k.code ≡ d.code = same_Some k.code d.code (sym are.0.there ∙ ap (slice_get codes) place ∙ there) in
         sym event ∙ ap (λ (y : IdCode). y.event) (sym same) ∙ are.0.event
+    differ false e = refl
+
+    one : is_turn_of k items (BodyItem.Changes d) ≡ false
+    one = ap (λ b. b && has_digit k.place (digit_before k) (final_value items k.code) && has_digit k.place (digit_after k) (Some (value_of d))) (differ (same_code k.code d.code) refl)
+
+-- a change of a code whose values are not kept
+pub ignored_turn : (codes : List IdCode) → AreDistinct codes → (code : ℕ) (d : Change) → slice_get codes code ≡ Some d.code
+    → (roles : List Role) → followed_at roles code ≡ false
+    → (items : List BodyItem) (clocks : List Clock) (ks : List ModelClock) → AreClocks codes clocks ks
+    → AllByRecursion (λ (k : Clock). followed_at roles k.code ≡ true) clocks → is_turn ks items (BodyItem.Changes d) ≡ false
+ignored_turn codes distinct code d there roles ignored items [] [] are all = refl
+ignored_turn codes distinct code d there roles ignored items [] (k ∷ ks) are all = absurd are
+ignored_turn codes distinct code d there roles ignored items (c ∷ clocks) [] are all = absurd are
+ignored_turn codes distinct code d there roles ignored items (c ∷ clocks) (k ∷ ks) are all =
+    rw (one, ignored_turn codes distinct code d there roles ignored items clocks ks are.1 all.1) refl
+  where
+    differ : (b : Bool) → same_code k.code d.code ≡ b → b ≡ false
+    differ true e =
+        let place = distinct c.code code k.code d.code are.0.there there e in
+        absurd (let no = sym all.0 ∙ ap (followed_at roles) place ∙ ignored in cc)
     differ false e = refl
 
     one : is_turn_of k items (BodyItem.Changes d) ≡ false

@@ -1,17 +1,19 @@
 -- What an edge writes, and what it leaves.
-use Rattle.std.proofs.Common.{◌≡◌, ℕ, ◌+◌, ◌≤◌, List, [], ◌∷◌, ◌++◌, length, take, cond, flat_map, refl, sym, ap, ap₂, subst, ◌∙◌, arith}
+use Rattle.std.proofs.Common.{◌≡◌, ℕ, ◌+◌, ◌≤◌, true, List, [], ◌∷◌, ◌++◌, length, take, cond, flat_map, refl, sym, ap, ap₂, subst, ◌∙◌, arith}
+use Rattle.std.specs.List.{AllByRecursion}
 use Rattle.std.specs.List.Sorted.{IsNonDecreasing, IsPermutation}
 use Rattle.vcd_model.specs.Header.{Header}
 use Rattle.vcd_model.specs.Items.{BodyItem, time_after}
 use Rattle.vcd_model.specs.Strobe.{code_line, edge_text, last_time, strobe_codes, time_code}
-use Rattle.vcd_strobe.proofs.EdgeLemmas.{kept_listed, lines_are, settles_roles, sorted_listed}
+use Rattle.vcd_strobe.proofs.EdgeLemmas.{kept_listed, lines_are, settles_roles, sorted_listed, still_clocked, still_followed}
 use Rattle.vcd_body.specs.Contents.{IsLaidOut, codes_shown}
 use Rattle.vcd_body.specs.declared.values.table.Table.{Table}
 use Rattle.vcd_strobe.specs.Codes.{AreRoles}
 use Rattle.vcd_strobe.specs.Kept.{IsWithin}
 use Rattle.vcd_strobe.specs.Lines.{ArePlaces, HaveRoles, in_places, line_at, line_with, moment_lines}
-use Rattle.vcd_strobe.specs.Listed.{SettlesEach, chosen, listed_at, times}
+use Rattle.vcd_strobe.specs.Listed.{SettlesEach, chosen, followed_at, listed_at, times}
 use Rattle.vcd_strobe.specs.Strobes.{HasShares, SettlesListed, Stands, has_lines_in}
+use Rattle.vcd_strobe.specs.declared.clocks.Clock.{Clock}
 use Rattle.vcd_strobe.specs.declared.whole.Strobe.{Strobe}
 use Rattle.vcd_strobe.proofs.LineSteps.{there_below}
 use Rattle.std.proofs.lemmas.Option.{same_Some, slice_get_within}
@@ -54,9 +56,9 @@ module _ (s : Strobe) (h : Header) (names : List (List ℕ)) (es : List (List Bo
         (λ i c r there at. ap₂ (line_with s.table (time_after items) i) there at)
 
     -- what it leaves
-    pub edge_stands : (s' : Strobe) (t : ℕ) → t ≡ time_after items → s'.places ≡ s.places → s'.table ≡ s.table → s'.id ≡ s.id
+    pub edge_stands : (s' : Strobe) (t : ℕ) → t ≡ time_after items → s'.places ≡ s.places → s'.table ≡ s.table → s'.id ≡ s.id → s'.clocks ≡ s.clocks
         → SettlesListed sorted t s.roles.now s'.roles.now s.listed.now s'.listed.now s'.count → Stands s' h names (es ++ items ∷ []) items
-    edge_stands s' t is places table id settles =
+    edge_stands s' t is places table id clocks settles =
         let settled = subst (λ u. SettlesEach sorted u s.roles.now s'.roles.now) is settles.settles in
         record {
           places = subst (λ v. ArePlaces (codes_shown v) h.codes) (sym places) has.places;
@@ -68,4 +70,6 @@ module _ (s : Strobe) (h : Header) (names : List (List ℕ)) (es : List (List Bo
           list = kept_listed s.roles.now s'.roles.now sorted s'.listed.now (length sorted) s'.count (time_after items) in_order.0 settled settles.within settles.kept;
           room = (let room = has.room in let long = settles.long in omega (arith, room, long));
           id = ap (λ (b : _). b.now) id ∙ has.id;
+          clocked = subst (λ (b : _). AllByRecursion (λ (k : Clock). followed_at s'.roles.now k.code ≡ true) b.now) (sym clocks)
+              (still_clocked s.roles.now s'.roles.now (still_followed sorted (time_after items) s.roles.now s'.roles.now settled) s.clocks.now has.clocked);
         }

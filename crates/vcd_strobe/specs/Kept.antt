@@ -8,7 +8,7 @@ use Rattle.vcd_model.specs.History.{final_value}
 use Rattle.vcd_model.specs.Items.{BodyItem, time_after}
 use Rattle.vcd_model.specs.Strobe.{is_triggered, last_sampled, last_time, same_state, sampled}
 use Rattle.vcd_model.specs.Values.{Value}
-use Rattle.vcd_strobe.specs.Roles.{has_lines, is_at, is_due, is_idle, is_listed, settled}
+use Rattle.vcd_strobe.specs.Roles.{has_lines, is_at, is_due, is_followed, is_idle, is_listed, settled}
 use Rattle.vcd_strobe.specs.declared.role.Role.{Role}
 
 -- digits are as many as the size
@@ -43,7 +43,8 @@ pub record IsRole (at : ℕ → Option Value) (es : List (List BodyItem)) (items
   pub within : IsWithin r
   pub low : IfSome r.since (λ u. u ≤ time_after items)
   pub lines_are : has_lines r.wanted ≡ lines
-  pub values : c.event ≡ false → HasValues at es items c r
+  -- of a code whose values are kept
+  pub values : c.event ≡ false → is_followed r.wanted ≡ true → HasValues at es items c r
   pub triggers : c.event ≡ true → HasTriggers es items c r (time_after items)
 
 -- the line of a code of this role, at an edge of this time

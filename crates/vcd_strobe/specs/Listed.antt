@@ -1,6 +1,8 @@
 -- The codes that may have a line at the next edge.
 use Rattle.std.specs.Prelude.{◌≡◌, ℕ, zero, suc, ◌≤◌, ◌==◌, Bool, false, nat_lt, cond, List, [], ◌∷◌, ◌++◌, length, take, set, ◌<◌, sum_by, slice_get, unwrap_or, option_map}
-use Rattle.vcd_strobe.specs.Roles.{enlisted, is_idle, is_listed, settle}
+use Rattle.std.specs.List.{list_any}
+use Rattle.vcd_strobe.specs.Roles.{enlisted, followed, is_followed, is_idle, is_listed, settle}
+use Rattle.vcd_strobe.specs.declared.clocks.Clock.{Clock}
 use Rattle.vcd_strobe.specs.declared.role.Role.{Role}
 
 -- how many times a number is there
@@ -32,3 +34,11 @@ pub record Enlists (q : Role) (code : ℕ) (roles roles' : List Role) (listed li
 -- an edge at this time settled the roles of these codes
 abbrev pub SettlesEach : List ℕ → ℕ → List Role → List Role → Type 0
 SettlesEach codes t old new = (i : ℕ) → slice_get new i ≡ option_map (λ (r : Role). cond (nat_lt 0 (times i codes)) (settle r t) r) (slice_get old i)
+
+-- the values of the code at an index are kept
+abbrev pub followed_at : List Role → ℕ → Bool
+followed_at roles i = unwrap_or (option_map (λ (r : Role). is_followed r.wanted) (slice_get roles i)) false
+
+-- the values of the codes of these clocks are kept, besides those that were
+abbrev pub FollowsEach : List Clock → List Role → List Role → Type 0
+FollowsEach clocks old new = (i : ℕ) → slice_get new i ≡ option_map (λ (r : Role). cond (list_any (λ (k : Clock). k.code == i) clocks) (followed r) r) (slice_get old i)

@@ -2,7 +2,7 @@
 use Rattle.std.specs.Prelude.{ℕ, Bool, true, false, cond, ◌||◌, ◌==◌, Option, Some, None}
 use Rattle.vcd_strobe.specs.declared.role.Role.{Role}
 use Rattle.vcd_strobe.specs.declared.role.Wanted.{Wanted}
-use Rattle.vcd_strobe.specs.declared.role.Wanted.TheVariants.{Idle, Listed, Never}
+use Rattle.vcd_strobe.specs.declared.role.Wanted.TheVariants.{Idle, Listed, Never, Silent}
 
 -- the moment is this time
 abbrev pub is_at : Option ℕ → ℕ → Bool
@@ -12,18 +12,28 @@ is_at None t = false
 abbrev pub is_listed : Wanted → Bool
 is_listed Listed = true
 is_listed Idle = false
+is_listed Silent = false
 is_listed Never = false
 
 abbrev pub is_idle : Wanted → Bool
 is_idle Listed = false
 is_idle Idle = true
+is_idle Silent = false
 is_idle Never = false
 
 -- the code has lines
 abbrev pub has_lines : Wanted → Bool
 has_lines Listed = true
 has_lines Idle = true
+has_lines Silent = false
 has_lines Never = false
+
+-- the values of the code are kept
+abbrev pub is_followed : Wanted → Bool
+is_followed Listed = true
+is_followed Idle = true
+is_followed Silent = true
+is_followed Never = false
 
 -- the place of the value just before a time
 abbrev pub settled : Role → ℕ → ℕ
@@ -60,6 +70,10 @@ settle r t = record { now = r.now; before = r.before; written = settled r t; sin
 -- the role of a code that is listed, if it has lines
 abbrev pub enlisted : Role → Role
 enlisted r = record { now = r.now; before = r.before; written = r.written; since = r.since; early = r.early; wanted = cond (is_idle r.wanted) Listed r.wanted }
+
+-- the role of a code whose values are kept
+abbrev pub followed : Role → Role
+followed r = record { now = r.now; before = r.before; written = r.written; since = r.since; early = r.early; wanted = cond (is_followed r.wanted) r.wanted Silent }
 
 -- the role of a code before the first item, whether it has lines or not
 abbrev pub fresh : Bool → Role

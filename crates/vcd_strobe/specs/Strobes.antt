@@ -8,7 +8,7 @@ use Rattle.vcd_body.specs.declared.item.Section.{Section}
 use Rattle.vcd_body.specs.declared.item.Section.TheVariants as section
 use Rattle.vcd_body.specs.declared.values.slot.Shown.{Shown}
 use Rattle.vcd_body.specs.declared.values.slot.Shown.TheVariants as shown
-use Rattle.std.specs.List.{list_any}
+use Rattle.std.specs.List.{AllByRecursion, list_any}
 use Rattle.vcd_body.specs.Device.{TakesDue}
 use Rattle.vcd_body.specs.Given.{IsText}
 use Rattle.vcd_body.specs.declared.item.Form.{Form}
@@ -32,7 +32,7 @@ use Rattle.vcd_run.specs.Plan.{Plan}
 use Rattle.vcd_strobe.specs.Clocks.{AreClocks, turns_at}
 use Rattle.vcd_strobe.specs.Codes.{AreRoles}
 use Rattle.vcd_strobe.specs.Lines.{ArePlaces, HaveRoles, in_places, line_at, place_of}
-use Rattle.vcd_strobe.specs.Listed.{AreListed, SettlesEach, listed_at, times}
+use Rattle.vcd_strobe.specs.Listed.{AreListed, SettlesEach, followed_at, listed_at, times}
 use Rattle.vcd_strobe.specs.Moments.{EdgesStand}
 use Rattle.vcd_strobe.specs.declared.clocks.Clock.{Clock}
 use Rattle.vcd_strobe.specs.declared.role.Role.{Role}
@@ -56,6 +56,8 @@ pub record Stands (s : Strobe) (h : Header) (names : List (List ℕ)) (es : List
   pub list : AreListed s.roles.now s.listed.now s.count
   pub room : length h.codes ≤ length s.listed.now
   pub id : s.id.now ≡ (time_code h).text
+  -- the values of the clocks' codes are kept
+  pub clocked : AllByRecursion (λ (k : Clock). followed_at s.roles.now k.code ≡ true) s.clocks.now
 
 -- the roles of the codes that were listed go on after an edge at this time, and those that stay
 -- listed are the first ones of the list

@@ -1,12 +1,14 @@
 //! Which of its four places in the table has which value of a code.
 ghost use Rattle.std.specs.Prelude.{◌≡◌, ◌<◌, false};
-ghost use Rattle.vcd_strobe.specs.Roles.{changed, enlisted, fresh, is_at, is_due, needs, settle, settled, triggered};
+ghost use Rattle.vcd_strobe.specs.Roles.{changed, enlisted, followed, fresh, is_at, is_due, is_followed, needs, settle, settled, triggered};
 
 /// Whether a code has lines.
 #[derive(Clone, Copy, PartialEq, Eq, Debug)]
 pub enum Wanted {
-    /// It has none.
+    /// It has none, and what values it has does not matter.
     Never,
+    /// It has none, but its values are kept.
+    Silent,
     /// It has none at the next edge, unless it changes.
     Idle,
     /// It may have one at the next edge.
@@ -55,6 +57,29 @@ impl Role {
             early: false,
             wanted,
         }
+    }
+
+    /// Returns whether the values of the code are kept.
+    #[inline(always)]
+    pub(crate) fn is_followed(self) -> bool
+        ensures { result ≡ is_followed self.wanted }
+    {
+        match self.wanted {
+            Wanted::Never => false,
+            Wanted::Silent | Wanted::Idle | Wanted::Listed => true,
+        }
+    }
+
+    /// Returns the role of a code whose values are kept, whether it has lines or not.
+    #[inline(always)]
+    pub(crate) fn followed(self) -> Role
+        ensures { result ≡ followed self }
+    {
+        let mut role = self;
+        if !self.is_followed() {
+            role.wanted = Wanted::Silent;
+        }
+        role
     }
 
     /// Returns the place of the value just before this time, which is that of the last item.

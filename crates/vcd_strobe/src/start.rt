@@ -1,8 +1,10 @@
 //! A strobe before the first item.
-ghost use Rattle.std.specs.Prelude.{◌≡◌, ℕ, ◌≤◌, List, [], length};
+ghost use Rattle.std.specs.Prelude.{◌≡◌, ℕ, ◌≤◌, List, [], Some, length, set, slice_get};
 ghost use Rattle.vcd_model.specs.Header.{Header};
 ghost use Rattle.vcd_model.specs.Strobe.{Clock as ModelClock};
 ghost use Rattle.vcd_head.specs.Marks.{AreFlags, is_marked};
+ghost use Rattle.vcd_strobe.specs.Listed.{FollowsEach};
+ghost use Rattle.vcd_strobe.specs.Roles.{followed};
 ghost use Rattle.vcd_strobe.specs.Strobes.{AreFresh, HasStrobed, Suffices, strobe_plan};
 
 use crate::clocks::Clock;
@@ -45,6 +47,28 @@ pub fn set_roles(flags: &[u8], roles: &mut [Role])
     }
 }
 
+/// Has the values of the code at this index kept, if there is one.
+fn follow(roles: &mut [Role], code: usize)
+    ensures there { (r : Role) → slice_get roles.old code ≡ Some r
+        → roles.new ≡ set roles.old code (followed r) }
+    ensures past { length roles.old ≤ code → roles.new ≡ roles.old }
+    ensures len { length roles.new ≡ length roles.old }
+{
+    if code < roles.len() {
+        roles[code] = roles[code].followed();
+    }
+}
+
+/// Has the values of the clocks' codes kept.
+fn follow_clocks(roles: &mut [Role], clocks: &[Clock])
+    ensures follows { FollowsEach clocks.now roles.old roles.new }
+    ensures len { length roles.new ≡ length roles.old }
+{
+    for clock in clocks {
+        follow(roles, clock.code);
+    }
+}
+
 impl<'r> Strobe<'r> {
     /// Returns a strobe before the first item. `places` is a header that has each code four times,
     /// side by side; `room` has the lengths that its comments say, and `id` is the code of the time
@@ -63,10 +87,12 @@ impl<'r> Strobe<'r> {
             → HasStrobed result (strobe_plan ks h names) h [] }
         ensures ready { result.count ≤ length result.listed.now }
     {
+        let roles = room.roles;
+        follow_clocks(roles, clocks);
         Strobe {
             places,
             table: Table::new(places, room.values, room.slots, room.shares),
-            roles: room.roles,
+            roles,
             listed: room.listed,
             count: 0,
             clocks,

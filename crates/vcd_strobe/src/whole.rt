@@ -249,6 +249,9 @@ impl Strobe<'_> {
         let Some(role) = self.role(code) else {
             return Ok(());
         };
+        if !role.is_followed() {
+            return Ok(());
+        }
         let (from, to) = (role.now, role.spare());
         self.put_value(code, to, form, text);
         self.put_turn(regs.time, code, from, to, out)?;

@@ -49,5 +49,5 @@ returns-clause-puts g c = λ h names es items has is count few low.
     (puts.3 h.codes has.places (have_roles s h names es items has low) has.laid) in (
       subst (Appends (g.W.Sink.device c.args.out.now).held (g.W.Sink.device c.put_listed_lines.new.out).held) (sym (edge_is h names es items))
           (appends-twice _ _ _ (moment_lines (time_code h).text (1 + length es) (time_after items)) (flat_map (code_line es items) (strobe_codes h names)) first second),
-      edge_stands s h names es items has low puts.0 puts.1 puts.2 _ c.args.time is refl refl refl puts.4,
+      edge_stands s h names es items has low puts.0 puts.1 puts.2 _ c.args.time is refl refl refl refl puts.4,
     )
