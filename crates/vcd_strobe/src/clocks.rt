@@ -69,6 +69,7 @@ impl Clock {
 
 /// Returns whether one of the clocks turns if the value of the code at index `code` goes from that
 /// in one place to that in another.
+#[inline(always)]
 pub(crate) fn is_turn(
     clocks: &[Clock],
     places: HeadView<'_>,

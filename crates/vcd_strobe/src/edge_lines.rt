@@ -17,7 +17,7 @@ use vcd_view::{Code, HeadView};
 pub(crate) fn place_of(code: usize, place: usize) -> usize
     ensures { code < 2 ^ 60 → place < 4 → result ≡ place_of code place }
 {
-    code.saturating_mul(4).saturating_add(place)
+    code.wrapping_mul(4).wrapping_add(place)
 }
 
 /// Writes the line of an event that is declared so.

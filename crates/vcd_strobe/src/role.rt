@@ -1,6 +1,6 @@
 //! Which of its four places in the table has which value of a code.
 ghost use Rattle.std.specs.Prelude.{◌≡◌, ◌<◌, false};
-ghost use Rattle.vcd_strobe.specs.Roles.{changed, enlisted, followed, fresh, is_at, is_due, is_followed, needs, settle, settled, triggered};
+ghost use Rattle.vcd_strobe.specs.Roles.{changed, enlisted, followed, fresh, is_at, is_due, is_followed, is_idle, needs, settle, settled, triggered};
 
 /// Whether a code has lines.
 #[derive(Clone, Copy, PartialEq, Eq, Debug)]
@@ -133,44 +133,45 @@ impl Role {
         }
     }
 
-    /// Returns the role after a change at this time, whose value is in this place. It may be the
-    /// first one, from the start.
+    /// Goes on after a change at this time, whose value is in this place. It may be the first one,
+    /// from the start.
     #[inline(always)]
-    pub(crate) fn changed(self, time: u64, place: usize, from_start: bool) -> Role
-        ensures { result ≡ changed self time place from_start }
+    pub(crate) fn change(&mut self, time: u64, place: usize, from_start: bool)
+        ensures { self.new ≡ changed self.old time place from_start }
     {
-        let mut role = self;
-        if !is_at(self.since, time) {
-            role.before = self.now;
-            if !from_start {
-                role.since = Some(time);
+        if is_at(self.since, time) {
+            self.now = place;
+            return;
+        }
+        self.before = self.now;
+        self.now = place;
+        if !from_start {
+            self.since = Some(time);
+        }
+    }
+
+    /// Notes that the code is listed, if it has lines. Returns whether it was not listed before.
+    #[inline(always)]
+    pub(crate) fn enlist(&mut self) -> bool
+        ensures role { self.new ≡ enlisted self.old }
+        ensures idle { result ≡ is_idle self.old.wanted }
+    {
+        match self.wanted {
+            Wanted::Idle => {
+                self.wanted = Wanted::Listed;
+                true
             }
+            Wanted::Never | Wanted::Silent | Wanted::Listed => false,
         }
-        role.now = place;
-        role
     }
 
-    /// Returns the role of an event that was triggered at this time.
+    /// Goes on after a trigger of an event at this time.
     #[inline(always)]
-    pub(crate) fn triggered(self, time: u64) -> Role
-        ensures { result ≡ triggered self time }
+    pub(crate) fn trigger(&mut self, time: u64)
+        ensures { self.new ≡ triggered self.old time }
     {
-        let mut role = self;
-        role.early = self.is_due(time);
-        role.since = Some(time);
-        role
-    }
-
-    /// Returns the role of a code that is listed, if it has lines.
-    #[inline(always)]
-    pub(crate) fn enlisted(self) -> Role
-        ensures { result ≡ enlisted self }
-    {
-        let mut role = self;
-        if self.wanted == Wanted::Idle {
-            role.wanted = Wanted::Listed;
-        }
-        role
+        self.early = self.is_due(time);
+        self.since = Some(time);
     }
 
     /// Returns the role of a listed code after an edge at this time.

@@ -14,6 +14,7 @@ use vcd_view::HeadView;
 impl Strobe<'_> {
     /// Handles a change of the code at index `code` of the header of `view`. `regs` are the
     /// registers. Fails if a write does.
+    #[inline(always)]
     pub(crate) fn take_any<W: Sink>(
         &mut self,
         view: HeadView<'_>,

@@ -2,30 +2,59 @@
 ghost use Rattle.std.specs.Prelude.{◌≡◌, ℕ, ◌<◌, ◌≤◌, ◌++◌, ◌∷◌, [], IsPermutation, Some, false, cond, length, set, slice_get, take};
 ghost use Rattle.std.specs.List.Sorted.{IsNonDecreasing};
 ghost use Rattle.vcd_strobe.specs.Listed.{SettlesEach, listed_at, times};
-ghost use Rattle.vcd_strobe.specs.Roles.{enlisted, is_idle, settle};
+ghost use Rattle.vcd_strobe.specs.Roles.{changed, enlisted, is_idle, settle, triggered};
 
 use crate::role::{Role, Wanted};
 
-/// Sets the role of the code at index `code`, and lists it after the first `count` of these codes,
-/// if it has lines and is not listed yet. Returns how many are listed then.
-pub(crate) fn enlist(
+/// Has the role of the code at index `code` go on after a trigger at this time, and notes that it
+/// is listed, if it has lines. Returns whether it was not listed before.
+#[inline(always)]
+pub(crate) fn trigger_at(roles: &mut [Role], code: usize, time: u64) -> bool
+    ensures role { (r : Role) → slice_get roles.old code ≡ Some r
+        → roles.new ≡ set roles.old code (enlisted (triggered r time)) }
+    ensures idle { (r : Role) → slice_get roles.old code ≡ Some r → result ≡ is_idle r.wanted }
+{
+    if code >= roles.len() {
+        return false;
+    }
+    let role = &mut roles[code];
+    role.trigger(time);
+    role.enlist()
+}
+
+/// Has the role of the code at index `code` go on after a change, whose value is in this place, and
+/// notes that it is listed, if it has lines. Returns whether it was not listed before.
+#[inline(always)]
+pub(crate) fn change_at(
     roles: &mut [Role],
-    codes: &mut [usize],
-    count: usize,
     code: usize,
-    role: Role,
-) -> usize
-    ensures roles { roles.new ≡ set roles.old code (enlisted role) }
+    time: u64,
+    place: usize,
+    from_start: bool,
+) -> bool
+    ensures role { (r : Role) → slice_get roles.old code ≡ Some r
+        → roles.new ≡ set roles.old code (enlisted (changed r time place from_start)) }
+    ensures idle { (r : Role) → slice_get roles.old code ≡ Some r → result ≡ is_idle r.wanted }
+{
+    if code >= roles.len() {
+        return false;
+    }
+    let role = &mut roles[code];
+    role.change(time, place, from_start);
+    role.enlist()
+}
+
+/// Lists the code at index `code` after the first `count` of these, if it is new. Returns how many
+/// are listed then.
+#[inline(always)]
+pub(crate) fn list(codes: &mut [usize], count: usize, code: usize, new: bool) -> usize
     ensures within { count ≤ length codes.old → result ≤ length codes.new }
     ensures len { length codes.new ≡ length codes.old }
     ensures codes { count < length codes.old → take result codes.new
-        ≡ take count codes.old ++ cond (is_idle role.wanted) (code ∷ []) [] }
-    ensures same { is_idle role.wanted ≡ false → take result codes.new ≡ take count codes.old }
+        ≡ take count codes.old ++ cond new (code ∷ []) [] }
+    ensures same { new ≡ false → take result codes.new ≡ take count codes.old }
 {
-    if code < roles.len() {
-        roles[code] = role.enlisted();
-    }
-    if role.wanted != Wanted::Idle || count >= codes.len() {
+    if !new || count >= codes.len() {
         return count;
     }
     codes[count] = code;
@@ -43,6 +72,7 @@ pub(crate) fn sort_front(codes: &mut [usize], count: usize)
 }
 
 /// Has the role of the code at index `code` go on after an edge at this time, if there is one.
+#[inline(always)]
 fn settle_role(roles: &mut [Role], code: usize, time: u64)
     ensures there { (r : Role) → slice_get roles.old code ≡ Some r
         → roles.new ≡ set roles.old code (settle r time) }
@@ -65,6 +95,7 @@ pub(crate) fn settle_roles(roles: &mut [Role], codes: &[usize], time: u64)
 }
 
 /// Returns whether the code at an index is listed by its role.
+#[inline(always)]
 fn is_listed_at(roles: &[Role], code: usize) -> bool
     ensures { result ≡ listed_at roles.now code }
 {

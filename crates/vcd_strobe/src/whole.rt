@@ -1,16 +1,16 @@
 //! What a strobe keeps, and what it does with a change.
-ghost use Rattle.std.specs.Prelude.{◌≡◌, ◌-◌, ◌^◌, ◌<◌, ◌≤◌, IfOk, Some, length, slice_get};
+ghost use Rattle.std.specs.Prelude.{◌≡◌, ◌-◌, ◌^◌, ◌<◌, ◌≤◌, IfOk, Some, length, slice_get, true};
 ghost use Rattle.vcd_text.specs.Device.{Counts};
 ghost use Rattle.vcd_body.specs.Contents.{held_at, shown_as};
 ghost use Rattle.vcd_strobe.specs.Lines.{place_of};
 ghost use Rattle.vcd_strobe.specs.Listed.{Enlists};
-ghost use Rattle.vcd_strobe.specs.Roles.{changed, triggered};
+ghost use Rattle.vcd_strobe.specs.Roles.{changed, is_followed, triggered};
 ghost use Rattle.vcd_strobe.specs.Strobes.{IsPast, PutsEdge, PutsListed, PutsTurn, SameEdges, SameStrobe, SetsPlace, TakesChange, TakesValue, Triggers, is_start};
 
 use crate::clocks::{Clock, is_turn};
 use crate::edge_lines::{place_of, put_lines, put_moment, role_of};
 use crate::role::{Role, is_at};
-use crate::touched::{enlist, keep_listed, settle_roles, sort_front};
+use crate::touched::{change_at, keep_listed, list, settle_roles, sort_front, trigger_at};
 use vcd_body::{Form, Regs, Section, Shown, Table};
 use vcd_text::{Sink, WriteFailed};
 use vcd_view::HeadView;
@@ -52,6 +52,7 @@ fn is_start(shown: Shown, section: Option<Section>) -> bool
 
 /// Has the event at index `code` go on after a trigger at this time, and lists it. Returns how many
 /// codes are listed then.
+#[inline(always)]
 fn trigger_role(
     roles: &mut [Role],
     listed: &mut [usize],
@@ -63,14 +64,13 @@ fn trigger_role(
         → Enlists (triggered r time) code roles.old roles.new listed.old listed.new count result }
     ensures within { count ≤ length listed.old → result ≤ length listed.new }
 {
-    let Some(role) = role_of(roles, code) else {
-        return count;
-    };
-    enlist(roles, listed, count, code, role.triggered(time))
+    let new = trigger_at(roles, code, time);
+    list(listed, count, code, new)
 }
 
 /// Has the code at index `code` go on after a change, whose value is in this place, and lists it.
 /// Returns how many codes are listed then.
+#[inline(always)]
 fn change_role(
     roles: &mut [Role],
     listed: &mut [usize],
@@ -90,8 +90,9 @@ fn change_role(
         return count;
     };
     let shown = table.get(place_of(code, role.now));
-    let role = role.changed(regs.time, place, is_start(shown, regs.section));
-    enlist(roles, listed, count, code, role)
+    let start = is_start(shown, regs.section);
+    let new = change_at(roles, code, regs.time, place, start);
+    list(listed, count, code, new)
 }
 
 /// Writes the lines of the first `count` of the listed codes, in order, at an edge of this time,
@@ -119,6 +120,7 @@ fn put_listed_lines<W: Sink>(
 
 impl Strobe<'_> {
     /// Writes the lines of an edge at this time. Fails if a write does.
+    #[inline(never)]
     fn put_edge<W: Sink>(&mut self, time: u64, out: &mut W) -> Result<(), WriteFailed>
         requires failures { (W.device out.old).failures < 2 ^ 64 - 1 }
         requires count { self.old.count ≤ length self.old.listed.now }
@@ -162,6 +164,7 @@ impl Strobe<'_> {
 
     /// Notes a change of the code at index `code`, which is no event: the place has its new value.
     /// `regs` are the registers.
+    #[inline(always)]
     fn turn(&mut self, regs: Regs, code: usize, place: usize)
         requires { place < 4 }
         ensures takes { TakesValue self.old self.new regs code place }
@@ -184,6 +187,7 @@ impl Strobe<'_> {
     }
 
     /// Sets the value of the code at index `code` in a place that is not needed.
+    #[inline(always)]
     fn put_value(&mut self, code: usize, place: usize, form: Form, text: &[u8])
         requires { place < 4 }
         ensures sets { SetsPlace self.old self.new code place form text.now }
@@ -195,6 +199,7 @@ impl Strobe<'_> {
     /// Writes the lines of an edge at this time, that of the last item, if the code at index `code`
     /// turns a clock as its value goes from that in one place to that in another, unless there was
     /// an edge at this time. Fails if a write does.
+    #[inline(always)]
     fn put_turn<W: Sink>(
         &mut self,
         time: u64,
@@ -229,8 +234,38 @@ impl Strobe<'_> {
         role_of(self.roles, code)
     }
 
+    /// Handles a change of the code at index `code`, which is no event and whose values are kept.
+    /// `regs` are the registers. Fails if a write does.
+    #[inline(never)]
+    fn take_value<W: Sink>(
+        &mut self,
+        regs: Regs,
+        code: usize,
+        form: Form,
+        text: &[u8],
+        out: &mut W,
+    ) -> Result<(), WriteFailed>
+        requires failures { (W.device out.old).failures < 2 ^ 64 - 1 }
+        requires count { self.old.count ≤ length self.old.listed.now }
+        ensures takes { (r : Role) → slice_get self.old.roles.now code ≡ Some r
+            → is_followed r.wanted ≡ true → TakesChange self.old self.new regs code form text.now
+            (W.device out.old) (W.device out.new) result }
+        ensures counts { Counts (W.device out.old) (W.device out.new) result }
+        ensures count { IfOk result (λ _. self.new.count ≤ length self.new.listed.now) }
+    {
+        let Some(role) = self.role(code) else {
+            return Ok(());
+        };
+        let (from, to) = (role.now, role.spare());
+        self.put_value(code, to, form, text);
+        self.put_turn(regs.time, code, from, to, out)?;
+        self.turn(regs, code, to);
+        Ok(())
+    }
+
     /// Handles a change of the code at index `code`, which is no event. `regs` are the registers.
     /// Fails if a write does.
+    #[inline(always)]
     pub(crate) fn take_change<W: Sink>(
         &mut self,
         regs: Regs,
@@ -252,10 +287,6 @@ impl Strobe<'_> {
         if !role.is_followed() {
             return Ok(());
         }
-        let (from, to) = (role.now, role.spare());
-        self.put_value(code, to, form, text);
-        self.put_turn(regs.time, code, from, to, out)?;
-        self.turn(regs, code, to);
-        Ok(())
+        self.take_value(regs, code, form, text, out)
     }
 }
