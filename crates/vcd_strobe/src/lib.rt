@@ -1,8 +1,8 @@
 //! The values of a dump just before each edge of its clocks, as a dump.
 //!
-//! A `Strobe` keeps four places for the value of each code: of its current value, of that before the
-//! time of its last change, of that at the last edge, and a spare one for the next. At an edge it
-//! writes the lines of the codes whose values just before it are others than at the last edge.
+//! A `Strobe` keeps four places for the value of each code: of its current value, of that before
+//! the time of its last change, of that at the last edge, and a spare one for the next. At an edge
+//! it writes the lines of the codes whose values just before it are others than at the last edge.
 //!
 //! # The modules
 //!

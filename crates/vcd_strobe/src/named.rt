@@ -39,8 +39,8 @@ fn only_flag(flags: &[u8]) -> Option<usize>
     only
 }
 
-/// Returns the index from the left of the bit of a code that is at this place from the right. `None`
-/// if there is no such bit, or if the code has more than one bit and there is no place.
+/// Returns the index from the left of the bit of a code that is at this place from the right.
+/// `None` if there is no such bit, or if the code has more than one bit and there is no place.
 fn index_of(code: Code, place: Option<u64>) -> Option<usize>
     ensures { result ≡ index_in code.size place }
 {
