@@ -76,19 +76,18 @@ module _ (s : Strobe) (h : Header) (names : List (List ℕ)) (es : List (List Bo
             )
 
     -- of a code whose values are not kept
-    pub stands_ignored : (q : Role) → slice_get s.roles.now code ≡ Some q → a.event ≡ false → is_followed q.wanted ≡ false → Stands s h names es after
-    stands_ignored q its event ignored = stands_with after (λ i c there. by_place i c there (cases_eq i code))
+    pub stands_ignored : (q : Role) → slice_get s.roles.now code ≡ Some q → is_followed q.wanted ≡ false → Stands s h names es after
+    stands_ignored q its ignored = stands_with after (λ i c there. by_place i c there (cases_eq i code))
       where
         by_place : (i : ℕ) (c : IdCode) → slice_get h.codes i ≡ Some c → (i ≡ code) ⊎ (i ≢ code) → (r : Role) × (slice_get s.roles.now i ≡ Some r)
             × IsRole (λ place. in_places s.table c.size i place) es after c (has_lines_in h names c) r
         by_place i c there (inl e) =
             let r = has.roles_are i c there in
-            let one : c ≡ a = same_Some c a (sym there ∙ ap (slice_get h.codes) e ∙ declared) in
             let same : r.0 ≡ q = same_Some r.0 q (sym r.1 ∙ ap (slice_get s.roles.now) e ∙ its) in (
               r.0,
               r.1,
               role_ignored (λ place. in_places s.table c.size i place) es items c (has_lines_in h names c) r.0 r.2 (BodyItem.Changes d)
-                  (time_still items (BodyItem.Changes d) refl) (ap (λ (y : IdCode). y.event) one ∙ event) (ap (λ (x : Role). is_followed x.wanted) same ∙ ignored),
+                  (time_still items (BodyItem.Changes d) refl) (ap (λ (x : Role). is_followed x.wanted) same ∙ ignored),
             )
         by_place i c there (inr apart) =
             let r = has.roles_are i c there in (

@@ -60,17 +60,17 @@ module _ (at : ℕ → Option Value) (es : List (List BodyItem)) (items : List B
       low = subst (λ t. IfSome r.since (λ u. u ≤ t)) (sym time) is.low;
       lines_are = is.lines_are;
       values = λ e f. values_other none (is.values e f);
-      triggers = λ e. triggers_same (λ from to. triggered_other items x c from to none) (is.triggers e);
+      triggers = λ e f. triggers_same (λ from to. triggered_other items x c from to none) (is.triggers e f);
     }
 
     -- a code whose values are not kept
-    pub role_ignored : c.event ≡ false → is_followed r.wanted ≡ false → IsRole at es (items ++ x ∷ []) c lines r
-    role_ignored event ignored = record {
+    pub role_ignored : is_followed r.wanted ≡ false → IsRole at es (items ++ x ∷ []) c lines r
+    role_ignored ignored = record {
       within = is.within;
       low = subst (λ t. IfSome r.since (λ u. u ≤ t)) (sym time) is.low;
       lines_are = is.lines_are;
       values = λ e f. absurd (let no = sym f ∙ ignored in cc);
-      triggers = λ e. absurd (let no = sym event ∙ e in cc);
+      triggers = λ e f. absurd (let no = sym f ∙ ignored in cc);
     }
 
     -- an event inside a section
@@ -80,7 +80,7 @@ module _ (at : ℕ → Option Value) (es : List (List BodyItem)) (items : List B
       low = subst (λ t. IfSome r.since (λ u. u ≤ t)) (sym time) is.low;
       lines_are = is.lines_are;
       values = λ e f. absurd (let no = sym e ∙ event in cc);
-      triggers = λ e. triggers_same (λ from to. triggered_inside items x c from to inside) (is.triggers e);
+      triggers = λ e f. triggers_same (λ from to. triggered_inside items x c from to inside) (is.triggers e f);
     }
 
   -- ---- a timestamp
@@ -125,7 +125,7 @@ module _ (at : ℕ → Option Value) (es : List (List BodyItem)) (items : List B
           low = still_low r.since (time_after items) (time_after after) (time_after-append items (BodyItem.Time t ∷ [])) is.low;
           lines_are = is.lines_are;
           values = λ e f. values_later lt (is.values e f);
-          triggers = λ e. triggers_later lt (is.triggers e);
+          triggers = λ e f. triggers_later lt (is.triggers e f);
         }
         by_order (inr le) = role_other (BodyItem.Time t) (now ∙ omega (arith, le, forth)) refl
 
@@ -218,7 +218,7 @@ module _ (at : ℕ → Option Value) (es : List (List BodyItem)) (items : List B
           full = subst (IsFull c.size) (sym final_now) full;
           fresh = λ h. absurd (let no = sym final_now ∙ h in cc);
         };
-        triggers = λ e. absurd (let no = sym event ∙ e in cc);
+        triggers = λ e f. absurd (let no = sym event ∙ e in cc);
       }
 
     -- a trigger
@@ -228,7 +228,7 @@ module _ (at : ℕ → Option Value) (es : List (List BodyItem)) (items : List B
       low = subst (λ t. time_after items ≤ t) (sym time_is) (omega arith);
       lines_are = lines_stay r.wanted ∙ is.lines_are;
       values = λ e f. absurd (let no = sym event ∙ e in cc);
-      triggers = λ e. record {
+      triggers = λ e w. record {
         here = ap (λ t. is_triggered changes c t (1 + t)) time_is ∙ triggered_now items (BodyItem.Changes d) c (time_after items)
             (1 + time_after items) gives outside (omega arith) (omega arith) ∙ sym (eq-eqb (time_after items) (time_after changes) (sym time_is));
         all = λ h. ap (λ t. is_triggered changes c (last_time es) (1 + t)) time_is
@@ -236,7 +236,7 @@ module _ (at : ℕ → Option Value) (es : List (List BodyItem)) (items : List B
             ∙ sym (listed_now r.wanted (sym (lines_stay r.wanted) ∙ h));
         due = λ h.
             ap (λ t. is_triggered changes c (last_time es) t) time_is ∙ triggered_before items (BodyItem.Changes d) c (last_time es)
-            (time_after items) (omega arith) ∙ (is.triggers event).due (sym (lines_stay r.wanted) ∙ h)
+            (time_after items) (omega arith) ∙ (is.triggers event (followed_still r.wanted w)).due (sym (lines_stay r.wanted) ∙ h)
             ∙ ap (λ b. cond b (is_due r (time_after items)) (is_listed (cond (is_idle r.wanted) Listed r.wanted))) (sym (eq-eqb (time_after items) (time_after changes) (sym time_is)));
       };
     }
@@ -262,9 +262,15 @@ module _ (at : ℕ → Option Value) (es : List (List BodyItem)) (items : List B
       by_list [] o = refl
       by_list (e ∷ es) o = by_list es (Some (time_after e))
 
+  lines_follow : (w : Wanted) → has_lines w ≡ true → is_followed w ≡ true
+  lines_follow Listed e = refl
+  lines_follow Idle e = refl
+  lines_follow Silent e = cc
+  lines_follow Never e = cc
+
   -- an event without a line was not triggered at this time
   not_here : c.event ≡ true → last_time es ≤ time_after items → has_lines r.wanted ≡ true → is_listed r.wanted ≡ false → is_at r.since (time_after items) ≡ false
-  not_here e le lined idle = let v = is.triggers e in sym v.here ∙ triggered_from items c (last_time es) (time_after items) (1 + time_after items) le (v.all lined ∙ idle)
+  not_here e le lined idle = let v = is.triggers e (lines_follow r.wanted lined) in sym v.here ∙ triggered_from items c (last_time es) (time_after items) (1 + time_after items) le (v.all lined ∙ idle)
 
   -- of a code that has no line
   pub role_past : last_time es ≤ time_after items → is_listed r.wanted ≡ false → IsRole at (es ++ items ∷ []) items c lines r
@@ -280,7 +286,7 @@ module _ (at : ℕ → Option Value) (es : List (List BodyItem)) (items : List B
       full = v.full;
       fresh = v.fresh;
     };
-    triggers = λ e. let v = is.triggers e in record {
+    triggers = λ e w. let v = is.triggers e w in record {
       here = v.here;
       all = λ h. ap (λ n. is_triggered items c n (1 + time_after items)) last_time_is ∙ v.here ∙ not_here e le h idle ∙ sym idle;
       due = λ h. ap (λ n. is_triggered items c n (time_after items)) last_time_is ∙ triggered_never items c (time_after items)
@@ -308,7 +314,7 @@ module _ (at : ℕ → Option Value) (es : List (List BodyItem)) (items : List B
       full = v.full;
       fresh = v.fresh;
     };
-    triggers = λ e. let v = is.triggers e in record {
+    triggers = λ e w. let v = is.triggers e (listed_follows r.wanted listed) in record {
       here = v.here;
       all = λ h. ap (λ n. is_triggered items c n (1 + time_after items)) last_time_is ∙ v.here ∙ sym (listed_on r.wanted (is_at r.since (time_after items)) listed);
       due = λ h. ap (λ n. is_triggered items c n (time_after items)) last_time_is ∙ triggered_never items c (time_after items) ∙ sym (none_due r.wanted (is_at r.since (time_after items)));
@@ -357,14 +363,8 @@ module _ (at : ℕ → Option Value) (es : List (List BodyItem)) (items : List B
   abbrev value_line : Option Value → Option Value → List ℕ
   value_line written before = cond (same_state written before) [] (line_if_set c before)
 
-  lines_follow : (w : Wanted) → has_lines w ≡ true → is_followed w ≡ true
-  lines_follow Listed e = refl
-  lines_follow Idle e = refl
-  lines_follow Silent e = cc
-  lines_follow Never e = cc
-
   pub line_is : has_lines r.wanted ≡ true → role_line at c r (time_after items) ≡ code_line es items c
-  line_is lined = same_cond c.event (λ e. ap (λ b. cond b (as_line (byte "1" ∷ c.text)) []) (sym ((is.triggers e).due lined))) (λ e.
+  line_is lined = same_cond c.event (λ e. ap (λ b. cond b (as_line (byte "1" ∷ c.text)) []) (sym ((is.triggers e (lines_follow r.wanted lined)).due lined))) (λ e.
       let v = is.values e (lines_follow r.wanted lined) in ap₂ value_line (v.written_is lined) v.settled_is)
     where
       same_cond : {x y x' y' : List ℕ} (b : Bool) → (b ≡ true → x ≡ x') → (b ≡ false → y ≡ y') → cond b x y ≡ cond b x' y'
@@ -381,7 +381,7 @@ module _ (at : ℕ → Option Value) (es : List (List BodyItem)) (items : List B
       none_cond c.event
       (λ e.
       let at_no = not_here e le (has r.wanted idle).0 (has r.wanted idle).1 in
-      ap (λ b. cond b (as_line (byte "1" ∷ c.text)) []) ((is.triggers e).due (has r.wanted idle).0 ∙ ap (λ b. cond b r.early (is_listed r.wanted)) at_no ∙ (has r.wanted idle).1))
+      ap (λ b. cond b (as_line (byte "1" ∷ c.text)) []) ((is.triggers e (lines_follow r.wanted (has r.wanted idle).0)).due (has r.wanted idle).0 ∙ ap (λ b. cond b r.early (is_listed r.wanted)) at_no ∙ (has r.wanted idle).1))
       (λ e. let i = (is.values e (lines_follow r.wanted (has r.wanted idle).0)).idle idle in ap₂ value_line i.0 i.1 ∙ ap (λ b. cond b [] (line_if_set c (final_value items c))) (same_self (final_value items c)))
     where
       none_cond : {x y : List ℕ} (b : Bool) → (b ≡ true → x ≡ []) → (b ≡ false → y ≡ []) → cond b x y ≡ []

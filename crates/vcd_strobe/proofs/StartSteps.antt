@@ -54,7 +54,7 @@ role_with at c lines none w lines_are unlisted = record {
         full = tt;
         fresh = λ e. refl;
       };
-  triggers = λ event. record { here = refl; all = λ e. sym unlisted; due = λ e. sym unlisted };
+  triggers = λ event follows. record { here = refl; all = λ e. sym unlisted; due = λ e. sym unlisted };
 }
 
 role_first : (at : ℕ → Option Value) (c : IdCode) (kept lines : Bool) → at 0 ≡ None → IsRole at [] [] c lines (first kept lines)

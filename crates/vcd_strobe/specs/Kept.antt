@@ -43,9 +43,9 @@ pub record IsRole (at : ℕ → Option Value) (es : List (List BodyItem)) (items
   pub within : IsWithin r
   pub low : IfSome r.since (λ u. u ≤ time_after items)
   pub lines_are : has_lines r.wanted ≡ lines
-  -- of a code whose values are kept
+  -- if they are kept
   pub values : c.event ≡ false → is_followed r.wanted ≡ true → HasValues at es items c r
-  pub triggers : c.event ≡ true → HasTriggers es items c r (time_after items)
+  pub triggers : c.event ≡ true → is_followed r.wanted ≡ true → HasTriggers es items c r (time_after items)
 
 -- the line of a code of this role, at an edge of this time
 abbrev pub role_line : (at : ℕ → Option Value) → IdCode → Role → ℕ → List ℕ

@@ -1,5 +1,5 @@
 //! Clocks, and whether a change is a turn of one.
-ghost use Rattle.std.specs.Prelude.{◌≡◌, ◌<◌, ◌^◌};
+ghost use Rattle.std.specs.Prelude.{◌≡◌, ℕ, ◌<◌, ◌^◌, Option, false};
 ghost use Rattle.std.specs.List.{list_any};
 ghost use Rattle.vcd_body.specs.Contents.{IsLaidOut};
 ghost use Rattle.vcd_body.specs.Kept.{is_digit};
@@ -32,6 +32,18 @@ fn is_digit(digit: Option<u8>, is: u8) -> bool
 }
 
 impl Clock {
+    /// Returns whether it turns if its bit was this digit, and becomes some other.
+    #[inline(always)]
+    fn may_go(self, before: Option<u8>) -> bool
+        ensures { (after : Option ℕ) → result ≡ false → goes self.falls before after ≡ false }
+    {
+        if self.falls {
+            is_digit(before, b'1')
+        } else {
+            is_digit(before, b'0')
+        }
+    }
+
     /// Returns whether it turns if its bit was the one digit, and becomes the other.
     #[inline(always)]
     fn goes(self, before: Option<u8>, after: Option<u8>) -> bool
@@ -62,6 +74,9 @@ impl Clock {
             return false;
         }
         let before = table.digit(places, place_of(code, from), self.index);
+        if !self.may_go(before) {
+            return false;
+        }
         let after = table.digit(places, place_of(code, to), self.index);
         self.goes(before, after)
     }

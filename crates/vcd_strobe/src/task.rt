@@ -32,8 +32,14 @@ impl Strobe<'_> {
         ensures counts { Counts (W.device out.old) (W.device out.new) result }
         ensures count { IfOk result (λ _. self.new.count ≤ length self.new.listed.now) }
     {
+        let Some(role) = self.role(code) else {
+            return Ok(());
+        };
+        if !role.is_followed() {
+            return Ok(());
+        }
         if !view.is_event(code) {
-            return self.take_change(regs, code, form, text, out);
+            return self.take_value(regs, code, form, text, out);
         }
         if regs.section.is_some() {
             return Ok(());

@@ -228,7 +228,7 @@ impl Strobe<'_> {
 
     /// Returns the role of the code at index `code`; `None` if there is no such code.
     #[inline(always)]
-    fn role(&self, code: usize) -> Option<Role>
+    pub(crate) fn role(&self, code: usize) -> Option<Role>
         ensures { result ≡ slice_get self.now.roles.now code }
     {
         role_of(self.roles, code)
@@ -237,7 +237,7 @@ impl Strobe<'_> {
     /// Handles a change of the code at index `code`, which is no event and whose values are kept.
     /// `regs` are the registers. Fails if a write does.
     #[inline(never)]
-    fn take_value<W: Sink>(
+    pub(crate) fn take_value<W: Sink>(
         &mut self,
         regs: Regs,
         code: usize,
@@ -261,32 +261,5 @@ impl Strobe<'_> {
         self.put_turn(regs.time, code, from, to, out)?;
         self.turn(regs, code, to);
         Ok(())
-    }
-
-    /// Handles a change of the code at index `code`, which is no event. `regs` are the registers.
-    /// Fails if a write does.
-    #[inline(always)]
-    pub(crate) fn take_change<W: Sink>(
-        &mut self,
-        regs: Regs,
-        code: usize,
-        form: Form,
-        text: &[u8],
-        out: &mut W,
-    ) -> Result<(), WriteFailed>
-        requires failures { (W.device out.old).failures < 2 ^ 64 - 1 }
-        requires count { self.old.count ≤ length self.old.listed.now }
-        ensures takes { TakesChange self.old self.new regs code form text.now
-            (W.device out.old) (W.device out.new) result }
-        ensures counts { Counts (W.device out.old) (W.device out.new) result }
-        ensures count { IfOk result (λ _. self.new.count ≤ length self.new.listed.now) }
-    {
-        let Some(role) = self.role(code) else {
-            return Ok(());
-        };
-        if !role.is_followed() {
-            return Ok(());
-        }
-        self.take_value(regs, code, form, text, out)
     }
 }
