@@ -1008,6 +1008,11 @@ class Conditions(Case):
                 self.assertEqual(said(*words)[1:], ["0,1", "5,2", "9,3", "status 1"])
                 self.assertEqual(said(*words, "--at", "5,9,11")[1:], ["5,2", *at_9, "status 1"])
 
+    def test_an_age_before_a_fault(self):
+        dump = self.file("a.vcd", self.HEAD + b"#0 0c #9 1c bad\n")
+        self.assertEqual(said("vcdkit-when", "--rise", "clk", "--from", "9", dump,
+                              "age(clk) == 9"), ["9ns", "status 2"])
+
     def test_events_at_the_begin_of_a_window(self):
         dump = self.file("a.vcd", self.HEAD + b"#0 0! 1e #5 1! #9 1e #10\n")
         # A condition is evaluated there if a signal of it has a value.

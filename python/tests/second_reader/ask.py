@@ -169,6 +169,11 @@ def words() -> argparse.Namespace:
     return of.parse_args()
 
 
+def set_free() -> None:
+    """Lets this process start others, as a script does that takes many dumps."""
+    multiprocessing.current_process()._config["daemon"] = False  # type: ignore[attr-defined]
+
+
 def main() -> int:
     """Asks everything, and says what differs."""
     asked = words()
@@ -177,7 +182,7 @@ def main() -> int:
     counts: Counter[str] = collections.Counter()
     wrong: Counter[str] = collections.Counter()
     end = time.monotonic() + asked.seconds if asked.seconds else float("inf")
-    with multiprocessing.Pool(asked.processes, maxtasksperchild=200) as pool:
+    with multiprocessing.Pool(asked.processes, set_free, maxtasksperchild=200) as pool:
         for found in pool.imap_unordered(functools.partial(ask_all, kinds=kinds), sources):
             counts.update(found.counts)
             for kind, text in found.differences:
