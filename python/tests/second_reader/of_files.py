@@ -85,8 +85,9 @@ def ask_salvage(of: Asker) -> None:
     said = run("explain", ["--salvage", out, of.path])
     with open(out, "rb") as file:
         saved = read(file.read())
-    # Without a timestamp and a change nothing is known, not even that time 0 has no change.
-    until = dump.finished if dump.times or dump.items else -1
+    # Without a timestamp and a change nothing is known, not even that time 0 has no change. An event
+    # in a section is none.
+    until = dump.finished if dump.times or dump.changes() else -1
     of.same("salvage", [of.path], (said.status, said.about, said.lines[-1:]), (1, dump.fault, [
         "wrote: %s, %s" % (out, "good until " + dump.time_text(until) if until >= 0 else
                            "but it has all values of no time")]))
