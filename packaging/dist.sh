@@ -54,7 +54,7 @@ name=vcdkit-$version-x86_64-linux
 mkdir "$folder/$name"
 cp -r Makefile man completions samples extras packaging python "$folder/$name"
 mkdir "$folder/$name"/{hostile,tools}
-cp tools/{check,links}.py "$folder/$name/tools"
+cp tools/{check,contracts,links}.py "$folder/$name/tools"
 cp -r hostile/reference "$folder/$name/hostile"
 packaging/pages.sh "$folder/$name"
 find "$folder/$name" -name __pycache__ -exec rm -rf {} +
