@@ -6,11 +6,11 @@ set -eu
 cd "$(dirname "$0")/.."
 mkdir -p "$1/docs" "$1/samples" "$1/extras"
 inner='ARCHITECTURE|DECISIONS|PERFORMANCE|OWN_CRATES|CONTRIBUTING|STYLE'
-inner="$inner|bench/README|hostile/README|crates/[a-z_]*/README"
+inner="$inner|bench/README|hostile/README|second_reader/README|crates/[a-z_]*/README"
 for page in README.md CHANGELOG.md NOTICE.md docs/TUTORIAL.md docs/FAQ.md docs/MANUAL.md \
     docs/INTERNALS.md docs/RECIPES.md docs/MANY_DUMPS.md docs/PYTHON.md docs/PRODUCERS.md \
     docs/DEFINITIONS.md docs/PROOFS.md docs/AUDIT.md docs/GLOSSARY.md extras/README.md; do
-    sed -E "s,\[([^][]+)\]\([^()]*(($inner)\.md|/answers\.py)[^()]*\),\1,g" "$page" > "$1/$page"
+    sed -E "s,\[([^][]+)\]\([^()]*($inner)\.md[^()]*\),\1,g" "$page" > "$1/$page"
     chmod 644 "$1/$page"
 done
 for picture in docs/*.svg docs/*.png; do
