@@ -246,6 +246,11 @@ class Dump:
 
     # ---- States and windows.
 
+    def has_a_name_twice(self) -> bool:
+        """Whether the path and the range of a variable are the path of another one."""
+        paths = {one.path for one in self.variables}
+        return any(one.range and one.path + one.range in paths for one in self.variables)
+
     def changes(self) -> List[Item]:
         """Returns all changes; a trigger of an event has the value 1, and is none in a section."""
         events = {one.code for one in self.variables if one.is_event}

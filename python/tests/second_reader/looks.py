@@ -42,10 +42,11 @@ def state_before(step: Step, edges: Edges) -> Optional[State]:
     return None
 
 
-def looks_at_edges(dump: Dump, edges: Edges, begin: int = 0, end: int = LAST) -> List[Look]:
-    """Returns the edges of a window up to a fault, with the values just before them. An event
-    counts if it was triggered since the last edge, and in the window. The first edge of the window
-    has the edge before it, if the dump has one."""
+def looks_at_edges(dump: Dump, edges: Edges, begin: int = 0, end: int = LAST,
+                   among: Optional[Edges] = None) -> List[Look]:
+    """Returns the edges of a window up to a fault, with the values just before them, or before the
+    first one among these of their time. An event counts if it was triggered since the last edge,
+    and in the window. The first edge of the window has the edge before it, if the dump has one."""
     found: List[Look] = []
     events: Set[str] = set()
     is_inside = False
@@ -54,7 +55,8 @@ def looks_at_edges(dump: Dump, edges: Edges, begin: int = 0, end: int = LAST) ->
             is_inside, events = True, set()
         before = state_before(step, edges)
         if before is not None:
-            found.append(Look(step.time, before, events, found[-1] if found else None))
+            before = state_before(step, among or edges)
+            found.append(Look(step.time, before or {}, events, found[-1] if found else None))
             events = set()
         events = events | step.events
     return [one for one in found if one.time >= begin]

@@ -354,6 +354,8 @@ def ask_diff(of: Asker) -> None:
     of.need_whole()
     changed = random_changes(of)
     path, other = another(of, changed)
+    if of.dump.has_a_name_twice() or other.has_a_name_twice():
+        raise Skip  # lines may call either of two by the other's name
     asked = random_asked(of, changed, other)
     sides = Sides([of.dump, other], asked)
     factors = sides.factors

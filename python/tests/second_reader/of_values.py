@@ -183,7 +183,9 @@ def ask_channels(of: Asker) -> None:
     unit, counts = unit or (dump.scale[1] if dump.scale else "tick"), Counter()  # type: str, Any
     head = [cell for one in its for cell in one.head(is_json, unit)]
     wanted: List[List[Any]] = []
-    each = [looks_at_edges(dump, one.edges or edges, window.begin, window.end) for one in its]
+    among = {edge for one in its for edge in one.edges or edges}
+    each = [looks_at_edges(dump, one.edges or edges, window.begin, window.end, among)
+            for one in its]
     flushes = [look.time for look in each[0] if flush and holds(flush.test, look)]
     lacking = early = 0
     for line in transfers(each, [one.test for one in its], flushes):
@@ -387,6 +389,8 @@ def saved_by_gtkwave(its: List[Variable], asked: Asker) -> str:
 
 def ask_names(of: Asker) -> None:
     """Asks the same with --names and with the names themselves."""
+    if of.dump.has_a_name_twice():
+        raise Skip  # names may select either of two
     names, more = of.names(4), of.names(1) if of.happens(.3) else []
     if of.happens(.5):
         ends = of.random.choices(["\n", " wire 8 !\n", "\tfoo\r\n", "\n\n"], k=len(names))
