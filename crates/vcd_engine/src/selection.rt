@@ -1,20 +1,10 @@
 //! The variables that names select: a mark for each row, and a flag for each code.
 ghost use Rattle.std.specs.Prelude.{◌≡◌, ◌≤◌, length, map, string_bytes, MatchResult};
-ghost use Rattle.vcd_engine.specs.Names.{AreSelected, Header, is_marked, IsFirstUnmatched, IsUnmatched, IsViewOf};
+ghost use Rattle.vcd_engine.specs.Names.{AreSelected, Header, IsFirstUnmatched, IsUnmatched, IsViewOf};
 
 use vcd_body::Stop;
 use vcd_head::{flag_codes, select};
 use vcd_view::HeadView;
-
-/// Returns whether the mark of a row, or the flag of a code, is 1; false if there is none at this
-/// index.
-// A byte for each code, so that the flags of many codes fit into the cache.
-#[inline]
-pub(crate) fn is_marked(marks: &[u8], index: usize) -> bool
-    ensures { result ≡ is_marked marks.now index }
-{
-    marks.get(index).copied().unwrap_or(0) == 1
-}
 
 /// Selects variables by these names (all if there are no names): sets `marks`, one byte for each
 /// row, to 1 for these variables and the scopes around them and to 0 for all other rows, and

@@ -2,9 +2,8 @@
 ghost use Rattle.std.specs.Prelude.{◌≡◌, ℕ, ◌-◌, ◌^◌, ◌<◌, ◌∷◌, ◌++◌, [], List, true, false, length, Some, slice_get, decimal, flat_map};
 ghost use Rattle.vcd_engine.specs.Names.{AreTallied, AtRow, BodyItem, Change, change_to, Code, Counts, edges_line, HasBits, Header, HeadView, IdCode, IsText, IsViewOf, KeepsTable, leaves_open, marks_of, Puts, PutsWhere, selected, Takes};
 
-use crate::selection::is_marked;
 use vcd_body::{Bits, Form, Item, Table, Value};
-use vcd_head::put_path;
+use vcd_head::{is_marked, put_path};
 use vcd_text::{Sink, WriteFailed, put, put_number};
 use vcd_view::{HeadView, Kind};
 

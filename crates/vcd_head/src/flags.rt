@@ -1,8 +1,17 @@
-//! The flags of codes: which of them the marked variables have.
+//! Marks of rows and flags of codes, a byte each: which codes the marked variables have.
 ghost use Rattle.std.specs.Prelude.{◌≡◌, ℕ, ◌≤◌, List, length};
-ghost use Rattle.vcd_head.specs.Names.{AreFlags, Header, IsViewOf, marks_of};
+ghost use Rattle.vcd_head.specs.Names.{AreFlags, Header, IsViewOf, is_marked, marks_of};
 
 use vcd_view::{HeadView, Kind};
+
+/// Returns whether the mark of a row, or the flag of a code, is 1. It is not if there is none at
+/// this index.
+#[inline]
+pub fn is_marked(marks: &[u8], index: usize) -> bool
+    ensures { result ≡ is_marked marks.now index }
+{
+    marks.get(index).copied().unwrap_or(0) == 1
+}
 
 /// Sets `flags`, at least one byte for each code: to 1 for the codes of the marked variables (those
 /// with 1 in `marks`, one byte for each row), and to 0 for all others.

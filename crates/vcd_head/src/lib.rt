@@ -103,7 +103,7 @@ mod moment;
 pub mod laws;
 
 pub use fault::HeadFault;
-pub use flags::flag_codes;
+pub use flags::{flag_codes, is_marked};
 pub use head::Head;
 pub use merged::{least_exponent, put_merged_head};
 pub use moment::{Moment, TickFault, ticks};

@@ -2,6 +2,7 @@
 ghost use Rattle.std.specs.Prelude.{◌≡◌, ℕ, ◌-◌, ◌^◌, ◌<◌, List, [], ◌∷◌, flat_map, take, option_map, unwrap_or};
 ghost use Rattle.vcd_head.specs.Names.{AnyDeclared, AnyHeader, AnyVariable, Counts, Header, IsViewOf, Keyword, PutsTo, PutsWhere, Takes, TakesHeader, enclosing, head_for, head_text, is_marked, keyword_text, marks_of, parent, reference_of, row_line, rows_text, scale_text, scope_line, three_lines, three_lines_of, type_of, up_lines_at, var_line};
 
+use crate::flags::is_marked;
 use vcd_text::{Sink, WriteFailed, put, put_number};
 use vcd_view::{HeadView, Kind, Scale};
 
@@ -78,13 +79,6 @@ fn text_of_scale(scale: Option<Scale>) -> &'static [u8]
     }
 }
 
-/// Returns whether the element of a row in `marks` is 1. It is not if there is no such element.
-fn has_mark(marks: &[u8], row: usize) -> bool
-    ensures { result ≡ is_marked marks.now row }
-{
-    marks.get(row).copied().unwrap_or(0) == 1
-}
-
 /// Writes the `$scope` line of the scope at index `row`. Fails if the write fails.
 pub(crate) fn put_scope_line<W: Sink>(
     view: HeadView<'_>,
@@ -131,7 +125,7 @@ fn put_up_line<W: Sink>(marks: &[u8], scope: usize, w: &mut W) -> Result<(), Wri
     requires failures { (W.device w.old).failures < 2 ^ 64 - 1 }
     ensures { PutsTo W.device w.old w.new (up_lines_at (is_marked marks.now) (scope ∷ [])) result }
 {
-    if has_mark(marks, scope) {
+    if is_marked(marks, scope) {
         return put(w, b"$upscope $end\n");
     }
     Ok(())
@@ -158,8 +152,8 @@ fn put_marked_row<W: Sink>(
             Some(scope) => put_up_line(marks, scope, w),
             None => Ok(()),
         },
-        Kind::Scope if has_mark(marks, row) => put_scope_line(view, row, w),
-        Kind::Var if has_mark(marks, row) => {
+        Kind::Scope if is_marked(marks, row) => put_scope_line(view, row, w),
+        Kind::Var if is_marked(marks, row) => {
             put_var_line(view, row, view.code_text(declared.code as usize), w)
         }
         _ => Ok(()),

@@ -7,9 +7,8 @@ ghost use Rattle.vcd_strobe.specs.Listed.{chosen};
 ghost use Rattle.vcd_strobe.specs.Named.{FindsClock, FindsClocks, index_in, model_name, only_of};
 
 use crate::clocks::Clock;
-use crate::start::is_set;
 use std::slice;
-use vcd_head::{flag_codes, select};
+use vcd_head::{flag_codes, is_marked, select};
 use vcd_view::{Code, HeadView};
 
 /// What names a clock: the path of a variable and, unless it has one bit, which bit of it.
@@ -29,7 +28,7 @@ fn only_flag(flags: &[u8]) -> Option<usize>
 {
     let mut only = None;
     for index in 0..flags.len() {
-        if is_set(flags, index) {
+        if is_marked(flags, index) {
             if only.is_some() {
                 return None;
             }

@@ -2,7 +2,7 @@
 ghost use Rattle.std.specs.Prelude.{◌≡◌, ℕ, ◌≤◌, List, [], Some, length, set, slice_get};
 ghost use Rattle.vcd_model.specs.Header.{Header};
 ghost use Rattle.vcd_model.specs.Strobe.{Clock as ModelClock};
-ghost use Rattle.vcd_head.specs.Marks.{AreFlags, is_marked};
+ghost use Rattle.vcd_head.specs.Marks.{AreFlags};
 ghost use Rattle.vcd_strobe.specs.Listed.{FollowsEach};
 ghost use Rattle.vcd_strobe.specs.Roles.{followed};
 ghost use Rattle.vcd_strobe.specs.Strobes.{AreFresh, HasStrobed, Suffices, strobe_plan};
@@ -11,6 +11,7 @@ use crate::clocks::Clock;
 use crate::role::Role;
 use crate::whole::Strobe;
 use vcd_body::{Share, Slot, Table};
+use vcd_head::is_marked;
 use vcd_view::HeadView;
 
 /// The slices that a strobe works in.
@@ -28,14 +29,6 @@ pub struct Room<'r> {
     pub listed: &'r mut [usize],
 }
 
-/// Returns whether the flag at an index is 1; false if there is none.
-#[inline(always)]
-pub(crate) fn is_set(flags: &[u8], index: usize) -> bool
-    ensures { result ≡ is_marked flags.now index }
-{
-    flags.get(index).copied().unwrap_or(0) == 1
-}
-
 /// Sets the roles of all codes to those before the first item: a code has lines if its flag is 1.
 pub fn set_roles(flags: &[u8], roles: &mut [Role])
     ensures fresh { (h : Header) (names : List (List ℕ)) → AreFlags h names flags.now
@@ -43,7 +36,7 @@ pub fn set_roles(flags: &[u8], roles: &mut [Role])
     ensures len { length roles.new ≡ length roles.old }
 {
     for code in 0..roles.len() {
-        roles[code] = Role::new(is_set(flags, code));
+        roles[code] = Role::new(is_marked(flags, code));
     }
 }
 

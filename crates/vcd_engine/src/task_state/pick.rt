@@ -5,12 +5,12 @@ ghost use Rattle.vcd_engine.specs.declared.task.Task.TheVariants as task;
 
 use crate::item_text::{ItemText, may_keep};
 use crate::pending::PendingCopy;
-use crate::selection::{is_marked, select_codes};
+use crate::selection::select_codes;
 use crate::task::Room;
 use crate::task_state::last_time_of;
 use crate::task_state::walk::{AheadTask, KnownLine};
 use vcd_body::{Item, Regs, ScannedItem, Stop};
-use vcd_head::put_head;
+use vcd_head::{is_marked, put_head};
 use vcd_text::{Sink, WriteFailed};
 use vcd_view::HeadView;
 

@@ -7,4 +7,4 @@ pub returns-then-is_some : goal.returns-then-is_some
 returns-then-is_some c =
     let flags = c.args.flags.now in
     second_none (is_marked flags) c.loop-index.index (length flags) c.loop-index.only c.loop-index.invariant (sym c.is_some.ensures ∙ c.if-is_some.true)
-    (sym c.is_set.ensures ∙ c.if-is_set.true) (omega arith)
+    (sym c.is_marked.ensures ∙ c.if-is_marked.true) (omega arith)
