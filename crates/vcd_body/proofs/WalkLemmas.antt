@@ -1,5 +1,5 @@
 -- A walk over the items ahead, step by step.
-use Rattle.vcd_body.proofs.Cited.{◌≡◌, ◌≤◌, ◌<◌, ◌+◌, Bool, true, false, List, ℕ, [], ◌++◌, length, Result, Ok, Err, IfOk, refl, sym, ap, subst, ◌∙◌, append_assoc, append-nil, arith, result_and, Token, bytes_of, passed_of, Counts, Device, Passed, Ahead, WriteFailed, HeadView, LooksOver, PassesNoItem, Further, HasCome, Past, Stage, TakesOne, Trail, Walks, as_done, stage_at, TakesItem, ScannedItem, Regs}
+use Rattle.vcd_body.proofs.Cited.{◌≡◌, ◌≤◌, ◌<◌, ◌+◌, Bool, true, false, List, ℕ, [], ◌++◌, length, Result, Ok, Err, IfOk, refl, sym, ap, subst, ◌∙◌, append_assoc, append-nil, arith, result_and, Token, bytes_of, passed_of, Counts, Device, Passed, Ahead, WriteFailed, HeadView, LooksOver, PassesNoItem, Further, HasCome, Past, Stage, TakesOne, Trail, Walks, as_done, stage_at, over_of, TakesItem, ScannedItem, Regs, WalkEnd, AtItem, AtLines, Over}
 use Rattle.vcd_body.specs.Walk.{Begins}
 
 -- what a result is done with does not matter
@@ -84,23 +84,28 @@ module _ {V C : Type 0} (takes : HeadView → Stage V C → Stage V C → Result
       }
 
   -- it continues, and ends as it then does
-  pub walks_further : (a b z : Stage V C) (ended : Result Bool WriteFailed) → HasCome takes stands over v a b → Walks takes stands over v b z ended → Walks takes stands over v a z ended
-  walks_further a b z (Ok false) come more = come_further a b z come more
-  walks_further a b z (Ok true) come more = (more.0, come_further a b more.0 come more.1, more.2, more.3)
+  pub walks_further : (a b z : Stage V C) (ended : Result WalkEnd WriteFailed) → HasCome takes stands over v a b → Walks takes stands over v b z ended → Walks takes stands over v a z ended
+  walks_further a b z (Ok AtLines) come more = absurd more
+  walks_further a b z (Ok AtItem) come more = come_further a b z come more
+  walks_further a b z (Ok Over) come more = (more.0, come_further a b more.0 come more.1, more.2, more.3)
   walks_further a b z (Err e) come more = (more.0, come_further a b more.0 come more.1, more.2)
 
   -- failures of the output are counted
-  pub walk_counts : (a z : Stage V C) (ended : Result Bool WriteFailed) → Walks takes stands over v a z ended → Counts a.out z.out ended
-  walk_counts a z (Ok false) w = w.failures
-  walk_counts a z (Ok true) w = w.2.counts ∙ w.1.failures
+  pub walk_counts : (a z : Stage V C) (ended : Result WalkEnd WriteFailed) → Walks takes stands over v a z ended → Counts a.out z.out (over_of ended)
+  walk_counts a z (Ok AtLines) w = absurd w
+  walk_counts a z (Ok AtItem) w = w.failures
+  walk_counts a z (Ok Over) w = w.2.counts ∙ w.1.failures
   walk_counts a z (Err e) w = w.2.counts ∙ ap (λ n. n + 1) w.1.failures
 
   -- where the visit is over, some bytes were passed
-  pub walk_further : (a z : Stage V C) → Walks takes stands over v a z (Ok true) → passed_of a.ahead < passed_of z.ahead
-  walk_further a z w =
+  pub walk_further : (a z : Stage V C) (ended : Result WalkEnd WriteFailed) → over_of ended ≡ Ok true → Walks takes stands over v a z ended → passed_of a.ahead < passed_of z.ahead
+  walk_further a z (Ok AtLines) is w = absurd w
+  walk_further a z (Ok AtItem) is w = absurd (cc)
+  walk_further a z (Ok Over) is w =
       let further = w.1.further in
       let more = w.2.item.further in
       omega (arith, further, more)
+  walk_further a z (Err e) is w = absurd (cc)
 
   module _ (a : Stage V C) (limit lines : ℕ) (bytes : List ℕ) (ts : List Token) (looks : LooksOver limit bytes a.ahead) (passed : Passed limit lines bytes (passed_of a.ahead) ts) where
     abbrev pub PassesTo : Stage V C → Type 0
@@ -121,7 +126,8 @@ module _ {V C : Type 0} (takes : HeadView → Stage V C → Stage V C → Result
         rw is ((none.same.1 ∙ o.0.0, none.same.0 ∙ o.0.1), (o.1.0 ++ n.0, subst (Passed limit lines bytes (passed_of there)) (append_assoc ts o.1.0 n.0) n.1))
 
     -- whole tokens were passed
-    pub walk_passes : (z : Stage V C) (ended : Result Bool WriteFailed) → Walks takes stands over v a z ended → PassesTo z
-    walk_passes z (Ok false) w = along z w.trail
-    walk_passes z (Ok true) w = one_more w.0 z (Ok tt) w.2 (along w.0 w.1.trail)
+    pub walk_passes : (z : Stage V C) (ended : Result WalkEnd WriteFailed) → Walks takes stands over v a z ended → PassesTo z
+    walk_passes z (Ok AtLines) w = absurd w
+    walk_passes z (Ok AtItem) w = along z w.trail
+    walk_passes z (Ok Over) w = one_more w.0 z (Ok tt) w.2 (along w.0 w.1.trail)
     walk_passes z (Err e) w = one_more w.0 z (Err e) w.2 (along w.0 w.1.trail)

@@ -1,5 +1,5 @@
 -- How far a walk over the items ahead has come, for any task.
-use Rattle.std.specs.Prelude.{◌≡◌, ℕ, ◌≤◌, Bool, true, false, List, length, Option, MatchOption, Result, Ok, Err, IfOk}
+use Rattle.std.specs.Prelude.{◌≡◌, ℕ, ◌<◌, ◌≤◌, Bool, true, false, List, length, Option, MatchOption, Result, Ok, Err, IfOk}
 use Rattle.vcd_text.specs.Ahead.{bytes_of, passed_of}
 use Rattle.vcd_text.specs.Device.{Counts, Device}
 use Rattle.vcd_text.specs.declared.ahead.Ahead.{Ahead}
@@ -9,6 +9,8 @@ use Rattle.vcd_body.specs.Ahead.{PassesNoItem}
 use Rattle.vcd_body.specs.Taken.{TakesItem}
 use Rattle.vcd_body.specs.declared.ahead.ScannedItem.{ScannedItem}
 use Rattle.vcd_body.specs.declared.item.Regs.{Regs}
+use Rattle.vcd_body.specs.declared.walk.WalkEnd.{WalkEnd}
+use Rattle.vcd_body.specs.declared.walk.WalkEnd.TheVariants.{AtLines, AtItem, Over}
 
 -- where a walk is: its position, the registers after the items so far, the visit and what it works
 -- on, and the output
@@ -26,6 +28,13 @@ stage_at a r visit command out = record { ahead = a; regs = r; visit = visit; co
 abbrev pub as_done : {A E : Type 0} → Result A E → Result (Unit {0}) E
 as_done (Ok v) = Ok tt
 as_done (Err e) = Err e
+
+-- whether the visit is over, if no write failed
+abbrev pub over_of : {E : Type 0} → Result WalkEnd E → Result Bool E
+over_of (Ok AtLines) = Ok false
+over_of (Ok AtItem) = Ok false
+over_of (Ok Over) = Ok true
+over_of (Err e) = Err e
 
 module _ {V C : Type 0} (takes : HeadView → Stage V C → Stage V C → Result (Unit {0}) WriteFailed → Type 0) (stands : V → C → List ℕ → Regs → Type 0) where
   -- the walk can continue from there
@@ -71,9 +80,17 @@ module _ {V C : Type 0} (takes : HeadView → Stage V C → Stage V C → Result
       pub further : passed_of a.ahead ≤ passed_of z.ahead
       pub within : passed_of z.ahead ≤ length (bytes_of z.ahead)
 
-    -- how it ends: no other item was taken; the visit is over after one more; or a write of what is
-    -- due with one more failed
-    abbrev pub Walks : Stage V C → Stage V C → Result Bool WriteFailed → Type 0
-    Walks a z (Ok false) = HasCome a z
-    Walks a z (Ok true) = (m : Stage V C) × HasCome a m × TakesOne v m z (Ok tt) × (over z.visit ≡ true)
+    -- how it ends: before another item; after one more, with which the visit is over; or a write of
+    -- what is due with one more failed. It does not end at lines for the faster loop
+    abbrev pub Walks : Stage V C → Stage V C → Result WalkEnd WriteFailed → Type 0
+    Walks a z (Ok AtLines) = ⊥
+    Walks a z (Ok AtItem) = HasCome a z
+    Walks a z (Ok Over) = (m : Stage V C) × HasCome a m × TakesOne v m z (Ok tt) × (over z.visit ≡ true)
     Walks a z (Err e) = (m : Stage V C) × HasCome a m × TakesOne v m z (Err e)
+
+    -- how it ends if it also ends at such lines, past some bytes, where the visit is not over
+    abbrev pub WalksToLines : Stage V C → Stage V C → Result WalkEnd WriteFailed → Type 0
+    WalksToLines a z (Ok AtLines) = HasCome a z × (passed_of a.ahead < passed_of z.ahead) × (over z.visit ≡ false)
+    WalksToLines a z (Ok AtItem) = Walks a z (Ok AtItem)
+    WalksToLines a z (Ok Over) = Walks a z (Ok Over)
+    WalksToLines a z (Err e) = Walks a z (Err e)

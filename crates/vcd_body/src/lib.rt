@@ -33,7 +33,7 @@
 //! (`TakesItem`); `pass_items` takes `GaveItems` to all of them, and at the last of them to
 //! `GaveLast`, which says how much was read.
 //!
-//! `Walks takes stands over shows begin end ended` is what `walk_ahead` leaves: a trail of items
+//! `Walks takes stands over view begin end ended` is what `walk_ahead` leaves: a trail of items
 //! from where it began (`Trail`), at each of which the visitor did what its `takes` says, with only
 //! comments between them, and how it ended. Callers turn the trail into a relation of their own.
 //!
@@ -123,4 +123,4 @@ pub use values::step::Step;
 pub use values::table::Table;
 pub use values::table_text::{put_full, put_short};
 pub use values::value::Value;
-pub use walk::{Visit, Walked, walk_ahead};
+pub use walk::{Visit, WalkEnd, Walked, walk_ahead};

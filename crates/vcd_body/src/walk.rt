@@ -7,10 +7,11 @@ ghost use Rattle.vcd_text.specs.declared.device.WriteFailed.{WriteFailed};
 ghost use Rattle.vcd_view.specs.declared.view.HeadView.{HeadView};
 ghost use Rattle.vcd_body.specs.Items.{regs_after};
 ghost use Rattle.vcd_body.specs.Taken.{IsChangeBy, IsSection, Opens, OpensVector, TakesItem};
-ghost use Rattle.vcd_body.specs.Walk.{MayTakeTimestamp, MayTakeNext, MayTakeUpTo, Stage, TakesOne, Walks, as_done, stage_at};
+ghost use Rattle.vcd_body.specs.Walk.{MayTakeTimestamp, MayTakeNext, MayTakeUpTo, Stage, TakesOne, Walks, WalksToLines, as_done, over_of, stage_at};
 ghost use Rattle.vcd_body.specs.declared.item.Form.{Form};
 ghost use Rattle.vcd_body.specs.declared.item.Item.TheVariants as item;
 ghost use Rattle.vcd_body.specs.declared.item.Regs.{Regs};
+ghost use Rattle.vcd_body.specs.declared.walk.WalkEnd.TheVariants as end;
 ghost use Rattle.vcd_body.specs.declared.words.PhraseKind.TheVariants as kind;
 
 use crate::ahead::{
@@ -119,6 +120,18 @@ pub trait Visit<C>: Drop {
             (λ _. stands self.new command.new section.entry.bytes.now after) };
 }
 
+/// Where a walk over items has ended, if no write failed.
+#[derive(Clone, Copy, PartialEq, Eq, Debug)]
+pub enum WalkEnd {
+    /// Before two lines for the faster loop, `take_lines`. `walk_ahead` goes on there, and so never
+    /// returns it.
+    AtLines,
+    /// Before an item that it leaves to its caller, or at the end of the items in the chunk.
+    AtItem,
+    /// After an item with which the visitor has ended the walk.
+    Over,
+}
+
 /// How a walk has ended.
 #[derive(Drop)]
 pub struct Walked<'a, V> {
@@ -128,9 +141,9 @@ pub struct Walked<'a, V> {
     pub regs: Regs,
     /// The visitor after these items.
     pub visit: V,
-    /// Whether the visitor has ended the walk after the last of these items; or that a write of its
-    /// output failed.
-    pub ended: Result<bool, WriteFailed>,
+    /// Where the walk has ended after the last of these items; or that a write of its output
+    /// failed.
+    pub ended: Result<WalkEnd, WriteFailed>,
 }
 
 impl<'a, V> Walked<'a, V> {
@@ -141,7 +154,7 @@ impl<'a, V> Walked<'a, V> {
         ahead: Ahead<'a>,
         regs: Regs,
         visit: V,
-        ended: Result<bool, WriteFailed>,
+        ended: Result<WalkEnd, WriteFailed>,
     ) -> Walked<'a, V>
         ensures { result ≡ record {
           ahead = ahead.entry;
@@ -158,13 +171,35 @@ impl<'a, V> Walked<'a, V> {
         }
     }
 
-    /// Returns whether the walk may handle more items: the visitor has not ended it, and no write
-    /// failed.
+    /// Returns whether the other loop may handle more items: this one has left the next item to it.
     #[inline(always)]
     fn can_go_on(&self) -> bool
-        ensures { result ≡ true → self.now.ended ≡ Ok false }
+        ensures { result ≡ true → self.now.ended ≡ Ok end.AtItem }
     {
-        matches!(self.ended, Ok(false))
+        matches!(self.ended, Ok(WalkEnd::AtItem))
+    }
+
+    /// Returns whether the visitor has ended the walk. Fails if a write of its output did.
+    #[inline(always)]
+    pub fn is_over(&self) -> Result<bool, WriteFailed>
+        ensures { result ≡ over_of self.now.ended }
+    {
+        match self.ended {
+            Ok(WalkEnd::Over) => Ok(true),
+            Ok(WalkEnd::AtLines | WalkEnd::AtItem) => Ok(false),
+            Err(failed) => Err(failed),
+        }
+    }
+
+    /// Fails if a write of the visitor's output did.
+    #[inline(always)]
+    pub fn written(&self) -> Result<(), WriteFailed>
+        ensures { result ≡ as_done self.now.ended }
+    {
+        match self.ended {
+            Ok(_) => Ok(()),
+            Err(failed) => Err(failed),
+        }
     }
 }
 
@@ -366,7 +401,7 @@ fn take_shorts<'a, C, V: Visit<C>, W: Sink, const CR_LF: bool>(
         let Some(taken) = take_short::<C, V, W, CR_LF>(
             command, &mut visit, view, regs, &mut ahead, out,
         ) else {
-            return Walked::ended_at(ahead, regs, visit, Ok(false));
+            return Walked::ended_at(ahead, regs, visit, Ok(WalkEnd::AtItem));
         };
         match taken {
             Ok(()) => {}
@@ -422,7 +457,7 @@ fn take_lines_with_end<'a, C, V: Visit<C>, W: Sink, const CR_LF: bool>(
 {
     // What is known from here on is not asked again for each line.
     if view.entries.is_empty() || !ahead.two_byte_line_comes::<CR_LF>() {
-        return Walked::ended_at(ahead, regs, visit, Ok(false));
+        return Walked::ended_at(ahead, regs, visit, Ok(WalkEnd::AtItem));
     }
     ahead.forget();
     'lines: loop {
@@ -436,10 +471,10 @@ fn take_lines_with_end<'a, C, V: Visit<C>, W: Sink, const CR_LF: bool>(
         let Some(()) = take_timestamp_line::<C, V, CR_LF>(
             command, &mut visit, view, &mut regs, &mut ahead,
         ) else {
-            return Walked::ended_at(ahead, regs, visit, Ok(false));
+            return Walked::ended_at(ahead, regs, visit, Ok(WalkEnd::AtItem));
         };
         if visit.is_over() {
-            return Walked::ended_at(ahead, regs, visit, Ok(true));
+            return Walked::ended_at(ahead, regs, visit, Ok(WalkEnd::Over));
         }
     }
 }
@@ -479,10 +514,10 @@ fn lines_come<C, V: Visit<C>>(visit: &V, ahead: Ahead<'_>) -> bool
 }
 
 /// Has the visitor handle the items ahead, one after the other, up to a comment, or up to two lines
-/// for `take_lines`, and returns the look-ahead, the registers and the visitor after the last of
-/// them, how the walk ended, and whether it was at such lines. It also ends if the visitor ends the
-/// walk, if a write fails, or at an item that is bad or does not lie completely in the chunk. The
-/// first item is tried even if the visitor has already ended the walk.
+/// for `take_lines` after a timestamp or a section's begin or end, and returns the look-ahead, the
+/// registers and the visitor after the last of them, and how the walk ended. It also ends if the
+/// visitor ends the walk, if a write fails, or at an item that is bad or does not lie completely in
+/// the chunk. The first item is tried even if the visitor has already ended the walk.
 // In each arm of an item the compiler knows whether it was a change. At its end, the walk forgets
 // the white space that it has seen: otherwise this is saved before each item, and `check` of 27,505
 // codes takes 6 % more.
@@ -494,30 +529,28 @@ fn walk_items<'a, C, V: Visit<C>, W: Sink>(
     mut regs: Regs,
     mut ahead: Ahead<'a>,
     out: &mut W,
-) -> (Walked<'a, V>, bool)
+) -> Walked<'a, V>
     requires failures { (W.device out.old).failures < 2 ^ 64 - 1 }
     requires stands { V.stands visit command.old (bytes_of ahead) regs }
     requires within { passed_of ahead ≤ length (bytes_of ahead) }
-    ensures walks { Walks V.takes V.stands V.over view.entry
+    ensures { WalksToLines V.takes V.stands V.over view.entry
         (stage_at ahead.entry regs visit command.old (W.device out.old))
-        (stage_at result.0.ahead result.0.regs result.0.visit command.new (W.device out.new))
-        result.0.ended }
-    ensures lines { result.1 ≡ true → V.over result.0.visit ≡ false }
+        (stage_at result.ahead result.regs result.visit command.new (W.device out.new)) result.ended }
 {
     'items: loop {
         let Some(taken) = take_any(command, &mut visit, view, &mut regs, &mut ahead, out) else {
             ahead.forget();
-            return (Walked::ended_at(ahead, regs, visit, Ok(false)), false);
+            return Walked::ended_at(ahead, regs, visit, Ok(WalkEnd::AtItem));
         };
         let was_no_change = match taken {
             Ok(was_no_change) => was_no_change,
-            Err(failed) => return (Walked::ended_at(ahead, regs, visit, Err(failed)), false),
+            Err(failed) => return Walked::ended_at(ahead, regs, visit, Err(failed)),
         };
         if visit.is_over() {
-            return (Walked::ended_at(ahead, regs, visit, Ok(true)), false);
+            return Walked::ended_at(ahead, regs, visit, Ok(WalkEnd::Over));
         }
         if was_no_change && two_short_lines_come(ahead) {
-            return (Walked::ended_at(ahead, regs, visit, Ok(false)), true);
+            return Walked::ended_at(ahead, regs, visit, Ok(WalkEnd::AtLines));
         }
     }
 }
@@ -561,21 +594,25 @@ pub fn walk_ahead<'a, C, V: Visit<C>, W: Sink>(
             regs = lines.regs;
             visit = lines.visit;
         }
-        let (items, lines_next) = walk_items(command, visit, view, regs, ahead, out);
-        if !items.can_go_on() {
+        let items = walk_items(command, visit, view, regs, ahead, out);
+        let Ok(end) = items.ended else {
             return items;
-        }
-        let past = if lines_next {
-            items.ahead
-        } else {
-            after_comments(items.ahead)
         };
-        if past.passed() == from {
-            return items;
+        match end {
+            WalkEnd::AtLines => {
+                ahead = items.ahead;
+                at_lines = true;
+            }
+            WalkEnd::AtItem => {
+                ahead = after_comments(items.ahead);
+                if ahead.passed() == from {
+                    return items;
+                }
+                at_lines = lines_come(&items.visit, ahead);
+            }
+            WalkEnd::Over => return items,
         }
-        ahead = past;
         regs = items.regs;
         visit = items.visit;
-        at_lines = lines_next || lines_come(&visit, ahead);
     }
 }

@@ -29,6 +29,8 @@ pub use Rattle.vcd_body.specs.declared.item.Item.TheVariants.{Begin, End, Finish
 pub use Rattle.vcd_body.specs.declared.item.Regs.{Regs}
 pub use Rattle.vcd_body.specs.declared.item.Section.{Section}
 pub use Rattle.vcd_body.specs.declared.item.Section.TheVariants.{All, Off, On, Vars}
+pub use Rattle.vcd_body.specs.declared.walk.WalkEnd.{WalkEnd}
+pub use Rattle.vcd_body.specs.declared.walk.WalkEnd.TheVariants.{AtItem, AtLines, Over}
 pub use Rattle.vcd_changes.specs.Digits.{digits_in, is_known, is_one, number_where}
 pub use Rattle.vcd_changes.specs.Reading.{EndsAt, Finds, FindsUnder, GoesOnUnder, HasCodes, IsAfter, IsLimitEnough, place_of, regs_of, section_at, section_number, status_of}
 pub use Rattle.vcd_changes.specs.Rows.{EndsSo, GaveRows, row_added, row_in, row_of, rows_of}

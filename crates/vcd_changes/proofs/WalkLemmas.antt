@@ -1,5 +1,5 @@
 -- Rows of items that lie ahead in a feed's chunk, one item after the other.
-use Rattle.vcd_changes.proofs.Cited.{◌≡◌, ◌∙◌, ℕ, Bool, true, false, cond, List, [], ◌∷◌, ◌++◌, Result, Ok, Err, Some, ap, append_assoc, append-nil, refl, slice_get, subst, sym, IdCode, Header, BodyItem, time_after, Token, bytes_of, longest_of, passed_of, Passed, Ahead, WriteFailed, IsViewOf, HeadView, GaveAhead, LooksOver, PassesNoItem, AreRegsAfter, Begins, Further, Past, Trail, Walks, stage_at, Regs, gave_none_ahead, row_added, Added, Came, HasRoom, RowStage, SameRows, TakesRow, filled, is_full, passed_at, passed_with, rows_at, ChangeRow, Collecting, Rows}
+use Rattle.vcd_changes.proofs.Cited.{◌≡◌, ◌∙◌, ℕ, Bool, true, false, cond, List, [], ◌∷◌, ◌++◌, Result, Ok, Err, Some, ap, append_assoc, append-nil, refl, slice_get, subst, sym, IdCode, Header, BodyItem, time_after, Token, bytes_of, longest_of, passed_of, Passed, Ahead, WriteFailed, IsViewOf, HeadView, GaveAhead, LooksOver, PassesNoItem, AreRegsAfter, Begins, Further, Past, Trail, Walks, stage_at, Regs, gave_none_ahead, row_added, Added, Came, HasRoom, RowStage, SameRows, TakesRow, filled, is_full, passed_at, passed_with, rows_at, ChangeRow, Collecting, Rows, WalkEnd, AtItem, AtLines, Over}
 use Rattle.vcd_changes.proofs.RowLemmas.{filled_more, filled_none, row_more}
 
 module _ (v : HeadView) (stands : Collecting → Rows → List ℕ → Regs → Type 0) (s : RowStage) where
@@ -121,9 +121,10 @@ module _ (v : HeadView) (stands : Collecting → Rows → List ℕ → Regs → 
     along _ (Past b c so_far there none is) = rw is (came_past b there (along b so_far) none)
 
     -- no write fails, and no walk is over
-    pub walk_came : (z : RowStage) (ended : Result Bool WriteFailed) → Walks TakesRow stands (λ _. false) v s z ended → Came v s z
-    walk_came z (Ok false) on = along z on.trail
-    walk_came z (Ok true) on = let e = on.3 in absurd (cc)
+    pub walk_came : (z : RowStage) (ended : Result WalkEnd WriteFailed) → Walks TakesRow stands (λ _. false) v s z ended → Came v s z
+    walk_came z (Ok AtLines) on = absurd on
+    walk_came z (Ok AtItem) on = along z on.trail
+    walk_came z (Ok Over) on = let e = on.3 in absurd (cc)
     walk_came z (Err f) on = let e = on.2.did.done in absurd (cc)
 
 -- whatever the output is, which has no part in it

@@ -1,5 +1,5 @@
 -- Items that a run takes ahead in a chunk, one after the other.
-use Rattle.vcd_compare.proofs.Cited.{◌≡◌, ℕ, Bool, true, false, not, List, [], ◌∷◌, ◌++◌, Result, Ok, Err, refl, sym, ap, subst, ◌∙◌, append-nil, append_assoc, is_empty, Header, BodyItem, Names, within_open, appends-none, bytes_of, longest_of, passed_of, Device, Writes, Ahead, WriteFailed, IsViewOf, HeadView, GaveAhead, LooksOver, PassesNoItem, AreRegsAfter, regs_after, Begins, Further, Past, Stage, Trail, Walks, stage_at, Regs, gave_none_ahead, walk_passes, Plan, RunsOver, model_asked, Compares, ComparesOne, HasHandled, IsCounted, SameRequest, plan_within, Comparison, Watched, Run}
+use Rattle.vcd_compare.proofs.Cited.{◌≡◌, ℕ, Bool, true, false, not, List, [], ◌∷◌, ◌++◌, Result, Ok, Err, refl, sym, ap, subst, ◌∙◌, append-nil, append_assoc, is_empty, Header, BodyItem, Names, within_open, appends-none, bytes_of, longest_of, passed_of, Device, Writes, Ahead, WriteFailed, IsViewOf, HeadView, GaveAhead, LooksOver, PassesNoItem, AreRegsAfter, regs_after, Begins, Further, Past, Stage, Trail, Walks, stage_at, Regs, gave_none_ahead, walk_passes, Plan, RunsOver, model_asked, Compares, ComparesOne, HasHandled, IsCounted, SameRequest, plan_within, Comparison, Watched, Run, WalkEnd, AtItem, AtLines, Over}
 use Rattle.vcd_compare.specs.declared.asked.Asked.{Asked}
 use Rattle.vcd_compare.proofs.RunEnds.{not_ended}
 
@@ -83,19 +83,21 @@ module _ (v : HeadView) (s : Stage Watched Comparison) where
     along _ (Further b c so_far one on) = taken_on b c (along b so_far) one.did
     along _ (Past b c so_far there none is) = rw is (taken_past b there (along b so_far) none)
 
-    all_taken : (z : Stage Watched Comparison) (ended : Result Bool WriteFailed) → Walks ComparesOne Counted (λ _. false) v s z ended → HasTaken z
-    all_taken z (Ok false) on = along z on.trail
-    all_taken z (Ok true) on = let e = on.3 in absurd (cc)
+    all_taken : (z : Stage Watched Comparison) (ended : Result WalkEnd WriteFailed) → Walks ComparesOne Counted (λ _. false) v s z ended → HasTaken z
+    all_taken z (Ok AtLines) on = absurd on
+    all_taken z (Ok AtItem) on = along z on.trail
+    all_taken z (Ok Over) on = let e = on.3 in absurd (cc)
     all_taken z (Err f) on = let e = on.2.did.done in absurd (cc)
 
   -- no write fails, and no walk is over
-  still : (z : Stage Watched Comparison) (ended : Result Bool WriteFailed) → Walks ComparesOne Counted (λ _. false) v s z ended
+  still : (z : Stage Watched Comparison) (ended : Result WalkEnd WriteFailed) → Walks ComparesOne Counted (λ _. false) v s z ended
       → (z.out.failures ≡ s.out.failures) × IsCounted z.visit z.command
-  still z (Ok false) on = (on.failures, on.on)
-  still z (Ok true) on = let e = on.3 in absurd (cc)
+  still z (Ok AtLines) on = absurd on
+  still z (Ok AtItem) on = (on.failures, on.on)
+  still z (Ok Over) on = let e = on.3 in absurd (cc)
   still z (Err f) on = let e = on.2.did.done in absurd (cc)
 
-module _ (v : HeadView) (a a' : Ahead) (r r' : Regs) (run run' : Run) (out out' : Device) (ended : Result Bool WriteFailed)
+module _ (v : HeadView) (a a' : Ahead) (r r' : Regs) (run run' : Run) (out out' : Device) (ended : Result WalkEnd WriteFailed)
     (walks : Walks ComparesOne Counted (λ _. false) v (stage_at a r run.watched run.comparison out)
     (stage_at a' r' run'.watched run'.comparison out') ended) where
   abbrev begin : Stage Watched Comparison

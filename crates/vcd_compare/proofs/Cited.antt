@@ -41,6 +41,8 @@ pub use Rattle.vcd_body.specs.declared.item.Item.TheVariants.{Begin, Change, Fin
 pub use Rattle.vcd_body.specs.declared.item.Regs.{Regs}
 pub use Rattle.vcd_body.specs.declared.values.slot.Shown.{Shown}
 pub use Rattle.vcd_body.specs.declared.values.table.Table.{Table}
+pub use Rattle.vcd_body.specs.declared.walk.WalkEnd.{WalkEnd}
+pub use Rattle.vcd_body.specs.declared.walk.WalkEnd.TheVariants.{AtItem, AtLines, Over}
 pub use Rattle.vcd_compare.specs.Asked.{model_asked, model_extent, rule_of}
 pub use Rattle.vcd_compare.specs.Classes.{AddsEnd, EntersClass, HasClasses}
 pub use Rattle.vcd_compare.specs.Comparing.{AreCodes, AreCurrent, AreFlags, AreMarked, AreSkips, AreTriggers, Compares, ComparesOne, GivesNew, HasNoEnd, IsCounted, IsLastTrigger, IsNextEnd, SameRequest, differ_from, is_last, partner, stops_before, triggers_with}

@@ -63,6 +63,8 @@ pub use Rattle.vcd_body.specs.declared.item.Item.TheVariants.{Begin, Change, End
 pub use Rattle.vcd_body.specs.declared.item.Regs.{Regs}
 pub use Rattle.vcd_body.specs.declared.values.step.Step.{Step}
 pub use Rattle.vcd_body.specs.declared.values.table.Table.{Table}
+pub use Rattle.vcd_body.specs.declared.walk.WalkEnd.{WalkEnd}
+pub use Rattle.vcd_body.specs.declared.walk.WalkEnd.TheVariants.{AtItem, AtLines, Over}
 pub use Rattle.vcd_engine.specs.Ahead.{EndsAhead, RunsAhead, RunsOver, StandsAhead}
 pub use Rattle.vcd_engine.specs.Check.{AreCounted}
 pub use Rattle.vcd_engine.specs.Cut.{AreCut, HasBegun, HasNone, IsNoTimestamp, kept_from, values_text}

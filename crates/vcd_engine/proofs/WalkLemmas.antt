@@ -1,5 +1,5 @@
 -- The loop over the items ahead, step by step.
-use Rattle.vcd_engine.proofs.Cited.{◌≡◌, ℕ, ◌+◌, ◌≤◌, Bool, true, false, List, [], ◌∷◌, ◌++◌, length, Result, Ok, Err, refl, sym, ap, subst, ◌∙◌, append-nil, IfOk, Token, bytes_of, longest_of, passed_of, Passed, Device, Puts, counts-on, Ahead, WriteFailed, HeadView, PassesNoItem, Begins, Further, Past, Stage, Trail, Walks, Regs, walk_passes, RunsOver, request_in, TakesNext, Walk, walk_at, IsLine, IsPart, pending_in, CanTake, HasWalked, TakesByTask, walk_of, TaskState, WalkState, PendingCopy}
+use Rattle.vcd_engine.proofs.Cited.{◌≡◌, ℕ, ◌+◌, ◌≤◌, Bool, true, false, List, [], ◌∷◌, ◌++◌, length, Result, Ok, Err, refl, sym, ap, subst, ◌∙◌, append-nil, IfOk, Token, bytes_of, longest_of, passed_of, Passed, Device, Puts, counts-on, Ahead, WriteFailed, HeadView, PassesNoItem, Begins, Further, Past, Stage, Trail, Walks, Regs, walk_passes, RunsOver, request_in, TakesNext, Walk, walk_at, IsLine, IsPart, pending_in, CanTake, HasWalked, TakesByTask, walk_of, TaskState, WalkState, PendingCopy, WalkEnd, AtItem, AtLines, Over}
 use Rattle.vcd_text.specs.Device.{Counts}
 use Rattle.vcd_run.specs.declared.task.AheadEnd.{AheadEnd}
 use Rattle.vcd_engine.proofs.AheadLemmas.{ends_before}
@@ -97,10 +97,10 @@ module _ (v : HeadView) (a : Ahead) (r : Regs) (m : TaskState) (begin : Device) 
       }
 
 module _ {L C : Type 0} (line : L → ℕ × ℕ) (is_ready : C → Bool) (task_state : C → TaskState) (v : HeadView) (s : Stage (WalkState L) C) where
-  abbrev On : Stage (WalkState L) C → Result Bool WriteFailed → Type 0
+  abbrev On : Stage (WalkState L) C → Result WalkEnd WriteFailed → Type 0
   On z ended = Walks (TakesByTask line task_state) (CanTake line is_ready) (λ _. false) v s z ended
 
-  pub passed_to : (z : Stage (WalkState L) C) (ended : Result Bool WriteFailed) → On z ended → PassesTo s.ahead (passed_of z.ahead)
+  pub passed_to : (z : Stage (WalkState L) C) (ended : Result WalkEnd WriteFailed) → On z ended → PassesTo s.ahead (passed_of z.ahead)
   passed_to z ended on lines ts passed = (walk_passes _ _ _ _ s (longest_of s.ahead) lines (bytes_of s.ahead) ts (refl, refl) passed z ended on).1
 
   module _ (r : Regs) (m : TaskState) (begin : Device) (walked : HasWalked v s.ahead r m begin (walk_of line s) s.visit.pending s.out (task_state s.command)) where
@@ -111,9 +111,10 @@ module _ {L C : Type 0} (line : L → ℕ × ℕ) (is_ready : C → Bool) (task_
     along _ (Past b c so_far there none is) = rw is (walk_past v s.ahead r m begin _ _ _ _ (along b so_far) there none)
 
     -- no other item was taken
-    pub walk_over : (z : Stage (WalkState L) C) (b : Bool) → On z (Ok b) → HasWalked v s.ahead r m begin (walk_of line z) z.visit.pending z.out (task_state z.command)
-    walk_over z false on = along z on.trail
-    walk_over z true on = let e = on.3 in absurd (cc)
+    pub walk_over : (z : Stage (WalkState L) C) (end : WalkEnd) → On z (Ok end) → HasWalked v s.ahead r m begin (walk_of line z) z.visit.pending z.out (task_state z.command)
+    walk_over z AtLines on = absurd on
+    walk_over z AtItem on = along z on.trail
+    walk_over z Over on = let e = on.3 in absurd (cc)
 
     -- or a write of what is due with one more failed
     pub walk_wrong : (z : Stage (WalkState L) C) (e : WriteFailed) → On z (Err e) → (t : AheadEnd) → t.passed ≡ passed_of z.ahead → t.regs ≡ z.regs

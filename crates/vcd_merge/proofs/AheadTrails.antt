@@ -1,5 +1,5 @@
 -- Items of one input of a merge that lie ahead in its feed's chunk, taken one after the other.
-use Rattle.vcd_merge.proofs.Cited.{◌≡◌, ℕ, ◌+◌, ◌*◌, ◌^◌, ◌<◌, Bool, true, false, List, [], ◌∷◌, ◌++◌, length, Option, Result, Ok, Err, refl, sym, ap, subst, ◌∙◌, mul_comm, nat_le, arith, IfOk, leb-false, IdCode, Header, BodyItem, is_too_large, due_with, entry_for, written_with, all_append, bytes_of, longest_of, passed_of, Counts, Takes, Writes, WritesSome, WriteFailed, appends-none, IsViewOf, HeadView, GaveAhead, LooksOver, IsItem, AreRegsAfter, regs_after, IsSection, TakesItem, Begins, Past, Walks, ScannedItem, Form, Item, Begin, End, Finish, Time, Regs, section_time, IsAhead, MergeStage, OneAhead, PutsDue, RunsAhead, SameMerging, StageAhead, TakesNext, Merging}
+use Rattle.vcd_merge.proofs.Cited.{◌≡◌, ℕ, ◌+◌, ◌*◌, ◌^◌, ◌<◌, Bool, true, false, List, [], ◌∷◌, ◌++◌, length, Option, Result, Ok, Err, refl, sym, ap, subst, ◌∙◌, mul_comm, nat_le, arith, IfOk, leb-false, IdCode, Header, BodyItem, is_too_large, due_with, entry_for, written_with, all_append, bytes_of, longest_of, passed_of, Counts, Takes, Writes, WritesSome, WriteFailed, appends-none, IsViewOf, HeadView, GaveAhead, LooksOver, IsItem, AreRegsAfter, regs_after, IsSection, TakesItem, Begins, Past, Walks, ScannedItem, Form, Item, Begin, End, Finish, Time, Regs, section_time, IsAhead, MergeStage, OneAhead, PutsDue, RunsAhead, SameMerging, StageAhead, TakesNext, Merging, WalkEnd, AtItem, AtLines, Over, over_of}
 use Rattle.vcd_body.specs.Walk.{Further as Goes_further, Trail}
 use Rattle.vcd_body.specs.declared.item.Item.TheVariants.{Change}
 use Rattle.vcd_merge.specs.MergeAhead.{Further}
@@ -217,9 +217,10 @@ module _ (v : HeadView) (stands : Merging → Option ℕ → List ℕ → Regs �
       })
 
   -- it ends so
-  pub walk_runs : (z : MergeStage) (ended : Result Bool WriteFailed) → Walks TakesNext stands is_out v s z ended → Runs z ended
-  walk_runs z (Ok false) w = (along z w.trail).runs
-  walk_runs z (Ok true) w = λ scale first lines h behind start views factor first_is few r.
+  pub walk_runs : (z : MergeStage) (ended : Result WalkEnd WriteFailed) → Walks TakesNext stands is_out v s z ended → Runs z (over_of ended)
+  walk_runs z (Ok AtLines) w = absurd w
+  walk_runs z (Ok AtItem) w = (along z w.trail).runs
+  walk_runs z (Ok Over) w = λ scale first lines h behind start views factor first_is few r.
       let m = w.0 in
       let so = along m w.1.trail in
       let one = w.2 in

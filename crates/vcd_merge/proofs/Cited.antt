@@ -30,7 +30,7 @@ pub use Rattle.vcd_body.specs.Names.{line_under}
 pub use Rattle.vcd_body.specs.Reads.{BodyHas, Fails, GaveAll, GaveItem, GaveItems, StopsAt}
 pub use Rattle.vcd_body.specs.Spelled.{IsSpelledAs}
 pub use Rattle.vcd_body.specs.Taken.{IsSection, TakesItem}
-pub use Rattle.vcd_body.specs.Walk.{Begins, Past, Walks}
+pub use Rattle.vcd_body.specs.Walk.{Begins, Past, Walks, over_of}
 pub use Rattle.vcd_body.specs.declared.ahead.ScannedItem.{ScannedItem}
 pub use Rattle.vcd_body.specs.declared.answer.Done.{Done}
 pub use Rattle.vcd_body.specs.declared.answer.Done.TheVariants.{Early}
@@ -45,6 +45,8 @@ pub use Rattle.vcd_body.specs.declared.item.Form.TheVariants.{RealText, Scalar, 
 pub use Rattle.vcd_body.specs.declared.item.Item.{Item}
 pub use Rattle.vcd_body.specs.declared.item.Item.TheVariants.{Begin, End, Finish, Time}
 pub use Rattle.vcd_body.specs.declared.item.Regs.{Regs}
+pub use Rattle.vcd_body.specs.declared.walk.WalkEnd.{WalkEnd}
+pub use Rattle.vcd_body.specs.declared.walk.WalkEnd.TheVariants.{AtItem, AtLines, Over}
 pub use Rattle.vcd_head.proofs.InsideLemmas.{get_mapped}
 pub use Rattle.vcd_head.proofs.MergedLemmas.{HeaderAt, exponent_in_range, few_powers, header_at, least_in_range, number_more, numbers_fit}
 pub use Rattle.vcd_head.specs.Merged.{ShowHeaders}

@@ -229,7 +229,7 @@ fn take_turn_ahead<S: Source, W: Sink>(
     let view = head.view();
     let walked = walk_ahead(written, merging, view, seat.regs, ahead, out);
     let passed = walked.ahead.passed();
-    let ended = walked.ended;
+    let ended = walked.is_over();
     seat.regs = walked.regs;
     seat.time = walked.visit.time;
     pass_items(feed, passed);

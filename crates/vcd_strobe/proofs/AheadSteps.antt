@@ -23,6 +23,8 @@ use Rattle.vcd_body.specs.declared.item.Item.{Item}
 use Rattle.vcd_body.specs.declared.item.Item.TheVariants as item
 use Rattle.vcd_body.specs.declared.item.Regs.{Regs}
 use Rattle.vcd_body.specs.declared.item.Section.{Section}
+use Rattle.vcd_body.specs.declared.walk.WalkEnd.{WalkEnd}
+use Rattle.vcd_body.specs.declared.walk.WalkEnd.TheVariants.{AtItem, AtLines, Over}
 use Rattle.vcd_run.specs.Plan.{Plan}
 use Rattle.vcd_run.specs.Task.{EndsAhead, RunsOver}
 use Rattle.vcd_strobe.proofs.TaskSteps.{takes_rest}
@@ -162,31 +164,34 @@ module _ (v : HeadView) (s : Stage EachItem Strobe) where
     along _ (Past b c so_far there none is) = rw is (none_more b there (along b so_far) none)
 
   module _ (z : Stage EachItem Strobe) where
-    abbrev Walked : Result Bool WriteFailed → Type 0
+    abbrev Walked : Result WalkEnd WriteFailed → Type 0
     Walked ended = Walks StrobesOne IsReady (λ _. false) v s z ended
 
     goes : (p : Plan) (h : Header) (before more : List BodyItem) → HasStrobed s.command p h before → p.ends more ≡ false
     goes p h before more has = ap (λ (q : Plan). q.ends more) has.by_plan
 
-    counts : (ended : Result Bool WriteFailed) → Walked ended → Counts s.out z.out (as_done ended)
-    counts (Ok false) w = w.failures
-    counts (Ok true) w = absurd (false≢true w.3)
+    counts : (ended : Result WalkEnd WriteFailed) → Walked ended → Counts s.out z.out (as_done ended)
+    counts (Ok AtLines) w = absurd w
+    counts (Ok AtItem) w = w.failures
+    counts (Ok Over) w = absurd (false≢true w.3)
     counts (Err e) w = counts-on {A = Unit {0}} s.out w.0.out z.out (Err e) w.1.failures w.2.counts
 
-    pub ready_ahead : (ended : Result Bool WriteFailed) → Walked ended → IfOk (as_done ended) (λ _. z.command.count ≤ length z.command.listed.now)
-    ready_ahead (Ok false) w = w.on
-    ready_ahead (Ok true) w = absurd (false≢true w.3)
+    pub ready_ahead : (ended : Result WalkEnd WriteFailed) → Walked ended → IfOk (as_done ended) (λ _. z.command.count ≤ length z.command.listed.now)
+    ready_ahead (Ok AtLines) w = absurd w
+    ready_ahead (Ok AtItem) w = w.on
+    ready_ahead (Ok Over) w = absurd (false≢true w.3)
     ready_ahead (Err e) w = tt
 
-    gives : (ended : Result Bool WriteFailed) → Walked ended → (p : Plan) (h : Header) (lines : ℕ) (before : List BodyItem) → IsViewOf v h
+    gives : (ended : Result WalkEnd WriteFailed) → Walked ended → (p : Plan) (h : Header) (lines : ℕ) (before : List BodyItem) → IsViewOf v h
         → AreRegsAfter before s.regs
         → length before + length (bytes_of s.ahead) < 2 ^ 63 → HasStrobed s.command p h before → p.ends before ≡ false → passed_of s.ahead ≡ 0
         → (items : List BodyItem) × EndsAhead HasStrobed p h (longest_of s.ahead) lines (bytes_of s.ahead)
         (passed_of z.ahead) z.command z.regs s.out z.out (as_done ended) before items
-    gives (Ok false) w p h lines before views known few has on first =
+    gives (Ok AtLines) w p h lines before views known few has on first = absurd w
+    gives (Ok AtItem) w p h lines before views known few has on first =
         let t = (along first z w.trail).takes p h lines before views known few has in
         (t.more, (t.gave, t.known, t.has, goes p h before (before ++ t.more) has, (t.due, t.due_is, (t.written, w.failures))))
-    gives (Ok true) w p h lines before views known few has on first = absurd (false≢true w.3)
+    gives (Ok Over) w p h lines before views known few has on first = absurd (false≢true w.3)
     gives (Err e) w p h lines before views known few has on first =
         let b = w.0 in
         let so_far = along first b w.1.trail in
@@ -205,7 +210,7 @@ module _ (v : HeadView) (s : Stage EachItem Strobe) where
           ),
         )
 
-    pub runs_ahead : (ended : Result Bool WriteFailed) → Walked ended
+    pub runs_ahead : (ended : Result WalkEnd WriteFailed) → Walked ended
         → RunsOver HasStrobed v s.ahead s.regs s.command z.command s.out z.out (record { passed = passed_of z.ahead; regs = z.regs; written = as_done ended })
     runs_ahead ended w = record {
       gives = gives ended w;

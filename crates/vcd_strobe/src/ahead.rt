@@ -1,22 +1,11 @@
 //! The items that lie completely in the chunk.
 ghost use Rattle.std.specs.Prelude.{◌≡◌, false};
-ghost use Rattle.vcd_body.specs.Walk.{as_done};
 ghost use Rattle.vcd_strobe.specs.Ahead.{IsReady, StrobesOne};
 
 use crate::whole::Strobe;
 use vcd_body::{Item, Regs, ScannedItem, Visit};
 use vcd_text::{Sink, WriteFailed};
 use vcd_view::HeadView;
-
-/// Returns a result without what it gives.
-pub(crate) fn done_of(ended: Result<bool, WriteFailed>) -> Result<(), WriteFailed>
-    ensures { result ≡ as_done ended }
-{
-    match ended {
-        Ok(_) => Ok(()),
-        Err(failed) => Err(failed),
-    }
-}
 
 /// The visit of a strobe: it handles each item as it comes.
 // Against taking none ahead it saves 23 % of the instructions over 89 scalars and a vector.

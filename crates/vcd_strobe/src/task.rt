@@ -4,7 +4,7 @@ ghost use Rattle.vcd_body.specs.Given.{IsGoodText};
 ghost use Rattle.vcd_text.specs.Device.{Counts};
 ghost use Rattle.vcd_strobe.specs.Strobes.{HasStrobed, TakesAny};
 
-use crate::ahead::{EachItem, done_of};
+use crate::ahead::EachItem;
 use crate::whole::Strobe;
 use vcd_body::{Form, Item, Regs, walk_ahead};
 use vcd_run::{AheadEnd, Task};
@@ -72,7 +72,7 @@ impl Task for Strobe<'_> {
         AheadEnd {
             passed: walked.ahead.passed(),
             regs: walked.regs,
-            written: done_of(walked.ended),
+            written: walked.written(),
         }
     }
 

@@ -4,9 +4,9 @@ use Rattle.vcd_strobe.proofs.task.StrobeTask.take_ahead.Goals as goal
 pub returns-clause-runs : goal.returns-clause-runs
 returns-clause-runs g c =
     let walked = c.walk_ahead-walked in
-    rw (c.passed.ensures.passed, c.done_of.ensures) (runs_ahead c.args.view _ _ walked.result.ended walked.ensures)
+    rw (c.passed.ensures.passed, c.written.ensures) (runs_ahead c.args.view _ _ walked.result.ended walked.ensures)
 
 pub returns-clause-ready : goal.returns-clause-ready
 returns-clause-ready g c =
     let walked = c.walk_ahead-walked in
-    rw c.done_of.ensures (ready_ahead c.args.view _ _ walked.result.ended walked.ensures)
+    rw c.written.ensures (ready_ahead c.args.view _ _ walked.result.ended walked.ensures)
