@@ -9,7 +9,7 @@ use crate::values::table::Table;
 
 /// Returns which kind of value is held.
 #[inline(always)]
-fn kind_of(held: HeldValue<'_>) -> Shown
+fn kind_held(held: HeldValue<'_>) -> Shown
     ensures { result ≡ shown_as (held_in held.entry) }
 {
     match held.holding.state {
@@ -52,8 +52,8 @@ fn are_same_values(held: HeldValue<'_>, its: HeldValue<'_>, size: usize) -> bool
     ensures { Decides result (value_at_size size (held_in held.entry)
         ≡ value_at_size size (held_in its.entry)) }
 {
-    let kind = kind_of(held);
-    if kind != kind_of(its) {
+    let kind = kind_held(held);
+    if kind != kind_held(its) {
         return false;
     }
     match kind {
