@@ -56,7 +56,8 @@ pub use Rattle.vcd_compare.specs.Outcomes.{AnswersGiveOutcomes, BodiesGiveOutcom
 pub use Rattle.vcd_compare.specs.Pairs.{AreFew, AreLinked, ArePairs, HasEnd, HoldsPairs, IsClassOf, IsLastEnd, IsPairAt, IsShownAt, IsUnlikeAt, named_by, names_in}
 pub use Rattle.vcd_compare.specs.Paths.{AreApart, AreTexts, EntersPath, EntersText, HasTexts, IsNumberOf, has_dot, joined, node_at, texts_in}
 pub use Rattle.vcd_compare.specs.Run.{Answers, HasHandled, RunStands, Tells, TellsEnd, done_of, flag_after, is_due_now, plan_within, settled_by}
-pub use Rattle.vcd_compare.specs.Selected.{AreInside, AreNamedBelow, AreNearest, AreWithin, both_names, chosen, is_inside, is_kept, is_one_of, lists_in}
+pub use Rattle.vcd_run.specs.Listed.{chosen}
+pub use Rattle.vcd_compare.specs.Selected.{AreInside, AreNamedBelow, AreNearest, AreWithin, both_names, is_inside, is_kept, is_one_of, lists_in}
 pub use Rattle.vcd_compare.specs.Variables.{AddsVariable, AreCounted, AreNumbered, AreUsers, AreVariables, HasSome, HasUsers, IsAround, IsAt, IsKeyOf, IsNamedAt, IsPathOf, IsScopeNumber, index_in, named_in, same_key, slice_of, those_at, used_by}
 pub use Rattle.vcd_compare.specs.Slices.{EntersSlice, HasSlices, IsSlice, no_blanks, tail_of}
 pub use Rattle.vcd_compare.specs.declared.slices.Slices.{Slices}

@@ -5,7 +5,8 @@ use Rattle.std.proofs.Math.ListN.{get_or-append}
 use Rattle.std.proofs.Math.Seq.{get_or-append_seam}
 use Rattle.std.proofs.lemmas.List.{append-nil, get_or_past}
 use Rattle.vcd_compare.proofs.VariableLemmas.{take_next}
-use Rattle.vcd_compare.specs.Selected.{AreNamedBelow, AreNearest, IsNearest, IsPutInside, both_names, chosen, first_above, is_inside, is_kept, is_one_of, lists_in, selects_number}
+use Rattle.vcd_run.specs.Listed.{chosen}
+use Rattle.vcd_compare.specs.Selected.{AreNamedBelow, AreNearest, IsNearest, IsPutInside, both_names, first_above, is_inside, is_kept, is_one_of, lists_in, selects_number}
 
 -- ---- a path and one inside it
 

@@ -31,7 +31,7 @@ use Rattle.vcd_compare.specs.declared.pairs.End.{End}
 use Rattle.vcd_compare.specs.declared.pairs.PairRow.{PairRow}
 use Rattle.vcd_compare.specs.declared.pairs.Pairs.{Pairs}
 use Rattle.vcd_compare.specs.Rows.{HaveRows, classes_of, is_flagged}
-use Rattle.vcd_compare.specs.Selected.{chosen}
+use Rattle.vcd_run.specs.Listed.{chosen}
 
 -- ---- events
 

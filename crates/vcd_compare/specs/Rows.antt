@@ -1,5 +1,6 @@
 -- The rows of each class, and those that have a line due.
-use Rattle.std.specs.Prelude.{◌≡◌, ◌≢◌, ℕ, suc, ◌<◌, ◌≤◌, ◌==◌, ◌&&◌, not, Bool, cond, List, length, get_or, map, slice_get, sum_by, Some, take}
+use Rattle.std.specs.Prelude.{◌≡◌, ◌≢◌, ℕ, suc, ◌<◌, ◌≤◌, ◌==◌, ◌&&◌, not, Bool, cond, List, length, get_or, map, slice_get, Some, take}
+use Rattle.vcd_run.specs.Listed.{times}
 use Rattle.vcd_compare.specs.declared.pairs.PairRow.{PairRow}
 use Rattle.vcd_compare.specs.declared.flags.Flags.{Flags}
 use Rattle.vcd_compare.specs.declared.rows.Links.{Links}
@@ -28,10 +29,6 @@ pub record HaveRows (rows : List PairRow) (flags : Flags) (links : Links) (due :
 -- the row at an index is of the class
 abbrev pub is_of : List ℕ → ℕ → ℕ → Bool
 is_of classes class i = get_or classes i (suc class) == class
-
--- how many times a number is there
-abbrev pub times : ℕ → List ℕ → ℕ
-times i rows = sum_by (λ n. cond (n == i) 1 0) rows
 
 -- the first numbers are those that pass, each once
 pub record AreDue (due : List ℕ) (count : ℕ) (passes : ℕ → Bool) : Type 0 where

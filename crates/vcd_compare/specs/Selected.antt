@@ -4,6 +4,7 @@ use Rattle.std.specs.List.{list_any}
 use Rattle.std.specs.Global.{Vec}
 use Rattle.vcd_model.specs.Selection.{selects_path}
 use Rattle.vcd_model.specs.Within.{Names}
+use Rattle.vcd_run.specs.Listed.{chosen}
 use Rattle.vcd_compare.specs.Paths.{IsNumberOf, node_at}
 
 -- of each number up to `count` whether it is among these
@@ -40,11 +41,6 @@ is_inside texts es w (suc i) = is_kept es (get_or texts i []) && selects_path (g
 abbrev pub selects_number : List (List ℕ) → List ℕ → ℕ → Bool
 selects_number texts w zero = false
 selects_number texts w (suc i) = selects_path (get_or texts i []) w
-
--- the numbers below a bound that pass, in order
-abbrev pub chosen : (ℕ → Bool) → ℕ → List ℕ
-chosen f zero = []
-chosen f (suc i) = chosen f i ++ cond (f i) (i ∷ []) []
 
 abbrev pub lists_in : List (Vec ℕ) → List (List ℕ)
 lists_in ls = map (λ l. l.items) ls

@@ -15,9 +15,10 @@ ghost use Rattle.vcd_compare.specs.Rows.{HaveRows};
 use crate::current::{Current, note_trigger};
 use crate::flags::{Flags, is_done, mark};
 use crate::pairs::End;
-use crate::rows::{Links, put_at, sort_front, take_due};
+use crate::rows::{Links, put_at, take_due};
 use crate::variables::number_at;
 use vcd_body::{Bits, Item, Regs, ScannedItem, Visit, set_shortest};
+use vcd_run::sort_front;
 use vcd_text::{Sink, WriteFailed};
 use vcd_view::{Code, HeadView};
 

@@ -1,6 +1,5 @@
 //! The rows of each class, and those of the pairs that have a line due.
-ghost use Rattle.std.specs.Prelude.{◌≡◌, ◌≢◌, ◌<◌, ◌≤◌, ◌==◌, ◌&&◌, ◌||◌, ℕ, Bool, IsPermutation, List, Some, false, get_or, length, set, slice_get, take};
-ghost use Rattle.std.specs.List.Sorted.{IsNonDecreasing};
+ghost use Rattle.std.specs.Prelude.{◌≡◌, ◌≢◌, ◌<◌, ◌≤◌, ◌==◌, ◌&&◌, ◌||◌, ℕ, Bool, List, Some, false, get_or, length, set, slice_get};
 ghost use Rattle.vcd_compare.specs.Flags.{AreListed, settled_as};
 ghost use Rattle.vcd_compare.specs.Rows.{AreDue, AreLinkedRows, classes_of, is_flagged, is_of};
 
@@ -124,14 +123,4 @@ pub(crate) fn take_due(
         }
     }
     count
-}
-
-/// Sorts the first `count` of these numbers. There have to be as many.
-pub(crate) fn sort_front(numbers: &mut [usize], count: usize)
-    requires { count ≤ length numbers.old }
-    ensures moved { IsPermutation (take count numbers.old) (take count numbers.new) }
-    ensures sorted { IsNonDecreasing (take count numbers.new) }
-    ensures len { length numbers.new ≡ length numbers.old }
-{
-    numbers[..count].sort_unstable();
 }

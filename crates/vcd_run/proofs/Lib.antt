@@ -1,3 +1,4 @@
+pub mod Once
 pub mod StepLemmas
 pub mod ReadLemmas
 pub mod AheadSteps

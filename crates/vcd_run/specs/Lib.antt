@@ -1,3 +1,4 @@
+pub mod Listed
 pub mod Plan
 pub mod Task
 pub mod Run

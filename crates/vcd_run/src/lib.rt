@@ -7,10 +7,13 @@
 //!
 //! - `task`: `Task`, `AheadEnd`
 //! - `run`: `run_to_end`, and `step`, one item of it
+//! - `sort`: `sort_front`, for tasks that keep a list of what is due
 #![tactic(auto)]
 
 mod run;
+mod sort;
 mod task;
 
 pub use run::{run_to_end, step};
+pub use sort::sort_front;
 pub use task::{AheadEnd, Task};

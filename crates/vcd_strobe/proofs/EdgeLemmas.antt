@@ -2,19 +2,19 @@
 use Rattle.std.proofs.Common.{◌≡◌, ℕ, zero, suc, ◌<◌, ◌≤◌, ◌==◌, Bool, true, false, cond, nat_lt, List, [], ◌∷◌, ◌++◌, length, take, filter, flat_map, slice_get, unwrap_or, option_map, Option, Some, None, refl, sym, ap, ap₂, ◌∙◌, arith}
 use Rattle.std.proofs.lemmas.List.Concat.{flat_map-append}
 use Rattle.std.proofs.lemmas.List.Elements.{filter-append}
-use Rattle.std.proofs.lemmas.List.Sorted.{sum_by-IsPermutation}
 use Rattle.std.specs.List.{AllByRecursion}
 use Rattle.std.specs.List.Sorted.{IsNonDecreasing, IsPermutation}
 use Rattle.vcd_model.specs.Declarations.{IdCode}
 use Rattle.vcd_model.specs.Items.{BodyItem, time_after}
 use Rattle.vcd_model.specs.Strobe.{code_line, last_time}
 use Rattle.vcd_model.specs.Values.{Value}
+use Rattle.vcd_run.proofs.Once.{sorted_once}
+use Rattle.vcd_run.specs.Listed.{chosen, times}
 use Rattle.vcd_strobe.proofs.ListSteps.{past_none}
-use Rattle.vcd_strobe.proofs.Once.{sorted_is}
 use Rattle.vcd_strobe.proofs.RoleSteps.{line_is, no_line, role_past, role_settled}
 use Rattle.vcd_strobe.specs.Codes.{AreRoles}
 use Rattle.vcd_strobe.specs.Kept.{IsRole, role_line}
-use Rattle.vcd_strobe.specs.Listed.{AreListed, SettlesEach, chosen, followed_at, listed_at, times}
+use Rattle.vcd_strobe.specs.Listed.{AreListed, SettlesEach, followed_at, listed_at}
 use Rattle.vcd_strobe.specs.Roles.{has_lines, is_at, is_followed, is_idle, is_listed, settle}
 use Rattle.vcd_strobe.specs.declared.clocks.Clock.{Clock}
 use Rattle.vcd_strobe.specs.declared.role.Role.{Role}
@@ -105,14 +105,8 @@ module _ (at : IdCode → ℕ → ℕ → Option Value) (lines : IdCode → Bool
 pub sorted_listed : (roles : List Role) (codes sorted : List ℕ) (count : ℕ) → AreListed roles codes count → length roles ≤ length codes
     → IsPermutation (take count codes) sorted → IsNonDecreasing sorted
     → ((i : ℕ) → times i sorted ≡ cond (listed_at roles i) 1 0) × (sorted ≡ chosen (listed_at roles) (length roles))
-sorted_listed roles codes sorted count listed room moved up = (
-  once,
-  sorted_is (listed_at roles) (length roles) sorted up (λ i lt. once i) (λ i le. once i
-      ∙ ap (λ b. cond b 1 0) (past_none roles codes count listed room i le)),
-)
-  where
-    once : (i : ℕ) → times i sorted ≡ cond (listed_at roles i) 1 0
-    once i = sum_by-IsPermutation (λ n. cond (n == i) 1 0) (take count codes) sorted moved ∙ listed.once i
+sorted_listed roles codes sorted count listed room =
+    sorted_once (listed_at roles) (length roles) (take count codes) sorted listed.once (past_none roles codes count listed room)
 
 -- those that stay are listed by their roles
 pub kept_listed : (roles roles' : List Role) (sorted kept : List ℕ) (count n : ℕ) (t : ℕ) → ((i : ℕ) → times i sorted ≡ cond (listed_at roles i) 1 0)

@@ -2,7 +2,6 @@ pub mod Sampled
 pub mod Triggers
 pub mod EdgeSteps
 pub mod RoleSteps
-pub mod Once
 pub mod ListSteps
 pub mod EdgeLemmas
 pub mod BinaryDigits

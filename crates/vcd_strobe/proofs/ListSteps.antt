@@ -3,8 +3,9 @@ use Rattle.std.proofs.Common.{◌≡◌, ◌≢◌, ◌⊎◌, inl, inr, ℕ, ze
 use Rattle.std.proofs.lemmas.Bool.{eq-eqb, ne_eqb, cases_eq, lt-ltb}
 use Rattle.std.proofs.lemmas.List.{length-take-le, length_push, take_more}
 use Rattle.std.proofs.lemmas.Option.{same_Some, slice_get_cases, slice_get_past, slice_get_within}
-use Rattle.vcd_strobe.proofs.Once.{fits, times_push}
-use Rattle.vcd_strobe.specs.Listed.{AreListed, SettlesEach, followed_at, listed_at, times}
+use Rattle.vcd_run.proofs.Once.{fits, times_push}
+use Rattle.vcd_run.specs.Listed.{times}
+use Rattle.vcd_strobe.specs.Listed.{AreListed, SettlesEach, followed_at, listed_at}
 use Rattle.vcd_strobe.specs.Roles.{enlisted, is_at, is_followed, is_idle, is_listed, settle, settled}
 use Rattle.vcd_strobe.specs.declared.role.Role.{Role}
 use Rattle.vcd_strobe.specs.declared.role.Wanted.{Wanted}

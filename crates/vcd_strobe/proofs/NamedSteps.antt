@@ -20,7 +20,7 @@ use Rattle.vcd_head.specs.Marks.{AreFlags, RefusesUnmatched, is_marked, marks_of
 use Rattle.vcd_strobe.proofs.LineSteps.{take_next, there_below}
 use Rattle.vcd_strobe.proofs.ListSteps.{set_at, set_other}
 use Rattle.vcd_strobe.specs.Clocks.{AreClocks, IsClock}
-use Rattle.vcd_strobe.specs.Listed.{chosen}
+use Rattle.vcd_run.specs.Listed.{chosen}
 use Rattle.vcd_strobe.specs.Named.{FindsClock, index_in, model_name, only_of}
 use Rattle.vcd_strobe.specs.declared.clocks.Clock.{Clock}
 use Rattle.vcd_strobe.specs.declared.named.ClockName.{ClockName}

@@ -11,7 +11,8 @@ use Rattle.vcd_body.specs.declared.values.table.Table.{Table}
 use Rattle.vcd_strobe.specs.Codes.{AreRoles}
 use Rattle.vcd_strobe.specs.Kept.{IsWithin}
 use Rattle.vcd_strobe.specs.Lines.{ArePlaces, HaveRoles, in_places, line_at, line_with, moment_lines}
-use Rattle.vcd_strobe.specs.Listed.{SettlesEach, chosen, followed_at, listed_at, times}
+use Rattle.vcd_run.specs.Listed.{chosen, times}
+use Rattle.vcd_strobe.specs.Listed.{SettlesEach, followed_at, listed_at}
 use Rattle.vcd_strobe.specs.Strobes.{HasShares, SettlesListed, Stands, has_lines_in}
 use Rattle.vcd_strobe.specs.declared.clocks.Clock.{Clock}
 use Rattle.vcd_strobe.specs.declared.whole.Strobe.{Strobe}

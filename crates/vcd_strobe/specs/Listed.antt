@@ -1,18 +1,10 @@
 -- The codes that may have a line at the next edge.
-use Rattle.std.specs.Prelude.{◌≡◌, ℕ, zero, suc, ◌≤◌, ◌==◌, Bool, false, nat_lt, cond, List, [], ◌∷◌, ◌++◌, length, take, set, ◌<◌, sum_by, slice_get, unwrap_or, option_map}
+use Rattle.std.specs.Prelude.{◌≡◌, ℕ, ◌≤◌, ◌==◌, Bool, false, nat_lt, cond, List, [], ◌∷◌, ◌++◌, length, take, set, ◌<◌, slice_get, unwrap_or, option_map}
 use Rattle.std.specs.List.{list_any}
+use Rattle.vcd_run.specs.Listed.{times}
 use Rattle.vcd_strobe.specs.Roles.{enlisted, followed, is_followed, is_idle, is_listed, settle}
 use Rattle.vcd_strobe.specs.declared.clocks.Clock.{Clock}
 use Rattle.vcd_strobe.specs.declared.role.Role.{Role}
-
--- how many times a number is there
-abbrev pub times : ℕ → List ℕ → ℕ
-times i codes = sum_by (λ n. cond (n == i) 1 0) codes
-
--- the numbers below a bound that pass, in order
-abbrev pub chosen : (ℕ → Bool) → ℕ → List ℕ
-chosen f zero = []
-chosen f (suc n) = chosen f n ++ cond (f n) (n ∷ []) []
 
 -- the role of the code at an index says that it is listed
 abbrev pub listed_at : List Role → ℕ → Bool

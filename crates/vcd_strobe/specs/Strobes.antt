@@ -32,7 +32,8 @@ use Rattle.vcd_run.specs.Plan.{Plan}
 use Rattle.vcd_strobe.specs.Clocks.{AreClocks, turns_at}
 use Rattle.vcd_strobe.specs.Codes.{AreRoles}
 use Rattle.vcd_strobe.specs.Lines.{ArePlaces, HaveRoles, in_places, line_at, place_of}
-use Rattle.vcd_strobe.specs.Listed.{AreListed, SettlesEach, followed_at, listed_at, times}
+use Rattle.vcd_run.specs.Listed.{times}
+use Rattle.vcd_strobe.specs.Listed.{AreListed, SettlesEach, followed_at, listed_at}
 use Rattle.vcd_strobe.specs.Moments.{EdgesStand}
 use Rattle.vcd_strobe.specs.declared.clocks.Clock.{Clock}
 use Rattle.vcd_strobe.specs.declared.role.Role.{Role}

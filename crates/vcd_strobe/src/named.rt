@@ -3,7 +3,7 @@ ghost use Rattle.std.specs.Prelude.{◌≡◌, length, map};
 ghost use Rattle.vcd_model.specs.Header.{Header};
 ghost use Rattle.vcd_view.specs.Views.{IsViewOf};
 ghost use Rattle.vcd_head.specs.Marks.{is_marked};
-ghost use Rattle.vcd_strobe.specs.Listed.{chosen};
+ghost use Rattle.vcd_run.specs.Listed.{chosen};
 ghost use Rattle.vcd_strobe.specs.Named.{FindsClock, FindsClocks, index_in, model_name, only_of};
 
 use crate::clocks::Clock;

@@ -1,7 +1,7 @@
 //! The list of codes that may have a line at the next edge.
-ghost use Rattle.std.specs.Prelude.{◌≡◌, ℕ, ◌<◌, ◌≤◌, ◌++◌, ◌∷◌, [], IsPermutation, Some, false, cond, length, set, slice_get, take};
-ghost use Rattle.std.specs.List.Sorted.{IsNonDecreasing};
-ghost use Rattle.vcd_strobe.specs.Listed.{SettlesEach, listed_at, times};
+ghost use Rattle.std.specs.Prelude.{◌≡◌, ℕ, ◌<◌, ◌≤◌, ◌++◌, ◌∷◌, [], Some, false, cond, length, set, slice_get, take};
+ghost use Rattle.vcd_run.specs.Listed.{times};
+ghost use Rattle.vcd_strobe.specs.Listed.{SettlesEach, listed_at};
 ghost use Rattle.vcd_strobe.specs.Roles.{changed, enlisted, is_idle, settle, triggered};
 
 use crate::role::{Role, Wanted};
@@ -59,16 +59,6 @@ pub(crate) fn list(codes: &mut [usize], count: usize, code: usize, new: bool) ->
     }
     codes[count] = code;
     count + 1
-}
-
-/// Sorts the first `count` of these codes.
-pub(crate) fn sort_front(codes: &mut [usize], count: usize)
-    requires { count ≤ length codes.old }
-    ensures moved { IsPermutation (take count codes.old) (take count codes.new) }
-    ensures sorted { IsNonDecreasing (take count codes.new) }
-    ensures len { length codes.new ≡ length codes.old }
-{
-    codes[..count].sort_unstable();
 }
 
 /// Has the role of the code at index `code` go on after an edge at this time, if there is one.

@@ -10,8 +10,9 @@ ghost use Rattle.vcd_strobe.specs.Strobes.{IsPast, PutsEdge, PutsListed, PutsTur
 use crate::clocks::{Clock, is_turn};
 use crate::edge_lines::{place_of, put_lines, put_moment, role_of};
 use crate::role::{Role, is_at};
-use crate::touched::{change_at, keep_listed, list, settle_roles, sort_front, trigger_at};
+use crate::touched::{change_at, keep_listed, list, settle_roles, trigger_at};
 use vcd_body::{Form, Regs, Section, Shown, Table};
+use vcd_run::sort_front;
 use vcd_text::{Sink, WriteFailed};
 use vcd_view::HeadView;
 

@@ -1,6 +1,6 @@
 use Rattle.std.proofs.Common.{◌≡◌}
 use Rattle.vcd_head.specs.Marks.{is_marked}
-use Rattle.vcd_strobe.specs.Listed.{chosen}
+use Rattle.vcd_run.specs.Listed.{chosen}
 use Rattle.vcd_strobe.proofs.NamedSteps.{alone}
 use Rattle.vcd_strobe.proofs.named.only_flag.Given as goal
 

@@ -1,5 +1,6 @@
 use Rattle.std.proofs.Common.{◌≡◌, ℕ, ◌≤◌, cond, length, get_or, take}
-use Rattle.vcd_strobe.specs.Listed.{listed_at, times}
+use Rattle.vcd_run.specs.Listed.{times}
+use Rattle.vcd_strobe.specs.Listed.{listed_at}
 use Rattle.vcd_strobe.proofs.touched.keep_listed.Given as goal
 
 abbrev pub invariant-loop-index : goal.invariant-loop-index

@@ -4,9 +4,9 @@ use Prim.Native.Nat.{zero}
 use Rattle.std.proofs.lemmas.Bool.{eq-eqb, ne_eqb, cases_lt, cases_eq}
 use Rattle.std.proofs.lemmas.List.{take_more, take_all}
 use Rattle.std.proofs.lemmas.List.Sums.{sum_by-append, sum_by-cons}
-use Rattle.std.specs.List.Sorted.{IsNonDecreasing}
-use Rattle.std.proofs.lemmas.List.Sorted.{IsNonDecreasingBy-take}
-use Rattle.vcd_strobe.specs.Listed.{chosen, times}
+use Rattle.std.specs.List.Sorted.{IsNonDecreasing, IsPermutation}
+use Rattle.std.proofs.lemmas.List.Sorted.{IsNonDecreasingBy-take, sum_by-IsPermutation}
+use Rattle.vcd_run.specs.Listed.{chosen, times}
 
 -- ---- how often a number is there
 
@@ -96,7 +96,7 @@ last_split : (m : ℕ) (xs : List ℕ) → length xs ≡ suc m → xs ≡ take m
 last_split m xs len = sym (take_all (m + 1) xs (omega (arith, len))) ∙ take_more xs m 0 (omega (arith, len))
 
 -- what does not fall, and has each number that passes once and no other, is these in order
-pub sorted_is : (f : ℕ → Bool) (n : ℕ) (xs : List ℕ) → IsNonDecreasing xs → ((i : ℕ) → i < n → times i xs ≡ cond (f i) 1 0)
+sorted_is : (f : ℕ → Bool) (n : ℕ) (xs : List ℕ) → IsNonDecreasing xs → ((i : ℕ) → i < n → times i xs ≡ cond (f i) 1 0)
     → ((i : ℕ) → n ≤ i → times i xs ≡ 0) → xs ≡ chosen f n
 sorted_is f zero xs up once none = none_there xs (λ i. none i (omega arith))
 sorted_is f (suc n) xs up once none = by_test (sorted_is f n) (f n) refl
@@ -149,3 +149,14 @@ sorted_is f (suc n) xs up once none = by_test (sorted_is f n) (f n) refl
             by_bound i y is all (inl same) le = let mine : times i xs ≡ 1 = ap (λ j. times j xs) same ∙ one in
                 let it : is_it i y ≡ 1 = ap (λ b. cond {A = ℕ} b 1 0) (eq-eqb y i (omega (arith, is, same))) in omega (arith, mine, it, all)
             by_bound i y is all (inr d) le = let no = none i (omega (arith, d, le)) in omega (arith, no, all)
+
+-- numbers that pass, each once, are these in order once they are sorted
+pub sorted_once : (f : ℕ → Bool) (n : ℕ) (xs ys : List ℕ) → ((i : ℕ) → times i xs ≡ cond (f i) 1 0) → ((i : ℕ) → n ≤ i → f i ≡ false)
+    → IsPermutation xs ys → IsNonDecreasing ys → ((i : ℕ) → times i ys ≡ cond (f i) 1 0) × (ys ≡ chosen f n)
+sorted_once f n xs ys each past moved up = (
+  once,
+  sorted_is f n ys up (λ i lt. once i) (λ i le. once i ∙ ap (λ b. cond b 1 0) (past i le)),
+)
+  where
+    once : (i : ℕ) → times i ys ≡ cond (f i) 1 0
+    once i = sum_by-IsPermutation (λ n. cond (n == i) 1 0) xs ys moved ∙ each i

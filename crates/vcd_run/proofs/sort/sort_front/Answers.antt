@@ -2,11 +2,11 @@ use Rattle.std.proofs.Common.{◌≡◌, ℕ, List, length, drop, sym, subst, �
 use Rattle.std.proofs.lemmas.List.{length-take-le, take_at}
 use Rattle.std.specs.List.Sorted.{IsNonDecreasing}
 use Rattle.std.proofs.lemmas.List.Sorted.{IsNonDecreasingBy-from_sort}
-use Rattle.vcd_strobe.proofs.touched.sort_front.Goals as goal
+use Rattle.vcd_run.proofs.sort.sort_front.Goals as goal
 
 pub returns-clause-sorted : goal.returns-clause-sorted
 returns-clause-sorted c =
     let sorted = c.sort_unstable.new.self in
-    let old = c.args.codes.now in
+    let old = c.args.numbers.now in
     let len : length sorted ≡ c.args.count = c.sort_unstable.ensures.len ∙ length-take-le c.args.count old c.requires in
     subst (λ (l : List ℕ). IsNonDecreasing l) (sym (take_at sorted (drop c.args.count old) c.args.count len)) (IsNonDecreasingBy-from_sort (λ x. x) sorted c.sort_unstable.ensures.sorted)
