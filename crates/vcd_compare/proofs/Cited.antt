@@ -45,7 +45,7 @@ pub use Rattle.vcd_body.specs.declared.walk.WalkEnd.{WalkEnd}
 pub use Rattle.vcd_body.specs.declared.walk.WalkEnd.TheVariants.{AtItem, AtLines, Over}
 pub use Rattle.vcd_compare.specs.Asked.{model_asked, model_extent, rule_of}
 pub use Rattle.vcd_compare.specs.Classes.{AddsEnd, EntersClass, HasClasses}
-pub use Rattle.vcd_compare.specs.Comparing.{AreCodes, AreCurrent, AreFlags, AreMarked, AreSkips, AreTriggers, Compares, ComparesOne, GivesNew, HasNoEnd, IsCounted, IsLastTrigger, IsNextEnd, SameRequest, differ_from, is_last, partner, stops_before, triggers_with}
+pub use Rattle.vcd_compare.specs.Comparing.{AreCodes, AreCurrent, AreFlags, AreMarked, AreSkips, AreTriggers, Compares, ComparesOne, GivesNew, HasNoEnd, IsCounted, IsEarlierEnd, IsLastTrigger, SameRequest, differ_from, is_last, partner, stops_before, triggers_with}
 pub use Rattle.vcd_compare.specs.Counterparts.{AreCounterparts, ArePlaces, AreSelected, Climbs, FindPlaces, IsFound, IsBelow, IsCounterpart, IsNth, IsPlace, IsPlacing, IsReady, IsSettled, Settles, StaySettled, looked_up, place_of, place_of_node, replaced, selected_in, with_range, without_range}
 pub use Rattle.vcd_compare.specs.Flags.{AreListed, differing, marked, settled_as}
 pub use Rattle.vcd_compare.specs.HasPairs.{AreNumbersOf, EntersNames, EntersTexts, HasPairs, HasSelected, alone_at, compared_at, compared_of, unlike_at, unlike_of}

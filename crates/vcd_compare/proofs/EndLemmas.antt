@@ -1,5 +1,5 @@
 -- The flags of the classes of a code, end by end.
-use Rattle.vcd_compare.proofs.Cited.{◌≡◌, ◌≢◌, ◌⊎◌, inl, inr, ℕ, suc, ◌<◌, ◌≤◌, ◌*◌, ◌+◌, ◌-◌, ◌/◌, ◌%◌, ◌==◌, min, Bool, true, false, cond, List, [], ◌∷◌, ◌++◌, length, slice_get, get_or, Some, None, refl, sym, ap, subst, ◌∙◌, arith, unwrap_or, cases_eq, cases_lt, eqb-true, eqb-false, same_Some, slice_get-get_or, slice_get_cases, IdCode, code_of, Header, gives_to, BodyItem, time_after, Pair, is_fit, Names, HeadView, model_asked, rule_of, AreCodes, AreFlags, AreMarked, GivesNew, HasNoEnd, differ_from, partner, marked, codes_differ, flag_of, time_compared, IsClassOf, IsLastEnd, IsNextEnd, Current, End, Pairs}
+use Rattle.vcd_compare.proofs.Cited.{◌≡◌, ◌≢◌, ◌⊎◌, inl, inr, ℕ, suc, ◌<◌, ◌≤◌, ◌*◌, ◌+◌, ◌-◌, ◌/◌, ◌%◌, ◌==◌, min, Bool, true, false, cond, List, [], ◌∷◌, ◌++◌, length, slice_get, get_or, Some, None, refl, sym, ap, subst, ◌∙◌, arith, unwrap_or, cases_eq, cases_lt, eqb-true, eqb-false, same_Some, slice_get-get_or, slice_get_cases, IdCode, code_of, Header, gives_to, BodyItem, time_after, Pair, is_fit, Names, HeadView, model_asked, rule_of, AreCodes, AreFlags, AreMarked, GivesNew, HasNoEnd, differ_from, partner, marked, codes_differ, flag_of, time_compared, IsClassOf, IsEarlierEnd, IsLastEnd, Current, End, Pairs}
 use Rattle.vcd_model.specs.Compare.{Asked as ModelAsked}
 use Rattle.vcd_compare.proofs.FlagLemmas.{compared_is, compared_other, flag_changed, flag_same, settled_other}
 use Rattle.vcd_compare.proofs.OpenGrows.{changes_other, state_other}
@@ -217,7 +217,7 @@ module _ (v : HeadView) (c : Current) (n at : ℕ) (old skips : List ℕ) (h : H
           was (inr stays) = inr stays.0
 
       -- the next end that was found, with the flags that are set now
-      module _ (low : ℕ) (next : IsNextEnd ends (marked flags class d) i e.code low) where
+      module _ (low : ℕ) (next : IsEarlierEnd ends (marked flags class d) i e.code low) where
         -- an end of another class comes in between only if that had its only line
         none_between : (k : ℕ) → k ≢ class → get_or flags k 0 ≢ 2 → HasNoEnd ends n k (suc i) → HasNoEnd ends n k (min low i)
         none_between k apart lacks none j y le half at_j = by_order (cases_lt j i)

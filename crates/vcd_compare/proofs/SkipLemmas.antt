@@ -1,5 +1,5 @@
 -- The next end of a code, and which ends are left out.
-use Rattle.vcd_compare.proofs.Cited.{◌≡◌, ◌≢◌, ◌⊎◌, inl, inr, ℕ, suc, zero, ◌<◌, ◌≤◌, ◌-◌, ◌/◌, ◌==◌, Bool, true, false, cond, List, [], ◌∷◌, length, slice_get, slice_set, get_or, set, Some, refl, sym, ap, subst, ◌∙◌, arith, replicate, cases_eq, cases_lt, eq-eqb, same_Some, slice_get_within, get_or-replicate, get_or-set_other, marked, AreLinked, AreSkips, IsNextEnd, End}
+use Rattle.vcd_compare.proofs.Cited.{◌≡◌, ◌≢◌, ◌⊎◌, inl, inr, ℕ, suc, zero, ◌<◌, ◌≤◌, ◌-◌, ◌/◌, ◌==◌, Bool, true, false, cond, List, [], ◌∷◌, length, slice_get, slice_set, get_or, set, Some, refl, sym, ap, subst, ◌∙◌, arith, replicate, cases_eq, cases_lt, eq-eqb, same_Some, slice_get_within, get_or-replicate, get_or-set_other, marked, AreLinked, AreSkips, IsEarlierEnd, End}
 
 -- a class that had its only line keeps its flag
 pub skips_stay : (ends : List End) (old new skips : List ℕ) → ((k : ℕ) → get_or old k 0 ≡ 2 → get_or new k 0 ≡ 2) → AreSkips ends old skips → AreSkips ends new skips
@@ -23,7 +23,7 @@ pub skips_first : (ends : List End) (last flags : List ℕ) → AreLinked ends l
 skips_first ends last flags linked i e there =
     let before = linked.each i e there in
     let none = get_or-replicate {A = ℕ} (length ends) i 0 0 (slice_get_within ends i e there) in
-    subst (IsNextEnd ends flags i e.code) {x = e.earlier} (omega (arith, none))
+    subst (IsEarlierEnd ends flags i e.code) {x = e.earlier} (omega (arith, none))
     (record { within = before.within; is = before.is; none = λ j y le low at same. absurd (before.none j y le low at same) })
 
 set_or_not : (numbers : List ℕ) (i n : ℕ) → (get_or (set numbers i n) i 0 ≡ n) ⊎ (get_or (set numbers i n) i 0 ≡ get_or numbers i 0)
@@ -32,17 +32,17 @@ set_or_not (x ∷ xs) zero n = inl refl
 set_or_not (x ∷ xs) (suc i) n = set_or_not xs i n
 
 module _ (ends : List End) (flags skips : List ℕ) (are : AreSkips ends flags skips) (i : ℕ) (e : End) (there : slice_get ends i ≡ Some e) where
-  pub next_is : (n : ℕ) → n ≡ e.earlier - get_or skips i 0 → IsNextEnd ends flags i e.code n
-  next_is n is = subst (IsNextEnd ends flags i e.code) (sym is) (are i e there)
+  pub next_is : (n : ℕ) → n ≡ e.earlier - get_or skips i 0 → IsEarlierEnd ends flags i e.code n
+  next_is n is = subst (IsEarlierEnd ends flags i e.code) (sym is) (are i e there)
 
   -- the next end is of a class that had its only line
   module _ (before : ℕ) (d : End) (next : suc before ≡ e.earlier - get_or skips i 0) (its : slice_get ends before ≡ Some d)
       (done : get_or flags (before / 2) 0 ≡ 2) (n : ℕ) (n_is : n ≡ d.earlier - get_or skips before 0) where
-    first : IsNextEnd ends flags i e.code (suc before)
+    first : IsEarlierEnd ends flags i e.code (suc before)
     first = next_is (suc before) next
 
-    second : IsNextEnd ends flags before d.code n
-    second = subst (IsNextEnd ends flags before d.code) (sym n_is) (are before d its)
+    second : IsEarlierEnd ends flags before d.code n
+    second = subst (IsEarlierEnd ends flags before d.code) (sym n_is) (are before d its)
 
     code : d.code ≡ e.code
     code =
@@ -50,7 +50,7 @@ module _ (ends : List End) (flags skips : List ℕ) (are : AreSkips ends flags s
         let same : at.0 ≡ d = same_Some at.0 d (sym at.1 ∙ its) in
         ap (λ (y : End). y.code) (sym same) ∙ at.2
 
-    pub next_after : IsNextEnd ends flags i e.code n
+    pub next_after : IsEarlierEnd ends flags i e.code n
     next_after = record {
       within = (let one = first.within in let two = second.within in omega arith);
       is = λ j at. let two = second.is j at in (two.0, two.1, two.2 ∙ code);
@@ -67,13 +67,13 @@ module _ (ends : List End) (flags skips : List ℕ) (are : AreSkips ends flags s
     skips_after j y at = by_place (cases_eq j i)
       where
         here : (get_or (set skips i (e.earlier - n)) i 0 ≡ e.earlier - n) ⊎ (get_or (set skips i (e.earlier - n)) i 0 ≡ get_or skips i 0)
-            → IsNextEnd ends flags i e.code (e.earlier - get_or (set skips i (e.earlier - n)) i 0)
-        here (inl new) = let two = second.within in subst (IsNextEnd ends flags i e.code) (omega (arith, new, two, next)) next_after
-        here (inr old) = subst (λ k. IsNextEnd ends flags i e.code (e.earlier - k)) (sym old) (are i e there)
+            → IsEarlierEnd ends flags i e.code (e.earlier - get_or (set skips i (e.earlier - n)) i 0)
+        here (inl new) = let two = second.within in subst (IsEarlierEnd ends flags i e.code) (omega (arith, new, two, next)) next_after
+        here (inr old) = subst (λ k. IsEarlierEnd ends flags i e.code (e.earlier - k)) (sym old) (are i e there)
 
-        by_place : (j ≡ i) ⊎ (j ≢ i) → IsNextEnd ends flags j y.code (y.earlier - get_or (set skips i (e.earlier - n)) j 0)
+        by_place : (j ≡ i) ⊎ (j ≢ i) → IsEarlierEnd ends flags j y.code (y.earlier - get_or (set skips i (e.earlier - n)) j 0)
         by_place (inl is) =
             let same : e ≡ y = same_Some e y (sym there ∙ ap (slice_get ends) (sym is) ∙ at) in
-            subst (λ (k : ℕ). IsNextEnd ends flags k y.code (y.earlier - get_or (set skips i (e.earlier - n)) k 0)) (sym is)
-            (subst (λ (z : End). IsNextEnd ends flags i z.code (z.earlier - get_or (set skips i (e.earlier - n)) i 0)) same (here (set_or_not skips i (e.earlier - n))))
-        by_place (inr apart) = subst (λ k. IsNextEnd ends flags j y.code (y.earlier - k)) (sym (get_or-set_other skips i j (e.earlier - n) 0 apart)) (are j y at)
+            subst (λ (k : ℕ). IsEarlierEnd ends flags k y.code (y.earlier - get_or (set skips i (e.earlier - n)) k 0)) (sym is)
+            (subst (λ (z : End). IsEarlierEnd ends flags i z.code (z.earlier - get_or (set skips i (e.earlier - n)) i 0)) same (here (set_or_not skips i (e.earlier - n))))
+        by_place (inr apart) = subst (λ k. IsEarlierEnd ends flags j y.code (y.earlier - k)) (sym (get_or-set_other skips i j (e.earlier - n) 0 apart)) (are j y at)

@@ -77,14 +77,14 @@ pub record AreMarked (ps : Pairs) (h : Header) (q : ModelAsked) (before items : 
 
 -- n is 1 plus the index of an end below a bound that has the code, or 0; all classes that have an
 -- end with the code from there on, below the bound, had their only line
-pub record IsNextEnd (ends : List End) (flags : List ℕ) (below code n : ℕ) : Type 0 where
+pub record IsEarlierEnd (ends : List End) (flags : List ℕ) (below code n : ℕ) : Type 0 where
   pub within : n ≤ below
   pub is : (i : ℕ) → n ≡ suc i → (e : End) × (slice_get ends i ≡ Some e) × (e.code ≡ code)
   pub none : (i : ℕ) (e : End) → n ≤ i → i < below → slice_get ends i ≡ Some e → e.code ≡ code → get_or flags (i / 2) 0 ≡ 2
 
 -- from each end, less what is skipped, the next one of the same code is found
 abbrev pub AreSkips : List End → (flags skips : List ℕ) → Type 0
-AreSkips ends flags skips = (i : ℕ) (e : End) → slice_get ends i ≡ Some e → IsNextEnd ends flags i e.code (e.earlier - get_or skips i 0)
+AreSkips ends flags skips = (i : ℕ) (e : End) → slice_get ends i ≡ Some e → IsEarlierEnd ends flags i e.code (e.earlier - get_or skips i 0)
 
 -- the index of the other end of a class
 abbrev pub partner : ℕ → ℕ

@@ -8,7 +8,7 @@ ghost use Rattle.vcd_model.specs.Declarations.{IdCode};
 ghost use Rattle.vcd_model.specs.Header.{Header};
 ghost use Rattle.vcd_model.specs.Items.{BodyItem};
 ghost use Rattle.vcd_view.specs.Views.{IsViewOf};
-ghost use Rattle.vcd_compare.specs.Comparing.{AreSkips, ComparesOn, IsCounted, IsNextEnd, MarksChange, SameRequest, Settles, partner};
+ghost use Rattle.vcd_compare.specs.Comparing.{AreSkips, ComparesOn, IsCounted, IsEarlierEnd, MarksChange, SameRequest, Settles, partner};
 ghost use Rattle.vcd_compare.specs.Flags.{AreListed, differing, marked};
 ghost use Rattle.vcd_compare.specs.Rows.{HaveRows};
 
@@ -73,10 +73,10 @@ fn last_end(last: &[usize], code: usize) -> usize
 // Without this the time would grow with the changes of a code times the classes that it is in. It
 // is not inlined since most codes have one end: that costs 4 % of the instructions of a comparison.
 #[inline(never)]
-fn next_end(ends: &[End], flags: &mut [u8], skips: &mut [usize], index: usize, end: End) -> usize
+fn earlier_end(ends: &[End], flags: &mut [u8], skips: &mut [usize], index: usize, end: End) -> usize
     ensures same { flags.new ≡ flags.old }
     ensures next { AreSkips ends.now flags.old skips.old → slice_get ends.now index ≡ Some end
-        → IsNextEnd ends.now flags.old index end.code result }
+        → IsEarlierEnd ends.now flags.old index end.code result }
     ensures skips { AreSkips ends.now flags.old skips.old → slice_get ends.now index ≡ Some end
         → AreSkips ends.now flags.old skips.new }
 {
@@ -132,7 +132,7 @@ fn mark_ends(
         if end.earlier == 0 {
             return count;
         }
-        left = next_end(&current.pairs.ends, flags.bytes, skips, index, end).min(index);
+        left = earlier_end(&current.pairs.ends, flags.bytes, skips, index, end).min(index);
     }
     count
 }

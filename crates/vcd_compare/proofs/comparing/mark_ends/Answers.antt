@@ -1,4 +1,4 @@
-use Rattle.vcd_compare.proofs.Cited.{◌≡◌, ◌≤◌, ◌/◌, min, ◌++◌, ◌∷◌, [], ℕ, suc, List, Some, slice_get, refl, sym, ap, subst, ◌∙◌, arith, unwrap_or, length, marked, differing, model_asked, AreFlags, AreListed, AreMarked, AreSkips, IsNextEnd, partner, End}
+use Rattle.vcd_compare.proofs.Cited.{◌≡◌, ◌≤◌, ◌/◌, min, ◌++◌, ◌∷◌, [], ℕ, suc, List, Some, slice_get, refl, sym, ap, subst, ◌∙◌, arith, unwrap_or, length, marked, differing, model_asked, AreFlags, AreListed, AreMarked, AreSkips, IsEarlierEnd, partner, End}
 use Rattle.vcd_compare.proofs.Facts.{its_code, marked_done, marked_first, marked_last, marked_on, next_is, not_before, partner_there, skips_stay}
 use Rattle.std.proofs.Common.{zero}
 use Rattle.vcd_compare.proofs.comparing.mark_ends.Goals as goal
@@ -21,9 +21,9 @@ ends-init c = record {
 
 pub ends-preserved : goal.ends-preserved
 ends-preserved c = record {
-  count = c.mark-count.ensures.count ∙ ap differing (sym c.next_end.ensures.same);
-  listed = subst (λ (l : List ℕ). AreListed l c.mark-count.new.flags.classes.now c.mark-count.new.flags.listed) (sym c.next_end.ensures.same) c.mark-count.ensures.listed;
-  many = ap (λ (l : List ℕ). length l) c.next_end.ensures.same ∙ c.mark-count.ensures.many ∙ c.ends.invariant.many;
+  count = c.mark-count.ensures.count ∙ ap differing (sym c.earlier_end.ensures.same);
+  listed = subst (λ (l : List ℕ). AreListed l c.mark-count.new.flags.classes.now c.mark-count.new.flags.listed) (sym c.earlier_end.ensures.same) c.mark-count.ensures.listed;
+  many = ap (λ (l : List ℕ). length l) c.earlier_end.ensures.same ∙ c.mark-count.ensures.many ∙ c.ends.invariant.many;
   marks = λ h exceptions ns items x a g.
       let v = c.args.view in
       let k = c.args.current.now in
@@ -52,16 +52,16 @@ ends-preserved c = record {
       let flags : now ≡ marked was (i / 2) d = c.mark-count.ensures.flags in
       let skips : AreSkips ends now c.ends.skips = subst (λ (l : List ℕ). AreSkips ends l c.ends.skips) (sym flags)
       (skips_stay ends was (marked was (i / 2) d) c.ends.skips (marked_done was (i / 2) d) known.1) in
-      let low = c.next_end.result in
-      let next : IsNextEnd ends now i e.code low = subst (λ (l : List End). AreSkips l now c.ends.skips → slice_get l i ≡ Some e → IsNextEnd l now i e.code low)
-      c.deref-in-Some-3.ensures.value c.next_end.ensures.next skips there in
+      let low = c.earlier_end.result in
+      let next : IsEarlierEnd ends now i e.code low = subst (λ (l : List End). AreSkips l now c.ends.skips → slice_get l i ≡ Some e → IsEarlierEnd l now i e.code low)
+      c.deref-in-Some-3.ensures.value c.earlier_end.ensures.next skips there in
       let all = marked_on v k n c.args.at old c.args.skips.now h exceptions ns items x a g i e f there its code was m d differs low
-      (subst (λ (l : List ℕ). IsNextEnd ends l i e.code low) flags next) in (
-        subst (λ (m : ℕ). AreMarked ps h q items after n m c.next_end.new.flags) (sym c.min-left.ensures)
-            (subst (λ (l : List ℕ). AreMarked ps h q items after n (min low i) l) (sym (c.next_end.ensures.same ∙ flags)) all),
-        subst (λ (l : List ℕ). AreSkips ends l c.next_end.new.skips) (sym c.next_end.ensures.same)
-            (subst (λ (l : List End). AreSkips l now c.ends.skips → slice_get l i ≡ Some e → AreSkips l now c.next_end.new.skips)
-            c.deref-in-Some-3.ensures.value c.next_end.ensures.skips skips there),
+      (subst (λ (l : List ℕ). IsEarlierEnd ends l i e.code low) flags next) in (
+        subst (λ (m : ℕ). AreMarked ps h q items after n m c.earlier_end.new.flags) (sym c.min-left.ensures)
+            (subst (λ (l : List ℕ). AreMarked ps h q items after n (min low i) l) (sym (c.earlier_end.ensures.same ∙ flags)) all),
+        subst (λ (l : List ℕ). AreSkips ends l c.earlier_end.new.skips) (sym c.earlier_end.ensures.same)
+            (subst (λ (l : List End). AreSkips l now c.ends.skips → slice_get l i ≡ Some e → AreSkips l now c.earlier_end.new.skips)
+            c.deref-in-Some-3.ensures.value c.earlier_end.ensures.skips skips there),
       );
 }
 
@@ -111,7 +111,7 @@ returns-then-end-eq0-clause-marks c = λ h exceptions ns items x a g.
     let d = c.differs-differs.result in
     let was = c.ends.flags.bytes.now in
     let skips : AreSkips ends (marked was (i / 2) d) c.ends.skips = skips_stay ends was (marked was (i / 2) d) c.ends.skips (marked_done was (i / 2) d) known.1 in
-    let next : IsNextEnd ends (marked was (i / 2) d) i e.code 0 = next_is ends (marked was (i / 2) d) c.ends.skips skips i e there 0 (omega (arith, c.if-end-eq0.true)) in
+    let next : IsEarlierEnd ends (marked was (i / 2) d) i e.code 0 = next_is ends (marked was (i / 2) d) c.ends.skips skips i e there 0 (omega (arith, c.if-end-eq0.true)) in
     let all = marked_on v k n c.args.at old c.args.skips.now h exceptions ns items x a g i e f there its code was m d differs 0 next in
     let last : AreMarked ps h q items after n 0 (marked was (i / 2) d) = subst (λ (low : ℕ). AreMarked ps h q items after n low (marked was (i / 2) d)) {x = min 0 i} (omega arith) all in
     subst (λ (l : List ℕ). AreFlags ps h q after l × AreSkips ends l c.ends.skips) (sym c.mark-count.ensures.flags)

@@ -1,6 +1,6 @@
 use Rattle.vcd_compare.proofs.Cited.{◌≡◌, ◌∙◌, ◌-◌, ◌/◌, suc, Some, ap, arith, eqb-true, get_or, set, slice_get, subst, sym, AreSkips}
 use Rattle.vcd_compare.proofs.Facts.{next_after, skips_after}
-use Rattle.vcd_compare.proofs.comparing.next_end.Goals as goal
+use Rattle.vcd_compare.proofs.comparing.earlier_end.Goals as goal
 
 pub returns-clause-next : goal.returns-clause-next
 returns-clause-next c = λ are there.
