@@ -1,5 +1,5 @@
 -- What a program over one input leaves, in the words of a program, from what a run of its job leaves.
-use Rattle.vcd_program.proofs.Cited.{◌≡◌, ◌∙◌, ℕ, List, [], ◌∷◌, map, refl, sym, subst, ap, Option, Some, Text, Input, Outcome, Device, Supply, IsOutcome, Leaves}
+use Rattle.vcd_program.proofs.Cited.{◌≡◌, ◌∙◌, ℕ, List, [], ◌∷◌, map, refl, sym, subst, ap, Option, Some, Result, Ok, Err, IfErr, Text, Input, Outcome, Device, Supply, UseFault, use_outcome, IsOutcome, IsRefusal, Leaves}
 use Rattle.vcd_text.specs.Device.{supply}
 use Rattle.vcd_job.proofs.ProgramLemmas.{IsUnnamed, read_head, read_whole}
 use Rattle.vcd_job.specs.Ends.{HasRun}
@@ -31,3 +31,9 @@ module _ (program : Text) (work : Work) (same : IsUnnamed work) (limit chunk : �
       by_texts [] e = absurd (cc)
       by_texts (text ∷ []) e = leaves-one text (supply rest failures r) (supply rest failures r') (runs text (cc))
       by_texts (text ∷ more ∷ texts) e = absurd (cc)
+
+-- what is said of a fault that a call returned is the outcome of the words
+pub refusals-by : {J : Type 0} (asks : Result J UseFault → Type 0) (of_words : Outcome)
+    → ((f : UseFault) → asks (Err f) → IsRefusal f of_words (use_outcome f)) → (r : Result J UseFault) → asks r → IfErr r (λ fault. IsRefusal fault of_words (use_outcome fault))
+refusals-by asks of_words is (Ok job) e = tt
+refusals-by asks of_words is (Err f) e = is f e

@@ -1,4 +1,5 @@
 pub mod Leaves
+pub mod OneInput
 pub mod Parts
 pub mod Runs
 pub mod Memory

@@ -3,5 +3,4 @@ pub mod Bound
 pub mod Calls
 pub mod Names
 pub mod Program
-pub mod ProgramNames
 pub mod Whole

@@ -2,7 +2,7 @@
 ghost use Rattle.std.specs.Prelude.{◌≡◌, ◌-◌, ◌^◌, ◌<◌, ◌≤◌, ⊤, []};
 ghost use Rattle.vcdkit_compare.specs.Names.{Answers, AreOfJob, BodyEnds, chunk_len_of, count_line, CountsAt, CountsWrites, EndsAtRead, failure_of, fault_end, Finishes, HasNotFailed, HasPassedOn, IsLentWithin, IsRoomFor, late, name_of, names_of, outermost, program_line, program_name, PutsTo, query_of, refusal_of, refused, SameLoans, source_of, speech_in, work_in, writes_failed};
 
-use crate::program::{PROGRAM, VcdkitCompare};
+use crate::program::VcdkitCompare;
 use crate::room::room_for;
 use std::alloc::Global;
 use vcd_body::{Done, Stop};
@@ -210,7 +210,7 @@ impl OneInput for VcdkitCompare {
 
     /// Returns `vcdkit-compare`.
     fn program() -> &'static str {
-        PROGRAM
+        "vcdkit-compare"
     }
 
     /// Returns 2.

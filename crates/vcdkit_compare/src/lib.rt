@@ -1,7 +1,7 @@
 //! The program `vcdkit-compare`, from its words to its status, over any host.
 //!
-//! `VcdkitCompare` is a `Program` of `vcd_program`, whose job is a `OneInput` of `vcd_job`: its
-//! outcome is the `comparison` of the definitions.
+//! `VcdkitCompare` is a `OneInputProgram` of `vcd_program`: its outcome is the `comparison` of the
+//! definitions.
 //!
 //! # The modules
 //!
@@ -11,7 +11,7 @@
 //! - `laws`: what the job is, and the definitions
 //!
 //! In `specs/`: `Work`, what the job is; `Bound`, how much it is lent; `Calls`, what the calls of
-//! the job promise; `Program`, what the program says of itself, and `Whole`, all of that.
+//! the job promise; `Program`, the outcome of the words; `Whole`, what the program says of itself.
 #![tactic(auto)]
 
 mod job;

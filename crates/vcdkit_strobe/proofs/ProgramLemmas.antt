@@ -1,6 +1,5 @@
--- What the program leaves, in the words of a program.
-use Rattle.std.proofs.Common.{◌≡◌, ◌∙◌, ℕ, List, [], ◌∷◌, length, map, Option, Some, None, Result, Ok, Err, refl, sym, ap}
-use Rattle.std.specs.Prelude.{IfErr}
+-- The outcome of the words is that of their job.
+use Rattle.std.proofs.Common.{◌≡◌, ◌∙◌, ℕ, List, [], ◌∷◌, Option, Some, None, Result, Ok, Err, refl, sym, ap}
 use Rattle.clap.specs.Words.{Text}
 use Rattle.clap.specs.declared.parser.matches.ArgMatches.{ArgMatches}
 use Rattle.vcd_model.specs.Input.{Input}
@@ -12,25 +11,17 @@ use Rattle.vcd_words.specs.declared.job.UseFault.TheVariants as use_fault
 use Rattle.vcd_strobe_words.specs.Asked.{Asks, strobe_in}
 use Rattle.vcd_strobe_words.specs.declared.job.Strobing.{Strobing}
 use Rattle.vcd_job.proofs.ProgramLemmas.{IsUnnamed}
+use Rattle.vcd_job.specs.Message.{use_outcome}
 use Rattle.vcd_job.specs.Work.{Course, due_by, outcome_of as job_outcome, settled_by}
-use Rattle.vcd_host.specs.Opens.{called}
 use Rattle.vcd_program.specs.Leaves.{IsRefusal}
-use Rattle.vcdkit_strobe.specs.Program.{inputs_asked, outcome_if, outcome_of, use_outcome}
+use Rattle.vcdkit_strobe.specs.Program.{outcome_if, outcome_of}
 use Rattle.vcdkit_strobe.specs.Work.{course_if, work_in}
 use Rattle.vcdkit_strobe.proofs.WorkLemmas.{work_is_strobe}
 
 -- what is said of a fault is the outcome of the words
-refusal-is : (matches : ArgMatches) (f : UseFault) → Asks matches (Err f) → IsRefusal f (outcome_of matches [] []) (use_outcome f)
+pub refusal-is : (matches : ArgMatches) (f : UseFault) → Asks matches (Err f) → IsRefusal f (outcome_of matches [] []) (use_outcome f)
 refusal-is matches use_fault.OutOfMemory e = tt
 refusal-is matches f e = ap (λ r. outcome_if r [] []) e
-
-pub refusals-are : (matches : ArgMatches) (r : Result Strobing UseFault) → Asks matches r → IfErr r (λ fault. IsRefusal fault (outcome_of matches [] []) (use_outcome fault))
-refusals-are matches (Ok job) asks = tt
-refusals-are matches (Err f) asks = refusal-is matches f asks
-
--- the words name one input
-pub one-name : (matches : ArgMatches) (names : List Text) → names ≡ map called (inputs_asked matches) → length names ≡ 1
-one-name matches names e = ap length e
 
 -- the outcome of the words is that of their job
 pub outcome-is : (job : Strobing) (matches : ArgMatches) → Asks matches (Ok job) → (names : List Text) (left : Input)

@@ -1,10 +1,15 @@
 -- What vcdkit-strobe says of itself, as a whole, for contracts over it.
+use Rattle.std.specs.Prelude.{◌≡◌}
 use Rattle.vcd_strobe_words.specs.Asked.{Asks}
 use Rattle.vcd_strobe_words.specs.Words.{strobe_app}
 use Rattle.vcd_strobe_words.specs.declared.job.Strobing.{Strobing}
+use Rattle.vcd_job.specs.Message.{use_outcome}
+use Rattle.vcd_job.specs.OneProgram.{EndsAlone, Reads}
+use Rattle.vcd_program.specs.OneInput.{only_input}
 use Rattle.vcd_program.specs.declared.program.Program.{Ghosts}
-use Rattle.vcdkit_strobe.specs.Program.{EndsSo, Reads, inputs_asked, outcome_of, use_outcome}
-use Rattle.vcdkit_strobe.specs.Work.{program_name}
+use Rattle.vcdkit_strobe.specs.Calls.{speech_in}
+use Rattle.vcdkit_strobe.specs.Program.{outcome_of}
+use Rattle.vcdkit_strobe.specs.Work.{program_name, work_in}
 use Rattle.vcdkit_strobe.specs.declared.program.VcdkitStrobe.{VcdkitStrobe}
 
 abbrev pub strobe_program : Ghosts VcdkitStrobe Strobing
@@ -12,9 +17,9 @@ strobe_program = record {
   name = program_name;
   app = strobe_app;
   asks = Asks;
-  inputs = inputs_asked;
+  inputs = only_input;
   outcome = outcome_of;
   refusal = use_outcome;
-  ends = EndsSo;
-  reads = λ job ended texts old new inputs out out'. Reads job ended old new inputs out out';
+  ends = λ job. EndsAlone program_name (λ n. n ≡ 0) (speech_in job);
+  reads = λ job ended texts. Reads (work_in job) 1048576 65536 ended;
 }

@@ -2,7 +2,7 @@
 ghost use Rattle.std.specs.Prelude.{◌≡◌, ◌-◌, ◌^◌, ◌<◌, ◌≤◌, ⊤, vec_len};
 ghost use Rattle.vcdkit_strobe.specs.Names.{Answers, AreOfJob, ArePlacesOf, BodyEnds, chunk_len_of, CountsAt, CountsWrites, EndsAtRead, failure_of, HasNotFailed, HasPassedOn, IsHeadMemory, IsLentWithin, IsRoomFor, no_clock_line, path_at, program_line, program_name, PutsTo, refusal_of, SameLoans, source_of, speech_in, strobe_in, work_in, writes_failed};
 
-use crate::program::{PROGRAM, VcdkitStrobe};
+use crate::program::VcdkitStrobe;
 use crate::room::{HeadMemory, codes_memory, head_memory, room_memory};
 use std::alloc::Global;
 use vcd_body::Stop;
@@ -145,7 +145,7 @@ impl OneInput for VcdkitStrobe {
 
     /// Returns `vcdkit-strobe`.
     fn program() -> &'static str {
-        PROGRAM
+        "vcdkit-strobe"
     }
 
     /// Returns 2.

@@ -1,5 +1,5 @@
 use Rattle.std.proofs.Common.{refl}
-use Rattle.vcdkit_compare.proofs.program.VcdkitCompareProgram.command_of.Goals as goal
+use Rattle.vcdkit_compare.proofs.program.VcdkitCompareOneInputProgram.command_of.Goals as goal
 
 pub returns-clause-simple : goal.returns-clause-simple
 returns-clause-simple c = refl

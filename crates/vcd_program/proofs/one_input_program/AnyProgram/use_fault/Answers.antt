@@ -1,9 +1,9 @@
-use Rattle.std.proofs.Common.{arith}
+use Rattle.vcd_program.proofs.Cited.{arith}
 use Rattle.vcd_program.proofs.Facts.{refusal-low, refusal-memory, refusal-quiet}
-use Rattle.vcdkit_strobe.proofs.program.VcdkitStrobeProgram.use_fault.Goals as goal
+use Rattle.vcd_program.proofs.one_input_program.AnyProgram.use_fault.Goals as goal
 
 pub returns-clause-line : goal.returns-clause-line
-returns-clause-line g c = c.use_fault.ensures
+returns-clause-line g c = rw c.program.ensures at c.use_fault.ensures
 
 pub returns-clause-quiet : goal.returns-clause-quiet
 returns-clause-quiet g c = refusal-quiet c.args.fault
