@@ -1,5 +1,5 @@
 -- Items that a run takes ahead in a chunk, one after the other.
-use Rattle.vcd_compare.proofs.Cited.{◌≡◌, ℕ, Bool, true, false, not, List, [], ◌∷◌, ◌++◌, Result, Ok, Err, refl, sym, ap, subst, ◌∙◌, append-nil, append_assoc, is_empty, Header, BodyItem, Names, within_open, appends-none, bytes_of, longest_of, passed_of, Device, Writes, Ahead, WriteFailed, IsViewOf, HeadView, GaveAhead, LooksOver, PassesNoItem, AreRegsAfter, regs_after, Begins, Further, Past, Stage, Trail, Walks, stage_at, Regs, gave_none_ahead, walk_passes, Plan, RunsOver, model_asked, Compares, ComparesOne, HasHandled, IsCounted, SameRequest, plan_within, Comparison, Watched, Run, WalkEnd, AtItem, AtLines, Over}
+use Rattle.vcd_compare.proofs.Cited.{◌≡◌, ℕ, false, not, List, [], ◌∷◌, ◌++◌, Result, Ok, Err, refl, sym, ap, subst, ◌∙◌, append-nil, append_assoc, is_empty, Header, BodyItem, Names, within_open, appends-none, bytes_of, longest_of, passed_of, Device, Writes, Ahead, WriteFailed, IsViewOf, HeadView, GaveAhead, LooksOver, PassesNoItem, AreRegsAfter, regs_after, Begins, Further, Past, Stage, Trail, Walks, stage_at, Regs, gave_none_ahead, walk_passes, Plan, RunsOver, model_asked, Compares, ComparesOne, HasHandled, IsCounted, SameRequest, plan_within, Comparison, Watched, Run, WalkEnd, AtItem, AtLines, Over}
 use Rattle.vcd_compare.specs.declared.asked.Asked.{Asked}
 use Rattle.vcd_compare.proofs.RunEnds.{not_ended}
 
