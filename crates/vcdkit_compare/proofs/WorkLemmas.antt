@@ -1,7 +1,6 @@
 -- A comparison over one input, as a job: its outcome is that of the definitions, and that of a run.
 use Rattle.std.proofs.Common.{◌≡◌, ℕ, Bool, true, false, cond, nat_lt, List, [], length, append-nil, Option, Some, None, Ok, refl, sym}
 use Rattle.vcd_model.proofs.MergeSoFar.{fault_output}
-use Rattle.vcd_model.specs.BodyReading.{body_fault_of, body_items, read_body}
 use Rattle.vcd_model.specs.Compare.{Asked, count_line}
 use Rattle.vcd_model.specs.Header.{Header}
 use Rattle.vcd_model.specs.HeaderReading.{header_fault_of}
@@ -9,10 +8,9 @@ use Rattle.vcd_model.specs.Items.{time_after}
 use Rattle.vcd_model.specs.Laws.{IsPrefixOf}
 use Rattle.vcd_model.specs.Outcome.{Opened, body_of}
 use Rattle.vcd_model.specs.Reading.{Fault}
-use Rattle.vcd_model.specs.Tokens.{Stream, Token, stream_of}
+use Rattle.vcd_model.specs.Tokens.{stream_of}
 use Rattle.vcd_model.specs.Within.{Names, answer_in, comparison, compared_in, from_dump, late, outermost, refused, unselected}
 use Rattle.vcd_run.specs.Outcomes.{KeepOutput, over_plan}
-use Rattle.vcd_compare.specs.Run.{plan_within}
 use Rattle.vcd_job.proofs.OutcomeLemmas.{head_of, not_opened, opened_as, opened_is}
 use Rattle.vcd_job.specs.Work.{outcome_of, over_header}
 use Rattle.vcdkit_compare.specs.Work.{WorkIsComparison, course_if, course_of, ways_of, work_of}
