@@ -332,6 +332,12 @@ class Answers(Case):
                          b"$var wire 1 \" c $end $upscope $end $enddefinitions $end #0\n")
         self.assertIn("largest tb 2", said("vcdkit-info", dump))
         self.assertEqual(json.loads(said("vcdkit-info", "--json", dump)[0])["largest"], {"tb": 2})
+        u, v, t = (b"$scope module %c $end " % name for name in b"uvt")
+        var, up = b"$var wire 1 ! q $end ", b"$upscope $end "
+        dump = self.file("b.vcd", u + var + up + v + var + up + u + t + var + up + up +
+                         b"$enddefinitions $end #0\n")
+        self.assertEqual([line for line in said("vcdkit-info", dump) if line[:7] == "largest"],
+                         ["largest u 1", "largest v 1", "largest u.t 1"])
 
     def test_a_fault_early_in_a_long_dump(self):
         dump = self.file("a.vcd", b"$timescale 1ns $end\n$var wire 1 ! a $end\n$enddefinitions "

@@ -355,9 +355,7 @@ def ask_info(of: Asker) -> None:
         return
     got = from_json(said.text)
     largest = got.pop("largest")
-    scopes = [".".join(one.chain[:depth]) for one in dump.variables
-              for depth in range(len(one.chain) + 1)]
-    own = {scope: sum(one.scope == scope for one in dump.variables) for scope in scopes}
+    own = Counter(one.scope for one in dump.variables)
     wanted = {
         "file": of.path, "date": dump.notes.get("date") or None,
         "version": dump.notes.get("version") or None,
@@ -372,7 +370,7 @@ def ask_info(of: Asker) -> None:
     of.same("info", [], got, wanted)
     # A scope may be there twice, and a dot may be in a name: scopes with one path are one here.
     of.same("info, largest", most, list(largest.items()),
-            [one for one in sorted(own.items(), key=lambda one: -one[1]) if one[1]][:most])
+            sorted(own.items(), key=lambda one: -one[1])[:most])
 
 
 def saved_by_gtkwave(its: List[Variable], asked: Asker) -> str:

@@ -2,15 +2,15 @@
 
 Each line has a key and its value. The first and the last timestamp are shown with a unit and, if
 that differs, in ticks. `types` counts the variables of each type, and `bits` is the sum of the
-sizes of all codes. The largest scopes are those that directly contain the most variables. If the
-fault of a dump is in its body, the lines about the header are still written, and the fault goes to
-standard error.
+sizes of all codes. The largest scopes are those that directly contain the most variables; those
+with equally many are in the order of their first variables. If the fault of a dump is in its body,
+the lines about the header are still written, and the fault goes to standard error.
 
 examples:
   vcdkit-info sim.vcd.xz
   vcdkit-info --json sim.vcd | jq .last"""
 import collections
-from typing import Any, Counter, Dict, Iterator, List, Tuple
+from typing import Any, Dict, Iterator, List, Tuple
 
 from ..forms.text import write_json
 from ..questions.dump import Dump
@@ -22,9 +22,8 @@ def of_header(dump: Dump, count: int) -> Iterator[Tuple[str, Any]]:
     """Returns what the header says, as pairs, with so many of the largest scopes."""
     date, version, scale = dump.header
     types = collections.Counter(one.type for one in dump.signals)
-    scopes: Counter[str] = collections.Counter()
-    for scope in dump.tree.walk():
-        scopes.update({scope.path: len(scope.signals)} if scope.signals else {})
+    scopes = collections.Counter(one.scopes[-1].path if one.scopes else ""
+                                 for one in dump.declarations)
     sizes = {one.code: one.size for one in dump.signals}
     yield "date", date
     yield "version", version
