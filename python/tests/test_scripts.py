@@ -424,6 +424,9 @@ class Answers(Case):
                 (HAND, "$dumpall\n0!\nb1010 \"\nq", "good until 29ns", 30, "00001010"),
                 (HAND, "$comment\n#50\n$end\n0!\n$comment\n#60\n$end\nx1!",
                  "good until 29ns", 30, "00000001"),
+                (HAND, "#40 #41\n#50 #60 q #70 1!\n", "good until 59ns", 60, "00000001"),
+                (HAND, "#40 $comment #50 $end #x #60\n", "good until 40ns", 40, "00000001"),
+                (HAND, "#40\n$dumpall #50\n", "good until 40ns", 40, "00000001"),
                 (HAND[:HAND.index(b"0!")], "0!\nb11", "but it has all values of no time", 0, "-")):
             dump = self.file("torn.vcd", text + is_added.encode())
             with self.subTest(added=is_added):
@@ -1484,6 +1487,9 @@ class Output(Case):
     def test_salvage_before_the_first_timestamp(self):
         for body, until in ((b"#1.5 #0 0!", "but it has all values of no time"),
                             (b"$dumpvars #0 0!", "but it has all values of no time"),
+                            (b"#18446744073709551616 #0", "but it has all values of no time"),
+                            (b"#" + b"9" * 9999, "but it has all values of no time"),
+                            (b"#" + b"0" * 9999 + b"5 #x", "good until 5"),
                             (b"0! #1.5", "good until 0"), (b"#0 #1.5", "good until 0")):
             dump = self.file("torn.vcd", b"$var wire 1 ! a $end $enddefinitions $end\n" + body)
             good = os.path.join(self.folder.name, "good.vcd")

@@ -64,25 +64,25 @@ def with_file(remedy: str, name: str, unpacker: Unpacker) -> str:
 
 
 def explain(dump: Dump, fault: DumpFault, unpacker: Unpacker) -> bytes:
-    """Shows the lines around a fault, its cause and what helps; returns what is before it."""
-    before, found = look_at(dump, fault, print)
+    """Shows the lines around a fault, its cause and what helps; returns what is up to it."""
+    around, found = look_at(dump, fault, print)
     if found:
         cause, remedy = found
         if remedy.endswith(CUT_OFF) and not has_header(dump):
             remedy = NO_HEADER
         print("cause: " + cause)
         print("help:  " + with_file(remedy, dump.name, unpacker))
-    return before
+    return around
 
 
-def salvage(dump: Dump, fault: DumpFault, before: bytes, asked: argparse.Namespace,
+def salvage(dump: Dump, fault: DumpFault, around: bytes, asked: argparse.Namespace,
             out: Optional[TextIO]) -> None:
     """Writes what is before the fault of a dump, to `out` if that is given, and says until which
     time it has all values."""
     if not has_header(dump):
         print("vcdkit-explain: nothing can be saved: the fault is in the header", file=sys.stderr)
         return
-    good = Good(dump, before)
+    good = Good(dump, around)
     if out:
         out.buffer.writelines(good)
     else:
@@ -169,9 +169,9 @@ def answer(asked: argparse.Namespace, out: Optional[TextIO]) -> int:
         raise
     except DumpFault as fault:
         print("vcdkit: %s" % fault, file=sys.stderr, flush=True)
-        before = explain(dump, fault, unpacker)
+        around = explain(dump, fault, unpacker)
         if asked.salvage is not None:
-            salvage(dump, fault, before, asked, out)
+            salvage(dump, fault, around, asked, out)
         return fault.status
     if out:
         out.buffer.writelines(dump.blocks())

@@ -147,7 +147,7 @@ def short_lines(text: BinaryIO) -> Iterator[bytes]:
 
 def look_at(dump: Source, fault: DumpFault, say: Callable[[str], object] = str
             ) -> Tuple[bytes, Optional[Cause]]:
-    """Returns what is before the line of a fault, and its cause. `say` gets the lines around."""
+    """Returns the text up to the end of a fault's line, and its cause; `say` gets lines around."""
     before, bad, front, number = b"", b"", b"", 1
     with dump.open() as text:
         for block in short_lines(text):
@@ -168,4 +168,4 @@ def look_at(dump: Source, fault: DumpFault, say: Callable[[str], object] = str
             if number > fault.line + 1:
                 break
     before = before[-FRONT:]
-    return before, cause_of(fault.fault, front, before, bad)
+    return before + bad, cause_of(fault.fault, front, before, bad)

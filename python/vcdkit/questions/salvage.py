@@ -5,6 +5,7 @@ from typing import Iterator, Optional
 from ..errors import DumpFault
 from ..reading import body
 from ..reading.source import Source
+from .rows import first_ones
 
 
 def has_header(dump: Source) -> bool:
@@ -17,10 +18,10 @@ def has_header(dump: Source) -> bool:
 
 class Good:
     """The text of a faulty dump up to the fault, in pieces; then `last` is its last timestamp,
-    `None` if there is none. `before` is what is before the line of the fault."""
+    `None` if there is none. `around` is the text up to the end of the line of the fault."""
 
-    def __init__(self, dump: Source, before: bytes):
-        self._dump, self._before = dump, before
+    def __init__(self, dump: Source, around: bytes):
+        self._dump, self._around = dump, around
         self.last: Optional[int] = None
         self._is_empty = True
 
@@ -49,12 +50,10 @@ class Good:
     def _time_without_change(self) -> Optional[int]:
         """Returns the timestamp right before the fault, which `cut` does not write as no change is
         between them; `None` if there is none."""
-        found = re.findall(rb"(?<!\S)#(\d+)\s", self._before)
-        time = int(found[-1]) if found else 0
-        if time <= (self.last or 0):
-            return None
-        # If not, what was found is in a comment.
-        return time if self._dump.goes_beyond(time - 1) else None
+        times = {int(one) for one in re.findall(rb"(?<!\S)#0*(\d{1,20})\s", self._around)}
+        later = sorted(time for time in times if time > (self.last or 0))
+        # Some may be in a comment, or behind the fault.
+        return max(first_ones(later, lambda time: self._dump.goes_beyond(time - 1)), default=None)
 
     def good_until(self, fault: DumpFault) -> int:
         """Returns the last time whose values it has all; -1 if there is none."""

@@ -11,6 +11,7 @@ from typing import (TYPE_CHECKING, BinaryIO, Callable, Collection, Dict, FrozenS
                     Iterator, List, Optional, Tuple, cast)
 
 from ..errors import DumpFault, UsageError, failing
+from ..model.times import LAST_TICK
 from ..model.values import same
 from . import progress
 from .formats import FRONT, format_of
@@ -231,7 +232,8 @@ def first_time(dump: "Source") -> Optional[int]:
         for word in words:
             first = word[:1]
             if first == b"#":
-                return int(word[1:]) if word[1:].isdigit() and not section else None
+                time = re.fullmatch(rb"#0*(\d{1,20})", word)
+                return int(time[1]) if time and not section and int(time[1]) <= LAST_TICK else None
             if first in b"bBrR":
                 next(words, b"")  # its code
             elif word in (b"$dumpvars", b"$dumpall", b"$dumpon", b"$dumpoff"):
