@@ -17,8 +17,19 @@ said = functools.partial(cases.said_by, diff.main)
 
 HEADER = ("$scope module t $end $var wire 1 ! c $end $var real 64 @ r $end $var reg 4 \" q $end "
           "$upscope $end $enddefinitions $end\n")
+
+def of_one_path(*its):
+    """Returns a dump with variables of one path: of each, what is behind that, and its value."""
+    return "$scope module t $end %s $upscope $end $enddefinitions $end\n#0\n%s#9\n" % (
+        " ".join("$var wire 1 !%d q %s $end" % (at, behind) for at, (behind, _) in enumerate(its)),
+        "".join("%d!%d\n" % (value, at) for at, (_, value) in enumerate(its)))
+
+
 FILES = {"a": HEADER + "#0\n0!\nr1 @\n#1\n1!\n", "b": HEADER + "#0\n0!\nr1.5 @\n#1\n1!\nb1 \"\n",
          "short": HEADER.replace("real 64", "shortreal 32") + "#0\n0!\nr1.5 @\n#1\n1!\n",
+         "bits": of_one_path(("[0]", 0), ("[0:0]", 0), ("x [1]", 0)),
+         "more": of_one_path(("[0]", 0), ("[0]", 1), ("x [1]", 1)),
+         "bit": of_one_path(("x [1]", 1)), "known": "t.q it is known\n",
          "other": HEADER.replace("module t", "module u<&"), "empty": "", "fault": HEADER + "#x",
          "binary": "".join(map(chr, range(256))) * 9}
 LINES = "differs 0 t.r 1 1.5\n"
@@ -37,6 +48,9 @@ MISUSED = ["", "a", "- -", "--into=x a b", "--map=t a b", "--map==t a b", "--rea
            "--none a b", "--common=1 a b"]
 ANSWERED = [("a a", "", 0), ("a b", LINES, 1), ("--every a b", LINES + "differs 1 t.q - 0001\n", 1),
             ("--every --within=0 a b", LINES, 1), ("--within=0 a short", LINES, 1), ("--always --within=1 a b", "", 0),
+            ("--within=1 --common --every bits more", "differs 0 t.qx[1] 0 1\n", 1),
+            ("--within=1 --common bit bits", "differs 0 t.q 1 0\n", 1),
+            ("--every --waive=known bits more", "alone A t.q[0:0] 1\nalone B t.q[0] 1\n", 1),
             ("--real-tolerance=.5 a b", "differs 1 t.q - 0001\n", 1), ("a b t.c", "", 0),
             ("--except=t.r --except=t.q a b", "", 0),
             ("--rise=t.c a b", LINES.replace("0", "1", 1), 1),

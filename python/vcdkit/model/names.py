@@ -17,6 +17,11 @@ def bare(path: str) -> str:
     return RANGE.sub("", path) if path[-1:] == "]" else path
 
 
+def range_in(path: str) -> str:
+    """Returns the range at the end of a path, as [3:0] of tb.q[3:0]; nothing if it has none."""
+    return path[len(bare(path)):]
+
+
 def plain(path: str) -> str:
     """Returns a path without its range and escapes: tb.u.q of tb.\\u.q[3:0], and of tb.\\u/q."""
     return re.sub(r"(?<![^.])\\", "", bare(path)).replace("/", ".")

@@ -53,12 +53,14 @@ class Header(NamedTuple):
 
 
 class Declaration(NamedTuple):
-    """How a variable is declared: in which scopes, the outermost first, and with which range: two
-    numbers, of one index twice the same, and nothing if it has neither."""
+    """How a variable is declared: in which scopes, the outermost first, with which range (two
+    numbers, of one index twice the same, and nothing if it has neither), and what is behind its
+    name."""
 
     signal: Signal
     scopes: Tuple[Scope, ...]
     declared: Tuple[int, ...]
+    behind: str
 
     @property
     def bits(self) -> range:

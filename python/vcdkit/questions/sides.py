@@ -6,8 +6,8 @@ from concurrent.futures import ThreadPoolExecutor
 from typing import Any, Dict, Iterable, Iterator, List, Optional, Sequence, Set, Tuple
 
 from ..errors import UnknownName, UsageError
-from ..model.names import (FIELD, RANGE, bare, field_of, fronts, full_names, hint, names_for,
-                           places_of, plain)
+from ..model.names import (RANGE, bare, fronts, full_names, hint, names_for, places_of, plain,
+                           range_in)
 from ..model.signals import Signal
 from ..model.values import Report
 from ..reading import header
@@ -98,18 +98,21 @@ class Side:
         places = places_of(full.values(), self.spelled) if asked else {}
         return {name: {self.names[at] for at in places[path]} for name, path in full.items()}
 
-    def called(self, path: str) -> str:
-        """Returns the name of a variable that vcdkit-compare calls by a path, which has its range
-        if that tells it from others."""
-        name = path if path in self.of_name else FIELD.sub("", path)
-        return name if len(self.of_name.get(name, ())) == 1 else path
+    def own(self, line: str) -> str:
+        """Returns the name of the variable that a line calls so, maybe with what is behind it."""
+        return next((line[:end] for end in range(len(line), 0, -1) if line[:end] in self.of_name),
+                    line)
 
-    def places_called(self, name: str) -> List[int]:
-        """Returns the places of the variables that lines call by a name."""
-        own = name if name in self.of_name else FIELD.sub("", name)
-        near = self.of_name[own]
-        return [at for at in near if len(near) > 1 and self.dump.declarations[at].declared ==
-                field_of(name[len(own):])] or near
+    def called(self, path: str) -> str:
+        """Returns what a line calls a variable that vcdkit-compare calls by a path: with its range
+        if that tells it from others."""
+        own = self.own(path)
+        return own if len(self.of_name.get(own, ())) == 1 else path
+
+    def behind(self, at: int) -> str:
+        """Returns what a variable has behind its name, as header.renamed() writes it."""
+        old, new, its = self.paths[at], self.names[at], self.dump.declarations[at].behind
+        return its if old == new else "" if range_in(new) else its or range_in(old)
 
     def ticks_of_both(self, time: str, factor: int) -> int:
         """Returns how many ticks of both a time is, of which so many are a tick of this dump."""
@@ -143,11 +146,16 @@ Sides = Tuple[Side, Side]
 Pair = Tuple[int, int]  # the places of two variables
 
 
-def pairs_called(sides: Sides, name: str) -> List[Tuple[Pair, Tuple[Signal, Signal]]]:
-    """Returns the pairs of variables that are compared and that lines call by a name."""
-    one, other = sides
-    found = [((at, place), (one.dump.signals[at], other.dump.signals[place]))
-             for at, place in zip(one.places_called(name), other.places_called(name))]
+def pairs_called(sides: Sides, line: str) -> List[Tuple[Pair, Tuple[Signal, Signal]]]:
+    """Returns the pairs of variables that are compared and that a line calls so: those that have
+    the same behind their names, if there are several."""
+    own = sides[0].own(line)
+    near = [side.of_name[own] for side in sides]
+    if max(map(len, near)) > 1:
+        behind = line[len(own):] if len(near[0]) > 1 else sides[0].behind(near[0][0])
+        near = [[at for at in its if side.behind(at) == behind] for side, its in zip(sides, near)]
+    found = [((at, place), (sides[0].dump.signals[at], sides[1].dump.signals[place]))
+             for at, place in zip(*near)]
     return [(places, its) for places, its in found if len({
         of.type if of.type == "event" else "real" if of.is_real else of.size for of in its}) == 1]
 

@@ -5,7 +5,7 @@ import itertools
 import re
 from typing import Collection, Dict, Iterable, Iterator, List, NamedTuple, Optional, Tuple
 
-from ..model.names import RANGE, bare, field_of
+from ..model.names import field_of, range_in
 from ..model.signals import Columns, Declaration, Header, Scope, Signal, Signals
 from ..model.times import Timescale, amount_in
 
@@ -91,10 +91,9 @@ def declarations(text: bytes) -> Tuple[Scope, List[Declaration]]:
         elif keyword == b"$var":
             signal = Signal(before + words[3], words[0], int(words[1]), words[2])
             outer.signals.append(signal)
-            declared = field_of("".join(words[4:]))
-            if not declared and RANGE.search(words[3]):
-                declared = field_of(words[3])
-            found.append(Declaration(signal, opened[-1], declared))
+            behind = "".join(words[4:])
+            declared = field_of(behind) or field_of(range_in(words[3]))
+            found.append(Declaration(signal, opened[-1], declared, behind))
     return top, found
 
 
@@ -161,7 +160,7 @@ def renamed(names: Dict[str, str], text: bytes) -> bytes:
         if new is None:
             kept.append(line)
             continue
-        declared = [] if RANGE.search(new) else words[5:-1] or [words[4][len(bare(words[4])):]]
+        declared = [] if range_in(new) else words[5:-1] or [range_in(words[4])]
         moved.append(" ".join(filter(None, [*words[:4], new, *declared, "$end"])))
     return "\n".join([*kept[:-2], *moved, *kept[-2:]]).encode("utf-8", "surrogateescape")
 
