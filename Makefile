@@ -138,8 +138,6 @@ install:
 	install -m 755 $(programs) "$(bin)"
 	for name in $(scripts); do install -m 755 extras/launch "$(bin)/$$name"; done
 	install -m 644 $(addprefix man/,$(addsuffix .1,$(programs))) "$(man)"
-	if command -v python3 > /dev/null; then \
-	    packaging/manuals.py "$(man)" $(addprefix extras/,$(scripts)); fi
 	install -m 644 completions/vcdkit.bash "$(bash_words)/vcdkit"
 	for name in vcdkit-compare vcdkit-strobe $(scripts); do ln -sf vcdkit "$(bash_words)/$$name"; done
 	install -m 644 completions/_vcdkit "$(zsh_words)/_vcdkit"
@@ -147,6 +145,9 @@ install:
 	for name in $(layers); do \
 	    install -m 644 python/vcdkit/$$name/*.py "$(python)/$$name" || exit 1; done
 	if test -e libvcdkit.so; then install -m 644 libvcdkit.so "$(python)"; fi
+	if command -v python3 > /dev/null; then \
+	    packaging/manuals.py "$(man)" $(addprefix extras/,$(scripts)) || exit 1; \
+	    python3 -m compileall -qq "$(python)" || true; fi  # so that no start compiles it
 	if [ -e libvcdkit.a ]; then \
 	    install -d "$(library)/pkgconfig" "$(headers)" && \
 	    install -m 644 libvcdkit.a libvcdkit.so.0 "$(library)" && \

@@ -102,6 +102,7 @@ if command -v dpkg-deb > /dev/null; then
     python=$folder/python3-vcdkit
     mkdir -p "$python/usr/bin" "$python/usr/lib" "$python/usr/share/man/man1"
     mv "$tree/usr/lib/python3" "$python/usr/lib"
+    find "$python" -name __pycache__ -exec rm -rf {} +
     rm -rf "$tree/usr/lib" "$tree/usr/include"  # the library for C is in the tarball
     for script in "$tree"/usr/bin/vcdkit-*; do
         [[ $script != */vcdkit-@(compare|strobe) ]] || continue

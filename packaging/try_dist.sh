@@ -68,7 +68,8 @@ tries 'vcdkit-strobe in a root' bash -c '"$@" | grep -qx "#2"' - \
 # The files that `make install` put into the current directory, by their names in the packages, but
 # for what the packages add or leave to the tarball.
 installed() {
-    find . ! -type d | sed 's/\.1$/&.gz/' | grep -vE '/include/|/lib/(libvcdkit|pkgconfig)'
+    find . ! -type d | sed 's/\.1$/&.gz/' |
+        grep -vE '/include/|/lib/(libvcdkit|pkgconfig)|/__pycache__/'
 }
 added='/licences/|/copyright$|/changelog\.gz$|/lintian/'
 

@@ -4,7 +4,7 @@ from typing import NamedTuple, Optional, Sequence
 
 from ..reading.files import write
 
-NOT_OF_XML = re.compile("[\0-\x08\x0b\x0c\x0e-\x1f]|[\ud800-\udfff\ufffe\uffff]")
+NOT_OF_XML = "[\0-\x08\x0b\x0c\x0e-\x1f]|[\ud800-\udfff\ufffe\uffff]"
 
 
 class Test(NamedTuple):
@@ -21,7 +21,7 @@ class Test(NamedTuple):
 
 def clean(text: str) -> str:
     """Returns a text as XML can have it."""
-    return NOT_OF_XML.sub("\ufffd", text)
+    return re.sub(NOT_OF_XML, "\ufffd", text)
 
 
 def write_tests(path: Optional[str], name: str, tests: Sequence[Test]) -> None:

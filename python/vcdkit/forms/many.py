@@ -3,7 +3,6 @@ import argparse
 import collections
 import contextlib
 import io
-import json
 import os
 import re
 import signal
@@ -105,6 +104,7 @@ def _answered(name: str, answer: Answer, asked: argparse.Namespace
             status = max(error.status, 2)
             print("%s: %s" % (name, error), file=sys.stderr)
     out, messages = (one.getvalue().decode("utf-8", "surrogateescape") for one in written)
+    import json  # one dump needs no front
     front: str = asked.file + ": "
     front_of_json = '{"file": %s, ' % json.dumps(asked.file)
     return (re.sub("(?m)^{", lambda _: front_of_json, out) if asked.json else

@@ -2,7 +2,6 @@
 for. Which of them belong together, vcdkit-compare says: by their names and ranges."""
 import functools
 import itertools
-from concurrent.futures import ThreadPoolExecutor
 from typing import Any, Dict, Iterable, Iterator, List, Optional, Sequence, Set, Tuple
 
 from ..errors import UnknownName, UsageError
@@ -170,6 +169,7 @@ def sides_of(dumps: Sequence[Source], maps: Sequence[Map], names: Sequence[str],
              exceptions: Sequence[str]) -> Sides:
     """Reads both dumps, at the same time, and chooses the variables that names select, as choose().
     Fails if both lack what a map or an exception names."""
+    from concurrent.futures import ThreadPoolExecutor  # the import takes time
     with ThreadPoolExecutor() as pool:
         reports = [*pool.map(Source.check, dumps)]
     columns: Sequence[List[Any]] = header.columns(header_of(dumps))

@@ -1,6 +1,5 @@
 """How signals change in a window: periods, pulses, and how long they have each value."""
 import math
-from fractions import Fraction
 from typing import Any, Dict, List, Optional, Sequence, Tuple
 
 from ..model.signals import Signal
@@ -126,6 +125,7 @@ class Statistics:
                    if isinstance(number, float) and not math.isnan(number)]
         if not numbers:
             return None
+        from fractions import Fraction  # few signals need it
         mean = sum(number for number, _ in numbers if math.isinf(number))
         return {"least": min(numbers)[0], "largest": max(numbers)[0], "mean": mean or float(
             sum(Fraction(number) * ticks for number, ticks in numbers)
