@@ -62,14 +62,14 @@ class Page(unittest.TestCase):
                 for word in code.replace("\\|", "|").split()}
 
     def test_operators(self):
-        words = self.words("### Conditions", "### More questions")
+        words = self.words("### Conditions", "### Notes")
         functions = {word.partition("(")[0].lstrip("$") for word in words if "(" in word}
         self.assertEqual(set(LEVELS) - words, set())
         self.assertEqual({sign for sign in UNARY if not words & {sign, sign + "a"}}, set())
         self.assertEqual(set(FUNCTIONS) - functions, set())
 
     def test_forms_and_formats(self):
-        words = self.words("### What they share", "### JSON keys")
+        words = self.words("### What they share", "### Examples")
         self.assertEqual({"--" + name for name in FORMS} - words, set())
         self.assertEqual([one.unpacker[0] for one in FORMATS
                           if one.unpacker and one.unpacker[0] not in self.text], [])
