@@ -115,9 +115,7 @@ class Dump(Source):
             found = library.changes(self.text, signal.code.encode())
             if found is not None:
                 return _columns(found, numpy)
-        # A time is read as a whole, which is faster than changes().
-        pairs = [(time, value_in(text, signal.size)) for time, before, changes in body.steps(
-            self.part([name]), [signal.code.encode()]) for _, text in before + changes]
+        pairs = list(self.changes(name))
         times = numpy.array([time for time, _ in pairs], dtype=numpy.uint64)
         numbers = [_number(one) for _, one in pairs]
         if signal.is_real:

@@ -44,8 +44,8 @@ def longer(pairs: Sequence[Pair], steps: Iterable[body.Step], same: Same, least:
             of_code.setdefault(code, []).append(at)
     values: Dict[bytes, bytes] = {}
     waiting: Deque[_Waiting] = collections.deque()
-    for time, before, changes in steps:
-        now = dict(before + changes)
+    for time, changes in steps:
+        now = dict(changes)
         values.update(now)
         for pair in map(pairs.__getitem__, sorted({at for code in now for at in of_code[code]})):
             one, other = map((now if pair.is_event else values).get, pair.codes)

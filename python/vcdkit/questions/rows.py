@@ -88,12 +88,12 @@ def _holding(source: Source, condition: "Conditions", times: Iterable[int]) -> S
     waiting, found = sorted(set(times), reverse=True), set()
     holds = condition.compiled()
     part = source.cut(0, max(waiting, default=0)).part([*condition.paths])
-    end: List[body.Step] = [(LAST_TICK + 1, [], [])]
-    for time, before, changes in itertools.chain(body.steps(part, condition.over), end):
+    end: List[body.Step] = [(LAST_TICK + 1, [])]
+    for time, changes in itertools.chain(body.steps(part, condition.over), end):
         while waiting and waiting[-1] < time:
             condition.take([], waiting[-1])
             found.update([waiting.pop()] * bool(holds()))
-        condition.take(before + changes, time)
+        condition.take(changes, time)
         if waiting and waiting[-1] == time:
             found.update([waiting.pop()] * bool(holds()))
         condition.end()
@@ -139,7 +139,7 @@ class Cells:
     def take(self, changes: body.Changes) -> bool:
         """Takes changes, some maybe of other signals; whether a value is another one then."""
         is_other = False
-        for code, text in changes if len(changes) < 2 else dict(changes).items():
+        for code, text in changes:
             was = self._texts.get(code)
             if was is not None and was != text:
                 self._texts[code] = text

@@ -148,11 +148,11 @@ def statistics_of(dump: Source, names: List[str], window: Window, short: int = 0
     """Returns the signals that names select, each with what is counted of its code."""
     signals = dump.select(names)
     found = {one.code.encode(): Statistics(one, short) for one in signals}
-    part = dump.cut(window.begin, window.last).part(names)
-    for time, before, changes in body.steps(part, found, is_cut=True):
-        for code, text in before:
+    changes_of = body.Known(found).__getitem__
+    for time, begin, lines in body.begun(dump.cut(window.begin, window.last).part(names)):
+        for code, text in changes_of(begin):
             found[code].start(time, text)
-        for code, text in changes if len(changes) < 2 else dict(changes).items():
+        for code, text in changes_of(lines):
             found[code].change(time, text)
     last = dump.window_to_end(window).last
     for one in found.values():

@@ -60,9 +60,9 @@ class Reader:
         of_code: Dict[bytes, List[Tuple[bool, Stream]]] = {}
         for (code, is_event), stream in of_kind.items():
             of_code.setdefault(code, []).append((is_event, stream))
-        for time, before, changes in body.steps(part.within(window), of_code):
+        for time, changes in body.steps(part.within(window), of_code):
             now = to(time)
-            for code, text in dict(before + changes).items():
+            for code, text in changes:
                 for is_event, stream in of_code[code]:
                     self._add(stream, now, text, is_event)
             if self._count > MAX_CHANGES or self._bytes > MAX_BYTES:

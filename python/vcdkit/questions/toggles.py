@@ -107,12 +107,14 @@ def counts_of(dump: Source, names: List[str], window: Window, has_ticks: bool) -
     found = {one.signal.code.encode(): Bits(one.signal.size, window.begin, has_ticks)
              for one in chosen}
     taken, left = _Takers(found).__getitem__, BATCH
-    times = body.timed(dump.cut(window.begin, window.last).part(names))
-    for time, text in _started(times, found):
-        for add, value, note in map(taken, text.split(b"\n")):
+    for time, begin, lines in body.begun(dump.cut(window.begin, window.last).part(names)):
+        for code, value in body.Known(found)[begin] if begin else ():
+            if value[:1] != b"r":
+                found[code].start(value)
+        for add, value, note in map(taken, lines.split(b"\n")):
             add(value)
             note(time)
-        left -= len(text)
+        left -= len(lines)
         if left < 0:
             left = BATCH
             for bits in found.values():
@@ -131,21 +133,6 @@ def _of_bits(of: Declaration, found: Dict[bytes, Bits]) -> Iterator[BitCounts]:
         path, form = bare(path), "%s[%d]"
     for number, counts in zip(of.bits, found[of.signal.code.encode()].counts()):
         yield BitCounts(of, form % (path, number)[:1 + of.has_numbers], number, *counts)
-
-
-def _started(times: Iterator[Tuple[int, bytes]], found: Dict[bytes, Bits]
-             ) -> Iterator[Tuple[int, bytes]]:
-    """Returns times with their lines, and takes the values with which a cut begins."""
-    for time, text in islice(times, 1):
-        begin, mark, rest = text.partition(b"\n$end")
-        if text.startswith(b"$dumpvars\n"):
-            for line in begin.split(b"\n")[1:]:
-                code, value = body.change(line + b"\n")
-                if code in found and value[:1] != b"r":
-                    found[code].start(value)
-            text = mark + rest
-        yield time, text
-    yield from times
 
 
 class _Takers(Dict[bytes, Taken]):

@@ -78,12 +78,8 @@ def values_of(part: Source, signals: Signals, letters: bytes) -> Iterator[Tuple[
     at the end of a time and was another one before."""
     lines = _Lines(letters)
     last: Dict[bytes, Optional[bytes]] = {}  # the last value of each code, if it is shown
-    for time, before, found in body.steps(part, signals, is_cut=True, some=lines):
-        ends: Dict[bytes, bytes] = {}  # the last value of each code, in the order of these
-        for code, text in before + found:
-            ends.pop(code, None)
-            ends[code] = text
-        for code, text in ends.items():
+    for time, changes in body.steps(part, signals, lines):
+        for code, text in changes:
             is_shown = body.has_letter(text, letters)
             if is_shown and last.get(code) != text:
                 yield time, code, text

@@ -24,7 +24,7 @@ MAX_SEEN = 1 << 14  # texts of which the changes are kept
 MAX_KEPT = 64  # bytes of a text that is kept
 BLOCK = 1 << 16
 Changes = List[Tuple[bytes, bytes]]  # a code and a value each
-Step = Tuple[int, Changes, Changes]  # a time, the values from before it, and the others
+Step = Tuple[int, Changes]  # a time, and what codes get there
 Blocks = Callable[[BinaryIO], Iterable[bytes]]
 
 
@@ -95,34 +95,26 @@ def timed(part: "Source", some: Optional[Blocks] = None) -> Iterator[Tuple[int, 
         raise fault
 
 
-def steps(part: "Source", codes: Collection[bytes], is_cut: bool = False,
-          some: Optional[Blocks] = None) -> Iterator[Step]:
-    """Returns of each timestamp of a part of a dump the changes of some codes: those that are
-    values from before it, and the others. What comes before the first timestamp has time 0. No two
-    steps that follow each other have one time. A time that a fault leaves unfinished has no step.
+def steps(part: "Source", codes: Collection[bytes], some: Optional[Blocks] = None
+          ) -> Iterator[Step]:
+    """Returns of each timestamp of a part of a dump the last values that some codes get there. What
+    comes before the first timestamp has time 0. No two steps that follow each other have one time.
+    A time that a fault leaves unfinished has no step. `some` is that of timed.
 
-    The first value of a code is from before its time if it is in a `$dumpvars`: `cut` begins
-    with the values just before its first time, and goes on with what changes at it. With
-    `is_cut`, only the section with which `cut` begins has such values. `some` is that of timed.
     A code with a blank behind it stands for the time since which the code has its value, which
     comes with each change to another one."""
     dated = {code[:-1] for code in codes if code[-1:] == b" "}
-    its = _steps(part, {code for code in codes if code[-1:] != b" "}, is_cut, some)
+    its = _steps(part, {code for code in codes if code[-1:] != b" "}, some)
     return _dated(part, its, dated) if dated else its
 
 
-def _steps(part: "Source", codes: Collection[bytes], is_cut: bool, some: Optional[Blocks]
-           ) -> Iterator[Step]:
+def _steps(part: "Source", codes: Collection[bytes], some: Optional[Blocks]) -> Iterator[Step]:
     """Returns steps without the times since which codes have their values."""
-    known, first = Known(codes), _First(codes, is_cut)
-    changes_of, waiting = known.__getitem__, first.waiting  # faster than known[..]
-    none: Changes = []
+    changes_of = Known(codes).__getitem__  # faster than known[..]
     for time, text in timed(part, some):
-        before, changes = none, changes_of(text)
-        if waiting:
-            before, changes = first.parted(text, changes, known)
-        if changes or before:
-            yield time, before, changes
+        changes = changes_of(text)
+        if changes:
+            yield time, changes
 
 
 def _dated(part: "Source", its: Iterator[Step], dated: Collection[bytes]) -> Iterator[Step]:
@@ -132,18 +124,16 @@ def _dated(part: "Source", its: Iterator[Step], dated: Collection[bytes]) -> Ite
     earlier = up_to_fault(part.before(begin), dated) if begin else ()
     last: Dict[bytes, bytes] = {}
     known: Dict[bytes, bytes] = {}
-    for time, before, changes in itertools.chain(earlier, its):
-        dates, every = [], before + changes if before else changes
-        for code, text in every if len(every) < 2 else dict(every).items():
-            was = last.get(code, b"")
-            if code in dated and text != was:
-                if was[:1] != b"r" or same(was) != same(text):
-                    dates.append((code + b" ", b"%d" % time))
-                last[code] = text
+    for time, changes in itertools.chain(earlier, its):
+        dates = []
+        for code, text in changes:
+            if code in dated and last.get(code) != same(text):
+                dates.append((code + b" ", b"%d" % time))
+                last[code] = same(text)
         if time < begin:
             known.update(dates)
             continue
-        yield time, before + list(known.items()), changes + dates
+        yield time, [*known.items(), *changes, *dates]
         known.clear()
 
 
@@ -153,9 +143,22 @@ def up_to_fault(part: "Source", codes: Collection[bytes]) -> Iterator[Step]:
         yield from steps(part, codes)
 
 
+def begun(part: "Source") -> Iterator[Tuple[int, bytes, bytes]]:
+    """Returns each time of a cut with its lines, as timed. Before these come the lines of the values
+    with which the cut begins, which are from before its first time; then none."""
+    begin = b""
+    times = timed(part)
+    for time, text in itertools.islice(times, 1):
+        if text.startswith(b"$dumpvars\n"):
+            begin, _, text = text.partition(b"\n$end")
+        yield time, begin, text
+    for time, text in times:
+        yield time, b"", text
+
+
 class Known(Dict[bytes, Changes]):
-    """Of each text of lines the changes of some codes in it, which nobody may alter. Those of short
-    texts are kept to be given again, as most dumps have few of these."""
+    """Of each text of lines the last values of some codes in it, in the order of these lines, which
+    nobody may alter. Those of short texts are kept to be given again, as most dumps have few."""
 
     def __init__(self, codes: Collection[bytes]):
         super().__init__()
@@ -164,6 +167,10 @@ class Known(Dict[bytes, Changes]):
     def __missing__(self, text: bytes) -> Changes:
         if b"\n" in text:
             its = [one for line in text.split(b"\n") for one in self[line]]
+            last = dict(its)
+            if len(last) < len(its):
+                latest_first = dict.fromkeys(code for code, _ in reversed(its))
+                its = [(code, last[code]) for code in reversed([*latest_first])]
         elif text[:1] in b"$":  # of a section, or empty
             its = []
         else:
@@ -174,29 +181,6 @@ class Known(Dict[bytes, Changes]):
                 self.clear()
             self[text] = its
         return its
-
-
-class _First:
-    """Which values are from before their time: `waiting` are the codes that have no value yet."""
-
-    def __init__(self, codes: Iterable[bytes], is_cut: bool):
-        self.waiting, self._is_cut = set(codes), is_cut
-        self._is_begin = self._has_section = False
-
-    def parted(self, text: bytes, changes: Changes, known: Known) -> Tuple[Changes, Changes]:
-        """Returns of the changes of a text those that are from before its time, and the others."""
-        if b"$" not in text and self.waiting.isdisjoint(dict(changes)):
-            return [], changes
-        before: Changes = []
-        others: Changes = []
-        for line in text.split(b"\n"):
-            if line[:1] == b"$":
-                self._is_begin = line == b"$dumpvars" and not (self._is_cut and self._has_section)
-                self._has_section = True
-            for one in known[line]:
-                (before if self._is_begin and one[0] in self.waiting else others).append(one)
-                self.waiting.discard(one[0])
-        return before, others
 
 
 def at_once(part: "Source", code: bytes) -> Iterator[Tuple[int, bytes]]:

@@ -19,8 +19,7 @@ def at_clocks(source: Source, names: List[str], codes: Collection[bytes], edges:
     such time, up to just before this one; then the bits of the edges there. Without edges, returns
     each time at which the codes have a value, with these. The names select all these signals."""
     if not edges:
-        return ((time, before + changes if before else changes, 0)
-                for time, before, changes in body.steps(source.part(names), codes))
+        return ((time, changes, 0) for time, changes in body.steps(source.part(names), codes))
     its, groups = _edges(source.strobe([*edges], names), codes), {*edges.values()}
     dated = {one for code in codes if code[-1:] == b" " for one in (code, code[:-1])}
     if not dated and len(groups) == 1:
@@ -55,9 +54,8 @@ def _dates(part: Source, codes: Collection[bytes]) -> Iterator[Part]:
     """Returns the times since which codes have their values, up to a fault."""
     begin = part.begin() if codes else 0
     for of in ([part.before(begin)] if begin else []) + ([part] if codes else []):
-        for time, *both in body.up_to_fault(of, codes):
-            for what, changes in zip((0, 2), both):
-                yield time, what, [one for one in changes if one[0][-1:] == b" "], 0
+        for time, changes in body.up_to_fault(of, codes):
+            yield time, 2, [one for one in changes if one[0][-1:] == b" "], 0
 
 
 def _edges(strobe: Source, codes: Collection[bytes]) -> Iterator[Tuple[int, body.Changes]]:
