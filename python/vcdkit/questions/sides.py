@@ -26,7 +26,7 @@ class Side:
 
     def __init__(self, dump: Source, report: Report, scope: str, columns: Sequence[List[Any]]):
         self.dump, self.report, self._scope = dump, report, scope
-        self.scale = dump.known_scale = header.facts(raw_header(dump)).timescale
+        self.scale = dump.known_scale = header.Head(raw_header(dump)).facts.timescale
         paths, self.types, _, self.codes = columns
         self.paths = [path[len(scope) + 1:] for path in paths]
         self.mapped: Set[str] = set()
@@ -172,7 +172,7 @@ def sides_of(dumps: Sequence[Source], maps: Sequence[Map], names: Sequence[str],
     from concurrent.futures import ThreadPoolExecutor  # the import takes time
     with ThreadPoolExecutor() as pool:
         reports = [*pool.map(Source.check, dumps)]
-    columns: Sequence[List[Any]] = header.columns(header_of(dumps))
+    columns: Sequence[List[Any]] = header.Head(header_of(dumps)).signals.columns()
     count = sum(path.startswith("in1.") for path in columns[0])
     one = Side(dumps[0], reports[0], "in1", [its[:count] for its in columns])
     other = Side(dumps[1], reports[1], "in2", [its[count:] for its in columns])

@@ -58,73 +58,69 @@ def front(file: Iterable[bytes]) -> bytes:
     return b""
 
 
-def facts(text: bytes) -> Header:
-    """Returns what a header says before its first scope or variable, or its last time scale."""
-    texts: Dict[bytes, str] = {}
-    last = text.rfind(b"$timescale")
-    for keyword, words, begin, _ in commands(text):
-        if keyword in (b"$scope", b"$var") and begin > last:
-            break
-        texts[keyword] = b" ".join(words).decode(errors="backslashreplace")
-    scale = amount_in(texts.get(b"$timescale", ""))
-    return Header(texts.get(b"$date"), texts.get(b"$version"), Timescale(*scale) if scale else None)
-
-
-def declarations(text: bytes) -> Tuple[Scope, List[Declaration]]:
-    """Returns the scopes, in one without a name and each once, and the variables."""
-    top = Scope("", "", "", [], [])
-    opened: List[Tuple[Scope, ...]] = [()]  # the scopes around a place, and around those
-    known: Dict[Tuple[int, str], Scope] = {}
-    found = []
-    for keyword, raw, *_ in commands(text):
-        words = [word.decode("utf-8", "surrogateescape") for word in raw]
-        outer = opened[-1][-1] if opened[-1] else top
-        before = outer.path + "." if outer.path else ""
-        if keyword == b"$scope":
-            key = id(outer), words[1]
-            if key not in known:
-                known[key] = Scope(words[1], before + words[1], words[0], [], [])
-                outer.scopes.append(known[key])
-            opened.append((*opened[-1], known[key]))
-        elif keyword == b"$upscope":
-            opened.pop()
-        elif keyword == b"$var":
-            signal = Signal(before + words[3], words[0], int(words[1]), words[2])
-            outer.signals.append(signal)
-            behind = "".join(words[4:])
-            declared = field_of(behind) or field_of(range_in(words[3]))
-            found.append(Declaration(signal, opened[-1], declared, behind))
-    return top, found
-
-
-def columns(text: bytes) -> Columns:
-    """Returns the paths, types, sizes and codes of the variables of a header that vcdkit writes,
-    with a command on each line."""
-    paths, types, sizes, codes = found = [], [], [], []  # type: Columns
-    fronts = [""]
-    for line in text.decode("utf-8", "surrogateescape").split("\n"):
-        if line[:5] == "$var ":
-            _, kind, size, code, name, _ = line.split(" ", 5)
-            paths.append(fronts[-1] + name)
-            types.append(kind)
-            sizes.append(int(size))
-            codes.append(code)
-        elif line[:7] == "$scope ":
-            fronts.append(fronts[-1] + line.split(" ")[2] + ".")
-        elif line[:9] == "$upscope ":
-            fronts.pop()
-    return found
-
-
 class Head:
     """A header that vcdkit writes: each of its facts is read once, if it is asked for."""
 
-    signals = functools.cached_property(lambda self: Signals(columns(self.text)))
-    facts = functools.cached_property(lambda self: facts(self.text))
-    declared = functools.cached_property(lambda self: declarations(self.text))
-
     def __init__(self, text: bytes):
         self.text = text
+
+    @functools.cached_property
+    def facts(self) -> Header:
+        """What it says before its first scope or variable, or its last time scale."""
+        texts: Dict[bytes, str] = {}
+        last = self.text.rfind(b"$timescale")
+        for keyword, words, begin, _ in commands(self.text):
+            if keyword in (b"$scope", b"$var") and begin > last:
+                break
+            texts[keyword] = b" ".join(words).decode(errors="backslashreplace")
+        scale = amount_in(texts.get(b"$timescale", ""))
+        return Header(texts.get(b"$date"), texts.get(b"$version"),
+                      Timescale(*scale) if scale else None)
+
+    @functools.cached_property
+    def declared(self) -> Tuple[Scope, List[Declaration]]:
+        """The scopes, in one without a name and each once, and the variables."""
+        top = Scope("", "", "", [], [])
+        opened: List[Tuple[Scope, ...]] = [()]  # the scopes around a place, and around those
+        known: Dict[Tuple[int, str], Scope] = {}
+        found = []
+        for keyword, raw, *_ in commands(self.text):
+            words = [word.decode("utf-8", "surrogateescape") for word in raw]
+            outer = opened[-1][-1] if opened[-1] else top
+            before = outer.path + "." if outer.path else ""
+            if keyword == b"$scope":
+                key = id(outer), words[1]
+                if key not in known:
+                    known[key] = Scope(words[1], before + words[1], words[0], [], [])
+                    outer.scopes.append(known[key])
+                opened.append((*opened[-1], known[key]))
+            elif keyword == b"$upscope":
+                opened.pop()
+            elif keyword == b"$var":
+                signal = Signal(before + words[3], words[0], int(words[1]), words[2])
+                outer.signals.append(signal)
+                behind = "".join(words[4:])
+                declared = field_of(behind) or field_of(range_in(words[3]))
+                found.append(Declaration(signal, opened[-1], declared, behind))
+        return top, found
+
+    @functools.cached_property
+    def signals(self) -> Signals:
+        """The variables, of lines that have one command each."""
+        paths, types, sizes, codes = found = [], [], [], []  # type: Columns
+        fronts = [""]
+        for line in self.text.decode("utf-8", "surrogateescape").split("\n"):
+            if line[:5] == "$var ":
+                _, kind, size, code, name, _ = line.split(" ", 5)
+                paths.append(fronts[-1] + name)
+                types.append(kind)
+                sizes.append(int(size))
+                codes.append(code)
+            elif line[:7] == "$scope ":
+                fronts.append(fronts[-1] + line.split(" ")[2] + ".")
+            elif line[:9] == "$upscope ":
+                fronts.pop()
+        return Signals(found)
 
 
 def with_variables(text: bytes, places: Collection[int]) -> Iterator[bytes]:
