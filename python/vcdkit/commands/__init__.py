@@ -42,7 +42,6 @@ exit status:
 FAULT = "a name selects nothing, or not a valid dump"
 TIMES = "A TIME is a number of ticks, or has a unit, such as 115ns or 1.5us.\n"
 MARK = "\0"  # which no argument has
-OF_FILES = ("--names", "--rules", "--waive")  # options that name a file to read
 REPEATED = ("--map", "--states", "--except", "--channel")  # other options may be given once
 NEGATIVE = re.compile(r"-(?:[.\d].*[<>=]|[({\"]|[A-Za-z_]\w*\.)")
 BROKEN_PIPE = 128 + 13  # the status that a shell shows of a program that SIGPIPE ended
@@ -233,8 +232,8 @@ def dump_of(asked: argparse.Namespace, file: Optional[str] = None,
         from ..questions.saved import names_of
         asked.names = [*asked.names, *names_of(path, dump)]
     if any(" = " in name for name in getattr(asked, "names", ())):
-        from ..questions.columns import parted
-        asked.names, asked.named = parted(asked.names)
+        from ..questions.columns import names_and_expressions
+        asked.names, asked.named = names_and_expressions(asked.names)
     dump = dump.derived(asked.named) if hasattr(asked, "named") else dump
     if getattr(asked, "states", None):
         from ..forms.states import forms_of
@@ -443,7 +442,9 @@ def _remedy(error: VcdkitError, words: List[str], command_name: str) -> str:
         before = words[words.index(name) - 1] if name in words[1:] else ""
         if name in UNITS and before.replace(".", "", 1).isdigit():
             return " (for a time, write %s%s, without a space)" % (before, name)
-        option = next((one for one in OF_FILES if before == one or one + "=" + name in words), "")
+        from ..forms.many import READ
+        option = next((one for one in READ.values()
+                       if before == one or one + "=" + name in words), "")
         if option:
             return " (%s names a file)" % option
         is_name = said.startswith("No such file") and not re.search(

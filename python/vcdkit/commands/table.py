@@ -22,7 +22,7 @@ import re
 import sys
 from typing import List
 
-from ..forms.tables import cells_of, heads_of, joined
+from ..forms.tables import bus_rows, cells_of, heads_of
 from ..forms.text import write_json
 from . import command, dump_of, form_for, is_part, parser, part_of, times_at, warn_of_quotes
 
@@ -90,7 +90,7 @@ def main(words: List[str]) -> int:
         rules = [(name, text, clock) for name, clock, text, _ in channels]
         rules += [("--flush", asked.flush, channels[0][1])] if asked.flush else []
         asking = Questions(dump, rules, asked.rise, asked.fall, True, columns)
-        head, rows = joined(asking.transactions(), names, heads, cells, asked.histogram)
+        head, rows = bus_rows(asking.transactions(), names, heads, cells, asked.histogram)
     else:
         head, rows = heads[0], itertools.starmap(cells[0], dump.rows(
             asked.names, times, asked.rise, asked.fall, asked.condition))

@@ -17,7 +17,8 @@ from .junit import Test, write_tests
 
 Answer = Callable[[argparse.Namespace, List[Test]], int]
 T = TypeVar("T")
-READ = ("names_of", "rules", "waive")  # what is asked may name files to read
+# The options that name a file to read, by what they are called in what is asked.
+READ = {"names_of": "--names", "rules": "--rules", "waive": "--waive"}
 
 
 def answer_file(name: str, answer: Answer, asked: argparse.Namespace) -> int:

@@ -13,7 +13,7 @@ from .text import AnyForm, Form, form_of, shortest, shown
 LINE = re.compile(r"(\S+)\s+(?:\?\w+\?)?\s*(.*\S)")  # a value, maybe a colour, and a name
 
 
-def names_in(path: str) -> Dict[str, Tuple[str, str]]:
+def names_by_value(path: str) -> Dict[str, Tuple[str, str]]:
     """Returns the names in a file, and the places of their lines, by their values: in hexadecimal,
     or as conditions have them."""
     found: Dict[str, Tuple[str, str]] = {}
@@ -39,8 +39,8 @@ def forms_of(dump: Source, states: Sequence[Tuple[str, str]], form: AnyForm) -> 
     other values are shown in a form."""
     found: Dict[str, Form] = {}
     for name, path in states:
-        lines, its = names_in(path), [one for one in dump.select(name)
-                                      if not one.is_real and one.type != "event"]
+        lines = names_by_value(path)
+        its = [one for one in dump.select(name) if not one.is_real and one.type != "event"]
         for digits, (text, place) in lines.items():
             if all(len(digits) > one.size for one in its):
                 raise UsageError("%s%s has more bits than %s" % (place, text, name))

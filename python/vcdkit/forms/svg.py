@@ -53,7 +53,7 @@ def value_text(value: object, form: Union[str, Form], room: int) -> str:
     return text
 
 
-def kind_of(value: object, known: str) -> str:
+def class_of(value: object, known: str) -> str:
     """Returns the class of a value: x, z, or that of known ones."""
     if not isinstance(value, Value):
         return known if isinstance(value, float) and math.isfinite(value) else "x"
@@ -144,7 +144,7 @@ class Picture:
                 of_kind.setdefault("x", []).append(box(x, to, y, HIGH))
             else:
                 edge = "M%.1f %.1fV%.1f" % (x, height.get(before, height[value]), height[value])
-                of_kind.setdefault(kind_of(value, "bit"), []).append(edge + "H%.1f" % to)
+                of_kind.setdefault(class_of(value, "bit"), []).append(edge + "H%.1f" % to)
         self.shapes(of_kind)
 
     def lane(self, y: int, points: List[Point], form: Union[str, Form]) -> None:
@@ -158,7 +158,7 @@ class Picture:
             slant, middle = min(3, (to - x) / 2), y + HIGH / 2
             shape = "M%.1f %.1fL%.1f %.1fH%.1fL%.1f %.1fL%.1f %.1fH%.1fZ" % (
                 x, middle, x + slant, y, to - slant, to, middle, to - slant, y + HIGH, x + slant)
-            of_kind.setdefault(kind_of(value, "lane"), []).append(shape)
+            of_kind.setdefault(class_of(value, "lane"), []).append(shape)
             text = value_text(value, form, int((to - x - 2 * slant - 2) / CHAR))
             if text:
                 texts.append(((x + to) / 2, text))

@@ -36,7 +36,7 @@ def heads_of(names: Sequence[str], columns: Sequence[Sequence[Signal]], unit: st
             for name, front, its in zip(names, fronts, columns)]
 
 
-def counted(transactions: Iterable[List[Any]]) -> Iterator[Tuple[List[Any], List[Any]]]:
+def with_edges(transactions: Iterable[List[Any]]) -> Iterator[Tuple[List[Any], List[Any]]]:
     """Returns transactions with the edges from one transfer to the next. Behind them it says how
     many lack a transfer, or have one that comes before that to its left."""
     lacking = early = 0
@@ -51,11 +51,11 @@ def counted(transactions: Iterable[List[Any]]) -> Iterator[Tuple[List[Any], List
               "0: %d" % (lacking, early), file=sys.stderr)
 
 
-def joined(transactions: Iterable[List[Any]], names: List[str], heads: List[List[str]],
+def bus_rows(transactions: Iterable[List[Any]], names: List[str], heads: List[List[str]],
            cells: Sequence[Cells], is_histogram: bool) -> Tuple[List[str], Iterable[List[Any]]]:
     """Returns the head and the rows of channels with some names and heads."""
     pairs = ["%s to %s" % pair for pair in zip(names, names[1:])]
-    each = counted(transactions)
+    each = with_edges(transactions)
     if is_histogram:
         counts = collections.Counter(pair for _, edges in each for pair in enumerate(edges))
         return ["edges", *pairs], [[one, *(counts[at, one] for at in range(len(pairs)))]

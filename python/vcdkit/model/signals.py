@@ -132,7 +132,7 @@ def keys_of(signals: Iterable[Signal], others: Iterable[str] = ()) -> List[str]:
     return [one.path if len(codes[one.path]) == 1 else one.path + " " + one.code for one in chosen]
 
 
-def words_of(rows: str) -> List[str]:
+def words_in(rows: str) -> List[str]:
     """Returns the words of rows; no word has white space."""
     words = rows.replace("\n", " ").split(" ")
     words.pop()

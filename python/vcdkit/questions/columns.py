@@ -15,7 +15,7 @@ NAMED = re.compile(r"\s*(\S+) = (.+)\Z", re.DOTALL)
 Its = TypeVar("Its", bound=Source)
 
 
-def parted(words: Sequence[str]) -> Tuple[List[str], Dict[str, str]]:
+def names_and_expressions(words: Sequence[str]) -> Tuple[List[str], Dict[str, str]]:
     """Returns the names that words are or begin with, as `pc = tb.ir[7:0]` does, and the expression
     of each of the latter."""
     found = [NAMED.match(word) for word in words]

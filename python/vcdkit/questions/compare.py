@@ -205,8 +205,9 @@ class Comparison:
             looks = at_clocks(side.dump, names, {*its, *only.over}, edges)
             blocks = functools.partial(_holding, only, edge, looks, its, mark)
         found = side.dump.strobe([*edges], names)
-        return found.like(Headed(lambda text: text.replace(b" strobe ", b" %b " % own.encode(), 1),
-                                 found.text, functools.partial(_timed, blocks, self.times[at], mark)))
+        return found.like(Headed(
+            lambda text: text.replace(b" strobe ", b" %b " % own.encode(), 1), found.text,
+            functools.partial(_timed, blocks, self.times[at], mark)))
 
 
 def _timed(blocks: Callable[[BinaryIO], Iterator[bytes]], times: "array[int]", mark: bytes,

@@ -5,7 +5,7 @@ from typing import (TYPE_CHECKING, Callable, Collection, Dict, Iterable, Iterato
 
 from ..errors import DumpFault, UnknownName, UsageError
 from ..model.names import field_of, utf8_names
-from ..model.signals import Signal, words_of
+from ..model.signals import Signal, words_in
 from ..model.times import LAST_TICK
 from ..model.values import Cell, Row, same, value_in, value_of
 from ..reading import body
@@ -17,7 +17,6 @@ if TYPE_CHECKING:
     from .condition import Conditions
 
 TIMES_OF_A_CALL = 5000  # a word of Linux has at most 131,071 bytes
-Pair = Tuple[int, List[Cell]]  # a time and the values of a row
 
 
 def first_ones(its: Sequence[int], are: Callable[[int], bool]) -> Sequence[int]:
@@ -58,7 +57,7 @@ def sampled(source: Source, times: Iterable[int], names: List[str],
             if has_more:
                 known = first_ones(some, source.goes_beyond)
                 return {**found, **(sampled(source, known, names) if known else {})}
-        values = [*map(value_of, words_of(b"".join(text).decode("utf-8", "surrogateescape"))[2::3])]
+        values = [*map(value_of, words_in(b"".join(text).decode("utf-8", "surrogateescape"))[2::3])]
         size = len(places)
         found.update((time, dict(zip(places, values[at * size:(at + 1) * size])))
                      for at, time in enumerate(some) if (at + 1) * size <= len(values))
@@ -157,25 +156,15 @@ def as_they_come(source: Source, names: List[str], columns: Sequence[Signal],
     time at whose end a value of a column is another one than before, with the values then. With a
     condition, it returns only rows at which that holds. The names select all these signals."""
     codes = {one.code.encode() for one in columns}.union(only.over if only else ())
+    cells, row_of = Cells(columns), tuple.__new__  # Row() would take longer
     holds = only.compiled() if only else None
     if only:
         only.look_back(dict.fromkeys(edges, 1))
-    looks = at_clocks(source, names, codes, dict.fromkeys(edges, 1))
-    rows: Iterator[Row] = map(tuple.__new__, itertools.repeat(Row),  # Row() would take longer
-                              _rows(looks, columns, bool(edges), only, holds))
-    yield from rows
-
-
-def _rows(looks: Iterable[Tuple[int, body.Changes, int]], columns: Sequence[Signal], is_every: bool,
-          only: Optional["Conditions"], holds: Optional[Callable[..., int]]) -> Iterator[Pair]:
-    """Returns a row for each time with its changes, unless no value of a column is another one, if
-    not every one is asked for."""
-    cells = Cells(columns)
-    for time, changes, _ in looks:
+    for time, changes, _ in at_clocks(source, names, codes, dict.fromkeys(edges, 1)):
         is_other = cells.take(changes)
         if only:
             only.take(changes, time)
-        if (is_other or is_every) and (holds is None or holds()):
-            yield time, cells.row[:]
+        if (is_other or edges) and (holds is None or holds()):
+            yield row_of(Row, (time, cells.row[:]))
         if only:
             only.end()

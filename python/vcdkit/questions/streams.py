@@ -56,7 +56,7 @@ class Reader:
         """Returns a stream for each signal of a part of a dump, from the begin of a window to its
         end; signals that have one value have one stream. `to` makes a time of the page of one of
         the dump. Fails if it is too much for a page."""
-        of_kind: Dict[Kind, Stream] = {kind_of(one): Stream() for one in signals}
+        of_kind: Dict[Kind, Stream] = {stream_key(one): Stream() for one in signals}
         of_code: Dict[bytes, List[Tuple[bool, Stream]]] = {}
         for (code, is_event), stream in of_kind.items():
             of_code.setdefault(code, []).append((is_event, stream))
@@ -70,7 +70,7 @@ class Reader:
                         else "%d MB of values" % (MAX_BYTES >> 20))
                 raise TooMuch("more than %s: name fewer signals, or show less time (there is room "
                               "up to %s)" % (what, part.time(max(time - 1, window.begin))))
-        return [of_kind[kind_of(one)] for one in signals]
+        return [of_kind[stream_key(one)] for one in signals]
 
     def _add(self, stream: Stream, time: int, text: bytes, is_event: bool) -> None:
         its = "1" if is_event else self._packed(text)
@@ -92,7 +92,7 @@ class Reader:
         return its
 
 
-def kind_of(signal: Signal) -> Kind:
+def stream_key(signal: Signal) -> Kind:
     """Returns what signals with one stream have in common."""
     return signal.code.encode(), signal.type == "event"
 

@@ -9,7 +9,7 @@ from typing import (BinaryIO, Callable, Dict, Iterable, Iterator, List, Optional
 from ..errors import (AT_A_TIMESTAMP, DumpFault, NoTimescale, RunFailed, UnknownName, UsageError,
                       VcdkitError)
 from ..model.names import full_names, hint, places_of, utf8_names
-from ..model.signals import Declaration, Header, Scope, Signal, Signals, words_of
+from ..model.signals import Declaration, Header, Scope, Signal, Signals, words_in
 from ..model.times import LAST_TICK, Amount, Time, Timescale, Window, amount_of
 from ..model.values import Report
 from . import header, program
@@ -109,7 +109,7 @@ class Source:
     def check(self) -> Report:
         """Reads the whole dump, and returns its counts. Raises DumpFault if it has a fault."""
         return Report._make(None if number == "-" else int(number)
-                            for number in words_of(self.answer("check"))[1::2])
+                            for number in words_in(self.answer("check"))[1::2])
 
     # The header.
 
@@ -182,7 +182,7 @@ class Source:
 
     def full(self, names: Names) -> List[str]:
         """Returns names; one for which a path with a range stands is replaced by that."""
-        its = texts_of(names)
+        its = name_list(names)
         full = full_names(its, self.signals.columns()[0], self.signals)
         return [full[name] for name in its]
 
@@ -247,7 +247,7 @@ class Source:
 
     def pick(self: Its, names: Names) -> Its:
         """Returns the dump of some signals, or scopes."""
-        chosen = texts_of(names)
+        chosen = name_list(names)
         if not chosen:
             raise UsageError("pick() needs a name")
         if utf8_names(chosen) != chosen:
@@ -361,7 +361,7 @@ def merge(*dumps: Its) -> Its:
     return dumps[0].made("merge", [], tuple(one.text for one in dumps))
 
 
-def texts_of(names: Names) -> List[str]:
+def name_list(names: Names) -> List[str]:
     """Returns one name or several as a list."""
     its = [names] if isinstance(names, (str, bytes)) or not isinstance(names, Iterable) else names
     chosen = list(its)
