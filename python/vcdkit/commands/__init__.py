@@ -7,15 +7,15 @@ import os
 import re
 import stat
 import sys
-from typing import (TYPE_CHECKING, Any, Callable, Iterator, List, NoReturn, Optional, Sequence,
-                    TextIO, Tuple)
+from typing import (TYPE_CHECKING, Any, Callable, Iterator, List, NoReturn, Optional, TextIO,
+                    Tuple)
 
 from .. import __version__
 from ..errors import DumpFault, RunFailed, UsageError, VcdkitError
 from ..forms.terminal import Progress
 from ..forms.text import FORMS
 from ..model.signals import Signal
-from ..model.times import LAST_TICK, UNITS, Timescale, Window
+from ..model.times import LAST_TICK, UNITS, Window
 from ..reading.formats import ENDINGS
 from ..reading.texts import program_path
 
@@ -298,13 +298,6 @@ def check_begin(dump: "Source", time: str, option: str = "--from", is_up: bool =
         raise UsageError("%s: %s" % (option, is_late))
 
 
-def part_of(dump: "Dump", asked: argparse.Namespace) -> "Dump":
-    """Returns the dump in the window that is asked for."""
-    begin, end = ends_of(dump, asked)
-    check_begin(dump, begin)
-    return dump if (begin, end) == (FIRST, LAST) else dump.cut(begin, end)
-
-
 def window_of(dump: "Dump", asked: argparse.Namespace) -> Window:
     """Returns the window that is asked for."""
     begin, end = ends_of(dump, asked)
@@ -312,38 +305,9 @@ def window_of(dump: "Dump", asked: argparse.Namespace) -> Window:
     return Window(dump.ticks(begin, is_up=True), dump.ticks(end) + 1)
 
 
-def window_of_both(scales: Sequence[Timescale], begin: str, end: str) -> Tuple[int, int]:
-    """Returns the window in the shorter tick of both. A number of ticks counts those of A."""
-    tick = min(scale.femtoseconds for scale in scales)
-    first = -(-scales[0].span(begin) // tick)
-    last = LAST_TICK if end == LAST else min(scales[0].span(end) // tick, LAST_TICK)
-    if first > last:
-        raise UsageError("--from is above --to")
-    return first, last
-
-
-def parts_of_both(dumps: Sequence["Dump"], asked: argparse.Namespace, has_clock: bool
-                  ) -> List["Dump"]:
-    """Returns the window of both dumps. Without a clock, that of the longer tick may begin before
-    the window and end after it, and A says when --after holds."""
-    if has_clock and asked.after is not None:
-        return [part_of(dump, asked) for dump in dumps]
-    (asked.begin, asked.end), asked.after = ends_of(dumps[0], asked), None
-    scales = [dump.timescale for dump in dumps if dump.timescale]
-    if len(set(scales)) < 2:
-        return [part_of(dump, asked) for dump in dumps]
-    (first, last), shorter = window_of_both(scales, asked.begin, asked.end), min(
-        scales, key=lambda scale: scale.femtoseconds)
-    parts = []
-    for dump, scale in zip(dumps, scales):
-        check_begin(dump, shorter.text(first))
-        factor = scale.femtoseconds // shorter.femtoseconds
-        its = -(-first // factor), last // factor
-        if has_clock and its[0] > its[1]:
-            raise UsageError("%s: it has no time in this window: its ticks are %s" % (
-                dump.name, scale))
-        parts.append(dump.cut(*its if has_clock else (first // factor, -(-last // factor))))
-    return parts
+def part_of(dump: "Dump", asked: argparse.Namespace) -> "Dump":
+    """Returns the dump in the window that is asked for."""
+    return dump.within(window_of(dump, asked))
 
 
 def times_of(dump: "Source", asked: argparse.Namespace) -> Callable[[int], str]:

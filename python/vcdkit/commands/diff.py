@@ -17,20 +17,55 @@ examples:
 import argparse
 import os
 import sys
-from typing import List
+from typing import List, Sequence, Tuple
 
 from ..errors import UsageError
 from ..forms.differences import Lines, part_in, say_ends, say_headers, say_values, write_parts
 from ..forms.junit import Test
 from ..forms.many import answer_all, each_of, read_by
 from ..forms.text import counted
-from ..model.times import amount_of
+from ..model.times import LAST_TICK, Timescale, amount_of
 from ..questions.compare import ALWAYS, EACH_PAIR, FIRST, Comparison, same_within
+from ..questions.dump import Dump
 from ..questions.saved import Exceptions
 from ..questions.sides import sides_of
 from ..reading.files import check_outputs, files_of, write
-from . import (FAULT, command, dump_of, is_part, natural, pair_of, parser, parts_of_both, question,
-               times_of, warn_of, window_of_both)
+from . import (FAULT, LAST, check_begin, command, dump_of, ends_of, is_part, natural, pair_of,
+               parser, part_of, question, times_of, warn_of)
+
+
+def window_of_both(scales: Sequence[Timescale], begin: str, end: str) -> Tuple[int, int]:
+    """Returns the window in the shorter tick of both. A number of ticks counts those of A."""
+    tick = min(scale.femtoseconds for scale in scales)
+    first = -(-scales[0].span(begin) // tick)
+    last = LAST_TICK if end == LAST else min(scales[0].span(end) // tick, LAST_TICK)
+    if first > last:
+        raise UsageError("--from is above --to")
+    return first, last
+
+
+def parts_of_both(dumps: Sequence[Dump], asked: argparse.Namespace, has_clock: bool
+                  ) -> List[Dump]:
+    """Returns the window of both dumps. Without a clock, that of the longer tick may begin before
+    the window and end after it, and A says when --after holds."""
+    if has_clock and asked.after is not None:
+        return [part_of(dump, asked) for dump in dumps]
+    (asked.begin, asked.end), asked.after = ends_of(dumps[0], asked), None
+    scales = [dump.timescale for dump in dumps if dump.timescale]
+    if len(set(scales)) < 2:
+        return [part_of(dump, asked) for dump in dumps]
+    (first, last), shorter = window_of_both(scales, asked.begin, asked.end), min(
+        scales, key=lambda scale: scale.femtoseconds)
+    parts = []
+    for dump, scale in zip(dumps, scales):
+        check_begin(dump, shorter.text(first))
+        factor = scale.femtoseconds // shorter.femtoseconds
+        its = -(-first // factor), last // factor
+        if has_clock and its[0] > its[1]:
+            raise UsageError("%s: it has no time in this window: its ticks are %s" % (
+                dump.name, scale))
+        parts.append(dump.cut(*its if has_clock else (first // factor, -(-last // factor))))
+    return parts
 
 
 def compare(asked: argparse.Namespace, report: Lines) -> None:
