@@ -352,9 +352,15 @@ def natural(text: str) -> int:
     return int(text)
 
 
-def command(function: Callable[[List[str]], int]) -> Main:
-    """Makes main() of what takes words and returns a status: errors become a line and a status. It
-    ends without a line if the reader of its output has gone."""
+def question(function: Callable[[List[str]], int]) -> Main:
+    """Makes main() of what answers yes or no by its status, as cmp and grep do: a fault of a dump
+    and an unknown name have status 2, and not that of an answer."""
+    return command(function, 2)
+
+
+def command(function: Callable[[List[str]], int], least: int = 0) -> Main:
+    """Makes main() of what takes words and returns a status: errors become a line and a status,
+    which is at least so much. It ends without a line if the reader of its output has gone."""
     module = function.__module__.rpartition(".")[2]
     name = "vcdkit" if module == "__main__" else "vcdkit-" + module.replace("_", "-")
 
@@ -378,8 +384,7 @@ def command(function: Callable[[List[str]], int]) -> Main:
                 sys.stdout.flush()
         except VcdkitError as error:
             asked = sys.argv[1:] if words is None else words
-            status = max(error.status, getattr(function, "least", 0))
-            return _said(name, str(error) + _remedy(error, asked, name), status)
+            return _said(name, str(error) + _remedy(error, asked, name), max(error.status, least))
         except BrokenPipeError:
             _drop(sys.stdout)
             return BROKEN_PIPE
@@ -437,13 +442,6 @@ def _write_bytes(stream: TextIO) -> None:
 def _drop(stream: TextIO) -> None:
     """Lets what is left in a stream go nowhere, so that the end of Python does not write it."""
     os.dup2(os.open(os.devnull, os.O_WRONLY), stream.fileno())
-
-
-def question(function: Callable[[List[str]], int]) -> Callable[[List[str]], int]:
-    """Marks the function of a command that answers yes or no by its status, as cmp and grep do: a
-    fault of a dump and an unknown name have status 2, and not that of an answer."""
-    setattr(function, "least", 2)
-    return function
 
 
 def _said(name: str, text: str, status: int) -> int:

@@ -30,7 +30,7 @@ from ..questions.dump import Dump
 from ..questions.saved import Exceptions
 from ..questions.sides import sides_of
 from ..reading.files import check_outputs, files_of, write
-from . import (FAULT, LAST, check_begin, command, dump_of, ends_of, is_part, natural, pair_of,
+from . import (FAULT, LAST, check_begin, dump_of, ends_of, is_part, natural, pair_of,
                parser, part_of, question, times_of, warn_of)
 
 
@@ -211,7 +211,6 @@ def answer(asked: argparse.Namespace, tests: List[Test]) -> int:
     return 1 if report.differs() else 0
 
 
-@command
 @question
 def main(words: List[str]) -> int:
     asked = words_of(words)

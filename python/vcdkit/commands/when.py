@@ -29,7 +29,7 @@ from ..forms.text import counted, mean_text, write_json
 from ..questions.dump import Dump
 from ..questions.when import Asked, Questions, named
 from ..reading.files import lines_in
-from . import FAULT, command, dump_of, parser, part_of, question, times_of, warn_of_quotes
+from . import FAULT, dump_of, parser, part_of, question, times_of, warn_of_quotes
 
 WORDED = re.compile(r"(never +|always +|each +|)(.*)", re.S)
 
@@ -223,7 +223,6 @@ def answer(asked: argparse.Namespace, tests: List[Test]) -> int:
     return status
 
 
-@command
 @question
 def main(words: List[str]) -> int:
     return answer_file("vcdkit-when", answer, words_of(words))

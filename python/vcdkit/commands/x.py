@@ -22,7 +22,7 @@ from ..forms.text import in_json, shown, write_json
 from ..model.values import value_in
 from ..questions.saved import Exceptions
 from ..questions.unknown import Signals, values_of
-from . import FAULT, command, dump_of, form_for, parser, question, times_of, warn_of, window_of
+from . import FAULT, dump_of, form_for, parser, question, times_of, warn_of, window_of
 
 
 def words_of(words: List[str]) -> argparse.Namespace:
@@ -79,7 +79,6 @@ def answer(asked: argparse.Namespace, tests: List[Test]) -> int:
     return 1 if count else 0
 
 
-@command
 @question
 def main(words: List[str]) -> int:
     return answer_file("vcdkit-x", answer, words_of(words))

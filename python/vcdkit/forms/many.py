@@ -1,6 +1,5 @@
 """The answers about one dump, or about many in one run: of these, each comes from a process."""
 import argparse
-import collections
 import contextlib
 import io
 import os
@@ -78,17 +77,12 @@ def side_by_side(of: Callable[[argparse.Namespace], T], each: Sequence[argparse.
     count = os.cpu_count() or 1 if each[0].jobs is None else each[0].jobs
     with ProcessPoolExecutor(max(1, min(count, len(each))), get_context("fork"),
                              signal.signal, (signal.SIGINT, signal.SIG_DFL)) as pool:
-        its = collections.deque(pool.submit(of, one) for one in each)
         try:
-            while its:
-                found = its.popleft().result()
-                progress.stage = "%d of %d" % (len(each) - len(its), len(each))
+            for number, found in enumerate(pool.map(of, each), 1):
+                progress.stage = "%d of %d" % (number, len(each))
                 yield found
         except BrokenProcessPool:
             raise RunFailed("a process was ended") from None
-        finally:
-            for one in its:
-                one.cancel()
 
 
 def _answered(name: str, answer: Answer, asked: argparse.Namespace

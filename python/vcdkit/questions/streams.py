@@ -1,7 +1,7 @@
 """The changes of signals that a page of waveforms shows, in a form that JSON has."""
 import math
 from array import array
-from typing import Any, Callable, Dict, List, Optional, Sequence, Tuple, Union
+from typing import Any, Callable, Dict, List, Optional, Sequence, Union
 
 from ..errors import UsageError
 from ..model.signals import Signal
@@ -14,7 +14,6 @@ from .compare import Same
 MAX_CHANGES, MAX_BYTES = 3_000_000, 1 << 26  # of a page
 MAX_KEPT = 1 << 16  # values that are kept to be given again
 Packed = Union[str, float]
-Kind = Tuple[bytes, bool]  # the code of a signal, and whether it is an event
 
 
 class TooMuch(UsageError):
@@ -56,21 +55,20 @@ class Reader:
         """Returns a stream for each signal of a part of a dump, from the begin of a window to its
         end; signals that have one value have one stream. `to` makes a time of the page of one of
         the dump. Fails if it is too much for a page."""
-        of_kind: Dict[Kind, Stream] = {stream_key(one): Stream() for one in signals}
-        of_code: Dict[bytes, List[Tuple[bool, Stream]]] = {}
-        for (code, is_event), stream in of_kind.items():
-            of_code.setdefault(code, []).append((is_event, stream))
+        of_code: Dict[bytes, Dict[bool, Stream]] = {}  # that of an event, and that of others
+        streams = [of_code.setdefault(one.code.encode(), {}).setdefault(
+            one.type == "event", Stream()) for one in signals]
         for time, changes in body.steps(part.within(window), of_code):
             now = to(time)
             for code, text in changes:
-                for is_event, stream in of_code[code]:
+                for is_event, stream in of_code[code].items():
                     self._add(stream, now, text, is_event)
             if self._count > MAX_CHANGES or self._bytes > MAX_BYTES:
                 what = ("{:,} changes".format(MAX_CHANGES) if self._count > MAX_CHANGES
                         else "%d MB of values" % (MAX_BYTES >> 20))
                 raise TooMuch("more than %s: name fewer signals, or show less time (there is room "
                               "up to %s)" % (what, part.time(max(time - 1, window.begin))))
-        return [of_kind[stream_key(one)] for one in signals]
+        return streams
 
     def _add(self, stream: Stream, time: int, text: bytes, is_event: bool) -> None:
         its = "1" if is_event else self._packed(text)
@@ -90,11 +88,6 @@ class Reader:
             its = self._kept[text] = packed(text)
             self._bytes += len(str(its)) + 3
         return its
-
-
-def stream_key(signal: Signal) -> Kind:
-    """Returns what signals with one stream have in common."""
-    return signal.code.encode(), signal.type == "event"
 
 
 def packed(text: bytes) -> Packed:

@@ -162,21 +162,19 @@ class _Pipe:
             raise RunFailed("%s, which VCDKIT names, is not vcdkit" % program)
         files = [self.feed(one, is_merged or text.command in ("merge", "compare"))
                  for one in text.of]
-        if text.command != "merge":
-            other = OTHERS.get(text.command)
-            out = self.start([*([beside(other)] if other else [program, text.command]),
-                              *text.words], files[0], {"(stdin)": text.of[0].name},
-                             None if text.command == "compare" else text.of[0], (), is_merged)
-            self.parts[-1].answer = int(text.command == "compare")
-            return out
         names = [self._name_of(file) for file in files[1:]]  # the first one is standard input
+        other, is_compared = OTHERS.get(text.command), text.command == "compare"
+        words = [*([beside(other)] if other else [program, text.command]), *text.words,
+                 *(["--", "-", *names] if text.command == "merge" else [])]
         try:
-            return self.start([program, "merge", *text.words, "--", "-", *names], files[0],
-                              dict(zip(["(stdin)", *names], (one.name for one in text.of))),
-                              text.of[0], [file.fileno() for file in files[1:]], is_merged)
+            out = self.start(words, files[0], dict(zip(["(stdin)", *names], (
+                one.name for one in text.of))), None if is_compared else text.of[0],
+                             [file.fileno() for file in files[1:]], is_merged)
         finally:
             for file in files[1:]:
                 file.close()
+        self.parts[-1].answer = int(is_compared)
+        return out
 
     def _name_of(self, file: BinaryIO) -> str:
         """Returns a name by which a program can open a file. A system without /proc has no /dev/fd:
