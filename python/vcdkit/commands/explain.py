@@ -17,14 +17,15 @@ examples:
   vcdkit-explain --reach 1ms --junit dumps.xml dumps/
   ssh lab cat sim.vcd.gz | vcdkit-explain -"""
 import argparse
+import collections
 import contextlib
 import os
 import re
 import shlex
 import sys
-from typing import List, Optional, TextIO
+from typing import Any, Dict, List, NamedTuple, Optional, TextIO
 
-from ..errors import DumpFault, RunFailed
+from ..errors import DumpFault, RunFailed, VcdkitError
 from ..forms.junit import Test, write_tests
 from ..forms.many import each_of, side_by_side
 from ..forms.text import write_json
@@ -32,12 +33,14 @@ from ..model.times import amount_of
 from ..questions.causes import BROKEN, CUT_OFF, NO_HEADER, look_at
 from ..questions.dump import Dump
 from ..questions.salvage import Good, has_header
-from ..questions.verdicts import Verdict, summary, verdict_on
 from ..reading.files import check_outputs, files_of, write
 from ..reading.formats import PACKED
 from . import command, dump_of, parser, times_of
 
 OUTPUT = ("-", "/dev/stdout")
+# What one of several dumps may be, and how many are.
+KINDS = {"valid": "%d valid", "fault": "%d with a fault", "short": "%d too short",
+         "unread": "%d cannot be read"}
 Unpacker = Optional[List[str]]
 
 
@@ -114,10 +117,38 @@ def words_of(words: List[str]) -> argparse.Namespace:
     return asked
 
 
+class Verdict(NamedTuple):
+    """What there is to say of one of several dumps: the exit status of it alone, what it is by that
+    (a key of KINDS), a line for a reader, the lines around a fault, and facts."""
+
+    file: str
+    status: int
+    kind: str
+    text: str
+    around: List[str]
+    facts: Dict[str, Any]
+
+
 def verdict(asked: argparse.Namespace) -> Verdict:
-    """Returns the verdict on a dump."""
-    return verdict_on(dump_of(asked, None, asked.token_limit), asked.file, asked.reach,
-                      lambda dump, ticks: times_of(dump, asked)(ticks))
+    """Returns the verdict on a dump. If it has to reach a time, one that ends earlier is short."""
+    file, dump = asked.file, dump_of(asked, None, asked.token_limit)
+    around: List[str] = []
+    try:
+        last = dump.check().last
+        end = "ends " + times_of(dump, asked)(last) if last is not None else "has no timestamp"
+        facts = {"last": last}
+        if asked.reach is not None and (-1 if last is None else last) < dump.span(
+                asked.reach, is_up=True):
+            return Verdict(file, 1, "short", "%s: %s, before %s" % (file, end, asked.reach), [],
+                           facts)
+        return Verdict(file, 0, "valid", "%s: %s" % (file, end), [], facts)
+    except DumpFault as fault:
+        _, found = look_at(dump, fault, around.append)
+        cause = found[0] if found else None
+        return Verdict(file, fault.status, "fault", str(fault) + (": " + cause if cause else ""),
+                       around, {"line": fault.line, "fault": fault.fault, "cause": cause})
+    except VcdkitError as error:
+        return Verdict(file, error.status, "unread", str(error), [], {"message": str(error)})
 
 
 def explain_all(asked: argparse.Namespace) -> int:
@@ -130,7 +161,10 @@ def explain_all(asked: argparse.Namespace) -> int:
         row = {"file": one.file, "kind": one.kind, **one.facts}
         write_json(row) if asked.json else print(one.text, flush=True)
     if not asked.json and len(found) > 1:
-        print(summary([one.kind for one in found]))
+        counts = collections.Counter(one.kind for one in found)
+        print("%d dumps: %s" % (len(found), ", ".join(
+            text % counts[kind] for kind, text in KINDS.items()
+            if counts[kind] or kind == "valid")))
     write_tests(asked.junit, "vcdkit-explain", [
         Test("vcdkit-explain", one.file, {"valid": "", "unread": "error"}.get(one.kind, "failure"),
              one.text, "\n".join([one.text, *one.around])) for one in found])

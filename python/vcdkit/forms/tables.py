@@ -3,7 +3,7 @@ import collections
 import functools
 import itertools
 import sys
-from typing import Any, Callable, Iterable, Iterator, List, Optional, Sequence, Tuple
+from typing import Any, Callable, Iterable, Iterator, List, Sequence, Tuple
 
 from ..model.signals import Signal, keys_of
 from ..model.values import Cell, Value

@@ -87,8 +87,11 @@ class Dump(Source):
         bit rises and falls. For an event it counts triggers. Without names, all signals count."""
         its = self.full(names)
         words = utf8_names(its)
-        counts = dict(zip(sorted(self.places(words)),
-                          _counts_of(self.answer("edges", ["--", *words]))))
+        rows = self.answer("edges", ["--", *words]).split("\n")[:-1]
+        edges = functools.lru_cache(maxsize=None)(  # those with the same counts are one
+            lambda counts: Edges(*map(int, counts.split(" "))))
+        counts = dict(zip(sorted(self.places(words)), (
+            edges(row.partition(" ")[2]) for row in rows)))
         chosen = dict(sorted(self.places(its).items()))
         return dict(zip(keys_of(chosen.values()), map(counts.__getitem__, chosen)))
 
@@ -206,9 +209,3 @@ def _columns(found: Any, numpy: Any) -> Tuple[Any, Any]:
     unknown = known != numpy.uint64(2**64 - 1)
     values[unknown] = 0
     return times, numpy.ma.masked_array(values, mask=unknown)
-
-
-def _counts_of(rows: str) -> List[Edges]:
-    """Returns the Edges of the rows of `edges`. Those with the same counts are one."""
-    edges = functools.lru_cache(maxsize=None)(lambda counts: Edges(*map(int, counts.split(" "))))
-    return [edges(row.partition(" ")[2]) for row in rows.split("\n")[:-1]]

@@ -22,11 +22,10 @@ def header_of(dumps: Sequence[Source]) -> bytes:
 def raw_header(dump: Source) -> bytes:
     """Returns a text that begins with the header of a valid dump, as another program wrote it."""
     text = b""
-    with dump.like(dump.whole("cut")).open() as file:
-        for block in iter(functools.partial(file.read, BLOCK), b""):
-            text += block
-            if header.LAST in text:
-                break
+    for block in dump.like(dump.whole("cut")).blocks():
+        text += block
+        if header.LAST in text:
+            break
     return text
 
 

@@ -58,8 +58,37 @@ def front(file: Iterable[bytes]) -> bytes:
     return b""
 
 
+def declarations(text: bytes) -> Tuple[Scope, List[Declaration]]:
+    """Returns the scopes, in one without a name and each once, and the variables."""
+    top = Scope("", "", "", [], [])
+    opened: List[Tuple[Scope, ...]] = [()]  # the scopes around a place, and around those
+    known: Dict[Tuple[int, str], Scope] = {}
+    found = []
+    for keyword, raw, *_ in commands(text):
+        words = [word.decode("utf-8", "surrogateescape") for word in raw]
+        outer = opened[-1][-1] if opened[-1] else top
+        before = outer.path + "." if outer.path else ""
+        if keyword == b"$scope":
+            key = id(outer), words[1]
+            if key not in known:
+                known[key] = Scope(words[1], before + words[1], words[0], [], [])
+                outer.scopes.append(known[key])
+            opened.append((*opened[-1], known[key]))
+        elif keyword == b"$upscope":
+            opened.pop()
+        elif keyword == b"$var":
+            signal = Signal(before + words[3], words[0], int(words[1]), words[2])
+            outer.signals.append(signal)
+            behind = "".join(words[4:])
+            declared = field_of(behind) or field_of(range_in(words[3]))
+            found.append(Declaration(signal, opened[-1], declared, behind))
+    return top, found
+
+
 class Head:
     """A header that vcdkit writes: each of its facts is read once, if it is asked for."""
+
+    declared = functools.cached_property(lambda self: declarations(self.text))
 
     def __init__(self, text: bytes):
         self.text = text
@@ -78,35 +107,8 @@ class Head:
                       Timescale(*scale) if scale else None)
 
     @functools.cached_property
-    def declared(self) -> Tuple[Scope, List[Declaration]]:
-        """The scopes, in one without a name and each once, and the variables."""
-        top = Scope("", "", "", [], [])
-        opened: List[Tuple[Scope, ...]] = [()]  # the scopes around a place, and around those
-        known: Dict[Tuple[int, str], Scope] = {}
-        found = []
-        for keyword, raw, *_ in commands(self.text):
-            words = [word.decode("utf-8", "surrogateescape") for word in raw]
-            outer = opened[-1][-1] if opened[-1] else top
-            before = outer.path + "." if outer.path else ""
-            if keyword == b"$scope":
-                key = id(outer), words[1]
-                if key not in known:
-                    known[key] = Scope(words[1], before + words[1], words[0], [], [])
-                    outer.scopes.append(known[key])
-                opened.append((*opened[-1], known[key]))
-            elif keyword == b"$upscope":
-                opened.pop()
-            elif keyword == b"$var":
-                signal = Signal(before + words[3], words[0], int(words[1]), words[2])
-                outer.signals.append(signal)
-                behind = "".join(words[4:])
-                declared = field_of(behind) or field_of(range_in(words[3]))
-                found.append(Declaration(signal, opened[-1], declared, behind))
-        return top, found
-
-    @functools.cached_property
     def signals(self) -> Signals:
-        """The variables, of lines that have one command each."""
+        """The variables, as vcdkit declares them: each on a line of its own."""
         paths, types, sizes, codes = found = [], [], [], []  # type: Columns
         fronts = [""]
         for line in self.text.decode("utf-8", "surrogateescape").split("\n"):
