@@ -1,11 +1,12 @@
 """Asks the scripts, in this process, and keeps what differs from the answers."""
+import functools
 import importlib
 import io
 import os
 import random
 import re
 import sys
-from typing import Any, Callable, Dict, List, NamedTuple, Optional, Sequence, Tuple, Union
+from typing import Any, Callable, Dict, List, NamedTuple, Optional, Sequence, Set, Tuple, Union
 
 from conditions import Conditions
 from dumps import LAST, UNITS, Variable, bare
@@ -28,9 +29,13 @@ VALUED = {"--from", "--to", "--at", "--rise", "--fall", "--unit", "--values", "-
 AT_ONCE: Sequence[Tuple[str, str, Sequence[int]]] = (
     ("reading.body", "BLOCK", (16, 300, 4000)), ("reading.body", "MAX_SEEN", (1, 9)),
     ("questions.lanes", "BLOCK", (4096,)), ("questions.lanes", "SMALL", (16, 64)),
+    ("questions.picked", "MAX_NAMES", (-1, 20)), ("questions.sides", "MAX_NAMES", (-1, 20)),
     ("questions.rows", "TIMES_OF_A_CALL", (1, 2)), ("questions.toggles", "BATCH", (1, 50, 2048)),
     ("questions.toggles", "ENOUGH", (1, 9)), ("questions.toggles", "MAX_DIGITS", (1, 100)),
     ("questions.unknown", "MAX_STARTS", (0, 3)), ("questions.unknown", "MAX_CODES", (0, 2)))
+
+
+module_of = functools.lru_cache(maxsize=None)(importlib.import_module)
 
 
 class Skip(Exception):
@@ -88,7 +93,7 @@ class _Stream(io.TextIOWrapper):
 
 def run(script: str, words: Sequence[str]) -> Said:
     """Runs vcdkit-SCRIPT in this process."""
-    main = importlib.import_module("vcdkit.commands." + script.replace("-", "_")).main
+    main = module_of("vcdkit.commands." + script.replace("-", "_")).main
     streams = _Stream(), _Stream()
     saved = sys.stdout, sys.stderr, sys.argv
     sys.stdout, sys.stderr = streams
@@ -117,7 +122,7 @@ class Asker:
         self.dump = read(text)
         self.random = random.Random("a question %d" % seed)
         self.conditions = Conditions(self.dump, self.random)
-        self._clocks = clocks
+        self._clocks, self._bits = clocks, set()  # type: Sequence[str], Set[str]
         self.write(path, text)
 
     def reset(self, kind: str) -> None:
@@ -126,7 +131,7 @@ class Asker:
         self.conditions.reset()
         is_less = self.happens(.3) and kind != "nested"  # that has long lines
         for name, size, smaller in AT_ONCE:
-            module = importlib.import_module("vcdkit." + name)
+            module = module_of("vcdkit." + name)
             whole = WHOLE.setdefault((name, size), getattr(module, size))
             setattr(module, size, self.random.choice(smaller) if is_less else whole)
 
@@ -248,7 +253,6 @@ class Asker:
     def derived(self) -> Tuple[str, Variable]:
         """Returns an expression with a name, and the variable that it is; the dump then has its
         values. It has none before one of its variables has one."""
-        self.need_whole()
         self.conditions.reset()
         found = self.conditions.make()
         if not found or found.of.is_real or self.conditions.events:
@@ -273,6 +277,31 @@ class Asker:
         form = self.random.choice(FORMS)
         return [form] if form else [], form
 
+    def bit_clock(self) -> Variable:
+        """Returns a bit of a vector as a variable; the dump then has its changes."""
+        its = [one for one in self.dump.variables if one.size > 1 and not one.is_real
+               and self.dump.is_unique(one)]
+        if not its:
+            raise Skip
+        of = self.random.choice(its)
+        at = self.random.randrange(of.size)
+        one = of._replace(name="%s[%d]" % (of.name, of.bits[at]), size=1,
+                          code=" %d of %s" % (at, of.code))
+        if any(one.path in names for names in (
+                self.dump.of_path, self.dump.fronts, self.dump.of_bare)):
+            raise Skip
+        for step in self.dump.steps if one.code not in self._bits else ():
+            step.changes = [its for item in step.changes for its in (
+                [item, item._replace(code=one.code, value=str(item.value)[at])]
+                if item.code == of.code else [item])]
+            if of.code in step.known:
+                step.known.add(one.code)
+            for state in step.before, step.end:
+                if of.code in state:
+                    state[one.code] = str(state[of.code])[at]
+        self._bits.add(one.code)
+        return one
+
     def clock(self) -> Variable:
         """Returns a variable that can be a clock, most often one that is made as one."""
         its = [one for one in self.dump.variables if one.size == 1 and not one.is_event
@@ -284,8 +313,8 @@ class Asker:
         return found
 
     def clocks(self) -> Tuple[List[str], Edges]:
-        """Returns options for a clock, and its edges."""
-        one = self.clock()
+        """Returns options for a clock, which may be a bit of a vector, and its edges."""
+        one = self.bit_clock() if self.happens(.15) else self.clock()
         other = one if self.happens(.6) else self.clock()
         rise = ["--rise", self.conditions.name(one)], {(one.code, "0", "1")}
         fall = ["--fall", self.conditions.name(other)], {(other.code, "1", "0")}
@@ -296,7 +325,7 @@ class Asker:
     def own_clock(self) -> Tuple[str, Edges]:
         """Returns a clock as a rule or a channel has one of its own behind its name, and its
         edges."""
-        one = self.clock()
+        one = self.bit_clock() if self.happens(.15) else self.clock()
         is_fall, path = self.happens(.4), self.conditions.name(one)
         if path[:1] in "!":
             raise Skip

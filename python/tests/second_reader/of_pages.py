@@ -145,7 +145,7 @@ def same_page_of_two(of: Asker, words: List[str], path: str,
         if len(of_name.get(name, ())) != 1 or is_moved:
             continue
         one, dump = of_name[name][0]["AB".index(side)], dumps["AB".index(side)]
-        scale = (dump.tick or 1) // tick if tick else 1
+        scale = dump.tick // tick if dump.tick and tick else 1
         if not one.is_event:
             points = points_of(data, stream, size)
             of.same("page of two", [*words, name, side], [

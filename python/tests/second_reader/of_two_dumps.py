@@ -396,7 +396,8 @@ def ask_diff(of: Asker) -> None:
     if os.path.exists(page):
         os.unlink(page)
     said = run("diff", words)
-    is_refused = (sides.window[0] > min(of.dump.end * factors[0], other.end * factors[1])
+    has_unit = unit not in (None, "tick") or any(word[-1] == "s" for word in asked.window.words)
+    is_refused = (has_unit and not other.scale or sides.window[0] > min(of.dump.end * factors[0], other.end * factors[1])
                   or counts == [0, 0] and bool(sides.pairs)
                   or asked.is_common and not sides.pairs and not sides.sizes or not sides.is_known)
     if is_refused:
@@ -476,7 +477,7 @@ def ask_context(of: Asker) -> None:
     path, other = another(of, Changed(2, end=of.random.choice([0, 0, -1])))
     folder, count = of.path + ".parts", of.random.choice([0, 1, 5, 100, 3000])
     shutil.rmtree(folder, ignore_errors=True)
-    unit = of.dump.scale[1] if of.dump.scale and of.happens(.5) else ""
+    unit = of.dump.scale[1] if of.dump.scale and other.scale and of.happens(.5) else ""
     text = of.dump.time_in(count, unit) + unit if unit else str(count)
     words = of.placed(["--context", text, "--into", folder, "--json"], [of.path, path])
     said = run("diff", words)

@@ -327,12 +327,10 @@ def ask_find(of: Asker) -> None:
 
 def same_part(of: Asker, words: List[str], part: Dump, wanted: List[Variable]) -> None:
     """Compares the dump that --pick writes."""
-    times = of.random.sample(of.dump.times, min(4, len(of.dump.times)))
-    codes = [one.code for one in wanted]
-    of.same("find --pick", words, [one.row for one in part.variables], [one.row for one in wanted])
-    of.same("find --pick, values", words, [[part.at(time).get(code) for code in codes]
-                                           for time in times],
-            [[of.dump.at(time).get(code) for code in codes] for time in times])
+    codes = {one.code for one in wanted}
+    of.same("find --pick", words, ([one.row for one in part.variables], part.changes(), part.end), (
+        [one.row for one in wanted], [one for one in of.dump.changes() if one.code in codes],
+        of.dump.end))
 
 
 def tree_of(dump: Dump, found: List[Variable]) -> List[str]:

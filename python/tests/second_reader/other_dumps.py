@@ -45,7 +45,7 @@ class OtherDump:
         scale, variables = self.dump.scale, list(self.dump.variables)
         if scale and scale[0] > 1 and self.changed.is_finer and self.dump.end * 10 < LAST - 100:
             scale, self.factor = (scale[0] // 10, scale[1]), 10
-        if scale:
+        if scale and (self.factor > 1 or self.random.random() < .95):
             self.lines.append("$timescale %d%s $end" % scale)
         if self.random.random() < .5:
             self.random.shuffle(variables)
