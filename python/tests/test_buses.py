@@ -15,8 +15,9 @@ import sys
 import tempfile
 from typing import Dict, List
 
-HERE = os.path.dirname(os.path.abspath(__file__))
-TABLE = os.path.join(os.path.dirname(os.path.dirname(HERE)), "extras", "vcdkit-table")
+import cases  # finds what follows
+from asker import run
+
 BENCH = r"""
 `timescale 1ns / 1ns
 module tb;
@@ -188,12 +189,10 @@ def printed(command: List[str], folder: str) -> Dict[str, List[str]]:
 
 
 def rows(channels: List[str], folder: str, scope: str, *options: str) -> List[str]:
-    """Returns what vcdkit-table writes of some channels."""
-    return subprocess.run(
-        [TABLE, "--hex", "--rise", scope + "aclk", *options, *(
-            "--channel=" + one.replace("@", scope) for one in channels),
-         os.path.join(folder, "dump.vcd")], check=True, stdout=subprocess.PIPE,
-        stderr=subprocess.DEVNULL, universal_newlines=True).stdout.splitlines()
+    """Returns what vcdkit-table writes of some channels; in them, @ stands for a scope."""
+    words = ["--channel=" + one.replace("@", scope) for one in channels]
+    said = run("table", ["--hex", *options, *words, os.path.join(folder, "dump.vcd")])
+    return [said.message] if said.status else said.lines
 
 
 def main() -> int:
@@ -207,29 +206,25 @@ def main() -> int:
         return 0
     scope, wrong, count, most, early = "TOP.tb." if asked.verilator else "tb.", 0, 0, 0, 0
     with tempfile.TemporaryDirectory() as folder:
-        command = built(folder, asked.verilator)
+        command, clock = built(folder, asked.verilator), "--rise=%saclk" % scope
         for seed in range(asked.seeds):
             lines = printed([*command, "+seed=%d" % (seed * 7919 + 1)], folder)
             for kind, channels, head in (
                     ("read", READ, "ar (ns),%saraddr,r (ns),%srdata,ar to r"),
                     ("write", WRITE, "aw (ns),%sawaddr,w (ns),%swdata,b (ns),aw to w,w to b")):
                 wanted = [head.replace("%s", scope), *lines[kind]]
-                wrong += rows(channels, folder, scope) != wanted
+                wrong += rows(channels, folder, scope, clock) != wanted
                 each = collections.Counter(line.split(",")[4] for line in lines["read"])
                 count += len(lines[kind])
             del each[""]
-            wrong += rows(READ, folder, scope, "--histogram") != ["edges,ar to r", *(
+            wrong += rows(READ, folder, scope, clock, "--histogram") != ["edges,ar to r", *(
                 "%s,%d" % pair for pair in sorted(each.items(), key=lambda pair: int(pair[0])))]
             most = max(most, *map(int, lines["most"]))
             early += sum(line.split(",")[5][:1] == "-" for line in lines["write"])
         fifo = 0
         for seed in range(0 if asked.verilator else asked.seeds):  # Verilator 5.006 has no #3.7
             lines = printed([*built(folder, False, FIFO), "+seed=%d" % (seed * 7919 + 1)], folder)
-            got = subprocess.run(
-                [TABLE, "--hex", *("--channel=" + one for one in CROSSING),
-                 os.path.join(folder, "dump.vcd")], check=True, stdout=subprocess.PIPE,
-                stderr=subprocess.DEVNULL, universal_newlines=True).stdout.splitlines()
-            done = len(lines["fifo"])
+            got, done = rows(CROSSING, folder, "@"), len(lines["fifo"])
             wrong += got[:done + 1] != ["w (ps),tb.wdata,r (ps),tb.rdata,w to r", *lines["fifo"]]
             wrong += len(got) - done - 1 != int(lines["left"][0])
             fifo += done

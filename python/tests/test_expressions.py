@@ -24,8 +24,7 @@ import sys
 import tempfile
 from typing import Any, Dict, Iterator, List, NamedTuple, Optional, Tuple
 
-sys.path[:0] = [os.path.dirname(os.path.dirname(os.path.abspath(__file__))),
-                os.path.join(os.path.dirname(os.path.abspath(__file__)), "second_reader")]
+import cases  # finds what follows
 import expressions
 from expressions import Expression, leaf
 from vcdkit import Dump

@@ -2,15 +2,10 @@
 """Asks the scripts where small and made dumps are blind: faults in long files and in long lines,
 and outputs that would replace an input."""
 import os
-import sys
-import tempfile
 import unittest
 from typing import List, Sequence
 
-HERE = os.path.dirname(os.path.abspath(__file__))
-sys.path[:0] = [os.path.dirname(HERE), os.path.join(HERE, "second_reader")]
-os.environ.setdefault("VCDKIT", os.path.join(os.path.dirname(os.path.dirname(HERE)), "vcdkit"))
-
+from cases import Case, text_of
 from asker import run
 
 HEAD = [b"$timescale 1ns $end", b"$var wire 1 ! a $end", b"$enddefinitions $end"]
@@ -33,22 +28,6 @@ def may_replace(output: str, inputs: Sequence[str]) -> bool:
     whatever name, but any other file, as the shell does."""
     return not any(os.path.isfile(one) and os.path.exists(output) and os.path.samefile(one, output)
                    for one in inputs)
-
-
-class Case(unittest.TestCase):
-    """A case that writes files."""
-
-    def setUp(self) -> None:
-        folder = tempfile.TemporaryDirectory()
-        self.addCleanup(folder.cleanup)
-        self.folder = folder.name
-
-    def file(self, name: str, text: bytes) -> str:
-        """Returns the path of a new file."""
-        path = os.path.join(self.folder, name)
-        with open(path, "wb") as file:
-            file.write(text)
-        return path
 
 
 class Faults(Case):
@@ -86,19 +65,18 @@ class Outputs(Case):
 
     def setUp(self) -> None:
         super().setUp()
-        self.text = b"\n".join(HEAD + BODY[:9]) + b"\n"
-        self.inputs = [self.file("a.vcd", self.text), self.file("torn.vcd", self.text + b"0?\n"),
-                       self.file("rules", b"one: a\n"),
-                       self.file("b.vcd", self.text + b"#9\n0!\n")]
+        text = b"\n".join(HEAD + BODY[:9]) + b"\n"
+        self.inputs = [self.file("a.vcd", text), self.file("torn.vcd", text + b"0?\n"),
+                       self.file("rules", b"one: a\n"), self.file("diff.b.vcd", text + b"#9\n0!\n")]
         self.file("old", b"another file")
-        os.mkdir(os.path.join(self.folder, "sub"))
-        os.symlink(self.inputs[0], os.path.join(self.folder, "soft"))
-        os.link(self.inputs[1], os.path.join(self.folder, "hard"))
-        os.symlink("../torn.vcd", os.path.join(self.folder, "sub", "soft"))
+        os.mkdir(self.file("sub"))
+        os.symlink(self.inputs[0], self.file("soft"))
+        os.link(self.inputs[1], self.file("hard"))
+        os.symlink("../torn.vcd", self.file("sub/soft"))
 
     def test_outputs(self) -> None:
         dump, torn, rules, other = self.inputs
-        names = ["a.vcd", "b.vcd", "./a.vcd", "sub/../torn.vcd", "rules", "soft", "hard",
+        names = ["a.vcd", "diff.b.vcd", "./a.vcd", "sub/../torn.vcd", "rules", "soft", "hard",
                  "sub/soft", "old", "new"]
         for name, read, words in (
                 ("explain", [torn], ["--salvage", "", torn]),
@@ -107,29 +85,23 @@ class Outputs(Case):
                 ("diff", [dump, other], ["--junit", "", dump, other]),
                 ("diff", [dump, other], ["--html", "", dump, other]),
                 ("when", [dump, rules], ["--junit", "", "--rules", rules, dump])):
-            for output in (os.path.join(self.folder, one) for one in names):
+            for output in map(self.file, names):
                 with self.subTest(name=name, output=output):
                     self.ask(name, read, [output if word == "" else word for word in words], output)
+        self.ask("diff", [other], ["--context", "5", "--into", self.folder, dump, other], other)
 
     def ask(self, name: str, read: List[str], words: List[str], output: str) -> None:
         """Compares what a script does with an output."""
-        before, is_free = self.texts(), may_replace(output, read)
+        before = [text_of(path) for path in self.inputs]
         said = run(name, words)
-        if is_free:
+        if may_replace(output, read):
             self.assertIn(said.status, (0, 1))
             for path, text in zip(self.inputs, before):  # some may be inputs of other questions
                 self.file(os.path.basename(path), text)
             return
-        self.assertEqual((said.output, said.status, bool(said.message)), (b"", 2, True))
-        self.assertEqual(self.texts(), before)
-
-    def texts(self) -> List[bytes]:
-        """Returns the texts of the inputs."""
-        found = []
-        for path in self.inputs:
-            with open(path, "rb") as file:
-                found.append(file.read())
-        return found
+        self.assertEqual((said.output, said.status, said.message), (
+            b"", 2, "vcdkit-%s: %s: is an input, so it is not overwritten\n" % (name, output)))
+        self.assertEqual([text_of(path) for path in self.inputs], before)
 
 
 if __name__ == "__main__":

@@ -1,20 +1,19 @@
 #!/usr/bin/env python3
 """Tests how the package is built: imports go down, no module uses a private name of another one,
-no two classes have one name, and the page of the scripts has what the tables of the package have."""
+no two classes have one name, and the page of the scripts has what tables of the package have."""
 import ast
 import collections
 import glob
 import os
 import re
-import sys
 import unittest
 
-sys.path.insert(0, os.path.dirname(os.path.dirname(os.path.abspath(__file__))))
+from cases import PYTHON, TOP
 from vcdkit.forms.text import FORMS
 from vcdkit.questions.expression import FUNCTIONS, LEVELS, UNARY
 from vcdkit.reading.formats import FORMATS
 
-PACKAGE = os.path.join(os.path.dirname(os.path.dirname(os.path.abspath(__file__))), "vcdkit")
+PACKAGE = os.path.join(PYTHON, "vcdkit")
 LAYERS = ["errors", "model", "reading", "questions", "forms", "commands"]  # the lowest first
 # Of a NamedTuple, of argparse and of C.
 PUBLIC = {"_asdict", "_make", "_replace", "_ActionsContainer", "_PyBytes_Resize"}
@@ -52,8 +51,7 @@ class Page(unittest.TestCase):
     """The page of the scripts, whose words are those of its code spans."""
 
     def setUp(self):
-        above = os.path.dirname(os.path.dirname(PACKAGE))
-        with open(os.path.join(above, "extras", "README.md"), encoding="utf-8") as file:
+        with open(os.path.join(TOP, "extras", "README.md"), encoding="utf-8") as file:
             self.text = file.read()
 
     def words(self, begin, end):

@@ -1,37 +1,25 @@
 #!/usr/bin/env python3
-"""Tests the pages of vcdkit-wave --html and vcdkit-diff --html: what they have against what the
-package says of random dumps, names of hostile dumps, and their limits. Then a browser shows them:
-its values at a cursor, what keys and the mouse do, and how long a frame takes. This is skipped if
-there is no Chromium.
-
-VCDKIT names the program, else it is ./vcdkit of the repository.
-"""
+"""Tests the pages of vcdkit-wave --html and vcdkit-diff --html where the second reader asks
+nothing: names of hostile dumps, and limits. Then a browser shows them: its rows, what keys and the
+mouse do, and how long a frame takes. This is skipped if there is no Chromium."""
 import base64
-import contextlib
 import hashlib
-import io
 import json
-import math
 import os
 import random
 import re
-import sys
 import unittest
 
-HERE = os.path.dirname(os.path.abspath(__file__))
-TOP = os.path.dirname(os.path.dirname(HERE))
-sys.path[:0] = [os.path.dirname(HERE), HERE]
-os.environ.setdefault("VCDKIT", os.path.join(TOP, "vcdkit"))
-
-import browser
 import cases
-from vcdkit import Dump, Signal, Value
-from vcdkit.commands import diff, wave
+from cases import NESTED, text_of
+import asker
+import browser
+from of_pages import data_of
+from vcdkit import Dump, Signal
 from vcdkit.forms import page
-from vcdkit.forms.text import FORMS, shown
+from vcdkit.forms.text import FORMS
 from vcdkit.questions import streams
 
-NESTED = os.path.join(TOP, "samples", "nested.vcd")
 HOSTILE = b"""$date </script><script>hacked = 1</script> $end
 $version <img src=x onerror=hacked=1> $end
 $timescale 1ns $end $scope module <b>&amp; $end
@@ -45,48 +33,13 @@ FRAME = 0.05  # seconds of processor time that the script of a frame may take
 
 def run(command, *words):
     """Runs a command; returns its status, its output and its messages."""
-    out, messages = io.StringIO(), io.StringIO()
-    with contextlib.redirect_stdout(out), contextlib.redirect_stderr(messages):
-        try:
-            status = command.main(list(words))
-        except SystemExit as ended:
-            status = ended.code
-    return status, out.getvalue(), messages.getvalue()
+    said = asker.run(command, words)
+    return said.status, said.text, said.message
 
 
-def data_of(text):
-    """Returns the data of a page."""
-    return json.loads(re.search(r'<script id="data" type="application/json">(.*?)</script>', text,
-                                re.DOTALL).group(1))
-
-
-def cell(value, size):
-    """Returns a value of a page as the package has it."""
-    if isinstance(value, (int, float)):
-        return float(value)
-    if value[:1] == "r":
-        number = value[1:]
-        return float(number) if number in ("nan", "inf", "-inf") else number
-    if re.search("[xz]", value):
-        return Value(value.rjust(size, value[0] if value[0] in "xz" else "0"))
-    return Value(format(int(value, 16), "0%db" % size))
-
-
-def points_of(data, number):
-    """Returns the times and values of a stream."""
-    gaps, values, *places = data["streams"][number]
-    values = [values[at] for at in places[0]] if places else values
-    times = [sum(gaps[:at + 1]) + int(data["begin"]) for at in range(len(gaps))]
-    return list(zip(times, values))
-
-
-def at(points, time):
-    """Returns the value of a stream at a time; None if there is none yet."""
-    return next((value for begin, value in reversed(points) if begin <= time), None)
-
-
-def is_same(one, other):
-    return one == other or one != one and other != other
+def data_in(path):
+    """Returns the data of a page in a file."""
+    return data_of(text_of(path).decode("ascii"))
 
 
 class Case(cases.Case):
@@ -94,7 +47,7 @@ class Case(cases.Case):
 
     def page(self, *words):
         """Returns the text of a page of vcdkit-wave, which has to be written."""
-        status, text, messages = run(wave, "--html", *words)
+        status, text, messages = run("wave", "--html", *words)
         self.assertEqual((status, messages), (0, ""))
         return text
 
@@ -102,35 +55,7 @@ class Case(cases.Case):
 class Data(Case):
     """What a page has."""
 
-    def compare(self, path, names, *words):
-        """Compares the values of a page with those of sample, and its changes with those of the
-        package; returns the number of values."""
-        data, dump = data_of(self.page(*words, path, *names)), Dump(path)
-        begin, end = int(data["begin"]), int(data["begin"]) + data["span"]
-        times = sorted({begin, end, *(time for stream in range(len(data["streams"]))
-                                      for time, _ in points_of(data, stream))})
-        wanted = dump.sample(times, names)
-        paths = set()
-        for key, kind, size, stream, _, _ in data["signals"]:
-            points = points_of(data, stream)
-            paths.add(key)
-            if kind == "event":
-                found = {time for time, _ in dump.changes(key)}
-                self.assertEqual([time for time, _ in points],
-                                 sorted(time for time in found if begin <= time <= end))
-                continue
-            for time in times:
-                value = at(points, time)
-                value = None if value is None else cell(value, size)
-                self.assertTrue(is_same(value, wanted[time][key]), (key, time, value))
-            self.assertFalse(any(one[1] == other[1] for one, other in zip(points, points[1:])))
-        self.assertEqual(paths.difference(wanted[begin]), {
-            key for key, kind, *_ in data["signals"] if kind == "event"})
-        return sum(map(len, wanted.values()))
-
     def test_nested(self):
-        self.assertGreater(self.compare(NESTED, ["bench"]), 500)
-        self.compare(NESTED, ["bench.slow", "bench.level"], "--from", "30ns", "--to", "110ns")
         data = data_of(self.page("--around", "70ns", "--context", "5ns", "--signed", "--light",
                                  NESTED, "bench.slow"))
         self.assertEqual([data[key] for key in ("begin", "span", "mark", "radix", "light", "tick")],
@@ -162,8 +87,8 @@ class Data(Case):
             for module in modules:
                 setattr(module, name, limit)
             try:
-                status, text, messages = run(wave, "--html", path, "q", "c")
-                self.assertEqual(run(wave, "--html", path, "c")[0], 0)
+                status, text, messages = run("wave", "--html", path, "q", "c")
+                self.assertEqual(run("wave", "--html", path, "c")[0], 0)
             finally:
                 for module in modules:
                     setattr(module, name, was)
@@ -171,37 +96,28 @@ class Data(Case):
             self.assertIn("vcdkit-wave: " + message, messages)
         head = b"$var wire 1 ! q $end $enddefinitions $end "
         long = self.file("span.vcd", head + b"#0 0!\n#%d 1!\n#%d 0!\n" % (LATE, LATE + 9))
-        status, text, messages = run(wave, "--html", long, "q")
+        status, text, messages = run("wave", "--html", long, "q")
         self.assertEqual((status, text), (2, ""))
         self.assertIn("the window has more than 2^53 ticks", messages)
         data = data_of(self.page("--from", str(LATE - 1), long, "q"))
         self.assertEqual((data["begin"], data["span"]), (str(LATE - 1), 10))
-        self.assertEqual(run(wave, "--html", "--mark", "5", "--from", "9", long, "q")[0], 2)
-
-    def test_the_end_of_a_picture(self):
-        """A change at the last time is an edge, also behind a block."""
-        dump = self.file("end.vcd", b"$var wire 1 ! q $end $enddefinitions $end "
-                                    b"#0 1! #998 0! #999 z! #1000 0!\n")
-        self.assertRegex(run(wave, "--width", "100", dump, "q")[1],
-                         r'"bit" d="M\d+\.0 34\.0V34\.0H\d+\.0M\d+\.0 42\.0V50\.0H')
+        self.assertEqual(run("wave", "--html", "--mark", "5", "--from", "9", long, "q")[0], 2)
 
     def test_a_number_that_is_repeated_in_a_pixel(self):
         dump = self.file("a.vcd", b"$var real 64 ! r $end $enddefinitions $end "
                                   b"#0 r7 ! #501 r1000 ! #502 r1e3 ! #1000\n")
-        self.assertRegex(run(wave, "--width", "100", dump, "r")[1],
+        self.assertRegex(run("wave", "--width", "100", dump, "r")[1],
                          r'"curve" d="M[^M"]*M[^M"]*"')
 
     def test_two_scales_and_clocks(self):
-        with open(NESTED, "rb") as file:
-            text = file.read()
+        text = text_of(NESTED)
         slow = self.file("slow.vcd", re.sub(rb"(?m)^#350\n(.*\n)*?#450$", lambda found: found.group(
             ).replace(b"b11 1\n", b"b1011 1\n"), text).replace(b"100ps", b"1ns"))
-        page = os.path.join(self.folder.name, "page.html")
-        status, said, _ = run(diff, "--common", "--rise", "bench.clock", "--html", page, NESTED,
+        page = self.file("page.html")
+        status, said, _ = run("diff", "--common", "--rise", "bench.clock", "--html", page, NESTED,
                               slow)
         self.assertEqual((status, said.splitlines()[1:]), (1, ["page " + page]))
-        with open(page, encoding="ascii") as file:
-            data = data_of(file.read())
+        data = data_in(page)
         self.assertEqual([row[0] for row in data["signals"]],
                          ["bench.clock"] * 2 + ["bench.slow.count"] * 2)
         self.assertEqual((data["mark"], data["tick"]), (450, "100000"))
@@ -209,35 +125,31 @@ class Data(Case):
         fast = self.file("fast.vcd", text.replace(b"b11 1\n", b"b1011 1\n"))
         was, streams.MAX_CHANGES = streams.MAX_CHANGES, 12  # then it shows less time
         try:
-            self.assertEqual(run(diff, "--html", page, NESTED, fast)[0], 1)
-            with open(page, encoding="ascii") as file:
-                data = data_of(file.read())
+            self.assertEqual(run("diff", "--html", page, NESTED, fast)[0], 1)
+            data = data_in(page)
             self.assertLess(data["span"], 500)
             self.assertEqual(int(data["begin"]) + data["mark"], 350)
-            self.assertEqual(run(diff, "--context", "100ns", "--html", page, "--into",
-                                 self.folder.name, NESTED, fast)[0], 2)
+            self.assertEqual(run("diff", "--context", "100ns", "--html", page, "--into",
+                                 self.folder, NESTED, fast)[0], 2)
         finally:
             streams.MAX_CHANGES = was
-        for path, status in ((os.path.join(self.folder.name, "none", "page.html"), 3), (page, 1)):
-            self.assertEqual(run(diff, "--html", path, NESTED, slow)[0], status)
-        self.assertEqual(run(diff, "--html", page, "--from", "20ns", NESTED, fast)[0], 1)
-        with open(page, encoding="ascii") as file:
-            self.assertEqual(int(data_of(file.read())["begin"]), 200)
-
+        for path, status in ((self.file("none/page.html"), 3), (page, 1)):
+            self.assertEqual(run("diff", "--html", path, NESTED, slow)[0], status)
+        self.assertEqual(run("diff", "--html", page, "--from", "20ns", NESTED, fast)[0], 1)
+        self.assertEqual(int(data_in(page)["begin"]), 200)
 
     def test_more_ticks_than_a_page_has(self):
         """Of a long dump the page of a difference shows what there is room for."""
         text = (b"$timescale 1fs $end $var wire 1 ! c $end $enddefinitions $end "
                 b"#0 0! #%d %d! #%d 0!\n")
         dumps = [self.file("%d.vcd" % at, text % (2**60, at, 2**61)) for at in (0, 1)]
-        page = os.path.join(self.folder.name, "page.html")
-        status, said, messages = run(diff, "--html", page, *dumps)
+        page = self.file("page.html")
+        status, said, messages = run("diff", "--html", page, *dumps)
         self.assertEqual((status, messages), (1, ""))
-        with open(page, encoding="ascii") as file:
-            data = data_of(file.read())
+        data = data_in(page)
         self.assertLessEqual(data["span"], 2**53)
         self.assertEqual(int(data["begin"]) + data["mark"], 2**60)
-        self.assertIn("2^53 ticks: show less time", run(wave, "--html", dumps[0], "c")[2])
+        self.assertIn("2^53 ticks: show less time", run("wave", "--html", dumps[0], "c")[2])
 
 
 class Template(unittest.TestCase):
@@ -323,30 +235,6 @@ class Shown(Case):
 
     def press(self, *keys):
         self.browser.press(*keys)
-
-    def compare(self, path, names, times):
-        """Compares what the page says of values with what the package says; returns how many."""
-        dump, count = Dump(path), 0
-        wanted = dump.sample(times, names)
-        for form in FORMS:
-            got = self.value("""now.radix = "%s"; %s.map(time => signals.filter(one => !one.isEvent)
-                .map(one => [one.path, valueAt(one, time - Number(BEGIN))]))"""
-                             % (form, json.dumps(times)))
-            for time, row in zip(times, got):
-                self.assertEqual(len(row), len(wanted[time]))
-                for key, text in row:
-                    its = wanted[time][key]
-                    if isinstance(its, float) and math.isfinite(its):
-                        self.assertEqual(float(text), its, (key, time))
-                    else:
-                        self.assertEqual(text, shown(its, form), (form, key, time))
-                    count += 1
-        return count
-
-    def test_values(self):
-        self.open(self.page(NESTED, "bench"))
-        times = sorted(random.Random(1).sample(range(1221), 30)) + [0, 1220]
-        self.assertGreater(self.compare(NESTED, ["bench"], times), 3000)
 
     def test_rows(self):
         """The elements of the rows in view."""
@@ -469,15 +357,6 @@ class Shown(Case):
         self.press("g", *"90ns", "Enter")
         self.is_now("[$('at').getAttribute('aria-invalid'), now.cursor]", ["false", 900])
 
-    def test_forms_of_real_numbers(self):
-        numbers = ["1e16", "1e15", "123456789012345680", "1e-4", "1e-5", "1.5e-7", "-0", "-2.5e+20",
-                   "1e300", "0.1", "0", "-3", "9999999999999998", "1e22"]
-        dump = self.file("a.vcd", b"$var real 64 ! r $end $enddefinitions $end " + "".join(
-            "#%d r%s !\n" % (5 * at, number) for at, number in enumerate(numbers)).encode())
-        self.open(self.page(dump, "r"))
-        self.assertEqual(self.value("[...signals[0].stream.times].map(time => valueAt(signals[0], "
-                                    "time))"), [shown(float(one), None) for one in numbers])
-
     def test_shortreal_is_a_curve(self):
         dump = self.file("a.vcd", b"$var shortreal 32 ! r $end $var real 64 @ q $end "
                          b"$var wire 1 a w $end $enddefinitions $end #0 r1 ! r2 @ 0a #5\n")
@@ -542,10 +421,9 @@ class Shown(Case):
         del self.browser.asked[1:]  # it lists what it refused
 
     def test_two_dumps(self):
-        with open(NESTED, "rb") as file:
-            other = self.file("other.vcd", file.read().replace(b"b11 1\n", b"b1011 1\n"))
-        page = os.path.join(self.folder.name, "page.html")
-        self.assertEqual(run(diff, "--html", page, NESTED, other)[0], 1)
+        other = self.file("other.vcd", text_of(NESTED).replace(b"b11 1\n", b"b1011 1\n"))
+        page = self.file("page.html")
+        self.assertEqual(run("diff", "--html", page, NESTED, other)[0], 1)
         self.browser.open(page)
         self.is_now("items.map(one => one.side + one.path)", ["A" + "bench.slow.count",
                                                               "B" + "bench.slow.count"])
@@ -570,8 +448,8 @@ class Shown(Case):
         one, other = self.file("a.vcd", head + body), self.file(
             "b.vcd", head + body.replace(b"0! #25 1!", b"0! #25 1! 0k").replace(
                 b"#40 0!", b"#38 1A #40 0!"))
-        page = os.path.join(self.folder.name, "page.html")
-        self.assertEqual(run(diff, "--every", "--rise", "c", "--html", page, one, other)[1],
+        page = self.file("page.html")
+        self.assertEqual(run("diff", "--every", "--rise", "c", "--html", page, one, other)[1],
                          "differs 35ns s42 1 0\ndiffers 45ns s00 0 1\npage %s\n" % page)
         self.browser.open(page)
         self.is_now("(draw(), [now.cursor, data.mark, $('spoken').textContent])",
@@ -584,7 +462,7 @@ class Shown(Case):
         body = b"".join(b" #%d 1%c" % (at + 100, 65 + at) for at in range(50)) + b" #200\n"
         one, other = self.file("a.vcd", head + b" #60 1k #61 0k" + body), self.file(
             "b.vcd", head + b" #200\n")
-        self.assertEqual(run(diff, "--every", "--html", page, one, other)[0], 1)
+        self.assertEqual(run("diff", "--every", "--html", page, one, other)[0], 1)
         self.browser.open(page)
         self.is_now("""(() => { draw(); const y = tops[now.row] + TOP - $('view').scrollTop;
             return [items[now.row].path, y > 0.3 * height && y < 0.7 * height]; })()""",
@@ -605,8 +483,8 @@ class Shown(Case):
         zeros = b"#0 " + b"".join(b"0%c " % (65 + at) for at in range(40))
         one = self.file("a.vcd", head + zeros + b"#5 1c #10 1A #20\n")
         other = self.file("b.vcd", head + zeros + b"#100\n")
-        page = os.path.join(self.folder.name, "page.html")
-        self.assertEqual(run(diff, "--every", "--html", page, one, other)[0], 1)
+        page = self.file("page.html")
+        self.assertEqual(run("diff", "--every", "--html", page, one, other)[0], 1)
         self.browser.open(page)
         self.is_now("[SPAN, signals.map(one => one.side + one.path)]",
                     [100, ["As00", "Bs00", "As34", "Bs34"]])
@@ -649,4 +527,4 @@ class Shown(Case):
 
 
 if __name__ == "__main__":
-    unittest.main()
+    unittest.main(warnings="ignore")
