@@ -5,13 +5,17 @@
 # that as well. The tests that compare what a command prints are in extras/tests (tools/check.py).
 set -u
 cd "$(dirname "$0")/.."
-export VCDKIT=${VCDKIT:-./vcdkit} LC_ALL=C PYTHONDONTWRITEBYTECODE=1
+export VCDKIT=${VCDKIT:-./vcdkit} LC_ALL=C COLUMNS=80 LINES=24
 [[ -x $VCDKIT ]] ||
     { echo "extras/test.sh: there is no program $VCDKIT. Run make first." >&2; exit 1; }
 VCDKIT=$(realpath "$VCDKIT")
-PATH=$PWD/extras:$PATH
 failed=0 tried=0
 folder=$(mktemp -d)
+# Hundreds of scripts start: each finds Python itself first, not a shim of pyenv, and its modules
+# compiled.
+PATH=$PWD/extras:$(python3 -c 'import os, sys; print(os.path.dirname(sys.executable))'):$PATH
+python3 -m compileall -qq python hostile/reference tools
+export PYTHONDONTWRITEBYTECODE=1
 # later_what, later_pids: the tests that run in the background, and their processes
 later_what=() later_pids=()
 trap 'kill "${later_pids[@]}" 2> /dev/null; rm -rf "$folder"' EXIT
