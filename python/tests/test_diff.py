@@ -20,10 +20,13 @@ def of_one_path(*its):
         "".join("%d!%d\n" % (value, at) for at, (_, value) in enumerate(its)))
 
 
+PAIR = "$scope module t $end $var wire 2 ! a[1:0] $end "
 FILES = {"a": HEADER + "#0\n0!\nr1 @\n#1\n1!\n", "b": HEADER + "#0\n0!\nr1.5 @\n#1\n1!\nb1 \"\n",
          "short": HEADER.replace("real 64", "shortreal 32") + "#0\n0!\nr1.5 @\n#1\n1!\n",
          "bits": of_one_path(("[0]", 0), ("[0:0]", 0), ("x [1]", 0)),
          "more": of_one_path(("[0]", 0), ("[0]", 1), ("x [1]", 1)),
+         "pair": PAIR + "$var wire 2 ! a [1:0] $end $upscope $end $enddefinitions $end\n#0\nb0 !\n",
+         "named": PAIR + "$upscope $end $enddefinitions $end\n#0\nb0 !\n",
          "bit": of_one_path(("x [1]", 1)), "known": "t.q it is known\n",
          "other": HEADER.replace("module t", "module u<&"), "empty": "", "fault": HEADER + "#x",
          "binary": "".join(map(chr, range(256))) * 9}
@@ -44,6 +47,9 @@ ANSWERED = [("a a", "", 0), ("a b", LINES, 1), ("--every a b", LINES + "differs 
             ("--within=1 --common --every bits more", "differs 0 t.qx[1] 0 1\n", 1),
             ("--within=1 --common bit bits", "differs 0 t.q 1 0\n", 1),
             ("--every --waive=known bits more", "alone A t.q[0:0] 1\nalone B t.q[0] 1\n", 1),
+            ("pair named", "alone A t.a 1\n", 1), ("named pair", "alone B t.a 1\n", 1),
+            ("pair bit", "alone A t.a[1:0] 1\nalone A t.a 1\nalone B t.q 1\nends 0 9\n", 1),
+            ("--map=t.a=t.x pair named", "alone A t.a[1:0] 1\n", 1),
             ("--map=t=x --map=t.c=x.d a b x.d", "", 0),
             ("--map=t=x a b x.c", "", 0), ("--map=t= a a c", "", 0),
             ("--map=u<&=t --common a other", "differs 0 t.c 0 -\ndiffers 0 t.r 1 -\n", 1)]

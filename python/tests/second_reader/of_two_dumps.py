@@ -155,9 +155,14 @@ class Sides:
                 self.sizes.append(shown_name)
 
     def name_in(self, at: int, of: Variable) -> str:
-        """Returns what a line calls a variable: its range tells it from others of its path."""
-        name = self.asked.renamed(of.path)
-        return name + of.range * (len(self.of_name[at][name]) > 1)
+        """Returns what a line calls a variable: as A writes it, and its range tells it from others
+        of its path."""
+        own = self.asked.renamed(of.path)
+        name = {other: one for one, other in self.groups}.get(own, own) if at else own
+        its = of.range if name == own or name == bare(name) else ""
+        if name == bare(name) and name != own:
+            its = its or own[len(bare(own)):]
+        return name + its * (len(self.of_name[at][own]) > 1)
 
     def clocks(self) -> List[Pair]:
         """Returns the pairs of which the name can be that of a clock."""
@@ -354,8 +359,6 @@ def ask_diff(of: Asker) -> None:
     of.need_whole()
     changed = random_changes(of)
     path, other = another(of, changed)
-    if of.dump.has_a_name_twice() or other.has_a_name_twice():
-        raise Skip  # lines may call either of two by the other's name
     asked = random_asked(of, changed, other)
     sides = Sides([of.dump, other], asked)
     factors = sides.factors

@@ -147,7 +147,7 @@ def say_values(report: Lines, asked: argparse.Namespace, sides: Sides, compariso
     first: Dict[str, Difference] = {}
     with contextlib.closing(comparison.differences()) as differences:
         for every in differences:
-            found = [one for one in every if not exceptions.has(sides[0].own(one.name))]
+            found = [one for one in every if not exceptions.has(sides[0].owns(one.name)[0])]
             for one in found:
                 first.setdefault(one.name, one)
             report.say_some("differs", lines_of(found, sides[0]) if found else [])

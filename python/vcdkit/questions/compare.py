@@ -88,7 +88,7 @@ class Comparison:
         for what, *words in self._lines:
             if what == b"alone":
                 is_of_b = words[0] == b"B"
-                self.alone[is_of_b].append(self._called(words[1], is_of_b))
+                self.alone[is_of_b].append(self._called(words[1], is_of_b, self.alone[is_of_b]))
             elif what == b"size":
                 self.sizes.append((self._called(words[0]), *(
                     int(its) if its.isdigit() else its.decode() for its in words[1:])))
@@ -100,9 +100,11 @@ class Comparison:
         if counts[0] != counts[1]:
             raise RunFailed("vcdkit-compare pairs %d signals with %d" % (counts[0], counts[1]))
 
-    def _called(self, path: bytes, at: int = 0) -> str:
-        """Returns the name of a variable of a dump in a line."""
-        return self._sides[at].called(path.decode("utf-8", "surrogateescape").partition(".")[2])
+    def _called(self, path: bytes, at: int = 0, alone: Optional[List[str]] = None) -> str:
+        """Returns the name of a variable of a dump in a line; of one that is alone, behind others."""
+        its = path.decode("utf-8", "surrogateescape").partition(".")[2]
+        side, other = self._sides[at], None if alone is None else self._sides[1 - at]
+        return side.called(its, other, alone or ())
 
     def differences(self) -> Generator[List[Difference], None, None]:
         """Returns the differences of each time together, unless ALWAYS only the first of a name."""

@@ -33,16 +33,16 @@ class Side:
 
     def spell(self, maps: Sequence[Sequence[Map]]) -> None:
         """Gives its variables names, which maps make of the paths, some after the others."""
-        # Those of no scope are for what has a range too.
-        no_scope = {front for its in maps for front, _ in its if not any(
-            path.startswith(front + ".") for path in self.paths)}
-        self.spelled = [self._mapped(path, maps, no_scope) for path in self.paths
+        # Those that are no front of a path are for what has a range too.
+        no_front = {front for its in maps for front, _ in its if not any(
+            (path + ".").startswith(front + ".") for path in self.paths)}
+        self.spelled = [self._mapped(path, maps, no_front) for path in self.paths
                         ] if maps else self.paths
 
-    def _mapped(self, name: str, maps: Sequence[Sequence[Map]], no_scope: Set[str]) -> str:
+    def _mapped(self, name: str, maps: Sequence[Sequence[Map]], no_front: Set[str]) -> str:
         for some in maps:
             its = [one for one in some if one[0] == name or name.startswith(one[0] + ".")
-                   or one[0] == bare(name) and one[0] in no_scope]
+                   or one[0] == bare(name) and one[0] in no_front]
             self.mapped.update(front for front, _ in its)
             for front, new in its[:1]:
                 name = new + name[len(front):] if new else name[len(front) + 1:] or name
@@ -97,15 +97,20 @@ class Side:
         places = places_of(full.values(), self.spelled) if asked else {}
         return {name: {self.names[at] for at in places[path]} for name, path in full.items()}
 
-    def own(self, line: str) -> str:
-        """Returns the name of the variable that a line calls so, maybe with what is behind it."""
-        return next((line[:end] for end in range(len(line), 0, -1) if line[:end] in self.of_name),
-                    line)
+    def owns(self, line: str) -> List[str]:
+        """Returns the names, the longest first, that are a line or its front, without what is behind
+        a name."""
+        return [line[:end] for end in range(len(line), 0, -1) if line[:end] in self.chosen]
 
-    def called(self, path: str) -> str:
+    def called(self, path: str, other: Optional["Side"] = None, names: Sequence[str] = ()) -> str:
         """Returns what a line calls a variable that vcdkit-compare calls by a path: with its range
-        if that tells it from others."""
-        own = self.own(path)
+        if that tells it from others. If the other one lacks it, the path always has the range, and
+        may be the name of another one; `names` are those of the lines before."""
+        own, *near = self.owns(path) or [path]
+        if other and own == path and near and names.count(path) >= len(self.of_name[path]) - len(
+                other.of_name.get(path, ())) and (
+                    path[len(near[0]):] in map(self.behind, self.of_name[near[0]])):
+            own = near[0]
         return own if len(self.of_name.get(own, ())) == 1 else path
 
     def behind(self, at: int) -> str:
@@ -148,14 +153,18 @@ Pair = Tuple[int, int]  # the places of two variables
 def pairs_called(sides: Sides, line: str) -> List[Tuple[Pair, Tuple[Signal, Signal]]]:
     """Returns the pairs of variables that are compared and that a line calls so: those that have
     the same behind their names, if there are several."""
-    own = sides[0].own(line)
-    near = [side.of_name[own] for side in sides]
-    if max(map(len, near)) > 1:
-        behind = line[len(own):] if len(near[0]) > 1 else sides[0].behind(near[0][0])
-        near = [[at for at in its if side.behind(at) == behind] for side, its in zip(sides, near)]
-    found = [((at, place), (sides[0].dump.signals[at], sides[1].dump.signals[place]))
-             for at, place in zip(*near)]
-    return [(places, its) for places, its in found if len({
+    one, other = sides
+    found: List[Pair] = []
+    for own in one.owns(line):
+        ours, theirs = one.of_name[own], other.of_name.get(own, [])
+        if len(ours) + len(theirs) > 2:
+            behind = line[len(own):] if len(ours) > 1 else one.behind(ours[0])
+            ours = [at for at in ours if one.behind(at) == behind]
+            theirs = [at for at in theirs if other.behind(at) == behind]
+        found += zip(ours, theirs) if own == line or len(one.of_name[own]) > 1 else []
+    pairs = [(places, (one.dump.signals[places[0]], other.dump.signals[places[1]]))
+             for places in sorted(found)]
+    return [(places, its) for places, its in pairs if len({
         of.type if of.type == "event" else "real" if of.is_real else of.size for of in its}) == 1]
 
 
