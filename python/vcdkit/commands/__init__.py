@@ -50,7 +50,6 @@ JSON = "write one JSON object per line, with times in ticks"
 UNIT = "the largest without a fraction"
 Main = Callable[[Optional[List[str]]], int]
 
-
 # The options of several commands, and what argparse takes of them.
 SHARED = {
     "--names": dict(dest="names_of", metavar="FILE",
@@ -192,6 +191,21 @@ def _unmarked(value: Any) -> Any:
     return value[len(MARK):] if isinstance(value, str) and value.startswith(MARK) else value
 
 
+def pair_of(text: str) -> Tuple[str, str]:
+    """Reads the words around the first =."""
+    front, sign, new = text.partition("=")
+    if not front or not sign:
+        raise argparse.ArgumentTypeError("expected a name, = and what it is for, as in TOP.tb=tb")
+    return front, new
+
+
+def natural(text: str) -> int:
+    """Reads a number from 0."""
+    if not text.isascii() or not text.isdigit():
+        raise argparse.ArgumentTypeError("expected a number from 0")
+    return int(text)
+
+
 def parser(usage: str, text: str, done: str = "everything was written", failed: str = FAULT,
            wrong: str = "usage error") -> Parser:
     """Returns a parser of words, whose help has the usage and the text of a command and its exit
@@ -207,20 +221,7 @@ def parser(usage: str, text: str, done: str = "everything was written", failed: 
     return made
 
 
-def filtering(module: str, usage: str, text: str,
-              made: Callable[[Iterator[bytes]], Iterator[bytes]]) -> Main:
-    """Makes main() of a filter, which makes blocks of its output of those of its input."""
-    def main(words: List[str]) -> int:
-        from ..reading.body import blocks_of
-        options = parser(usage, text, failed="")
-        options.add_argument("file", metavar="FILE", nargs="?", default="-", help="the dump, which "
-                             "may be compressed [default: standard input, uncompressed]")
-        sys.stdout.buffer.writelines(made(blocks_of(options.parse_args(words).file)))
-        return 0
-
-    main.__module__ = module
-    return command(main)
-
+# The dumps and the times that are asked for.
 
 def dump_of(asked: argparse.Namespace, file: Optional[str] = None,
             token_limit: Optional[int] = None) -> "Dump":
@@ -317,6 +318,8 @@ def times_of(dump: "Source", asked: argparse.Namespace) -> Callable[[int], str]:
     return functools.partial(dump.time, unit=asked.unit or "")
 
 
+# Warnings, and what the shell calls.
+
 def warn_of_quotes(name: str, condition: str, dump: "Source") -> None:
     """Warns if the output of a command goes to a file of the working directory whose name is a
     number or a path of the dump: a shell takes `tb.q > 3` without quotes for such a file."""
@@ -337,19 +340,19 @@ def warn_of(command_name: str, exceptions: "Exceptions") -> None:
         print("%s: warning: %s" % (command_name, line), file=sys.stderr)
 
 
-def pair_of(text: str) -> Tuple[str, str]:
-    """Reads the words around the first =."""
-    front, sign, new = text.partition("=")
-    if not front or not sign:
-        raise argparse.ArgumentTypeError("expected a name, = and what it is for, as in TOP.tb=tb")
-    return front, new
+def filtering(module: str, usage: str, text: str,
+              made: Callable[[Iterator[bytes]], Iterator[bytes]]) -> Main:
+    """Makes main() of a filter, which makes blocks of its output of those of its input."""
+    def main(words: List[str]) -> int:
+        from ..reading.body import blocks_of
+        options = parser(usage, text, failed="")
+        options.add_argument("file", metavar="FILE", nargs="?", default="-", help="the dump, which "
+                             "may be compressed [default: standard input, uncompressed]")
+        sys.stdout.buffer.writelines(made(blocks_of(options.parse_args(words).file)))
+        return 0
 
-
-def natural(text: str) -> int:
-    """Reads a number from 0."""
-    if not text.isascii() or not text.isdigit():
-        raise argparse.ArgumentTypeError("expected a number from 0")
-    return int(text)
+    main.__module__ = module
+    return command(main)
 
 
 def question(function: Callable[[List[str]], int]) -> Main:

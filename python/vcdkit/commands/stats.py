@@ -35,17 +35,17 @@ from ..reading.files import check_outputs, write
 from . import command, dump_of, form_for, natural, parser, times_of, window_of
 
 
-def facts_of(signal: Signal, counted: Statistics, form: AnyForm, count: Optional[int]
+def facts_of(signal: Signal, its: Statistics, form: AnyForm, count: Optional[int]
              ) -> Dict[str, Any]:
     """Returns what is counted of a signal, with times in ticks; what it does not have is `None`."""
-    span = counted.range() if signal.is_real else None
+    span = its.range() if signal.is_real else None
     return {"path": signal.path, "type": signal.type, "size": signal.size,
-            "changes": counted.changes,
-            "period": counted.periods.facts() if counted.periods.count else None,
-            "duty": None if signal.type == "event" else counted.duty(),
+            "changes": its.changes,
+            "period": its.periods.facts() if its.periods.count else None,
+            "duty": None if signal.type == "event" else its.duty(),
             "range": {key: in_json(one, None) for key, one in span.items()} if span else None,
             "values": [{**one, "value": shown(one["value"], form)}
-                       for one in shares_of(counted, count)]}
+                       for one in shares_of(its, count)]}
 
 
 def lines_of(dump: Dump, facts: Dict[str, Any], rest: int, asked: argparse.Namespace
@@ -149,11 +149,11 @@ def main(words: List[str]) -> int:
         write_bits(dump, window, asked)
         return 0
     count = 10 if asked.values is None else asked.values
-    for signal, counted in statistics_of(dump, asked.names, window):
-        facts = facts_of(signal, counted, form_for(asked, signal), None if asked.json else count)
+    for signal, its in statistics_of(dump, asked.names, window):
+        facts = facts_of(signal, its, form_for(asked, signal), None if asked.json else count)
         if asked.json:
             write_json(facts)
         else:
-            rest = len(counted.values) - count
+            rest = len(its.values) - count
             print(*lines_of(dump, facts, rest, asked), sep="\n")
     return 0

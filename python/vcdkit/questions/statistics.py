@@ -132,13 +132,13 @@ class Statistics:
             / sum(ticks for _, ticks in numbers))}
 
 
-def shares_of(counted: Statistics, count: Optional[int]) -> List[Dict[str, Any]]:
+def shares_of(its: Statistics, count: Optional[int]) -> List[Dict[str, Any]]:
     """Returns how long and how often a signal has each value, and its shortest and longest pulse:
     those with most time first, at most so many of them."""
-    every = sorted(counted.values.values(), key=lambda value: -value.ticks)
+    every = sorted(its.values.values(), key=lambda value: -value.ticks)
     span = sum(value.ticks for value in every)
     return [{"value": OTHERS.decode() if one.text == OTHERS else value_in(
-        one.text, counted.signal.size), "ticks": one.ticks, "share": one.ticks / span,
+        one.text, its.signal.size), "ticks": one.ticks, "share": one.ticks / span,
         "times": one.times, "shortest": one.pulses.shortest, "longest": one.pulses.longest}
         for one in every[:count]]
 
