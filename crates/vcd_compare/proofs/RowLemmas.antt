@@ -1,13 +1,10 @@
 -- The rows of each class, and those that have a line due.
-use Rattle.std.proofs.Common.{◌≡◌, ◌≢◌, ◌⊎◌, inl, inr, ℕ, suc, ◌+◌, ◌<◌, ◌≤◌, ◌==◌, ◌&&◌, ◌||◌, not, Bool, true, false, cond, List, [], ◌∷◌, ◌++◌, length, map, take, set, get_or, slice_get, nat_le, Some, refl, sym, ap, subst, ◌∙◌, arith, append-nil}
+use Rattle.std.proofs.Common.{◌≡◌, ◌≢◌, ◌⊎◌, inl, inr, ℕ, suc, ◌+◌, ◌<◌, ◌≤◌, ◌==◌, ◌&&◌, ◌||◌, not, Bool, true, false, cond, List, [], ◌∷◌, ◌++◌, length, map, take, set, get_or, slice_get, nat_le, Some, refl, sym, ap, subst, ◌∙◌, arith}
 use Prim.Native.Nat.{zero}
 use Rattle.std.proofs.lemmas.Bool.{eq-eqb, ne_eqb, cases_lt, cases_eq, le-leb, leb-true}
 use Rattle.std.proofs.Math.Bool.{and-false, or-false, or-true}
 use Rattle.std.proofs.lemmas.Option.{get_or_from_slice_get, same_Some, slice_get-get_or, slice_get_within}
-use Rattle.std.proofs.lemmas.List.{take_more, take_more_set, take_all, length-take-le, length-set, length_push, get_or-set_same, get_or-set_other, get_or_past, length-map, get_or-map, get_or-take}
-use Rattle.std.proofs.lemmas.List.Sums.{sum_by-append, sum_by-cons}
-use Rattle.std.specs.List.Sorted.{IsNonDecreasing}
-use Rattle.std.proofs.lemmas.List.Sorted.{IsNonDecreasingBy-take}
+use Rattle.std.proofs.lemmas.List.{take_more_set, take_all, length-take-le, length-set, length_push, get_or-set_same, get_or-set_other, get_or_past, length-map, get_or-map, get_or-take}
 use Rattle.vcd_compare.specs.Flags.{AreListed, settled_as, taken}
 use Rattle.std.specs.List.{list_any}
 use Rattle.vcd_compare.specs.Rows.{AreDue, AreLinkedRows, IsLastRow, classes_of, is_flagged, is_of, was_flagged}

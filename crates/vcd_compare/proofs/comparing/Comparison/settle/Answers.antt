@@ -1,4 +1,4 @@
-use Rattle.vcd_compare.proofs.Cited.{◌≡◌, ℕ, length, take, refl, ap, ◌∙◌, cond, length-map, arith, ◌==◌}
+use Rattle.vcd_compare.proofs.Cited.{◌≡◌, length, take, refl, length-map, arith}
 use Rattle.vcd_compare.specs.Rows.{AreDue, classes_of, is_flagged}
 use Rattle.vcd_compare.proofs.RowLemmas.{no_row}
 use Rattle.vcd_run.proofs.Once.{sorted_once}
