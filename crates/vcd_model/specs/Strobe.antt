@@ -2,7 +2,7 @@
 -- on the items before it, in their order: a `$dumpvars` gives values from before its time only to
 -- edges that come after it, and an edge is there even if its time has a fault later. What `merge`
 -- wrote has no `$dumpvars`, so a strobe comes before a merge.
-use Rattle.std.specs.Prelude.{ℕ, zero, suc, ◌+◌, ◌/◌, ◌%◌, ◌^◌, max, fold, Bool, true, false, not, cond, ◌&&◌, ◌==◌, nat_le, nat_lt, is_none, List, [], ◌∷◌, ◌++◌, length, reverse, slice_get, replicate, map, flat_map, filter, codes, bytes_eq, Option, Some, None, option_map, unwrap_or, Ok, Err}
+use Rattle.std.specs.Prelude.{ℕ, zero, suc, ◌+◌, ◌/◌, ◌%◌, ◌^◌, max, fold, Bool, true, false, not, cond, ◌&&◌, ◌==◌, nat_le, nat_lt, is_none, List, [], ◌∷◌, ◌++◌, length, reverse, slice_get, replicate, map, flat_map, filter, codes, Option, Some, None, option_map, unwrap_or, Ok, Err}
 use Rattle.std.specs.List.{list_any, concat, last_or}
 use Rattle.std.specs.Str.{byte}
 use Rattle.vcd_model.specs.Bytes.{as_line, is_empty}

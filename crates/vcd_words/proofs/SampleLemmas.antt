@@ -1,5 +1,5 @@
 -- The times of a sample in ticks.
-use Rattle.vcd_words.proofs.Cited.{◌≡◌, ℕ, suc, zero, ◌+◌, ◌<◌, Bool, true, false, not, ◌||◌, ◌&&◌, ◌==◌, nat_lt, is_some, is_ok, List, [], ◌∷◌, ◌++◌, length, replicate, vec_len, map, filter_map, get_or, set, take, drop, Option, Some, None, Result, Ok, Err, refl, sym, ap, ap₂, ◌∙◌, arith, ℤ, ◌≢◌, Vec, list_any, list_all, IsAllAdjacentAnswer, and_from, and_parts, eq-eqb, eqb-true, length-map, is_empty, Want, do_rise, first_refusal, has_unit, is_without_scale, ok_of, sample_at, sample_request, Request, Moment, rises_at, tick_fault_number, TickFault, NoTimescale, OutOfRange, model_refusal, tick_refusal, Refusal, all_ticks, has_units, times_with, AreRefused, AreTicks}
+use Rattle.vcd_words.proofs.Cited.{◌≡◌, ℕ, suc, zero, ◌+◌, ◌<◌, Bool, true, false, not, ◌||◌, ◌&&◌, ◌==◌, nat_lt, is_some, is_ok, List, [], ◌∷◌, ◌++◌, length, replicate, vec_len, map, filter_map, get_or, set, take, drop, Option, Some, None, Result, Ok, Err, refl, sym, ap, ap₂, ◌∙◌, arith, ℤ, ◌≢◌, Vec, list_any, list_all, IsAllAdjacentAnswer, and_from, and_parts, eq-eqb, eqb-true, length-map, is_empty, Want, do_rise, has_unit, is_without_scale, ok_of, sample_at, sample_request, Request, Moment, rises_at, tick_fault_number, TickFault, NoTimescale, OutOfRange, model_refusal, tick_refusal, Refusal, all_ticks, has_units, times_with, AreRefused, AreTicks}
 use Rattle.vcd_model.specs.Job as model
 use Rattle.vcd_model.specs.Job.{request_of}
 use Rattle.vcd_model.specs.Ticks.{moment_ticks}
