@@ -52,7 +52,7 @@ pub use Rattle.vcd_body.specs.Steps.{counts_after, with_steps}
 pub use Rattle.vcd_body.specs.Stored.{AreLaidOut, ChangesAt, IsHeldAs, IsLaid, IsUnset, Whole, digits_held, digits_with, end_at, held_by, held_from, held_line, held_of, held_with, holding_of, kept_in, kept_with, len_in, len_of, tag_of, one_digit, room_of, set_whole, share_from, share_of, some_by, start_or, state_in, text_bytes, used, used_by, whole, whole_at}
 pub use Rattle.vcd_body.specs.Taken.{IsFoundScalar, IsSection, IsSectionAt, Opens, TakesItem}
 pub use Rattle.vcd_body.specs.Values.{form_in, with_value, with_value_change}
-pub use Rattle.vcd_body.specs.Walk.{Further, HasCome, Past, Stage, TakesOne, Trail, Walks, WalksToLines, as_done, over_of, stage_at}
+pub use Rattle.vcd_body.specs.Walk.{Further, HasCome, Past, Stage, TakesOne, Trail, Walks, as_done, over_of, stage_at}
 pub use Rattle.vcd_body.specs.Whole.{AreWhole, HoldsItem, IsAlone}
 pub use Rattle.vcd_body.specs.Words.{Begins, BeginsOther, InClear, IsScalar, StandsFor, command_is, is_comment, is_either, is_of_header}
 pub use Rattle.vcd_body.specs.contracts.values.slot.State.{the_type}

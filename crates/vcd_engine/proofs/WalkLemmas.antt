@@ -1,5 +1,5 @@
 -- The loop over the items ahead, step by step.
-use Rattle.vcd_engine.proofs.Cited.{◌≡◌, ℕ, ◌+◌, ◌≤◌, Bool, true, false, List, [], ◌∷◌, ◌++◌, length, Result, Ok, Err, refl, sym, ap, subst, ◌∙◌, append-nil, IfOk, Token, bytes_of, longest_of, passed_of, Passed, Device, Puts, counts-on, Ahead, WriteFailed, HeadView, PassesNoItem, Begins, Further, Past, Stage, Trail, Walks, Regs, walk_passes, RunsOver, request_in, TakesNext, Walk, walk_at, IsLine, IsPart, pending_in, CanTake, HasWalked, TakesByTask, walk_of, TaskState, WalkState, PendingCopy, WalkEnd, AtItem, AtLines, Over}
+use Rattle.vcd_engine.proofs.Cited.{◌≡◌, ℕ, ◌+◌, ◌≤◌, Bool, false, List, [], ◌∷◌, ◌++◌, length, Result, Ok, Err, refl, sym, ap, subst, ◌∙◌, append-nil, IfOk, Token, bytes_of, longest_of, passed_of, Passed, Device, Puts, counts-on, Ahead, WriteFailed, HeadView, PassesNoItem, Begins, Further, Past, Stage, Trail, Walks, Regs, walk_passes, RunsOver, request_in, TakesNext, Walk, walk_at, IsLine, IsPart, pending_in, CanTake, HasWalked, TakesByTask, walk_of, TaskState, WalkState, PendingCopy, WalkEnd, AtItem, AtLines, Over}
 use Rattle.vcd_text.specs.Device.{Counts}
 use Rattle.vcd_run.specs.declared.task.AheadEnd.{AheadEnd}
 use Rattle.vcd_engine.proofs.AheadLemmas.{ends_before}
