@@ -15,9 +15,10 @@ from cases import NESTED, text_of
 import asker
 import browser
 from of_pages import data_of
+from page_script import NODE, shown_by
 from vcdkit import Dump, Signal
 from vcdkit.forms import page
-from vcdkit.forms.text import FORMS
+from vcdkit.forms.text import FORMS, shown
 from vcdkit.questions import streams
 
 HOSTILE = b"""$date </script><script>hacked = 1</script> $end
@@ -108,6 +109,16 @@ class Data(Case):
                                   b"#0 r7 ! #501 r1000 ! #502 r1e3 ! #1000\n")
         self.assertRegex(run("wave", "--width", "100", dump, "r")[1],
                          r'"curve" d="M[^M"]*M[^M"]*"')
+
+    @unittest.skipUnless(NODE, "there is no node")
+    def test_forms_of_real_numbers(self):
+        numbers = ["1e16", "1e15", "123456789012345680", "1e-4", "1e-5", "1.5e-7", "-2.5e+20",
+                   "1e300", "0.1", "0", "-3", "9999999999999998", "1e22"]
+        dump = self.file("a.vcd", b"$var real 64 ! r $end $enddefinitions $end " + "".join(
+            "#%d r%s !\n" % (5 * at, one) for at, one in enumerate(numbers)).encode())
+        row, = shown_by(self.file("page.html", self.page(dump, "r").encode()), 100,
+                        range(0, 5 * len(numbers), 5))
+        self.assertEqual(row["values"]["hex"], [shown(float(one), None) for one in numbers])
 
     def test_two_scales_and_clocks(self):
         text = text_of(NESTED)

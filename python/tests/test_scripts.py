@@ -372,6 +372,21 @@ class Answers(Case):
             "r real 64", "  changes 2", "  range 1.5 to 1.5, mean 1.5", *values, "w wire 64",
             "  changes 2", *values, "status 0"])
 
+    def test_stats_of_large_numbers(self):
+        for body, least, largest, mean in (
+                (b"#0 r1e308 ! #100", 1e308, 1e308, 1e308),
+                (b"#0 r1e308 ! #50 r-1e308 ! #100", -1e308, 1e308, 0.0)):
+            self.file("a.vcd", b"$var real 64 ! r $end $enddefinitions $end %s\n" % body)
+            facts = json.loads(said("stats --json a.vcd r")[0])["range"]
+            self.assertEqual(facts, {"least": least, "largest": largest, "mean": mean})
+
+    def test_rows_at_times_without_an_event(self):
+        self.file("a.vcd", b"$var wire 1 ! a $end $var event 1 $ e $end $enddefinitions $end\n"
+                  b"#1 1! #5 1$ #7 0!\n")
+        for condition, times in (("!e", "0147"), ("e", "5"), ("a", "145"), ("!e & !a", "7")):
+            rows = said("table --at=0,1,4,5,7 a.vcd a --if", condition)
+            self.assertEqual([row[0] for row in rows[1:-1]], list(times), condition)
+
     def test_two_ranges_of_one_path_and_code(self):
         self.file("a.vcd", b"$var wire 3 ! q [2:0] $end $var wire 3 ! q [6:4] $end "
                   b"$enddefinitions $end #0 b0 ! #1 b1 !\n")
@@ -467,6 +482,10 @@ class Answers(Case):
                   b"(0)t.q[3:0]\n+{a b} t.z\n-\n")
         self.assertEqual(said("find --names saved edge"), [
             "t.clk wire 1 !", "t.q reg 4 \"", "t.z wire 1 #", "status 0"])
+        self.file("a.vcd", made("\u00e9 4 ! [3:0], q 4 @ [3:0]", "#0;b1 !;b10 @;"))
+        self.file("saved", "[*]\n@22\n\u00e9[3:0]\nq[3:0]\n".encode())
+        self.assertEqual(said("values --names saved a.vcd"),
+                         ["\u00e9 0001", "q 0010", "status 0"])
 
 
     def test_salvage(self):
@@ -527,15 +546,23 @@ class Answers(Case):
         """The clock rises at 100, 300, .. 1900, then at 500100, 500300, ..; q counts these."""
         times = [*range(100, 2000, 200), *range(500100, 502000, 200)]
         self.file("a.vcd", made("clk 1 c, q 8 q", "#0;0c;b0 q;" + "".join(
-            "#%d;1c;b%s q;#%d;0c;" % (time, bin(at)[2:], time + 100)
-            for at, time in enumerate(times, 1)), ""))
+            "#%d;1c;b%s q;#%d;0c;1e;" % (time, bin(at)[2:], time + 100)
+            for at, time in enumerate(times, 1)), "").replace(
+                b"$enddef", b"$var event 1 e go $end $enddef"))
         for begin in 0, 1901, 500100, 500101:
             for condition, wanted in (
                     ("changed(q)", times), ("past(q) + 1 == q", times[1:]),
-                    ("past(q, 9) == 1", [500100]), ("past(past(q, 4), 9) == 0", [500700])):
-                words = "--every --rise clk --from %d a.vcd '%s'" % (begin, condition)
-                self.assertEqual(said("when " + words)[:-1], [
-                    str(time) for time in wanted if time >= begin], words)
+                    ("past(q, 9) == 1", [500100]), ("past(past(q, 4), 9) == 0", [500700]),
+                    ("q == 11 & past(go)", [500300] if begin != 500100 else []),
+                    ("past(q, 30) is x", times)):
+                words, wanted = ["--rise", "clk", "--from", str(begin), "a.vcd"], [
+                    time for time in wanted if time >= begin]
+                self.assertEqual(said("when --every", *words, condition)[:-1],
+                                 list(map(str, wanted)), condition)
+                rows = said("table", *words, "--if", condition, "q")[1:-1]
+                self.assertEqual([int(row.partition(",")[0]) for row in rows], wanted)
+                part = Dump("a.vcd").cut(begin).pick(["clk", "q", "go"])
+                self.assertEqual(list(part.when(condition, rise="clk", every=True)), wanted)
         self.file("rules", b"a@clk: changed(q)\nb@!clk: past(q, 2) == 8\n")
         self.assertEqual(said("when --rules rules --from 1900 a.vcd")[:2],
                          ["a: 1900, 1 time", "b: 2000, 1 time"])
@@ -735,12 +762,14 @@ class Rules(Case):
         """Each says what it says alone at its clock."""
         its = [(clock, option, one) for clock, option in (
             ("clk", "--rise"), ("clk", "--fall"), ("ack", "--rise"), ("req", "--fall")) for one in (
-                "rose(req)", "past(req, 2) & !req", "!(req -> ack within 2)", "changed(ack)")]
+                "req", "rose(req)", "past(req, 2) & !req", "ack", "!(req -> ack within 2)",
+                "changed(ack)")]
         text = "".join("r%d@%s%s: %s\n" % (at, "!" * (option == "--fall"), clock, one)
                        for at, (clock, option, one) in enumerate(its))
-        got = dict(re.findall(r"(\w+): .*, (\d+) time", self.rules(text, "bus")[1]))
-        self.assertEqual([got.get("r%d" % at, "0") for at in range(len(its))], [
-            said("when --count", option, clock, "bus", one)[0] for clock, option, one in its])
+        for every in [], ["--every"]:
+            got = dict(re.findall(r"(\w+): .*, (\d+) time", self.rules(text, *every, "bus")[1]))
+            self.assertEqual([got.get("r%d" % at, "0") for at in range(len(its))], [said(
+                "when --count", *every, option, clock, "bus", one)[0] for clock, option, one in its])
 
     def test_rules_that_overlap(self):
         overlaps = "requests that begin before the previous one is answered: 2. They get the same "

@@ -144,6 +144,35 @@ class Questions:
                          {"time": [1, 2, 1, 1], "b": [None, 1, None, None]})
         self.assertRaises(UsageError, dump.value, "a", 0)
 
+    def test_rows_where_a_value_changed(self):
+        dump = Dump(b'$var wire 2 ! q $end $var real 64 " r $end $enddefinitions $end #0 b0 ! '
+                    b'#1 b00 ! rNaN " #2 rnan " b1 ! b0 ! #3 $dumpall b0 ! rnan " $end #4 r1.0 " '
+                    b'#5 bx ! r1 " #6 bxx ! r1e0 " #7 r-1 " #8 b1 ! b1 !')
+        rows = [(0, ["00", None]), (1, ["00", float("nan")]), (4, ["00", 1.0]), (5, ["xx", 1.0]),
+                (7, ["xx", -1.0]), (8, ["01", -1.0])]
+        self.assertEqual(repr([(*row,) for row in dump.rows(["q", "r"])]), repr(rows))
+        self.assertEqual(list(dump.cut(6, 7).rows(["q", "r"])), [(6, ["xx", 1.0]), rows[4]])
+        self.assertEqual(repr([(*row,) for row in dump.cut(2, 4).rows(["q", "r"])]),
+                         repr([(2, rows[1][1]), rows[2]]))
+
+    def test_rows_at_edges_of_a_window(self):
+        header = b'$var wire 1 ! c $end $var wire 2 " q $end $enddefinitions $end '
+        for body in (b'#0 0! b1 " #10 1! b10 " #20 0! #30 1! b11 " #40 0! #50 1! b0 "',
+                     b'#0 $dumpvars 0! b1 " $end 1! b10 " #20 0! #30 1! b11 " #40 0! #50 1!',
+                     b'0! b1 " 1! #0 0! #0 1! b0 " #30 0! b1 " 1! b11 "',  # a glitch
+                     b'#5 b1 " #30 0! 1! b11 " #40 $dumpall 0! b0 " $end #50 1! b1 "',
+                     b'#5 b1 " #30 $dumpvars 0! b11 " $end 1! #40 $dumpvars 0! b0 " $end',
+                     b'#30 $dumpvars 0! b11 " $end 1! #40 0! #50 $dumpvars 1! b0 " $end'):
+            for clock in {"rise": "c"}, {"fall": "c"}:
+                whole = list(Dump(header + body).rows(["q", "c"], **clock))
+                self.assertTrue(whole or "fall" in clock)
+                for begin in 0, 3, 5, 10, 15, 20, 25, 30, 31, 40:
+                    part = Dump(header + body).cut(begin, 45)
+                    wanted = [row for row in whole if begin <= row[0] <= 45]
+                    for one in part, Dump(part.read()):
+                        self.assertEqual(list(one.rows(["q", "c"], **clock)), wanted,
+                                         (body, begin))
+
     def test_rows_at_edges_of_a_merge(self):
         dump = Dump(b'$var wire 1 ! c $end $var wire 2 " q $end $enddefinitions $end '
                     b'#0 0! b1 " #10 1! b10 " #20 0! #30 1! b11 " #40 0! #50 1! b0 "')
