@@ -144,8 +144,8 @@ def up_to_fault(part: "Source", codes: Collection[bytes]) -> Iterator[Step]:
 
 
 def begun(part: "Source") -> Iterator[Tuple[int, bytes, bytes]]:
-    """Returns each time of a cut with its lines, as timed. Before these come those of the values
-    with which the cut begins, which are from before its first time; at other times none."""
+    """Returns each time of a cut with two texts of lines: first those of the values with which the
+    cut begins, which are from before its first time (at other times none), then the others."""
     begin = b""
     times = timed(part)
     for time, text in itertools.islice(times, 1):
