@@ -21,12 +21,14 @@ def of_one_path(*its):
 
 
 PAIR = "$scope module t $end $var wire 2 ! a[1:0] $end "
+SLICE = "$scope module t $end $var wire 2 ! %s $end $upscope $end $enddefinitions $end\n#0\nb0 !\n"
 FILES = {"a": HEADER + "#0\n0!\nr1 @\n#1\n1!\n", "b": HEADER + "#0\n0!\nr1.5 @\n#1\n1!\nb1 \"\n",
          "short": HEADER.replace("real 64", "shortreal 32") + "#0\n0!\nr1.5 @\n#1\n1!\n",
          "bits": of_one_path(("[0]", 0), ("[0:0]", 0), ("x [1]", 0)),
          "more": of_one_path(("[0]", 0), ("[0]", 1), ("x [1]", 1)),
          "pair": PAIR + "$var wire 2 ! a [1:0] $end $upscope $end $enddefinitions $end\n#0\nb0 !\n",
          "named": PAIR + "$upscope $end $enddefinitions $end\n#0\nb0 !\n",
+         "high": SLICE % "q[3:2]", "far": SLICE % "q [3:2]", "low": SLICE % "q [1:0]",
          "bit": of_one_path(("x [1]", 1)), "known": "t.q it is known\n",
          "other": HEADER.replace("module t", "module u<&"), "empty": "", "fault": HEADER + "#x",
          "binary": "".join(map(chr, range(256))) * 9}
@@ -49,6 +51,7 @@ ANSWERED = [("a a", "", 0), ("a b", LINES, 1), ("--every a b", LINES + "differs 
             ("--every --waive=known bits more", "alone A t.q[0:0] 1\nalone B t.q[0] 1\n", 1),
             ("pair named", "alone A t.a 1\n", 1), ("named pair", "alone B t.a 1\n", 1),
             ("pair bit", "alone A t.a[1:0] 1\nalone A t.a 1\nalone B t.q 1\nends 0 9\n", 1),
+            ("high low", "alone A t.q[3:2] 1\nalone B t.q 1\n", 1), ("high far", "", 0),
             ("--map=t.a=t.x pair named", "alone A t.a[1:0] 1\n", 1),
             ("--map=t=x --map=t.c=x.d a b x.d", "", 0),
             ("--map=t=x a b x.c", "", 0), ("--map=t= a a c", "", 0),

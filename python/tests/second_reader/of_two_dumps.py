@@ -129,8 +129,14 @@ class Sides:
                     its.setdefault(plain(name), []).append(name)
         loose = [(rest[0][name][0], rest[1][name][0]) for name in rest[0]
                  if len(rest[0][name]) == len(rest[1].get(name, ())) == 1]
-        return found + [pair for pair in loose if len({name[len(bare(name)):] for name in pair
-                                                       if name != bare(name)}) < 2]
+        return found + [pair for pair in loose if len(
+            self._ranges(0, pair[0]) | self._ranges(1, pair[1])) < 2]
+
+    def _ranges(self, at: int, name: str) -> Set[Tuple[int, ...]]:
+        """Returns the range in a name, else those with which its variables are declared."""
+        if name != bare(name):
+            return {tuple(map(int, name[len(bare(name)) + 1:-1].split(":")))}
+        return {(its.left, its.right) for its in self.of_name[at][name] if its.is_numbered}
 
     def _pair(self, name: str, written: str) -> None:
         """Pairs the variables of a name, which B writes in its way: those of one range, the first

@@ -5,7 +5,7 @@ import itertools
 from typing import Any, Dict, Iterable, Iterator, List, Optional, Sequence, Set, Tuple
 
 from ..errors import UnknownName, UsageError
-from ..model.names import (RANGE, bare, fronts, full_names, hint, names_for, places_of, plain,
+from ..model.names import (bare, field_of, fronts, full_names, hint, names_for, places_of, plain,
                            range_in)
 from ..model.signals import Signal
 from ..model.values import Report
@@ -98,8 +98,7 @@ class Side:
         return {name: {self.names[at] for at in places[path]} for name, path in full.items()}
 
     def owns(self, line: str) -> List[str]:
-        """Returns the names, the longest first, that are a line or its front, without what is behind
-        a name."""
+        """Returns the names that are a line or its front, the longest first."""
         return [line[:end] for end in range(len(line), 0, -1) if line[:end] in self.chosen]
 
     def called(self, path: str, other: Optional["Side"] = None, names: Sequence[str] = ()) -> str:
@@ -192,7 +191,7 @@ def sides_of(dumps: Sequence[Source], maps: Sequence[Map], names: Sequence[str],
         side.spell([[its for its in maps if (its[0] in known) == is_known]
                     for is_known in (True, False)] if maps else [])
     one.write_as({})
-    other.write_as(_respelled({*one.spelled}, {*other.spelled}))
+    other.write_as(_respelled(one, other))
     lacking = choose((one, other), names, exceptions)
     lacking += [front for front, _ in maps if front not in one.mapped | other.mapped]
     for name in lacking:
@@ -201,15 +200,23 @@ def sides_of(dumps: Sequence[Source], maps: Sequence[Map], names: Sequence[str],
     return one, other
 
 
-def _respelled(ours: Set[str], theirs: Set[str]) -> Dict[str, str]:
-    """Returns the names of B that A writes in another way, and these: they differ only in whether a
-    range is in the name, or in how a path with escaped names is written."""
+def _respelled(one: Side, other: Side) -> Dict[str, str]:
+    """Returns the names of B that A writes in another way, and these: they differ only in whether
+    the range, which is the same, is in the name, or in how a path with escaped names is written."""
+    sides = ((one, {*one.spelled}.difference(other.spelled)),
+             (other, {*other.spelled}.difference(one.spelled)))
     loose: Dict[str, Tuple[List[str], List[str]]] = {}
-    for at, names in enumerate((ours - theirs, theirs - ours)):
+    for at, (_, names) in enumerate(sides):
         for name in names:
             loose.setdefault(plain(name), ([], []))[at].append(name)
-    return {other[0]: one[0] for one, other in loose.values() if len(one) == len(other) == 1
-            and len({its.group() for its in map(RANGE.search, one + other) if its}) < 2}
+    alike = {theirs[0]: ours[0] for ours, theirs in loose.values() if len(ours) == len(theirs) == 1}
+    names = {*alike, *alike.values()}
+    ranges: Dict[str, Set[Tuple[int, ...]]] = {}
+    for side, _ in sides if alike else ():
+        for name, its in zip(side.spelled, side.dump.declarations):
+            if name in names:
+                ranges.setdefault(plain(name), set()).add(field_of(range_in(name)) or its.declared)
+    return {theirs: ours for theirs, ours in alike.items() if len(ranges[plain(ours)] - {()}) < 2}
 
 
 def choose(sides: Sides, names: Sequence[str], exceptions: Sequence[str]) -> List[str]:
