@@ -29,6 +29,7 @@ FILES = {"a": HEADER + "#0\n0!\nr1 @\n#1\n1!\n", "b": HEADER + "#0\n0!\nr1.5 @\n
          "pair": PAIR + "$var wire 2 ! a [1:0] $end $upscope $end $enddefinitions $end\n#0\nb0 !\n",
          "named": PAIR + "$upscope $end $enddefinitions $end\n#0\nb0 !\n",
          "high": SLICE % "q[3:2]", "far": SLICE % "q [3:2]", "low": SLICE % "q [1:0]",
+         "top": "$var wire 2 ! q[1:0] $end $enddefinitions $end\n#0\nb0 !\n",
          "bit": of_one_path(("x [1]", 1)), "known": "t.q it is known\n",
          "other": HEADER.replace("module t", "module u<&"), "empty": "", "fault": HEADER + "#x",
          "binary": "".join(map(chr, range(256))) * 9}
@@ -52,6 +53,7 @@ ANSWERED = [("a a", "", 0), ("a b", LINES, 1), ("--every a b", LINES + "differs 
             ("pair named", "alone A t.a 1\n", 1), ("named pair", "alone B t.a 1\n", 1),
             ("pair bit", "alone A t.a[1:0] 1\nalone A t.a 1\nalone B t.q 1\nends 0 9\n", 1),
             ("high low", "alone A t.q[3:2] 1\nalone B t.q 1\n", 1), ("high far", "", 0),
+            ("--map=q= top top", "", 0),
             ("--map=t.a=t.x pair named", "alone A t.a[1:0] 1\n", 1),
             ("--map=t=x --map=t.c=x.d a b x.d", "", 0),
             ("--map=t=x a b x.c", "", 0), ("--map=t= a a c", "", 0),

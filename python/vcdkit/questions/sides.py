@@ -45,7 +45,8 @@ class Side:
                    or one[0] == bare(name) and one[0] in no_front]
             self.mapped.update(front for front, _ in its)
             for front, new in its[:1]:
-                name = new + name[len(front):] if new else name[len(front) + 1:] or name
+                rest = name[len(front):]
+                name = new + rest if new else rest[1:] if rest[:1] == "." else name
         return name
 
     def write_as(self, names: Dict[str, str]) -> None:
