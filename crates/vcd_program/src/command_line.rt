@@ -140,9 +140,9 @@ fn parse_and_run<P: Program, H: Host, W: Sink, E: Sink, B: BuildHasher>(
 /// returns the exit status. `host` opens the inputs, output goes to `out`, and messages go to
 /// `err`.
 ///
-/// The status is 0 if the job is done, and for help and the version; 1 for a fault of an input, a
-/// name that selects nothing, or a unit without a time scale; 2 for other arguments that are
-/// refused; 3 if an input cannot be opened, if memory runs out, or if a read or a write fails.
+/// The status is 0 for help and the version, 2 for arguments that are refused, and 3 if an input
+/// cannot be opened, if memory runs out, or if a read or a write fails. Any other status is that of
+/// the outcome of the program.
 /// Identifier codes are hashed with numbers that the hasher returns; what is written does not
 /// depend on them.
 pub fn run_program<P: Program, H: Host, W: Output, E: Sink, B: BuildHasher>(
