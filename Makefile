@@ -1,24 +1,24 @@
 # make         proves the programs and the crates that they use, builds them as ./vcdkit,
-#     ./vcdkit-compare and ./vcdkit-strobe, and runs them on a sample. An idle processor proves
-#     vcd_changes too, which `make library` needs
+#     ./vcdkit-compare and ./vcdkit-strobe, and runs them on a sample
 # make CPU=x86-64-v3    the same for newer processors, whose instructions the programs may use. On a
 #     processor without them, they say so and end
 # make trial   builds the programs as ./vcdkit-unproved, .., for trying code. Nothing of them is
 #     proved: six CPU minutes
-# make test    the gate: all proofs, the must-fail edits, the tests, and the programs as two
-#     compilers build them; then, with these programs, docs-check, completions-check, extras-check
-#     and hostile-check: 50 to 90 minutes
+# make test    the gate: docs-check, completions-check, extras-check and hostile-check with the
+#     programs that `make` built, all proofs that `make` did not do, the tests of the crates, the
+#     programs as two compilers build them, and the must-fail edits: 30 to 60 minutes after make
 # make hostile runs the programs while memory, reads and writes fail, with closed streams, and on
 #     dumps that are truncated, crafted or random, and asks the package and the scripts about an
 #     eighth of all small dumps, and what a second reader knows: 30 to 60 minutes
 # make hostile-check    is the part of it that takes ten CPU minutes, always with the same seeds
 # make docs-check runs the commands on the pages with ./vcdkit, and compares what they print with
 #     the pages. It also looks for links that lead nowhere: seconds
-# make static  links ./vcdkit-static, .., which need no shared library: seconds after make
+# make static  links ./vcdkit-static, .., which need no shared library: seconds after make, or some
+#     minutes if make proved nothing, because an earlier run did
 # make dist    packs them in dist/ as a tarball, Debian packages and a wheel, with documents, man
 #     page, completions, scripts and the Python package, and with ./libvcdkit.so if it is there
 # make library builds ./libvcdkit.a, ./libvcdkit.so and ./vcdkit.pc, for callers in C and Python:
-#     two to five minutes after make
+#     five to ten minutes after make
 # make dist-check          tries what is in dist/ without the kit, and packs it again, which must
 #     give the same bytes: a minute
 # make clean   removes what was built, and what the proofs kept
@@ -34,7 +34,7 @@
 sample := samples/counter.vcd
 programs := vcdkit vcdkit-compare vcdkit-strobe
 
-.PHONY: all trial test hostile hostile-check docs-check clean $(programs) toolchain \
+.PHONY: all proved trial test hostile hostile-check docs-check clean toolchain \
     sources static library dist dist-check install uninstall completions-check extras-check
 
 # The processor to build for. If it is empty, any x86-64 with SSE4.2 runs the program.
@@ -57,27 +57,16 @@ documents := $(DESTDIR)$(PREFIX)/share/doc/vcdkit
 library := $(DESTDIR)$(PREFIX)/lib
 headers := $(DESTDIR)$(PREFIX)/include
 
-all: $(programs)
+all: proved
 	./vcdkit check < $(sample)
+	./vcdkit-compare count0=lowest < $(sample) > /dev/null
+	./vcdkit-strobe --rise clk count0 < $(sample) > /dev/null
 	@echo "Built: $(addprefix ./,$(programs)), which need the C library of this machine." \
 	    "Next: make install, or make static, make dist; ./vcdkit --help"
 
-# prove.py starts a new log and shows the progress. If nothing changed, the program is only run.
-vcdkit: toolchain
-	@rm -f make.log
-	tools/prove.py vcdkit_main run $(addprefix --cpu=,$(CPU)) -- check < $(sample)
-	cp crates/vcdkit_main/out/vcdkit_main $@
-
-# It comes after vcdkit, so that no crate is proved twice.
-vcdkit-compare: vcdkit
-	tools/prove.py vcdkit_compare_main run $(addprefix --cpu=,$(CPU)) -- count0=lowest \
-	    < $(sample)
-	cp crates/vcdkit_compare_main/out/vcdkit_compare_main $@
-
-vcdkit-strobe: vcdkit-compare
-	tools/prove.py vcdkit_strobe_main run $(addprefix --cpu=,$(CPU)) -- --rise clk count0 \
-	    < $(sample)
-	cp crates/vcdkit_strobe_main/out/vcdkit_strobe_main $@
+# If nothing changed, this does nothing.
+proved: toolchain
+	tools/prove.py programs $(addprefix --cpu=,$(CPU))
 
 trial: toolchain
 	tools/unproved.py
@@ -85,9 +74,9 @@ trial: toolchain
 	tools/unproved.py . vcdkit_strobe_main
 
 test: toolchain
-	.ci/run
+	tools/gate.py
 
-hostile: $(programs)
+hostile: proved
 	hostile/run.sh all
 
 # These use the programs that are there, and build nothing.
@@ -99,8 +88,9 @@ docs-check:
 	test ! -d crates || tools/check.py docs/PROOFS.md
 	tools/links.py .
 
-# These two link and pack what `make` built. They prove nothing.
+# These two link and pack what `make` built. If rt kept only the programs, the first compiles them.
 static: sources
+	tools/prove.py objects
 	packaging/static.sh vcdkit-static vcdkit_main
 	packaging/static.sh vcdkit-compare-static vcdkit_compare_main
 	packaging/static.sh vcdkit-strobe-static vcdkit_strobe_main
@@ -110,7 +100,7 @@ dist: static
 
 # A static library for C, which is proved like the program, and a shared one of the same code.
 library: toolchain
-	tools/prove.py vcdkit_c lib
+	tools/prove.py library
 	PREFIX="$(PREFIX)" packaging/library.sh crates/vcdkit_c/out/libvcdkit_c.a .
 
 dist-check:

@@ -2,7 +2,8 @@
 """costs.py COMMAND..: runs a command, such as `rt ci` or .ci/run, and then writes to standard error
 how much CPU time (user and system) its proofs took, as rows of a table for CONTRIBUTING: for each
 crate how many lines of code and must-fail edits it has, and the time of its proof (with what builds
-the program), of its tests, and of its edits together, to which a second proof of the crate belongs.
+the program), of its tests, and of its edits together. To these belongs a second proof of the crate
+if `rt ci` tries them, and of the functions that they call if tools/try_edits.py does.
 
 It looks at the processes of the prover ten times a second, so a row can lack a tenth of a second
 for each of its processes. What other runs on the machine prove meanwhile counts too. The exit
@@ -24,15 +25,17 @@ def words_of(process):
 
 
 def seconds_of(process):
-    """Returns the CPU time of a process, with that of its children that have ended."""
+    """Returns the CPU time of a process without that of its children: a proof over kept work has
+    copies of itself do the work, which are processes of the prover too."""
     with open("/proc/%s/stat" % process, encoding="utf-8") as file:
-        return sum(map(int, file.read().rpartition(")")[2].split()[11:15])) / TICKS
+        return sum(map(int, file.read().rpartition(")")[2].split()[11:13])) / TICKS
 
 
 def kind_of(process, words):
     if "--test" in words:
         return KINDS[1]
-    return KINDS[2 if "/rt-edit-" in os.readlink("/proc/%s/cwd" % process) else 0]
+    folder = os.readlink("/proc/%s/cwd" % process)
+    return KINDS[2 if "/rt-edit-" in folder or "/vcdkit-edits-" in folder else 0]
 
 
 def size_of(crate):
