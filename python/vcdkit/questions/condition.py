@@ -158,14 +158,16 @@ def _compare(name: Node, number: Node, sign: str) -> None:
     has_x = number.sign in ("number", "literal") and isinstance(value, str)
     if has_x and sign in ("==", *MIRRORED):
         raise bad("nothing is %s digits with x or z%s" % (sign, ": write ===" * (sign == "==")))
-    if number.sign != "number" or name.sign != "name" or not kind.width:
+    if number.sign not in ("number", "literal") or name.sign != "name" or not kind.width:
         return
     its = name.value.text
-    if has_x and len(value) > kind.width:
+    if has_x and number.sign == "number" and len(value) > kind.width:
         raise bad("%s has more digits than the %d of %s" % (value, kind.width, its))
     if has_x:
         return
-    if value < 0:
+    if number.sign == "literal" and not (kind.sign and number.kind.sign):  # neither has a sign
+        value, kind = value & number.kind.mask, kind_of(kind.width)
+    elif number.sign == "number" and value < 0:
         kind = name.kind = kind_of(kind.width, True)
     least, greatest = -kind.sign, kind.mask ^ kind.sign
     if sign in ("==", "!=", "inside") and value % 1:
