@@ -56,9 +56,9 @@ SHARED = {
                     help="also use the names in a list or a GTKWave save file"),
     "--four-state": dict(action="store_true",
                          help="convert VHDL's nine states, as vcdkit-four-state does"),
-    "--waive": dict(metavar="FILE", help="leave out values of the signals in this file, of which "
-                    "each line is a name and, behind it, a reason; a warning says which lines were "
-                    "not needed"),
+    "--waive": dict(metavar="FILE", help="ignore values of the signals in this file, of which each "
+                    "line is a name, followed by a reason; a warning says which lines were not "
+                    "needed"),
     "--from": dict(dest="begin", default=FIRST, metavar="TIME", help="the first time [default: 0]"),
     "--to": dict(dest="end", default=LAST, metavar="TIME",
                  help="the last time [default: the end of the dump]"),
@@ -124,7 +124,7 @@ class Parser(argparse.ArgumentParser):
 
     def many(self, junit: str) -> "Parser":
         """Adds --jobs and --junit, of a command that takes many dumps."""
-        self.add_argument("--jobs", type=natural, metavar="N", help="how many dumps to take at a "
+        self.add_argument("--jobs", type=natural, metavar="N", help="how many dumps to read at a "
                           "time [default: the number of processors]")
         self.add_argument("--junit", metavar="FILE", help="write a JUnit report" + junit)
         return self

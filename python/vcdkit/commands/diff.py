@@ -1,6 +1,6 @@
 """Finds the first difference between two dumps and what only one of them has
 
-Each line says what differs, and then has both sides, A first. `timescale`, `size` and `alone` (a
+Each line says what differs, and then shows both sides, A first. `timescale`, `size` and `alone` (a
 variable or scope that only one of them has, and how many variables that is) are about headers,
 `differs` is the first time at which a variable differs, as a time of A (-: no value yet), and
 `ends` and `edges` are about the length.
@@ -140,8 +140,8 @@ def words_of(words: List[str]) -> argparse.Namespace:
                          default=0.0, help="let real numbers differ by T, or T times the larger")
     options.add_argument("--x-matches", action="store_true",
                          help="let a digit that is x or z match any digit")
-    options.add_argument("--within", metavar="TIME", help="leave out differences that last no "
-                         "longer than this; not with a clock")
+    options.add_argument("--within", metavar="TIME", help="ignore differences that last at "
+                         "most this long; not with a clock")
     options.add("--waive").window()
     options.clock("compare at the %s edges of this signal", is_one=True)
     options.add_argument("--if", dest="condition", metavar="CONDITION",
@@ -156,9 +156,10 @@ def words_of(words: List[str]) -> argparse.Namespace:
                          help="if values differ, write both dumps from TIME before the first "
                          "difference to TIME after it")
     options.add_argument("--into", metavar="DIRECTORY",
-                         help="the directory of these files [default: .]")
+                         help="the directory for these files, which is created if it is missing "
+                         "[default: .]")
     options.add_argument("--html", metavar="FILE",
-                         help="if values differ, write a page of the waveforms")
+                         help="if values differ, write an HTML page of the waveforms")
     options.form().unit().json().add("--four-state")
     options.add_argument("one", metavar="A", help="the first dump")
     options.add_argument("other", metavar="B", help="the second dump")

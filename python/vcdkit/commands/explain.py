@@ -10,7 +10,7 @@ to standard error.
 
 With several FILEs, or a directory, which stands for all dumps in it and below it (.vcd and .fst,
 also compressed), there is one line for each dump: its end, or its fault and the cause. The last
-line counts them, and the exit status is the highest of all.
+line counts the dumps, and the exit status is the highest status of any dump.
 
 examples:
   vcdkit-explain --salvage good.vcd sim.vcd

@@ -1,14 +1,16 @@
 """Writes the values of several signals as CSV, with a column for each
 
 There is a row for each change and for --from (if a signal has a value by then), with the values at
-the end of the time; for each edge of a clock (--rise, --fall), with those just before it; or for
-each time of --at. Events have no column. `-` means no value yet; with --hex, X is a mixture with x
-or z. For pandas, use --decimal or dtype=str.
+the end of that time. With --rise or --fall, there is a row for each edge of the clock, with the
+values just before it; with --at, one for each of the times. Events have no column. `-` means no
+value yet. With --hex, X is a digit that mixes x or z with other bits. For pandas, use --decimal or
+dtype=str.
 
-With a --channel 'NAME: CONDITION: SIGNAL ..' for each channel of a bus, row n has the n-th edge at
-which the condition of each holds, the signals, and how many edges there are from one to the next
-(below 0 if that comes first). Cells are empty if there is no n-th edge. NAME@CLOCK has the rising
-edges of a clock of its own, NAME@!CLOCK the falling ones; edges are those of the second one.
+Give a --channel 'NAME: CONDITION: SIGNAL ..' for each channel of a bus. Row n then has, for each of
+them, the n-th edge at which its condition holds and its signals there, and how many edges lie
+between one channel and the next (below 0 if the next one comes first). Cells are empty if there is
+no n-th edge. A channel NAME@CLOCK has the rising edges of this clock, NAME@!CLOCK the falling ones;
+the edges between two channels are those of the second one's clock.
 
 examples:
   vcdkit-table --rise tb.clk --if 'tb.valid & tb.ready' sim.vcd tb.address tb.data

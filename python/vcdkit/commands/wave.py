@@ -3,7 +3,7 @@
 A one-bit signal is a line, a vector is a lane with its values, a real number is a curve between its
 smallest and its largest value, and an event is a tick. x is red, and z is orange. A grey block
 stands for changes that are closer together than the picture can show; it is red where the signal is
-x at some time. The scope that all names have in common stands above them.
+x at some time. The scope that all names have in common is shown above them.
 
 With --html, it writes a page instead: one file that needs no network, in which you can zoom,
 search, and read the values at a cursor. Press `?` to list its keys. --light and the number format

@@ -71,8 +71,8 @@ def words_of(words: List[str]) -> argparse.Namespace:
     options.add_argument("--rules", metavar="FILE", help="evaluate the rules in this file: a line "
                          "is `name: condition` (it has to hold at some time), `name: never ..`, "
                          "`name: always ..`, or `name: each req -> ack within N`, which gives each "
-                         "request an answer of its own. A name@CLOCK has the rising edges of a "
-                         "clock of its own, name@!CLOCK the falling ones")
+                         "request an answer of its own. A rule called name@CLOCK is evaluated at "
+                         "the rising edges of this clock, name@!CLOCK at the falling ones")
     options.many(", with a test for each rule")
     options.clock("evaluate at the %s edges of this signal")
     options.add_argument("--every", action="store_true", help="list each edge at which it holds, "
