@@ -33,8 +33,9 @@
 
 sample := samples/counter.vcd
 programs := vcdkit vcdkit-compare vcdkit-strobe
+unproved := $(addsuffix -unproved,$(programs))
 
-.PHONY: all proved trial test hostile hostile-check docs-check clean toolchain \
+.PHONY: all proved trial $(unproved) test hostile hostile-check docs-check clean toolchain \
     sources static library dist dist-check install uninstall completions-check extras-check
 
 # The processor to build for. If it is empty, any x86-64 with SSE4.2 runs the program.
@@ -68,10 +69,12 @@ all: proved
 proved: toolchain
 	tools/prove.py programs $(addprefix --cpu=,$(CPU))
 
+# They share nothing, so they are built side by side.
 trial: toolchain
-	tools/unproved.py
-	tools/unproved.py . vcdkit_compare_main
-	tools/unproved.py . vcdkit_strobe_main
+	$(MAKE) --no-print-directory -j 3 $(unproved)
+
+$(unproved): %-unproved:
+	tools/unproved.py . $(subst -,_,$*)_main
 
 test: toolchain
 	tools/gate.py
@@ -107,8 +110,8 @@ dist-check:
 	packaging/try_dist.sh dist
 
 clean:
-	rm -rf $(foreach name,$(programs),$(name) $(name)-static $(name)-unproved) \
-	    libvcdkit.* vcdkit.pc dist make.log crates/*/out
+	rm -rf $(programs) $(addsuffix -static,$(programs)) $(unproved) libvcdkit.* vcdkit.pc dist \
+	    make.log crates/*/out
 
 # A tarball contains the built programs, and no crates.
 sources:
