@@ -3,33 +3,33 @@
 # make CPU=x86-64-v3    the same for newer processors, whose instructions the programs may use. On a
 #     processor without them, they say so and end
 # make trial   builds the programs as ./vcdkit-unproved, .., for trying code. Nothing of them is
-#     proved: six CPU minutes
+#     proved
 # make test    the gate: docs-check, completions-check, extras-check and hostile-check with the
 #     programs that `make` built, all proofs that `make` did not do, the tests of the crates, the
-#     programs as two compilers build them, and the must-fail edits: 30 to 60 minutes after make
+#     programs as two compilers build them, and the must-fail edits
 # make hostile runs the programs while memory, reads and writes fail, with closed streams, and on
 #     dumps that are truncated, crafted or random, and asks the package and the scripts about an
-#     eighth of all small dumps, and what a second reader knows: 30 to 60 minutes
-# make hostile-check    is the part of it that takes ten CPU minutes, always with the same seeds
+#     eighth of all small dumps, and what a second reader knows
+# make hostile-check    is a part of it, always with the same seeds
 # make docs-check runs the commands on the pages with ./vcdkit, and compares what they print with
-#     the pages. It also looks for links that lead nowhere: seconds
-# make static  links ./vcdkit-static, .., which need no shared library: seconds after make, or some
-#     minutes if make proved nothing, because an earlier run did
+#     the pages. It also looks for links that lead nowhere
+# make static  links ./vcdkit-static, .., which need no shared library. If `make` proved nothing,
+#     because an earlier run did, it compiles the programs again
 # make dist    packs them in dist/ as a tarball, Debian packages and a wheel, with documents, man
 #     page, completions, scripts and the Python package, and with ./libvcdkit.so if it is there
-# make library builds ./libvcdkit.a, ./libvcdkit.so and ./vcdkit.pc, for callers in C and Python:
-#     five to ten minutes after make
+# make library builds ./libvcdkit.a, ./libvcdkit.so and ./vcdkit.pc, for callers in C and Python
 # make dist-check          tries what is in dist/ without the kit, and packs it again, which must
-#     give the same bytes: a minute
+#     give the same bytes
 # make clean   removes what was built, and what the proofs kept
 # make install [PREFIX=/usr/local] [DESTDIR=]    installs the programs that are there, completions,
 #     scripts, man pages, the Python package (PYTHON_FOLDER=) and documents, and the library if it
 #     is there
 # make uninstall [PREFIX=..] [DESTDIR=..]        removes them
-# make completions-check    compares the completions and the man pages with the help of the
-#     programs: a second
+# make completions-check    compares the completions and the man pages with the help of the programs
 # make extras-check         tests extras/ and python/ with ./vcdkit, also on thousands of random
-#     dumps that other readers read as well: two minutes
+#     dumps that other readers read as well
+#
+# CONTRIBUTING.md, "What the gate costs", says how long they take.
 
 sample := samples/counter.vcd
 programs := vcdkit vcdkit-compare vcdkit-strobe
@@ -67,7 +67,7 @@ all: proved
 
 # If nothing changed, this does nothing.
 proved: toolchain
-	tools/prove.py programs $(addprefix --cpu=,$(CPU))
+	tools/prove.py programs $(CPU)
 
 # They share nothing, so they are built side by side.
 trial: toolchain

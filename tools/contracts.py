@@ -4,8 +4,8 @@ clauses of their contracts.
 contracts.py PAGE.md..: looks for what the tables of these pages name.
 
 In a table with the columns "function" and "clause", each function has to be in the crate before its
-name (`CRATE::FUNCTION`), or else in that of the heading, and has to have one of the clauses (one of
-those that are joined by "at the call of"). Each name in the column "clause" has to be one of these:
+name (`CRATE::FUNCTION`), or else in that of the heading, and has to have one of the clauses. Each
+name in the column "clause" has to be one of these:
 
 - a clause of a function of the row (`ensures` stands for the clause that has no name);
 - a definition that such a clause cites, itself or by another definition;
@@ -27,7 +27,7 @@ NAME = re.compile(r"`([^`]+)`")
 FUNCTION = re.compile(r'^([ \t]*)(?:pub(?:\(\w+\))? )?(?:const |extern "C" )?fn (\w+)', re.M)
 MEMBER = re.compile(r"^[ \t]+ghost (\w+)\s*[:=]\s*\{", re.M)
 OWNER = re.compile(r"^(?:pub(?:\(\w+\))? )?(?:impl|trait|struct|enum)\b(?:<[^{]*?>(?= ))?"
-                   r"(?:([^{]*) for)? ([^{]*)", re.M)
+                   r"(?:([^{;]*) for)? ([^{;]*)", re.M)
 CLAUSE = re.compile(r"\s*(requires|ensures)(?:\s+(\w+))?\s*\{")
 DEFINITION = re.compile(r"^ *(?:abbrev pub|unfoldable pub|pub record|pub data) (\w+)", re.M)
 WORD = re.compile(r"\w+")
@@ -38,8 +38,8 @@ PART = re.compile(r"((?:`\w+`(?:, | and )?)+) of `(\w+)`")
 
 class Function(NamedTuple):
     """A function of a crate, or a ghost member of a type or trait (without a name): its file, the
-    type or trait that it belongs to, the trait that it implements, and its clauses, each with its
-    kind, its name and its text."""
+    type or trait that it belongs to, the trait that it implements, as written, and its clauses,
+    each with its kind, its name and its text."""
     file: str
     owner: str
     trait: str
@@ -87,8 +87,7 @@ def clauses_at(text: str, start: int) -> "List[Tuple[str, str, str]]":
 def functions_in(path: Path) -> "Iterator[Function]":
     """Yields the functions and ghost members of a file."""
     text, file = COMMENT.sub("", path.read_text(encoding="utf-8")), str(path.relative_to(CRATES))
-    owners = [(found.start(), WORD.search(found[2])[0], WORD.search(found[1] or " 0")[0])
-              for found in OWNER.finditer(text)]
+    owners = [(it.start(), WORD.search(it[2])[0], it[1] or "") for it in OWNER.finditer(text)]
 
     def owner_at(start: int) -> "Tuple[str, str]":
         return ([(0, "", "")] + [owner for owner in owners if owner[0] < start])[-1][1:]
@@ -141,7 +140,7 @@ class Sources:
         found = [one for one in among if one.name == last and owner in ("", one.owner)]
         found += [one for each in found if not each.clauses and each.trait
                   for all_of in self.functions.values() for one in all_of
-                  if one.owner == each.trait and one.name == last]
+                  if one.owner == WORD.search(each.trait)[0] and one.name == last]
         return found or [one for one in among if one.owner == name]
 
     def cited(self, functions: "List[Function]") -> "Dict[str, str]":
@@ -207,7 +206,7 @@ class Promises:
                 self.cited = self.sources.cited(self.functions)
             faults = list(self._clause_faults(cells["clause"]))
             clauses = set(NAME.findall(PART.sub("", cells["clause"])))
-            if clauses and not faults and "at the call of" not in cells["function"]:
+            if clauses and not faults:
                 faults = ["`%s` has none of these clauses" % name for name in found
                           if found[name] and not clauses & own_clauses(found[name])]
             yield from faults

@@ -1,19 +1,17 @@
 #!/usr/bin/env python3
-"""costs.py COMMAND..: runs a command, such as `rt ci` or .ci/run, and then writes to standard error
-how much CPU time (user and system) its proofs took, as rows of a table for CONTRIBUTING: for each
-crate how many lines of code and must-fail edits it has, and the time of its proof (with what builds
-the program), of its tests, and of its edits together. To these belongs a second proof of the crate
-if `rt ci` tries them, and of the functions that they call if tools/try_edits.py does.
+"""costs.py COMMAND..: runs a command, such as `make` or .ci/run, and then writes to standard error
+how much CPU time (user and system) its proofs took, in seconds, as rows of a table: for each crate
+its proof (with what builds the program), its tests, and its must-fail edits together. To these
+belongs a second proof of the crate if `rt ci` tries them, and of the functions that they call if
+tools/try_edits.py does. The last line has the minutes of the whole command, tests included.
 
 It looks at the processes of the prover ten times a second, so a row can lack a tenth of a second
-for each of its processes. What other runs on the machine prove meanwhile counts too. The exit
-status is that of the command."""
+for each of them. Other proofs on the machine count too. The exit status is the command's."""
 import collections
 import os
 import subprocess
 import sys
 import time
-from pathlib import Path
 
 TICKS = os.sysconf("SC_CLK_TCK")
 KINDS = "proof", "proof of tests", "proofs with edits"
@@ -38,14 +36,6 @@ def kind_of(process, words):
     return KINDS[2 if "/rt-edit-" in folder or "/vcdkit-edits-" in folder else 0]
 
 
-def size_of(crate):
-    """Returns how many lines of code and how many must-fail edits a crate has."""
-    folder = Path(__file__).resolve().parent.parent / "crates" / crate
-    texts = [file.read_text(encoding="utf-8") for file in folder.glob("src/**/*.rt")]
-    lines = sum(bool(line.strip()) for text in texts for line in text.splitlines())
-    return lines, len(list(folder.glob("must-fail/*.edit")))
-
-
 def sample(found):
     """Notes, for each process of the prover, its crate, its kind and its CPU time so far."""
     for process in filter(str.isdigit, os.listdir("/proc")):
@@ -59,7 +49,7 @@ def sample(found):
 
 
 def main():
-    found = {}
+    found, began = {}, time.monotonic()
     command = subprocess.Popen(sys.argv[1:])
     while command.poll() is None:
         sample(found)
@@ -68,13 +58,14 @@ def main():
     for (_, crate, kind), seconds in found.items():
         costs[crate][kind] += seconds
         costs["all"][kind] += seconds
-    sizes = {crate: size_of(crate) for crate in costs}
-    sizes["all"] = tuple(map(sum, zip(*sizes.values())))
-    print("| crate | lines | edits | %s |\n%s" % (" | ".join(KINDS), "|---" * 6 + "|"),
-          file=sys.stderr)
+    print("| crate | %s |\n%s" % (" | ".join(KINDS), "|---" * 4 + "|"), file=sys.stderr)
     for crate, row in sorted(costs.items(), key=lambda row: -sum(row[1].values())):
-        cells = [crate, *sizes[crate], *("%.0f s" % row[kind] for kind in KINDS)]
-        print("| %s |" % " | ".join(map(str, cells)), file=sys.stderr)
+        print("| %s |" % " | ".join([crate, *("%.0f" % row[kind] for kind in KINDS)]),
+              file=sys.stderr)
+    spent = os.times()
+    print("the whole command: %.1f CPU minutes, %.1f by the clock" % (
+        (spent.children_user + spent.children_system) / 60, (time.monotonic() - began) / 60),
+        file=sys.stderr)
     return command.returncode
 
 

@@ -1,8 +1,9 @@
 #!/usr/bin/env python3
-"""prove.py programs [--cpu=CPU]: proves the three programs and the crates that they use, and makes
+"""prove.py programs [CPU]: proves the three programs and the crates that they use, and makes
 ./vcdkit, ./vcdkit-compare and ./vcdkit-strobe of them, for the processors CPU if one is named.
 prove.py objects: sees that their object files, of which `make static` links, are there too.
 prove.py library: proves and makes crates/vcdkit_c/out/libvcdkit_c.a.
+prove.py lanes: prints how many proofs run at a time.
 
 `rt ci` does the proofs, in a copy of these crates in the temporary directory (TMPDIR). So what they
 prove is kept on this machine, and `make test` finds it (CONTRIBUTING.md, "What the gate costs").
@@ -10,8 +11,8 @@ For another processor and for the library, and where rt kept a program without i
 prover then proves and builds the last crate again.
 
 What `rt ci` prints goes to the file make.log in the top directory. The screen shows a line for each
-crate: 'crate k of n, NAME: so many functions proved', or that it is kept from an earlier run. If a
-crate is not proved, it shows its last lines. The exit status is that of rt or of the prover."""
+crate: 'crate k of n, NAME: so many functions proved', or that it is kept from an earlier run. It
+also shows the last lines of what failed. The exit status is 0 if everything is proved and built."""
 import collections
 import contextlib
 import os
@@ -27,12 +28,15 @@ TOP = os.path.dirname(os.path.dirname(os.path.abspath(__file__)))
 KIT = os.path.dirname(os.path.dirname(os.path.realpath(shutil.which("rt") or "rt")))
 MAINS = {"vcdkit": "vcdkit_main", "vcdkit-compare": "vcdkit_compare_main",
          "vcdkit-strobe": "vcdkit_strobe_main"}
-LIBRARY, LAST_LINES, MEMORY_EACH = "vcdkit_c", 20, 4_000_000_000
-LEFT_OUT = re.compile(r"\.git|crates/[^/]+/out")
-IS_EDIT = re.compile(r"crates/[^/]+/must-fail/[^/]+\.edit")
+LIBRARY, LAST_LINES, MEMORY_EACH = "vcdkit_c", 30, 4_000_000_000
+LEFT_OUT = re.compile(r"\.git|crates/[^/]+/(out|must-fail/[^/]+\.edit)")
 IS_READ = re.compile(r"crates/|(crates\.txt|HANDLES)\Z")
 VERDICT = re.compile(r"logic=proved functions=(\d+)")
-DONE = re.compile(r"rt: (\w+) (proved|NOT PROVED|is kept)\b")
+DONE = re.compile(r"rt: (\w+) (proved|is kept)\b")
+FAULT = re.compile(r"rt: .*\b(NOT PROVED$|its tests FAILED|the program (had|ended|was|wrote)\b)")
+# What the prover prints that does not say why a crate is not proved.
+NOISE = re.compile(r"fn \S+: proved|(statements|library|empty contracts:|logic) ")
+COUNTS = re.compile(r"(\d+) passed, (\d+) failed$")
 LOG = os.path.join(TOP, "make.log")
 # Says for which processor the programs in the top directory were built.
 STAMP = os.path.join(TOP, "crates/vcdkit_main/out/built")
@@ -69,89 +73,83 @@ def lanes():
                min(len(os.sched_getaffinity(0)), available // MEMORY_EACH))
 
 
-def copy_to(top, crates=None):
-    """Makes a repository of the files of this one as they stand, without the must-fail edits
-    (plain files crates/*/must-fail/*.edit) and without what was built (crates/*/out). What rt
-    refuses, such as links and stray files, it refuses there too. Of files outside of the crates it
-    reads only the names, so the copies of these are empty. If crates are named, they are copied
-    alone, with their lines of crates.txt."""
-    def left_out(at, names):
-        inside = "" if at == TOP else os.path.relpath(at, TOP) + "/"
-        keep = {"": {"crates", "crates.txt", "HANDLES"}, "crates/": crates}.get(inside, names)
-        return [it for it in names if LEFT_OUT.fullmatch(inside + it)
-                or IS_EDIT.fullmatch(inside + it) and not os.path.islink(os.path.join(at, it))
-                or crates is not None and it not in keep]
-
-    def copy(one, other):
-        if not os.path.isfile(one):
-            os.mkfifo(other)
-        elif IS_READ.match(os.path.relpath(one, TOP)):
-            shutil.copyfile(one, other)
-        else:
-            open(other, "wb").close()
-
-    shutil.copytree(TOP, top, symlinks=True, ignore=left_out, copy_function=copy)
-    os.mkdir(os.path.join(top, ".git"))
-    if crates is not None:
-        with open(os.path.join(top, "crates.txt"), "w", encoding="utf-8") as lines:
-            lines.writelines(line for name, line in listed().items() if name in crates)
-
-
 @contextlib.contextmanager
 def copied(crates=None):
-    """Gives a copy of the repository, or of these crates and those that they use, which is removed
-    at the end."""
+    """Gives a repository with the files of this one as they are now, or, if crates are named, with
+    these crates and those that they use. The must-fail edits and what was built are left out.
+    `rt ci` refuses there what it refuses here, such as links and stray files. Of files outside of
+    the crates it reads only the names, so these are empty. The repository is removed at the end."""
+    names = None if crates is None else with_below(crates)
+
+    def left_out(at, found):
+        inside = "" if at == TOP else os.path.relpath(at, TOP) + "/"
+        wanted = {"": {"crates", "crates.txt", "HANDLES"}, "crates/": names}.get(inside, found)
+        return [it for it in found if names is not None and it not in wanted
+                or LEFT_OUT.fullmatch(inside + it) and not os.path.islink(os.path.join(at, it))]
+
+    def copy(one, other):
+        is_read = IS_READ.match(os.path.relpath(one, TOP))
+        shutil.copyfile(one if is_read else os.devnull, other)
+
     with tempfile.TemporaryDirectory(prefix="vcdkit-proofs-") as room:
         top = os.path.join(os.path.realpath(room), "copy")
-        copy_to(top, None if crates is None else with_below(crates))
+        shutil.copytree(TOP, top, symlinks=True, ignore=left_out, copy_function=copy)
+        os.mkdir(os.path.join(top, ".git"))
+        if names is not None:
+            with open(os.path.join(top, "crates.txt"), "w", encoding="utf-8") as lines:
+                lines.writelines(line for name, line in listed().items() if name in names)
         yield top
 
 
-def rt_ci(top, take, flags=()):
-    """Runs `rt ci` in a copy, and calls `take` with each line that it prints, in which the paths
-    are those of this tree. Returns its status."""
-    rt = subprocess.Popen(["rt", "ci", *flags], cwd=top, stdin=subprocess.DEVNULL,
-                          stdout=subprocess.PIPE, stderr=subprocess.STDOUT, encoding="utf-8",
-                          errors="replace", env={**os.environ, "RT_JOBS": str(lanes())})
-    try:
-        for line in rt.stdout:
-            take(line.replace(top, TOP))
-    except BaseException:
-        rt.terminate()
-        raise
-    finally:
-        rt.wait()
-    return rt.returncode if rt.returncode >= 0 else 128 - rt.returncode
+class Progress:
+    """Shows how far a run of `rt ci` is, and keeps its last lines."""
 
+    def __init__(self, crates):
+        self.crates, self.done, self.began = crates, 0, time.monotonic()
+        self.last = collections.deque(maxlen=LAST_LINES)
 
-def proved(top):
-    """Proves the crates of a copy, shows a line for each, and returns the status of `rt ci`."""
-    began, crates, done = time.monotonic(), len(listed(top)), []
-    last = collections.deque(maxlen=LAST_LINES)
-
-    def take(line):
-        log.write(line)
-        log.flush()
+    def take(self, line):
         if line.startswith("== "):
-            last.clear()
-        last.append(line)
+            self.last.clear()
+        if not NOISE.match(line):
+            self.last.append(line)
         end = DONE.match(line)
-        if end and end[2] == "NOT PROVED":
-            print("%s is not proved. Its last lines in make.log:\n%s" % (end[1], "".join(last)),
-                  end="", flush=True)
-        elif end:
-            done.append(end[1])
-            functions = next(filter(None, map(VERDICT.match, reversed(last))), "??")[1]
-            how = "%s functions proved" % functions if end[2] == "proved" else "kept"
+        if end:
+            self.done += 1
+            functions = next(filter(None, map(VERDICT.match, reversed(self.last))), "??")[1]
+            how = "kept" if end[2] == "is kept" else functions + " functions proved"
             print("crate %d of %d, %s: %s, after %.1f minutes" % (
-                len(done), crates, end[1], how, (time.monotonic() - began) / 60), flush=True)
+                self.done, self.crates, end[1], how, (time.monotonic() - self.began) / 60),
+                flush=True)
+        elif FAULT.match(line):
+            self.show_last()
 
-    with open(LOG, "w", encoding="utf-8") as log:
-        status = rt_ci(top, take)
-    if status:
-        print("rt ci ended with status %d. Its last lines in make.log:\n%s"
-              % (status, "".join(last)), end="")
-    return status
+    def show_last(self):
+        print("The last lines in make.log:\n%s" % "".join(self.last), end="", flush=True)
+        self.last.clear()
+
+
+def rt_ci(top):
+    """Runs `rt ci` in a copy, and returns how many passed and how many failed. It prints a line for
+    each crate, and the last lines of what failed. In the log, the paths are those of this tree."""
+    progress = Progress(len(listed(top)))
+    with open(LOG, "w", encoding="utf-8") as log, subprocess.Popen(
+            ["rt", "ci"], cwd=top, stdin=subprocess.DEVNULL, stdout=subprocess.PIPE,
+            stderr=subprocess.STDOUT, encoding="utf-8", errors="replace",
+            env={**os.environ, "RT_JOBS": str(lanes())}) as rt:
+        try:
+            for line in rt.stdout:
+                log.write(line.replace(top, TOP))
+                log.flush()
+                progress.take(line.replace(top, TOP))
+        except BaseException:
+            rt.terminate()
+            raise
+    counts = COUNTS.match(progress.last[-1] if progress.last else "")
+    if rt.returncode:
+        progress.show_last()
+    passed, failed = map(int, counts.groups()) if counts else (0, 1)
+    return passed, max(failed, int(rt.returncode != 0))
 
 
 def words_of(top, crate):
@@ -186,21 +184,18 @@ def built(top, crate, to, cpu=""):
 
 
 def take(top, name, to=None):
-    """Takes a file of a copy to its place in this tree, or to another one. If the copy has no such
-    file, there is none in this tree either."""
+    """Takes a file of a copy, if it is there, to its place in this tree, or to another one."""
     to = os.path.join(TOP, to or name)
-    if os.path.isfile(os.path.join(top, name)):
-        os.makedirs(os.path.dirname(to), exist_ok=True)
-        shutil.copy2(os.path.join(top, name), to + ".new")
-        os.utime(to + ".new")
-        os.replace(to + ".new", to)
-    elif os.path.isfile(to):
+    os.makedirs(os.path.dirname(to), exist_ok=True)
+    if os.path.lexists(to):
         os.remove(to)
+    if os.path.isfile(os.path.join(top, name)):
+        shutil.copy(os.path.join(top, name), to)
 
 
 def take_programs(top, cpu="", has_objects=False):
-    """Takes the programs that `rt ci` passed in a copy, with their object files if there are any
-    or they are wanted, and returns the status."""
+    """Takes the programs that `rt ci` passed in a copy, with their object files if they are there
+    or wanted, and returns the status."""
     for name, crate in MAINS.items():
         made = "crates/%s/out/%s" % (crate, crate)
         if cpu or has_objects and not os.path.isfile(os.path.join(top, made + ".o")):
@@ -209,7 +204,6 @@ def take_programs(top, cpu="", has_objects=False):
                 return status
         take(top, made + ".o")
         take(top, made, name)
-    os.makedirs(os.path.dirname(STAMP), exist_ok=True)
     with open(STAMP, "w", encoding="utf-8") as stamp:
         stamp.write(cpu)
     return 0
@@ -223,8 +217,7 @@ def is_fresh(cpu="", has_objects=False):
         files += [os.path.join(TOP, "crates", it, "out", it + ".o") for it in MAINS.values()]
     if not all(map(os.path.isfile, files)):
         return False
-    read = [os.path.join(TOP, "crates.txt"), os.path.join(TOP, "HANDLES"),
-            *filter(os.path.isfile, [os.path.join(KIT, "WHAT")])]
+    read = [TOP + "/crates.txt", TOP + "/HANDLES", KIT + "/WHAT"]
     for crate in with_below(MAINS.values()):
         for part in ("src", "specs", "proofs"):
             for at, _, names in os.walk(os.path.join(TOP, "crates", crate, part)):
@@ -234,28 +227,44 @@ def is_fresh(cpu="", has_objects=False):
                 and max(map(os.path.getmtime, read)) < min(map(os.path.getmtime, files)))
 
 
-def main(words):
-    is_library, has_objects = words == ["library"], words == ["objects"]
-    cpu = words[1][len("--cpu="):] if words[1:] and words[1].startswith("--cpu=") else ""
-    if not (is_library or has_objects or words == ["programs", *["--cpu=" + cpu] * bool(cpu)]):
-        print(__doc__, file=sys.stdout if words[:1] == ["--help"] else sys.stderr)
-        return 0 if words[:1] == ["--help"] else 2
-    if has_objects and os.path.isfile(STAMP):
-        with open(STAMP, encoding="utf-8") as stamp:
-            cpu = stamp.read()
+def made(what, cpu):
+    """Proves and makes the programs, or the library, and returns the status."""
+    with copied([LIBRARY] if what == "library" else MAINS.values()) as top:
+        if rt_ci(top)[1]:
+            return 1
+        if what != "library":
+            return take_programs(top, cpu, what == "objects")
+        archive = "out/lib%s.a" % LIBRARY
+        status = built(top, LIBRARY, archive)
+        if not status:
+            take(top, "crates/%s/%s" % (LIBRARY, archive))
+        return status
+
+
+def end_on_signals():
+    """Has a signal to end raise an exception, so that copies are removed."""
     for number in (signal.SIGHUP, signal.SIGTERM):
         signal.signal(number, lambda number, _: sys.exit(128 + number))
-    if not is_library and is_fresh(cpu, has_objects):
+
+
+def main(words):
+    what, cpu = (*words, "", "")[:2]
+    if what not in ("programs", "objects", "library", "lanes") or words not in ([what], [
+            "programs", cpu]):
+        print(__doc__, file=sys.stdout if what == "--help" else sys.stderr)
+        return 0 if what == "--help" else 2
+    if what == "lanes":
+        print(lanes())
+        return 0
+    if what == "objects" and os.path.isfile(STAMP):
+        with open(STAMP, encoding="utf-8") as stamp:
+            cpu = stamp.read()
+    if what != "library" and is_fresh(cpu, what == "objects"):
         print("nothing has changed since the programs were proved and built")
         return 0
+    end_on_signals()
     try:
-        with copied([LIBRARY] if is_library else MAINS.values()) as top:
-            archive = "out/lib%s.a" % LIBRARY
-            status = proved(top) or (built(top, LIBRARY, archive) if is_library
-                                     else take_programs(top, cpu, has_objects))
-            if is_library and not status:
-                take(top, "crates/%s/%s" % (LIBRARY, archive))
-            return status
+        return made(what, cpu)
     except KeyboardInterrupt:
         print("interrupted; rt keeps each crate that it proved")
         return 128 + signal.SIGINT
