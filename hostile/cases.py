@@ -93,7 +93,7 @@ class Comparison(Case):
 
 
 class Strobing(Case):
-    """A case of vcdkit-strobe. Its clocks have a path, a place or None, and whether they fall."""
+    """A case of vcdkit-strobe. Each clock is an argument, and whether it falls."""
     program = b"vcdkit-strobe"
 
     def __init__(self, name, text, clocks, names=()):
@@ -101,9 +101,8 @@ class Strobing(Case):
         self.clocks = clocks
 
     def words(self, files):
-        return ["--%s=%s%s" % ("fall" if falls else "rise", path.decode(),
-                               "" if place is None else "@%d" % place)
-                for path, place, falls in self.clocks] + ["-i", files[0], "--"] + [
+        return ["--%s=%s" % ("fall" if falls else "rise", word.decode())
+                for word, falls in self.clocks] + ["-i", files[0], "--"] + [
                     name.decode() for name in self.names]
 
     def outcome(self, files, inputs):
@@ -179,15 +178,16 @@ OF_CLOCKS = C[:-21] + b"$var wire 1 ' c $end\n$enddefinitions $end\n" + (
     b"#5\n0!\n0'\n1#\n#6\n1!\n#7\nx!\n1!\n0!\n#8\n1!\nb0 %\n#9\n0!\n")
 
 STROBES = [
-    Strobing("rise", ON_A, [(b"tb.clk", None, False)]),
-    Strobing("fall", ON_A, [(b"tb.clk", 0, True)], [b"tb.q"]),
-    Strobing("both", OF_CLOCKS, [(b"a", None, False), (b"a", None, True)]),
-    Strobing("two", OF_CLOCKS, [(b"a", None, False), (b"c", None, False)], [b"r", b"e", b"u"]),
-    Strobing("a_bit", ON_D, [(b"top.data", 1, False), (b"top.wide", 69, True)]),
-    Strobing("no_clock", ON_C, [(b"a", None, False), (b"u", None, False)]),
-    Strobing("no_name", ON_C, [(b"a", None, False)], [b"a", b"v"]),
-    Strobing("broken", OF_CLOCKS + b"1!\n?\n", [(b"a", None, False)]),
-    Strobing("broken_header", A[:-25], [(b"tb.clk", None, False)]),
+    Strobing("rise", ON_A, [(b"tb.clk", False)]),
+    Strobing("fall", ON_A, [(b"tb.clk@0", True)], [b"tb.q"]),
+    Strobing("both", OF_CLOCKS, [(b"a", False), (b"a", True)]),
+    Strobing("two", OF_CLOCKS, [(b"a", False), (b"c", False)], [b"r", b"e", b"u"]),
+    Strobing("a_bit", ON_D, [(b"top.data@1", False), (b"top.wide@69", True)]),
+    Strobing("no_clock", ON_C, [(b"a", False), (b"u", False)]),
+    Strobing("no_edge", C + b"#9\n0!\n#10\n", [(b"a", False)]),
+    Strobing("no_name", ON_C, [(b"a", False)], [b"a", b"v"]),
+    Strobing("broken", OF_CLOCKS + b"1!\n?\n", [(b"a", False)]),
+    Strobing("broken_header", A[:-25], [(b"tb.clk", False)]),
 ]
 
 
@@ -218,4 +218,4 @@ LARGE_COMPARISONS = [Comparison("compare_many", b"".join(
     for part in (b"a", b"b")) + b"$enddefinitions $end\n#0\nb1010 !\n#5\nb1 \"\n", WHOLE)]
 
 LARGE_STROBES = [Strobing("strobe_many", MANY + b"#0\nb1010 !\nb0 \"\n#5\nb1 \"\n",
-                          [(b"s0.v1", 0, False)], [b"s0.v0", b"s8333"])]
+                          [(b"s0.v1@0", False)], [b"s0.v0", b"s8333"])]

@@ -27,7 +27,8 @@ SHARE = 100
 VARIABLES = [(b"c", b"reg", 1, b"!"), (b"also", b"wire", 1, b"!"), (b"d", b"reg", 1, b'"'),
              (b"q", b"reg", 4, b"#"), (b"w", b"reg", 70, b"$"), (b"v", b"reg", 33, b"%"),
              (b"e", b"event", 1, b"&"), (b"r", b"real", 64, b"("), (b"s", b"wire", 1, b"ab"),
-             (b"n", b"wire", 2, b"zz")]
+             (b"n", b"wire", 2, b"zz"), (b"u", b"real", 1, b")"), (b"q@0", b"wire", 1, b"ab"),
+             (b"d@1", b"wire", 2, b"zz"), (b"n [0]", b"wire", 1, b'"')]
 SECTIONS = [b"$dumpoff", b"$dumpon", b"$dumpall"]
 FAULTS = [b"?", b"#0", b"1unknown", b"b2 !", b"$end", b"#18446744073709551616", b"$dumpvars"]
 
@@ -100,12 +101,13 @@ def case_of(seed):
     for _ in range(r.choice([1, 1, 1, 2, 2, 3])):
         path = r.choice(likely if r.random() < .8 else paths)
         size = sizes.get(path, 1)
-        clocks.append((path, None if size == 1 and r.random() < .8 else r.randrange(size),
-                       r.random() < .4))
+        place = b"" if size == 1 and r.random() < .8 else b"@%d" % r.randrange(size)
+        clocks.append((path + place, r.random() < .4))
     if r.random() < .05:
-        clocks.append((r.choice([*paths, b"t", b"tb"]), r.choice([None, 1, 40, 2**64 - 1]), True))
+        place = r.choice([b"", b"", b"@1", b"@40", b"@%d" % (2**64 - 1), b"@%d" % 2**64, b"@"])
+        clocks.append((r.choice([*paths, b"t", b"tb"]) + place, True))
     # The program takes those that rise first.
-    clocks.sort(key=lambda one: one[2])
+    clocks.sort(key=lambda one: one[1])
     names = [] if r.random() < .5 else r.sample(paths, r.randint(1, min(4, len(paths))))
     names += [b"nowhere"] * (r.random() < .03)
     return Strobing("%d" % seed, text, clocks, names)

@@ -2,23 +2,44 @@
 whole dump. Like evaluator.py, with which it reads the dump, it is plain and slow, looks back in
 lists, and shares nothing with the program.
 
-answered(clocks, names, name, text) is output, message and status. Of each clock there is a path,
-the place of a bit from the right (None: it has only one), and whether it falls."""
+answered(clocks, names, name, text) is output, message and status. Of each clock there is the
+argument that names it, and whether it falls."""
 from .comparison import failed
 from .evaluator import (MOST_DECLARATIONS, Fault, Tokens, change_line, chosen, head_text, placed,
                         read_head, read_items, selects, value_of)
 
 
+class NoClock(Exception):
+    """Why an argument names no clock."""
+
+
+def declared_at(head, path):
+    """Of the variables with this path the type, the size and the code."""
+    return [(head.rows[row][1], head.codes[code][0], code)
+            for row, one, code in head.variables() if one == path]
+
+
 def clock_of(head, clock):
-    """The code, the place, and the digits before and after an edge; None if it is no clock."""
-    path, place, falls = clock
-    codes = {code for _, _, code in chosen(head, [path])}
-    if len(codes) != 1:
-        return None
-    size, event = head.codes[min(codes)]
-    if event or (size != 1 if place is None else place >= size):
-        return None
-    return (min(codes), place or 0, *([b"1", b"0"] if falls else [b"0", b"1"]))
+    """The code, the place, and the digits before and after an edge."""
+    word, falls = clock
+    found, place = declared_at(head, word), None
+    path, at, digits = word.rpartition(b"@")
+    if not found and at and 0 < len(digits) <= 20 and digits.isdigit() and int(digits) < 2**64:
+        found, place = declared_at(head, path), int(digits)
+    if not found:
+        raise NoClock(b"no such variable")
+    kind, size, code = found[0]
+    if any(other != code for _, _, other in found):
+        raise NoClock(b"several variables have this path")
+    if kind == b"event":
+        raise NoClock(b"it is an event")
+    if kind.startswith(b"real") or kind == b"shortreal":
+        raise NoClock(b"it is a real number")
+    if place is None and size != 1:
+        raise NoClock(b"it has %d bits: write PATH@PLACE" % size)
+    if place is not None and place >= size:
+        raise NoClock(b"the highest place is %d" % (size - 1))
+    return (code, place or 0, *([b"1", b"0"] if falls else [b"0", b"1"]))
 
 
 class Strobe:
@@ -76,9 +97,12 @@ def answered(clocks, names, name, text, limit=1_048_576):
         head = read_head(tokens, MOST_DECLARATIONS)
     except Fault as fault:
         return as_strobe(failed(b"", name, fault))
+    found = []
     for clock in clocks:
-        if clock_of(head, clock) is None:
-            return b"", b"vcdkit-strobe: no clock of one bit: %s\n" % clock[0], 2
+        try:
+            found.append(clock_of(head, clock))
+        except NoClock as why:
+            return b"", b"vcdkit-strobe: %s: %s\n" % (clock[0], *why.args), 2
     for one in names:
         if not any(selects(path, one) for _, path, _ in head.variables()):
             return b"", b"vcdkit-strobe: %s: selects nothing\n" % one, 2
@@ -91,12 +115,14 @@ def answered(clocks, names, name, text, limit=1_048_576):
     output = (b"$scope module strobe $end\n$var time 64 %s time $end\n$upscope $end\n" % own
               + head_text(head, variables))
     strobe = Strobe(head, items)
-    edges = strobe.edges([clock_of(head, one) for one in clocks])
+    edges = strobe.edges(found)
     for n, at in enumerate(edges):
         output += b"#%d\nb%s %s\n" % (n + 1, b"%b" % bin(strobe.changes[at][2])[2:].encode(), own)
         output += b"".join(strobe.line(edges[:n], at, code) for code in head.codes
                            if code in written)
-    return as_strobe(failed(output, name, fault)) if fault else (output, b"", 0)
+    if fault:
+        return as_strobe(failed(output, name, fault))
+    return (output, b"", 0) if edges else (output, b"vcdkit-strobe: %s: no edge\n" % name, 1)
 
 
 def as_strobe(outcome):

@@ -3,8 +3,8 @@ use Rattle.vcd_laws.proofs.Cited.{Bool, Contains, List, None, Option, Some, [], 
 use Rattle.vcd_model.specs.Header.{header_of}
 use Rattle.vcd_model.specs.HeaderReading.{read_header}
 use Rattle.vcd_model.specs.Compare.{fault_after}
-use Rattle.vcd_model.specs.Outcome.{clean_outcome, fault_text}
-use Rattle.vcd_model.specs.Strobe.{Clock, Strobe, clocks_of, edges_in, strobe, strobe_codes, strobe_dump, strobe_head, strobe_open}
+use Rattle.vcd_model.specs.Outcome.{fault_text}
+use Rattle.vcd_model.specs.Strobe.{Clock, Strobe, at_end, clocks_of, edges_in, strobe, strobe_codes, strobe_dump, strobe_head, strobe_open}
 use Rattle.vcd_laws.specs.Strobes.{GivesEdges, IsReadableStrobe, IsStrobeHead, KeepsEdges, StrobeIsADump, written_codes}
 use Rattle.vcd_laws.proofs.OpenedBodies.{opened_fit, opens_good}
 use Rattle.vcd_laws.proofs.WrittenCodes.{found_same, from_contained, to_contained}
@@ -89,15 +89,19 @@ output_is q limit name input o can =
     answer : Option Fault → Outcome
     answer f = elim f [
       | Some x ↦ fault_after text name x
-      | None ↦ clean_outcome text
+      | None ↦ at_end name (edges_in (clocks_of o.header q.clocks) (items_in o)) text
     ]
+
+    ended : (edges : List (List BodyItem)) → (at_end name edges text).output ≡ text
+    ended [] = refl
+    ended (edge ∷ edges) = refl
 
     written : (f : Fault) (b : Bool) → (fault_or f b).output ≡ text
     written f true = refl
     written f false = refl
 
     by_fault : (f : Option Fault) → (answer f).output ≡ text
-    by_fault None = refl
+    by_fault None = ended (edges_in (clocks_of o.header q.clocks) (items_in o))
     by_fault (Some x) = written x (x.number == 31)
 
 pub strobe_is_a_dump : StrobeIsADump

@@ -6,10 +6,14 @@ use Rattle.vcd_model.specs.Strobe.{ClockName, strobe}
 
 -- the rising edges of a variable, and its falling edges
 abbrev rise_of : String → ClockName
-rise_of path = record { path = codes path; place = None; falls = false }
+rise_of path = record { word = codes path; path = codes path; place = None; falls = false }
 
 abbrev fall_of : String → ClockName
-fall_of path = record { path = codes path; place = None; falls = true }
+fall_of path = record { word = codes path; path = codes path; place = None; falls = true }
+
+-- the rising edges of what an argument names, which as PATH@PLACE has this path and this place
+abbrev bit_of : String → String → ℕ → List ClockName
+bit_of word path place = record { word = codes word; path = codes path; place = Some place; falls = false } ∷ []
 
 -- the rising edges of t.c
 abbrev rise : List ClockName
@@ -18,10 +22,6 @@ rise = rise_of "t.c" ∷ []
 -- its falling edges
 abbrev fall : List ClockName
 fall = fall_of "t.c" ∷ []
-
--- the rising edges of a bit of t.q
-abbrev bit : ℕ → List ClockName
-bit place = record { path = codes "t.q"; place = Some place; falls = false } ∷ []
 
 -- what `strobe` gives for a dump on standard input
 abbrev of : List ClockName → String → String → String → Outcome
@@ -76,7 +76,7 @@ unfolding model
 from_x = refl
 
 -- no edge without a value before it
-first_value : q "#0;1!;b0 \";#5;1!;" ≡ q_gives ""
+first_value : q "#0;1!;b0 \";#5;1!;" ≡ gives q_head "" "(stdin): no edge" 1
 unfolding model
 first_value = refl
 
@@ -138,18 +138,27 @@ unfolding model
 two_clocks = refl
 
 -- a bit of a vector: from 0 to 1 only, the digits on the left extended, whatever the others do
-one_bit : of (bit 2) "t.q" front "#0;b1 \";#5;b100 \";#10;b111 \";#15;bx \";#20;b100 \";#25;b0 \";#30;b1100 \";" ≡ gives q_head "#1;b101 !!;b1 \";#2;b11110 !!;b0 \";" "" 0
+one_bit : of (bit_of "t.q@2" "t.q" 2) "t.q" front "#0;b1 \";#5;b100 \";#10;b111 \";#15;bx \";#20;b100 \";#25;b0 \";#30;b1100 \";" ≡ gives q_head "#1;b101 !!;b1 \";#2;b11110 !!;b0 \";" "" 0
 unfolding model
 one_bit = refl
 
-extended_bit : of (bit 3) "t.q" front "#0;bz1 \";#5;b1 \";#10;b1000 \";#15;bx \";" ≡ gives q_head "#1;b1010 !!;b1 \";" "" 0
+extended_bit : of (bit_of "t.q@3" "t.q" 3) "t.q" front "#0;bz1 \";#5;b1 \";#10;b1000 \";#15;bx \";" ≡ gives q_head "#1;b1010 !!;b1 \";" "" 0
 unfolding model
 extended_bit = refl
 
+-- a variable of one bit has one place
+only_bit : of (bit_of "t.c@0" "t.c" 0) "t.q" front "#0;0!;b1 \";#5;1!;" ≡ q_gives "#1;b101 !!;b1 \";"
+unfolding model
+only_bit = refl
+
 -- no place of a bit is beyond the size
-no_such_bit : of (bit 4) "t.q" front "#0;" ≡ gives "" "" "no clock of one bit: t.q" 2
+no_such_bit : of (bit_of "t.q@4" "t.q" 4) "t.q" front "#0;" ≡ gives "" "" "t.q@4: the highest place is 3" 2
 unfolding model
 no_such_bit = refl
+
+no_second_bit : of (bit_of "t.c@1" "t.c" 1) "t.q" front "#0;" ≡ gives "" "" "t.c@1: the highest place is 0" 2
+unfolding model
+no_second_bit = refl
 
 -- an alias is the same clock
 alias : of (rise_of "t.also" ∷ []) "t.q" front "#0;0!;b0 \";#5;1!;" ≡ q_gives "#1;b101 !!;b0 \";"
@@ -167,9 +176,23 @@ unfolding model
 itself = refl
 
 -- no edge at all, no item at all
-no_edge : q "#0;0!;b0 \";#5;b1 \";#10;" ≡ q_gives ""
+no_edge : q "#0;0!;b0 \";#5;b1 \";#10;" ≡ gives q_head "" "(stdin): no edge" 1
 unfolding model
 no_edge = refl
+
+no_item : q "" ≡ gives q_head "" "(stdin): no edge" 1
+unfolding model
+no_item = refl
+
+-- one of two clocks has an edge
+edge_of_one : of (rise_of "t.c" ∷ rise_of "t.d" ∷ []) "t.q" front "#0;0!;0%;b1 \";#5;1%;" ≡ q_gives "#1;b101 !!;b1 \";"
+unfolding model
+edge_of_one = refl
+
+-- before a fault nobody knows whether there is an edge
+fault_first : q "#0;0!;?" ≡ gives q_head "" "(stdin):4: unknown command" 2
+unfolding model
+fault_first = refl
 
 -- `$dumpoff` gives x: what `$dumpon` gives then is no edge
 off : q "#0;0!;b0 \";#5;1!;#10;$dumpoff;x!;bx \";$end;#20;$dumpon;1!;b1 \";$end;#25;0!;#30;1!;" ≡ q_gives "#1;b101 !!;b0 \";#2;b11110 !!;b1 \";"
@@ -206,23 +229,92 @@ greatest : q "#0;0!;b1 \";#18446744073709551615;1!;#18446744073709551616;" ≡ g
 unfolding model
 greatest = refl
 
--- no clock: of several bits, an event, of no such name
-no_clock : of (rise_of "t.q" ∷ []) "t.q" front "#0;" ≡ gives "" "" "no clock of one bit: t.q" 2
+-- no clock: of several bits, an event, a real number, of no such name, a scope
+wide : of (rise_of "t.q" ∷ []) "t.q" front "#0;" ≡ gives "" "" "t.q: it has 4 bits: write PATH@PLACE" 2
 unfolding model
-no_clock = refl
+wide = refl
+
+event : of (rise_of "t.e" ∷ []) "t.q" front "#0;" ≡ gives "" "" "t.e: it is an event" 2
+unfolding model
+event = refl
+
+real : of (rise_of "t.r" ∷ []) "t.q" front "#0;" ≡ gives "" "" "t.r: it is a real number" 2
+unfolding model
+real = refl
+
+real_bit : of (bit_of "t.r@0" "t.r" 0) "t.q" front "#0;" ≡ gives "" "" "t.r@0: it is a real number" 2
+unfolding model
+real_bit = refl
+
+missing : of (rise_of "t.x" ∷ []) "t.q" front "#0;" ≡ gives "" "" "t.x: no such variable" 2
+unfolding model
+missing = refl
+
+missing_bit : of (bit_of "t.x@0" "t.x" 0) "t.q" front "#0;" ≡ gives "" "" "t.x@0: no such variable" 2
+unfolding model
+missing_bit = refl
+
+scope : of (rise_of "t" ∷ []) "t.q" front "#0;" ≡ gives "" "" "t: no such variable" 2
+unfolding model
+scope = refl
+
+-- the second of two clocks
+second : of (rise_of "t.c" ∷ fall_of "t.q" ∷ []) "t.q" front "#0;" ≡ gives "" "" "t.q: it has 4 bits: write PATH@PLACE" 2
+unfolding model
+second = refl
 
 -- a name that selects nothing is refused after the clocks
 unselected : of rise "t.z" front "#0;" ≡ gives "" "" "t.z: selects nothing" 2
 unfolding model
 unselected = refl
 
-clock_first : of (rise_of "t.q" ∷ []) "t.z" front "#0;" ≡ gives "" "" "no clock of one bit: t.q" 2
+clock_first : of (rise_of "t.q" ∷ []) "t.z" front "#0;" ≡ gives "" "" "t.q: it has 4 bits: write PATH@PLACE" 2
 unfolding model
 clock_first = refl
 
-no_such : of (rise_of "t.x" ∷ []) "t.q" front "#0;" ≡ gives "" "" "no clock of one bit: t.x" 2
+-- a variable with the name of a scope; one with an `@` in its name, beside one without; two of one
+-- path and one code, and two of one path and different codes; a real number of one bit
+abbrev odd : String
+odd = "$scope module c $end $var wire 1 % d $end $upscope $end $var wire 1 ! c $end $var wire 1 # v@0 $end $var wire 2 \" v $end $var wire 1 ! a $end $var wire 1 ! a $end $var wire 1 & b [0] $end $var wire 1 ' b [1] $end $var real 1 ( r $end $var wire 8 ) w@0 $end $var wire 1 * w $end $enddefinitions $end;"
+
+abbrev v_head : String
+v_head = "$scope module strobe $end;$var time 64 !! time $end;$upscope $end;$var wire 2 \" v $end;$enddefinitions $end;"
+
+abbrev v_at : List ClockName → Outcome
+v_at clocks = of clocks "v" odd "#0;0!;0#;b0 \";#1;1!;#2;1#;#3;b11 \";"
+
+named_as_a_scope : v_at (rise_of "c" ∷ []) ≡ gives v_head "#1;b1 !!;b0 \";" "" 0
 unfolding model
-no_such = refl
+named_as_a_scope = refl
+
+-- the whole argument comes first
+whole_argument : v_at (bit_of "v@0" "v" 0) ≡ gives v_head "#1;b10 !!;b0 \";" "" 0
+unfolding model
+whole_argument = refl
+
+then_the_place : v_at (bit_of "v@1" "v" 1) ≡ gives v_head "#1;b11 !!;b0 \";" "" 0
+unfolding model
+then_the_place = refl
+
+last_place : v_at (bit_of "v@0@0" "v@0" 0) ≡ gives v_head "#1;b10 !!;b0 \";" "" 0
+unfolding model
+last_place = refl
+
+wide_argument : v_at (bit_of "w@0" "w" 0) ≡ gives "" "" "w@0: it has 8 bits: write PATH@PLACE" 2
+unfolding model
+wide_argument = refl
+
+same_twice : v_at (rise_of "a" ∷ []) ≡ gives v_head "#1;b1 !!;b0 \";" "" 0
+unfolding model
+same_twice = refl
+
+several : v_at (rise_of "b" ∷ []) ≡ gives "" "" "b: several variables have this path" 2
+unfolding model
+several = refl
+
+real_of_one_bit : v_at (rise_of "r" ∷ []) ≡ gives "" "" "r: it is a real number" 2
+unfolding model
+real_of_one_bit = refl
 
 -- a window by time is a cut: an edge at its first time has the values from before it
 window : strobe (record { clocks = rise; names = codes "t.q" ∷ [] }) limit (codes "(stdin)")

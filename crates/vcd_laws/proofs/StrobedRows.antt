@@ -14,7 +14,7 @@ use Rattle.vcd_laws.proofs.StrobeDump.{strobe_is_a_dump}
 -- the rising edges of a, and the variables of some names
 abbrev asked : Strobe
 asked = record {
-  clocks = record { path = codes "a"; place = None; falls = false } ∷ [];
+  clocks = record { word = codes "a"; path = codes "a"; place = None; falls = false } ∷ [];
   names = some_names;
 }
 

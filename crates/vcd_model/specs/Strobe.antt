@@ -2,15 +2,15 @@
 -- on the items before it, in their order: a `$dumpvars` gives values from before its time only to
 -- edges that come after it, and an edge is there even if its time has a fault later. What `merge`
 -- wrote has no `$dumpvars`, so a strobe comes before a merge.
-use Rattle.std.specs.Prelude.{ℕ, zero, suc, ◌+◌, ◌/◌, ◌%◌, ◌^◌, max, fold, Bool, true, false, not, cond, ◌&&◌, ◌==◌, nat_le, nat_lt, is_none, List, [], ◌∷◌, ◌++◌, length, reverse, slice_get, replicate, map, flat_map, filter, codes, Option, Some, None, option_map, unwrap_or, Ok, Err}
+use Rattle.std.specs.Prelude.{ℕ, zero, suc, ◌+◌, ◌-◌, ◌/◌, ◌%◌, ◌^◌, max, fold, Bool, true, false, not, cond, ◌&&◌, ◌==◌, nat_le, nat_lt, is_none, List, [], ◌∷◌, ◌++◌, length, reverse, slice_get, replicate, map, flat_map, filter, filter_map, decimal, codes, bytes_eq, Option, Some, None, option_map, unwrap_or, Result, Ok, Err}
 use Rattle.std.specs.List.{list_any, concat, last_or}
 use Rattle.std.specs.Str.{byte}
-use Rattle.vcd_model.specs.Bytes.{as_line, is_empty}
+use Rattle.vcd_model.specs.Bytes.{as_line}
 use Rattle.vcd_model.specs.Backward.{each, each_some}
 use Rattle.vcd_model.specs.Input.{Input}
 use Rattle.vcd_model.specs.Keywords.{Keyword, keyword_text}
 use Rattle.vcd_model.specs.Header.{Header}
-use Rattle.vcd_model.specs.Declarations.{IdCode, same_code}
+use Rattle.vcd_model.specs.Declarations.{IdCode, Variable, code_of, same_code}
 use Rattle.vcd_model.specs.Items.{BodyItem, SectionKind, entries, change_of, open_section, time_after}
 use Rattle.vcd_model.specs.Values.{Value, same_value, value_line, value_of}
 use Rattle.vcd_model.specs.History.{final_value, gives_to, value_before}
@@ -19,7 +19,7 @@ use Rattle.vcd_model.specs.HeadText.{head_for, scope_line, up_line, words}
 use Rattle.vcd_model.specs.Selection.{first_unmatched, selected, selects_code}
 use Rattle.vcd_model.specs.Cut.{line_if_set}
 use Rattle.vcd_model.specs.Outcome.{Opened, Outcome, clean_outcome, fault_in, items_in, name_at, open_from}
-use Rattle.vcd_model.specs.Compare.{fault_after}
+use Rattle.vcd_model.specs.Compare.{Kind, fault_after, kind_of}
 
 -- ---- edges
 
@@ -154,61 +154,108 @@ strobe_head h names =
 unfoldable pub strobe_open : List Clock → Header → List (List ℕ) → List BodyItem → List ℕ
 strobe_open ks h names items = strobe_head h names ++ concat (each (edge_text h names) (edges_in ks items))
 
--- ---- the outcome
+-- ---- the clocks of names
 
--- what names a clock: the path of a variable; the place of one of its bits from the right, counted
--- from 0, unless it has only one; and whether its falling edges count
+-- what names a clock: an argument; the path that it has before its last `@`, and after it the place
+-- of a bit from the right, counted from 0, or all of it as a path without a place; and whether its
+-- falling edges count
 pub record ClockName : Type 0 where
+  pub word : List ℕ
   pub path : List ℕ
   pub place : Option ℕ
   pub falls : Bool
+
+-- why a name is that of no clock: no variable has the path, or variables with different codes have
+-- it; it is an event or a real number; it has this many bits, and the name has no place, or one that
+-- is too high
+pub data NoClock : Type 0 where
+  Missing : NoClock
+  Several : NoClock
+  AnEvent : NoClock
+  AReal : NoClock
+  Wide : (size : ℕ) → NoClock
+  High : (size : ℕ) → NoClock
+
+-- what is said of it
+abbrev pub no_clock_text : NoClock → List ℕ
+no_clock_text Missing = codes "no such variable"
+no_clock_text Several = codes "several variables have this path"
+no_clock_text AnEvent = codes "it is an event"
+no_clock_text AReal = codes "it is a real number"
+no_clock_text (Wide size) = codes "it has " ++ decimal size ++ codes " bits: write PATH@PLACE"
+no_clock_text (High size) = codes "the highest place is " ++ decimal (size - 1)
+
+-- the variables that have a path
+abbrev pub variables_at : Header → List ℕ → List Variable
+variables_at h path = map (λ s. s.variable) (filter (λ s. bytes_eq s.path path) (selected [] h.declarations))
+
+-- the place of the bit of a variable of this kind: only one bit needs no place
+abbrev pub place_in : Kind → Option ℕ → Result ℕ NoClock
+place_in Kind.Event place = Err AnEvent
+place_in Kind.Real place = Err AReal
+place_in (Kind.Digits size) None = cond (size == 1) (Ok 0) (Err (Wide size))
+place_in (Kind.Digits size) (Some place) = cond (nat_lt place size) (Ok place) (Err (High size))
+
+-- the bit of a variable at its place
+abbrev pub bit_of : Variable → (falls : Bool) → Result ℕ NoClock → Result Clock NoClock
+bit_of v falls (Ok place) = Ok (record { code = code_of v; place = place; falls = falls })
+bit_of v falls (Err why) = Err why
+
+-- a bit of the variables of one path, which have one code
+abbrev pub clock_among : List Variable → Option ℕ → (falls : Bool) → Result Clock NoClock
+clock_among [] place falls = Err Missing
+clock_among (v ∷ vs) place falls =
+    cond (list_any (λ u. not (bytes_eq u.code v.code)) vs) (Err Several) (bit_of v falls (place_in (kind_of v) place))
+
+-- the clock of a name: the variable that has the argument as its path; if there is none, the bit
+abbrev pub clock_of : Header → ClockName → Result Clock NoClock
+clock_of h name =
+    elim (variables_at h name.word) [
+      | [] ↦ clock_among (variables_at h name.path) name.place name.falls
+      | v ∷ vs ↦ clock_among (v ∷ vs) None name.falls
+    ]
+
+-- the clocks of names
+abbrev pub clocks_of : Header → List ClockName → List Clock
+clocks_of h names = filter_map (λ name. elim (clock_of h name) [ Ok k ↦ Some k | Err why ↦ None ]) names
+
+-- what is said of the first name that is that of no clock
+abbrev pub no_clock : Header → List ClockName → Option (List ℕ)
+no_clock h [] = None
+no_clock h (name ∷ names) = elim (clock_of h name) [ Ok k ↦ no_clock h names | Err why ↦ Some (name.word ++ codes ": " ++ no_clock_text why) ]
+
+-- ---- the outcome
 
 -- what is asked for: clocks, and names
 pub record Strobe : Type 0 where
   pub clocks : List ClockName
   pub names : List (List ℕ)
 
--- a code of this size has a bit at the place; without a place, it has only one
-abbrev pub has_bit : ℕ → Option ℕ → Bool
-has_bit size None = size == 1
-has_bit size (Some place) = nat_lt place size
-
--- the bit of the one code that is selected
-abbrev pub clock_of : Header → ClockName → Option Clock
-clock_of h name =
-    elim (strobe_codes h (name.path ∷ [])) [
-      | [] ↦ None
-      | c ∷ cs ↦ cond (is_empty cs && has_bit c.size name.place && not c.event)
-          (Some (record { code = c; place = unwrap_or name.place 0; falls = name.falls })) None
-    ]
-
--- the clocks of names
-abbrev pub clocks_of : Header → List ClockName → List Clock
-clocks_of h names = each_some (λ earlier name. clock_of h name) names
-
--- the first name that selects no clock
-abbrev pub no_clock : Header → List ClockName → Option (List ℕ)
-no_clock h [] = None
-no_clock h (name ∷ names) = elim (clock_of h name) [ Some k ↦ no_clock h names | None ↦ Some name.path ]
-
 -- a refusal with this message
 abbrev pub refused : List ℕ → Outcome
 refused message = record { output = []; message = message; status = 2 }
 
+-- a dump with these edges that has ended well, after this text: one without an edge is no success,
+-- for two of them would be equal whatever values they have
+abbrev pub at_end : List ℕ → List (List BodyItem) → List ℕ → Outcome
+at_end name [] text = record { output = text; message = name ++ codes ": no edge"; status = 1 }
+at_end name (edge ∷ edges) text = clean_outcome text
+
 -- the outcome of a dump whose header is read, if each name selects something
 abbrev pub strobe_body : Strobe → List ℕ → Opened → Outcome
 strobe_body q name o =
-    let text = strobe_open (clocks_of o.header q.clocks) o.header q.names (items_in o) in
+    let ks = clocks_of o.header q.clocks in
+    let text = strobe_open ks o.header q.names (items_in o) in
     elim (fault_in o) [
       | Some f ↦ fault_after text name f
-      | None ↦ clean_outcome text
+      | None ↦ at_end name (edges_in ks (items_in o)) text
     ]
 
 -- the outcome of a dump whose header is read
 unfoldable pub strobe_dump : Strobe → List ℕ → Opened → Outcome
 strobe_dump q name o =
     elim (no_clock o.header q.clocks) [
-      | Some path ↦ refused (codes "no clock of one bit: " ++ path)
+      | Some message ↦ refused message
       | None ↦ elim (first_unmatched q.names o.header.declarations) [
         | Some i ↦ refused (name_at q.names i ++ codes ": selects nothing")
         | None ↦ strobe_body q name o
