@@ -6,7 +6,7 @@ use Rattle.vcd_model.specs.HeadText.{words}
 use Rattle.vcd_model.specs.Selection.{selected}
 use Rattle.vcd_model.specs.Compare.{Kind, Named, Pair, Side, all_named, alone, alone_lines, answer, changes_at, counterpart, first_of, full_name, in_common, in_order, is_fit, is_past, kind_of, lacks_range, lines_at, lone, marks_of, name_in, named, named_after, only_at, pair_of, pairs, partner, range_of, same_kind, same_place, state_at, the_only, times, unlike, unlike_lines, kind_shown, is_asked}
 use Rattle.vcd_model.specs.Within.{alone_in, compared_in, side, times_in, turned, unlike_in, within, within_head}
-use Rattle.vcd_laws.specs.CompareMerged.{CompareOfMerge, alone_in_style, asked_of_merge, both_inputs, lines_in_style, merged_style, side_of, unlike_in_style, values_in_style}
+use Rattle.vcd_laws.specs.CompareMerged.{CompareOfMerge, alone_in_style, asked_of_merge, asked_within, both_inputs, lines_in_style, merged_style, side_of, unlike_in_style, values_in_style}
 use Rattle.vcd_laws.proofs.MergeDumps.{headers_are}
 use Rattle.vcd_laws.proofs.DumpLaws.{merge_is_a_dump}
 use Rattle.vcd_laws.proofs.WrittenCodes.{In, any_of, from_any, from_filter, from_find, from_map, in_left, in_map, in_right}
@@ -61,7 +61,7 @@ counterpart_in ones others path v w e = by_found (find (λ x. bytes_eq x.path pa
         (only_in (filter (λ x. bytes_eq x.path path) others) w (lone_is (only_at ones v.path) (only_at others path) g))).0
     by_found (Some x) f g = (from_find (λ x. bytes_eq x.path path && same_place v x) others w (f ∙ g)).0
 
-pair_from : (one other : Header) (vs : List Named) (p : Pair) → In p (filter_map (pair_of one other) vs)
+pub pair_from : (one other : Header) (vs : List Named) (p : Pair) → In p (filter_map (pair_of one other) vs)
     → (v : Named) × (w : Named) × In v vs × In w (all_named other)
     × (p ≡ record { path = name_in one v; one = v.variable; other = w.variable })
 pair_from one other [] p i = absurd i
@@ -318,10 +318,13 @@ module _ (q : Asked) (limit : ℕ) (names : List (List ℕ)) (inputs : List Inpu
       ∙ flat_map-map (λ x. words (codes "size" ∷ x.path ∷ kind_shown (kind_of x.one) ∷ kind_shown (kind_of x.other) ∷ [])) (merged_pair o.header p.header) (unlike q o.header p.header) in
       cc
 
-  pub paired_there : ArePaired q asked (merge_items limit names inputs os can).dump.dump.header o.header p.header
-  paired_there = let m = merge_items limit names inputs os can in
-      are_paired q a b m.dump.dump.header o.header p.header all
-      (m.dump.head.variables ∙ ap (λ (l : List Header). flat_map (λ vs. vs) (each_after merged_selected [] l)) headers)
+  pub variables_there : selected [] (merge_items limit names inputs os can).dump.dump.header.declarations
+      ≡ flat_map (λ vs. vs) (each_after merged_selected [] hs)
+  variables_there = (merge_items limit names inputs os can).dump.head.variables
+      ∙ ap (λ (l : List Header). flat_map (λ vs. vs) (each_after merged_selected [] l)) headers
+
+  pub paired_there : (from to : ℕ) → ArePaired q (asked_within q from to) (merge_items limit names inputs os can).dump.dump.header o.header p.header
+  paired_there from to = are_paired q from to (merge_items limit names inputs os can).dump.dump.header o.header p.header all variables_there
 
   merged_is : (name : List ℕ) → within asked limit both_inputs name (input_of (outcome Want.Merge limit names inputs).output)
       ≡ answer (length ps) (lines_in_style merged_style q o.header p.header a b)
@@ -330,7 +333,7 @@ module _ (q : Asked) (limit : ℕ) (names : List (List ℕ)) (inputs : List Inpu
       let d = m.dump in
       let k = d.dump in
       let h = k.header in
-      let paired = paired_there in
+      let paired = paired_there asked.from asked.to in
       within_opened asked limit both_inputs name (input_of (outcome Want.Merge limit names inputs).output) k d.opens
       ∙ whole_outcome asked both_inputs name k d.whole
       ∙ ap (λ (l : List BodyItem). answer (length (compared_in asked h both_inputs)) (within_head asked h both_inputs

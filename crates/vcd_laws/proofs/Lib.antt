@@ -108,6 +108,7 @@ pub mod SuccessMatches
 pub mod OutermostPlaces
 pub mod OutermostOnce
 pub mod MergedSuccess
+pub mod SameDumps
 pub mod StrobesMatch
 pub mod Cited
 pub mod Facts

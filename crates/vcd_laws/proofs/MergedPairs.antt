@@ -3,9 +3,9 @@ use Rattle.vcd_laws.proofs.Cited.{◌≡◌, ℕ, ◌+◌, ◌<◌, ◌^◌, Boo
 use Rattle.std.specs.Prelude.{nat_eq}
 use Rattle.std.specs.List.{starts_with}
 use Rattle.std.proofs.Math.Seq.{drop-append_seam}
-use Rattle.vcd_model.specs.Compare.{Asked, Named, Pair, Side, all_named, alone, counterpart, first_of, full_name, in_common, is_alike, is_asked, is_fit, is_left_in, lacks_range, lone, name_in, named, named_after, only_at, pair_of, pairs, partner, range_of, same_place, the_only, unlike}
+use Rattle.vcd_model.specs.Compare.{Asked, Named, Pair, all_named, alone, counterpart, first_of, full_name, in_common, is_alike, is_asked, is_fit, is_left_in, lacks_range, lone, name_in, named, named_after, only_at, pair_of, pairs, partner, range_of, same_place, the_only, unlike}
 use Rattle.vcd_model.specs.Within.{Names, alone_in, at_path, compared_in, pair_at, pairs_in, places_of, rest_of, unlike_in}
-use Rattle.vcd_laws.specs.CompareMerged.{asked_of_merge, both_inputs}
+use Rattle.vcd_laws.specs.CompareMerged.{asked_within, both_inputs}
 use Rattle.vcd_laws.proofs.MergedHead.{merged_selected}
 use Rattle.vcd_laws.proofs.MergedPaths.{any_own, any_other, own_scope, other_input, other_scope}
 
@@ -376,15 +376,15 @@ module _ (q asked : Asked) (k : Header) (front : List Header) (h : Header) (fron
 asked_alike : (q : Asked) (path : List ℕ) → q.names ≡ [] → is_asked q path ≡ is_left_in q path
 asked_alike q path e = rw e refl
 
-left_of : (n : ℕ) (a b : Side) (q : Asked) (path : List ℕ) → q.names ≡ []
+left_of : (n : ℕ) (from to : ℕ) (q : Asked) (path : List ℕ) → q.names ≡ []
     → list_any (selects_path (under_input n path)) (map (under_input 1) q.exceptions ++ map (under_input 2) q.exceptions)
     ≡ list_any (selects_path path) q.exceptions
-    → is_left_in (asked_of_merge q a b) (under_input n path) ≡ is_asked q path
-left_of n a b q path e same = ap not same ∙ sym (asked_alike q path e)
+    → is_left_in (asked_within q from to) (under_input n path) ≡ is_asked q path
+left_of n from to q path e same = ap not same ∙ sym (asked_alike q path e)
 
-left_one : (a b : Side) (q : Asked) (path : List ℕ) → q.names ≡ []
-    → is_left_in (asked_of_merge q a b) (under_input 1 path) ≡ is_asked q path
-left_one a b q path e = left_of 1 a b q path e
+left_one : (from to : ℕ) (q : Asked) (path : List ℕ) → q.names ≡ []
+    → is_left_in (asked_within q from to) (under_input 1 path) ≡ is_asked q path
+left_one from to q path e = left_of 1 from to q path e
     (list_any-append (selects_path (under_input 1 path)) (map (under_input 1) q.exceptions) (map (under_input 2) q.exceptions)
     ∙ ap (λ r. list_any (selects_path (under_input 1 path)) (map (under_input 1) q.exceptions) || r)
     (any_other 1 2 path q.exceptions (omega arith) (omega arith) (λ f. omega arith))
@@ -395,9 +395,9 @@ left_one a b q path e = left_of 1 a b q path e
     or_none true = refl
     or_none false = refl
 
-left_other : (a b : Side) (q : Asked) (path : List ℕ) → q.names ≡ []
-    → is_left_in (asked_of_merge q a b) (under_input 2 path) ≡ is_asked q path
-left_other a b q path e = left_of 2 a b q path e
+left_other : (from to : ℕ) (q : Asked) (path : List ℕ) → q.names ≡ []
+    → is_left_in (asked_within q from to) (under_input 2 path) ≡ is_asked q path
+left_other from to q path e = left_of 2 from to q path e
     (list_any-append (selects_path (under_input 2 path)) (map (under_input 1) q.exceptions) (map (under_input 2) q.exceptions)
     ∙ ap (λ r. r || list_any (selects_path (under_input 2 path)) (map (under_input 2) q.exceptions))
     (any_other 2 1 path q.exceptions (omega arith) (omega arith) (λ f. omega arith))
@@ -418,13 +418,13 @@ pub record ArePaired (q asked : Asked) (k one other : Header) : Type 0 where
   pub first : alone_in asked k (input_scope 1, input_scope 2) ≡ map (named_in [] one) (alone q one other)
   pub second : alone_in asked k (input_scope 2, input_scope 1) ≡ map (named_in (one ∷ []) other) (alone q other one)
 
-pub are_paired : (q : Asked) (a b : Side) (k one other : Header) → q.names ≡ []
+pub are_paired : (q : Asked) (from to : ℕ) (k one other : Header) → q.names ≡ []
     → selected [] k.declarations
     ≡ flat_map (λ vs. vs) (each_after merged_selected [] (one ∷ other ∷ []))
-    → ArePaired q (asked_of_merge q a b) k one other
+    → ArePaired q (asked_within q from to) k one other
 unfolding pairs unlike alone
-are_paired q a b k one other e variables =
-    let asked = asked_of_merge q a b in
+are_paired q from to k one other e variables =
+    let asked = asked_within q from to in
     let named_k = named_in_merge one other k variables in
     let firsts = map (named_in [] one) (all_named one) in
     let seconds = map (named_in (one ∷ []) other) (all_named other) in
@@ -452,22 +452,22 @@ are_paired q a b k one other e variables =
     = λ v. counterpart_own k (one ∷ []) other [] one v.path v (only_other v.path) (only_one v.path)
     (found_own k [] one (one ∷ []) other ones (omega arith) (omega arith) (λ f. omega arith) v.path v) in
     let places : places_of asked k (input_scope 1, input_scope 2)
-    ≡ map (place q asked k [] one (one ∷ []) other (λ v. left_one a b q v.path e) in_second name_one (omega arith) (omega arith) (λ f. omega arith)) (named q one)
-    = places_first q asked k [] one (one ∷ []) other (λ v. left_one a b q v.path e) in_second name_one (omega arith) (omega arith) (λ f. omega arith) named_k in
+    ≡ map (place q asked k [] one (one ∷ []) other (λ v. left_one from to q v.path e) in_second name_one (omega arith) (omega arith) (λ f. omega arith)) (named q one)
+    = places_first q asked k [] one (one ∷ []) other (λ v. left_one from to q v.path e) in_second name_one (omega arith) (omega arith) (λ f. omega arith) named_k in
     let backward : places_of asked k (input_scope 2, input_scope 1)
-    ≡ map (place q asked k (one ∷ []) other [] one (λ v. left_other a b q v.path e) in_first name_other (omega arith) (omega arith) (λ f. omega arith)) (named q other)
-    = places_last q asked k (one ∷ []) other [] one (λ v. left_other a b q v.path e) in_first name_other (omega arith) (omega arith) (λ f. omega arith) named_k in
+    ≡ map (place q asked k (one ∷ []) other [] one (λ v. left_other from to q v.path e) in_first name_other (omega arith) (omega arith) (λ f. omega arith)) (named q other)
+    = places_last q asked k (one ∷ []) other [] one (λ v. left_other from to q v.path e) in_first name_other (omega arith) (omega arith) (λ f. omega arith) named_k in
     let all : pairs_in asked k both_inputs ≡ map (merged_pair one other) (in_common q one other)
     = append-nil (filter_map (pair_at k) (places_of asked k (input_scope 1, input_scope 2)))
     ∙ ap (filter_map (pair_at k)) places
-    ∙ pairs_are q asked k [] one (one ∷ []) other (λ v. left_one a b q v.path e) in_second name_one (omega arith) (omega arith) (λ f. omega arith) (named q one) in
+    ∙ pairs_are q asked k [] one (one ∷ []) other (λ v. left_one from to q v.path e) in_second name_one (omega arith) (omega arith) (λ f. omega arith) (named q one) in
     record {
       compared = ap (filter is_fit) all
           ∙ filter_mapped (merged_pair one other) is_fit is_fit (in_common q one other) (λ p. refl);
       different = ap (filter (λ p. not (is_fit p))) all
           ∙ filter_mapped (merged_pair one other) (λ p. not (is_fit p)) (λ p. not (is_fit p)) (in_common q one other) (λ p. refl);
       first = ap (filter_map (λ p. cond (is_none p.1) (Some p.0) None)) places
-          ∙ alone_are q asked k [] one (one ∷ []) other (λ v. left_one a b q v.path e) in_second name_one (omega arith) (omega arith) (λ f. omega arith) (named q one);
+          ∙ alone_are q asked k [] one (one ∷ []) other (λ v. left_one from to q v.path e) in_second name_one (omega arith) (omega arith) (λ f. omega arith) (named q one);
       second = ap (filter_map (λ p. cond (is_none p.1) (Some p.0) None)) backward
-          ∙ alone_are q asked k (one ∷ []) other [] one (λ v. left_other a b q v.path e) in_first name_other (omega arith) (omega arith) (λ f. omega arith) (named q other);
+          ∙ alone_are q asked k (one ∷ []) other [] one (λ v. left_other from to q v.path e) in_first name_other (omega arith) (omega arith) (λ f. omega arith) (named q other);
     }

@@ -2,7 +2,7 @@
 use Rattle.vcd_laws.proofs.Cited.{◌≡◌, ℕ, List, [], ◌∷◌, ◌++◌, map, flat_map, inl, refl, sym, ap, ◌∙◌, subst, Input, BodyItem, Want, outcome, input_of, AreReadable, input_scope, Opened, items_in, Asked}
 use Rattle.vcd_model.specs.Compare.{Pair, Side, alone, differs, pairs, unlike}
 use Rattle.vcd_model.specs.Within.{alone_in, compared_in, side, turned, unlike_in}
-use Rattle.vcd_laws.specs.CompareMerged.{asked_of_merge, both_inputs, side_of}
+use Rattle.vcd_laws.specs.CompareMerged.{asked_within, both_inputs, side_of}
 use Rattle.vcd_laws.specs.Matching.{AllMatch, MergedSuccessIsAMatch}
 use Rattle.vcd_laws.proofs.WrittenCodes.{In, from_contained, from_map, in_map, to_contained}
 use Rattle.vcd_laws.proofs.CheckOfMerge.{merge_items}
@@ -16,7 +16,7 @@ map_none f [] e = refl
 map_none f (x ∷ xs) e = cc
 
 module _ (q : Asked) (limit : ℕ) (names : List (List ℕ)) (inputs : List Input) (o p : Opened)
-    (can : AreReadable limit names inputs (o ∷ p ∷ [])) (all : q.names ≡ []) where
+    (can : AreReadable limit names inputs (o ∷ p ∷ [])) (all : q.names ≡ []) (from to : ℕ) where
   abbrev a : Side
   a = side_of (o.header ∷ p.header ∷ []) o
 
@@ -24,7 +24,7 @@ module _ (q : Asked) (limit : ℕ) (names : List (List ℕ)) (inputs : List Inpu
   b = side_of (o.header ∷ p.header ∷ []) p
 
   abbrev asked : Asked
-  asked = asked_of_merge q a b
+  asked = asked_within q from to
 
   abbrev ps : List Pair
   ps = pairs q o.header p.header
@@ -53,7 +53,7 @@ module _ (q : Asked) (limit : ℕ) (names : List (List ℕ)) (inputs : List Inpu
 
   from_there : There → Here
   from_there m =
-      let paired = paired_there q limit names inputs o p can all in
+      let paired = paired_there q limit names inputs o p can all from to in
       let first = alone_in asked k.header (input_scope 1, input_scope 2) in
       let second = alone_in asked k.header (input_scope 2, input_scope 1) in
       let both = parts_none first second (parts_none (first ++ second) [] m.none_alone).0 in
@@ -70,7 +70,7 @@ module _ (q : Asked) (limit : ℕ) (names : List (List ℕ)) (inputs : List Inpu
 
   from_here : Here → There
   from_here m =
-      let paired = paired_there q limit names inputs o p can all in
+      let paired = paired_there q limit names inputs o p can all from to in
       let first = alone_in asked k.header (input_scope 1, input_scope 2) in
       let second = alone_in asked k.header (input_scope 2, input_scope 1) in
       let both = parts_none (alone q o.header p.header) (alone q p.header o.header) m.none_alone in
@@ -87,10 +87,10 @@ module _ (q : Asked) (limit : ℕ) (names : List (List ℕ)) (inputs : List Inpu
       }
 
 pub merged_success_is_a_match : MergedSuccessIsAMatch
-merged_success_is_a_match q limit name names inputs o p can all =
+merged_success_is_a_match q limit name names inputs o p can all from to =
     let d = (merge_items limit names inputs (o ∷ p ∷ []) can).dump in
-    let law = within_is_a_match (asked q limit names inputs o p can all) limit both_inputs name
+    let law = within_is_a_match (asked_within q from to) limit both_inputs name
     (input_of (outcome Want.Merge limit names inputs).output) d.dump d.opens in (
-      λ good. from_there q limit names inputs o p can all (law.0 good).1,
-      λ m. law.1 (inl d.whole, from_here q limit names inputs o p can all m),
+      λ good. from_there q limit names inputs o p can all from to (law.0 good).1,
+      λ m. law.1 (inl d.whole, from_here q limit names inputs o p can all from to m),
     )

@@ -1,6 +1,6 @@
 -- The comparison of two strobes in what `merge` wrote has status 0 if what they have just before
 -- their edges matches.
-use Rattle.vcd_laws.proofs.Cited.{Bool, Contains, List, None, Option, Some, [], ap, arith, codes, cond, false, inl, inr, length, map, nat_le, nat_lt, not, refl, subst, suc, sym, take, true, zero, ℕ, ◌&&◌, ◌*◌, ◌++◌, ◌<◌, ◌==◌, ◌↔◌, ◌∙◌, ◌∷◌, ◌≡◌, ◌≢◌, ◌≤◌, eq-eqb, eqb-true, le-leb, le-ltb, leb-true, lt-ltb, length-append, bytes_eq-Decides, min, AreReadable, input_of, under_input, gives_at, last_value_is, latest_agree, Asked, IdCode, code_of, same_code, Header, gives_to, value_at, BodyItem, Entry, entries, time_after, Want, outcome, Opened, items_in, selected, selects_code, Value}
+use Rattle.vcd_laws.proofs.Cited.{Bool, Contains, List, None, Option, Some, [], ap, arith, codes, cond, false, inl, inr, length, nat_le, nat_lt, not, refl, subst, suc, sym, take, true, zero, ℕ, ◌&&◌, ◌*◌, ◌++◌, ◌<◌, ◌==◌, ◌↔◌, ◌∙◌, ◌∷◌, ◌≡◌, ◌≢◌, ◌≤◌, eq-eqb, eqb-true, le-leb, le-ltb, leb-true, lt-ltb, length-append, bytes_eq-Decides, AreReadable, input_of, gives_at, last_value_is, latest_agree, Asked, IdCode, code_of, same_code, Header, gives_to, value_at, BodyItem, Entry, entries, time_after, Want, outcome, Opened, items_in, selected, selects_code, Value}
 use Rattle.std.specs.Prelude.{slice_get}
 use Rattle.std.proofs.Math.Nat.{one-mul}
 use Rattle.vcd_model.specs.HeadText.{least_exponent}
@@ -9,7 +9,7 @@ use Rattle.vcd_model.specs.Merge.{factor}
 use Rattle.vcd_model.specs.Compare.{Pair, Rule, Side, alone, differs, is_triggered as comes, match, pairs, rule_for, state_at, unlike}
 use Rattle.vcd_model.specs.Within.{within}
 use Rattle.vcd_model.specs.Strobe.{Strobe, binary, is_triggered, last_time, sampled, strobe_codes, time_code}
-use Rattle.vcd_laws.specs.CompareMerged.{asked_of_merge, both_inputs, side_of}
+use Rattle.vcd_laws.specs.CompareMerged.{both_inputs, side_of}
 use Rattle.vcd_laws.specs.Matching.{AllMatch}
 use Rattle.vcd_laws.specs.Strobes.{GivesEdges, IsStrobeDump, edges_before, written_codes}
 use Rattle.vcd_laws.specs.StrobesMerged.{Clocked, EdgesMatch, StrobeSuccessIsAMatch, asked_of_strobes, clocked, edges_of, state_before}
@@ -193,42 +193,6 @@ module _ (q : Asked) (limit : ℕ) (names : List (List ℕ)) (s r : Strobe) (o p
   scale_other : b.scale ≡ 1
   scale_other = let x = one.head in let y = two.head in factor_none h k k x.scale y.scale y.scale
 
-  -- what is asked for, as `asked_of_merge` has it
-  abbrev with_scales : ℕ → ℕ → ℕ → ℕ → Asked
-  with_scales m n x y = record {
-    names = [];
-    exceptions = map (under_input 1) q.exceptions ++ map (under_input 2) q.exceptions;
-    from = m * q.from;
-    to = min (m * q.to) (min (m * x) (n * y));
-    rule = q.rule;
-    extent = q.extent;
-  }
-
-  abbrev with_bounds : ℕ → ℕ → ℕ → ℕ → Asked
-  with_bounds low high x y = record {
-    names = [];
-    exceptions = map (under_input 1) q.exceptions ++ map (under_input 2) q.exceptions;
-    from = low;
-    to = min high (min x y);
-    rule = q.rule;
-    extent = q.extent;
-  }
-
-  asked_is : asked_of_merge q a b ≡ asked_of_strobes q ones others
-  asked_is =
-      let x = one.edges in
-      let y = two.edges in
-      let c = length (edges_of ones) in
-      let d = length (edges_of others) in
-      ap (λ m. with_scales m b.scale (time_after a.items) (time_after b.items)) scale_one
-      ∙ ap (λ n. with_scales 1 n (time_after a.items) (time_after b.items)) scale_other
-      ∙ ap (λ t. with_scales 1 1 t (time_after b.items)) x.last
-      ∙ ap (λ t. with_scales 1 1 c t) y.last
-      ∙ ap (λ n. with_bounds n (1 * q.to) (1 * c) (1 * d)) (one-mul q.from)
-      ∙ ap (λ n. with_bounds q.from n (1 * c) (1 * d)) (one-mul q.to)
-      ∙ ap (λ n. with_bounds q.from q.to n (1 * d)) (one-mul c)
-      ∙ ap (λ n. with_bounds q.from q.to c n) (one-mul d)
-
   abbrev asked : Asked
   asked = asked_of_strobes q ones others
 
@@ -315,11 +279,7 @@ module _ (q : Asked) (limit : ℕ) (names : List (List ℕ)) (s r : Strobe) (o p
       → ((within asked limit both_inputs name (input_of (outcome Want.Merge limit names
       (input_of text ∷ input_of other ∷ [])).output)).status ≡ 0) ↔ There
   match_is name =
-      subst (λ (x : Asked). ((within x limit both_inputs name (input_of (outcome Want.Merge limit names
-      (input_of text ∷ input_of other ∷ [])).output)).status ≡ 0)
-      ↔ AllMatch q.rule a b ps (alone q h k ++ alone q k h) (unlike q h k) x.from x.to) asked_is
-      (merged_success_is_a_match q limit name names (input_of text ∷ input_of other ∷ []) one.dump
-      two.dump can all)
+      merged_success_is_a_match q limit name names (input_of text ∷ input_of other ∷ []) one.dump two.dump can all asked.from asked.to
 
 pub strobe_success_is_a_match : StrobeSuccessIsAMatch
 strobe_success_is_a_match q limit name names s r o p text other one two can all =

@@ -64,18 +64,22 @@ merged_style = record { time = λ t. t; path = under_input }
 abbrev pub side_of : List Header → Opened → Side
 side_of hs o = record { scale = factor hs o.header; items = items_in o; whole = true }
 
--- the same comparison of what `merge` wrote: times in its ticks up to the end of the shorter dump,
--- and exceptions under the scope of each input
-abbrev pub asked_of_merge : Asked → Side → Side → Asked
-asked_of_merge q a b = record {
+-- the same comparison of what `merge` wrote: from one time to another in its ticks, and with
+-- exceptions under the scope of each input
+abbrev pub asked_within : Asked → (from to : ℕ) → Asked
+asked_within q from to = record {
   names = [];
   exceptions = map (under_input 1) q.exceptions ++ map (under_input 2) q.exceptions;
-  from = a.scale * q.from;
-  to = min (a.scale * q.to)
-      (min (a.scale * time_after a.items) (b.scale * time_after b.items));
+  from = from;
+  to = to;
   rule = q.rule;
   extent = q.extent;
 }
+
+-- the same up to the end of the shorter dump
+abbrev pub asked_of_merge : Asked → Side → Side → Asked
+asked_of_merge q a b = asked_within q (a.scale * q.from)
+    (min (a.scale * q.to) (min (a.scale * time_after a.items) (b.scale * time_after b.items)))
 
 -- the scope of the first input with that of the second
 abbrev pub both_inputs : List Names

@@ -1,5 +1,5 @@
 -- Two strobes in what `merge` wrote compared with each other: numbers of edges in place of times.
-use Rattle.std.specs.Prelude.{◌≡◌, ◌≢◌, ◌↔◌, ℕ, suc, min, ◌≤◌, IsTrue, cond, List, [], ◌∷◌, ◌++◌, length, map, codes, Contains, Option, None, Some, slice_get}
+use Rattle.std.specs.Prelude.{◌≡◌, ◌≢◌, ◌↔◌, ℕ, suc, min, ◌≤◌, IsTrue, cond, List, [], ◌∷◌, ◌++◌, length, codes, Contains, Option, None, Some, slice_get}
 use Rattle.vcd_model.specs.Declarations.{IdCode, code_of, same_code}
 use Rattle.vcd_model.specs.Header.{Header}
 use Rattle.vcd_model.specs.Items.{BodyItem, time_after}
@@ -9,9 +9,8 @@ use Rattle.vcd_model.specs.Job.{Want, outcome}
 use Rattle.vcd_model.specs.Compare.{Asked, Pair, alone, match, pairs, rule_for, unlike}
 use Rattle.vcd_model.specs.Within.{within}
 use Rattle.vcd_model.specs.Strobe.{Clock, Strobe, binary, clocks_of, edges_in, is_triggered, last_time, sampled, time_code}
-use Rattle.vcd_laws.specs.Heads.{under_input}
 use Rattle.vcd_laws.specs.Dumps.{AreReadable, input_of}
-use Rattle.vcd_laws.specs.CompareMerged.{both_inputs}
+use Rattle.vcd_laws.specs.CompareMerged.{asked_within, both_inputs}
 use Rattle.vcd_laws.specs.Strobes.{IsStrobeDump, edges_before}
 
 -- a dump with the clocks of a strobe
@@ -42,16 +41,10 @@ state_before d k edge c =
     (Some (Value.Bits (codes "1"))) None) (sampled edge c))
 
 -- the comparison of the two inputs in what `merge` wrote of two strobes: numbers of edges from 1, up
--- to the lesser number of edges, and exceptions under the scope of each input
+-- to the lesser number of edges
 abbrev pub asked_of_strobes : Asked → Clocked → Clocked → Asked
-asked_of_strobes q a b = record {
-  names = [];
-  exceptions = map (under_input 1) q.exceptions ++ map (under_input 2) q.exceptions;
-  from = q.from;
-  to = min q.to (min (length (edges_of a)) (length (edges_of b)));
-  rule = q.rule;
-  extent = q.extent;
-}
+asked_of_strobes q a b =
+    asked_within q q.from (min q.to (min (length (edges_of a)) (length (edges_of b))))
 
 -- There are pairs, no variable without a counterpart, and no pair of different kinds. At each edge
 -- from the first to the last that is asked for, and that both have, the states of each pair match.

@@ -12,7 +12,7 @@ ghost use Rattle.vcd_laws.specs.OverPick.{ListOfPick, SampleOfPick, EdgesOfPick,
 ghost use Rattle.vcd_laws.specs.OverCut.{ListOfCut, SampleOfCut, SampleOfCutAnywhere, EdgesOfCut, CutTwice, CutPastEnd, CutOfCut, CutOfPick, PickOfCut};
 ghost use Rattle.vcd_laws.specs.OverMerge.{ListOfMerge, SampleOfMerge, EdgesOfMerge, SampleOfOneMerged, SampleOfAllMerged, EdgesOfOneMerged, EdgesOfAllMerged, SampleOfAnyMerged, EdgesOfAnyMerged};
 ghost use Rattle.vcd_laws.specs.CompareMerged.{CompareOfMerge};
-ghost use Rattle.vcd_laws.specs.Matching.{ComparisonIsWithin, SuccessIsAMatch, MergedSuccessIsAMatch};
+ghost use Rattle.vcd_laws.specs.Matching.{ComparisonIsWithin, SuccessIsAMatch, MergedSuccessIsAMatch, SuccessIsSameness};
 ghost use Rattle.vcd_laws.specs.Selecting.{OutermostHaveAllPairs, OutermostHaveEachPairOnce};
 ghost use Rattle.vcd_laws.specs.Strobes.{NothingRevisedInStrobe, SameStrobes, StrobeKeeps, StrobeIsADump};
 ghost use Rattle.vcd_laws.specs.StrobesMerged.{StrobeSuccessIsAMatch};
@@ -290,10 +290,16 @@ pub fn compare_of_merge()
     ensures { CompareOfMerge }
 {}
 
-/// Two merged dumps compare with status 0 if and only if they match at every time, up to the end of
-/// the shorter one.
+/// The two inputs in what `merge` wrote compare with status 0 in a window if and only if they match
+/// at every time of it.
 pub fn merged_success_is_a_match()
     ensures { MergedSuccessIsAMatch }
+{}
+
+/// `vcdkit merge A B | vcdkit-compare in1=in2` ends with status 0 if and only if A and B have the
+/// same variables, at least one, and each has the same state in both at every time.
+pub fn success_is_sameness()
+    ensures { SuccessIsSameness }
 {}
 
 /// What a strobe has written is a prefix of what it writes if more items follow.
