@@ -51,10 +51,11 @@ fn one_input<'a>(alloc: Global, name: &'a str, help: Help<'a>) -> Result<Command
 fn with_file<'a>(alloc: Global, name: &'a str, help: Help<'a>) -> Result<Command<'a>, AllocError>
     ensures { IfOk result (λ command. IsWhole command (file_app name.entry.now)) }
 {
+    let command = one_input(alloc, name, help)?;
     let file = Arg::new(alloc, "input")
         .value_name("FILE")
         .help("The dump, with or without -i");
-    one_input(alloc, name, help)?.arg(file)
+    command.arg(file)
 }
 
 /// Returns the definition of a command that reads one input and takes names of variables, for
@@ -69,12 +70,13 @@ fn named<'a>(
 ) -> Result<Command<'a>, AllocError>
     ensures { IfOk result (λ command. IsWhole command (named_app name.entry.now required)) }
 {
+    let command = one_input(alloc, name, help)?;
     let names = Arg::new(alloc, "names")
         .value_name("NAME")
         .num_args(1..)
         .required(required)
         .help("A variable, or a scope with everything in it: names joined by dots");
-    one_input(alloc, name, help)?.arg(names)
+    command.arg(names)
 }
 
 /// Returns the definition of the option `--NAME`, where NAME is `name`, for `clap`, with the help
@@ -94,11 +96,13 @@ fn time<'a>(alloc: Global, name: &'a str, value_name: &'a str, help: &'a str) ->
 fn cut<'a>(alloc: Global) -> Result<Command<'a>, AllocError>
     ensures { IfOk result (λ command. IsWhole command cut_app) }
 {
+    let command = with_file(alloc, "cut", help::CUT)?;
     let from = time(alloc, "from", "TIME", "The first time").default_value("0");
+    let command = command.arg(from)?;
     let to = time(alloc, "to", "TIME", "The last time [default: the end]")
         .default_value("18446744073709551615")
         .hide_default_value(true);
-    with_file(alloc, "cut", help::CUT)?.arg(from)?.arg(to)
+    command.arg(to)
 }
 
 /// Returns the definition of the command `sample` for `clap`: its options, of which `--at` with the
@@ -106,8 +110,9 @@ fn cut<'a>(alloc: Global) -> Result<Command<'a>, AllocError>
 fn sample<'a>(alloc: Global) -> Result<Command<'a>, AllocError>
     ensures { IfOk result (λ command. IsWhole command sample_app) }
 {
+    let command = named(alloc, "sample", help::SAMPLE, false)?;
     let at = time(alloc, "at", "TIME,...", "Times in increasing order").required(true);
-    named(alloc, "sample", help::SAMPLE, false)?.arg(at)
+    command.arg(at)
 }
 
 /// Returns the definition of the command `merge` for `clap`, with its files and `--token-limit`.
@@ -115,14 +120,13 @@ fn sample<'a>(alloc: Global) -> Result<Command<'a>, AllocError>
 fn merge<'a>(alloc: Global) -> Result<Command<'a>, AllocError>
     ensures { IfOk result (λ command. IsWhole command merge_app) }
 {
+    let command = new_command(alloc, "merge", help::MERGE).arg(token_limit(alloc))?;
     let files = Arg::new(alloc, "files")
         .value_name("FILE")
         .num_args(1..)
         .required(true)
         .help("Up to 64 dumps; - means standard input");
-    new_command(alloc, "merge", help::MERGE)
-        .arg(token_limit(alloc))?
-        .arg(files)
+    command.arg(files)
 }
 
 /// Returns the definition of the program with this command added. Fails if memory ran out for the

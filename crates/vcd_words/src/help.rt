@@ -121,7 +121,7 @@ Exit status:
 };
 
 pub const MERGE: Help<'static> = Help {
-    about: "Writes several dumps as one",
+    about: "Merges several dumps into one",
     usage: "vcdkit merge [OPTIONS] FILE...",
     after: "Examples:
   vcdkit merge cpu.vcd bus.vcd > both.vcd
@@ -145,6 +145,6 @@ after -i, because their arguments are names; merge takes several dumps. Without
 a file, a command reads standard input. Output goes to standard output.
 Each command has its own help, with examples: vcdkit check --help
 
-More: man vcdkit, and the manual in share/doc/vcdkit below the prefix of the
-installation, or in docs/ of the sources.",
+More: man vcdkit, and the manual in share/doc/vcdkit under the installation
+prefix, or in docs/ of the sources.",
 };

@@ -9,5 +9,5 @@ returns c =
     let from : IsLocal c.default_value-from.result from_rule = with_default c.time.result c.default_value-from.result (time_rule (codes "from")) c.time.ensures _ c.default_value-from.ensures in
     let last : IsLocal c.default_value.result to_rule = with_default c.time-2.result c.default_value.result (time_rule (codes "to")) c.time-2.ensures _ c.default_value.ensures in
     let to = with_hidden_default c.default_value.result c.hide_default_value-to.result to_rule last _ c.hide_default_value-to.ensures in
-    let first = with_arg c.in_ok-with_file.field-0 c.in_ok-arg.field-0 (file_app (codes "cut")) c.in_ok-with_file.ensures c.default_value-from.result from_rule c.in_ok-arg.ensures from in
-    IfOk-weaker c.arg-2.result _ _ (λ r h. with_arg c.in_ok-arg.field-0 r (with_rule (file_app (codes "cut")) from_rule) first c.hide_default_value-to.result to_rule h to) c.arg-2.ensures
+    let first = with_arg c.in_ok-command.command c.in_ok-command-2.command (file_app (codes "cut")) c.in_ok-command.ensures c.default_value-from.result from_rule c.in_ok-command-2.ensures from in
+    IfOk-weaker c.arg-2.result _ _ (λ r h. with_arg c.in_ok-command-2.command r (with_rule (file_app (codes "cut")) from_rule) first c.hide_default_value-to.result to_rule h to) c.arg-2.ensures

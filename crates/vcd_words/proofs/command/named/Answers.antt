@@ -10,4 +10,4 @@ returns c =
     let required = with_required c.num_args.result c.required.result _ counted _ c.required.ensures in
     let names : IsLocal c.help-names.result (names_rule c.args.required) = with_help c.required.result c.help-names.result _ required _ c.help-names.ensures in
     IfOk-weaker c.arg.result _ _
-    (λ r h. with_arg c.in_ok-one_input.field-0 r (one_input_app c.args.name.now) c.in_ok-one_input.ensures c.help-names.result (names_rule c.args.required) h names) c.arg.ensures
+    (λ r h. with_arg c.in_ok-command.command r (one_input_app c.args.name.now) c.in_ok-command.ensures c.help-names.result (names_rule c.args.required) h names) c.arg.ensures

@@ -6,4 +6,4 @@ pub returns : goal.returns
 returns c =
     let valued = with_value_name c.new.result c.value_name.result (new_rule (codes "input")) (c.new.ensures.rule, c.new.ensures.optional.1) _ c.value_name.ensures in
     let file : IsLocal c.help-file.result file_rule = with_help c.value_name.result c.help-file.result _ valued _ c.help-file.ensures in
-    IfOk-weaker c.arg.result _ _ (λ r h. with_arg c.in_ok-one_input.field-0 r (one_input_app c.args.name.now) c.in_ok-one_input.ensures c.help-file.result file_rule h file) c.arg.ensures
+    IfOk-weaker c.arg.result _ _ (λ r h. with_arg c.in_ok-command.command r (one_input_app c.args.name.now) c.in_ok-command.ensures c.help-file.result file_rule h file) c.arg.ensures
