@@ -26,9 +26,11 @@ from typing import Any, Dict, Iterator, List, NamedTuple, Optional, Tuple
 
 import cases  # finds what follows
 import expressions
+from asker import NEVER
 from expressions import Expression, leaf
 from vcdkit import Dump
-from vcdkit.questions.when import Questions
+from vcdkit.errors import UsageError
+from vcdkit.questions.when import Questions, state
 
 TIMES = 10  # of a test bench
 EARLY = 14  # edges after which Verilator's past() is of values
@@ -262,6 +264,15 @@ class TwoStates(Bench):
         return bool(re.search(r"\$([prfc]|st)", one.text)) and "t." in one.text
 
 
+def is_refused(dump: Dump, text: str) -> bool:
+    """Whether an expression has a comparison that never holds."""
+    try:
+        state(dump, text, True)
+    except UsageError as error:
+        return bool(re.search(NEVER, str(error)))
+    return False
+
+
 def wrong_of(bench: Bench, folder: str, count: int) -> Iterator[Tuple[str, str]]:
     """Returns the expressions of a test bench whose values are others than those of its
     simulator."""
@@ -276,6 +287,8 @@ def wrong_of(bench: Bench, folder: str, count: int) -> Iterator[Tuple[str, str]]
     # Icarus does not dump a wire that is always z.
     of = {at: one for at, one in enumerate(asked) if "%s.y%d" % (bench.scope, at) in paths}
     texts = {at: bench.asked(one.text).replace("t.", bench.scope + ".") for at, one in of.items()}
+    texts = {at: text for at, text in texts.items() if not is_refused(
+        dump, "%s === %s.y%d" % (text, bench.scope, at))}
     rules = [("", "%s($unsigned(%s) === %s.y%d)" % (
         "!" * (at % 50 > 0), "$past(%s)" % text if bench.is_late else text, bench.scope, at))
              for at, text in texts.items()]
@@ -292,7 +305,8 @@ def wrong_of(bench: Bench, folder: str, count: int) -> Iterator[Tuple[str, str]]
         row = dict(zip(names, (value if isinstance(value, float) else str(value)
                                for value in values)))
         before, look = look, Look(row, look)
-        for at, one in of.items() if time >= bench.begin else ():
+        for at in texts if time >= bench.begin else ():
+            one = of[at]
             wanted = one.own(before if bench.is_late else look)
             if wanted != row["t.y%d" % at]:
                 yield "the definition", "%s of y%d: %s, by the simulator %s, of %s" % (

@@ -59,7 +59,7 @@ def run(name, words, **streams):
     signal.signal(signal.SIGALRM, no_end)
     signal.alarm(SECONDS)
     try:
-        status, out, messages = asker.run(name[7:], words)
+        status, out, messages = asker.said_by(name[7:], words)
     finally:
         signal.alarm(0)
     return status, out, messages.encode("utf-8", "surrogateescape")
@@ -517,7 +517,7 @@ class Answers(Case):
         for variables, body, rows in (
                 ("a 2 !, b 4 @", "#0;b101 @;#5;b1 !;", (
                     ("(a | b) >> 2 == 1", "0ns"), ("(a | b) == 5", "5ns"), ("a === 1", "5ns"),
-                    ("a !== 9 & b === 5", "5ns"))),
+                    ("a !== 3 & b === 5", "0ns"))),
                 *((bus, late + end, [
                     *(("!(req -> ack within %s)" % within, "0ns") for within in (
                         "5ns", "19ns", "20ns")), ("!(req -> ack within 25ns)", at_25)])
@@ -745,18 +745,19 @@ class Rules(Case):
                 "--rise=clk", "--channel=a: req", "--channel=b: !req & req", "bus"])[2])
 
     def test_transfers_after_a_flush(self):
-        note = "transactions that lack a transfer: %d; with a number of edges below 0: %d\n"
+        note = "vcdkit-table: transactions: %d; that lack a transfer: %d; with a number of edges " \
+            "below 0: %d\n"
         for flush, channels, rows, counts in (
                 ("rose(req)", "ab", "20,40,2;30,50,2;,90,", (1, 0)),
                 ("ack & past(ack)", "ab", "10,40,3;20,,;30,,;70,90,2", (2, 0)),
-                ("req", "ab", ",40,;,50,;,90,", (3, 0)), ("fell(ack)", "b", "40;50;90", ()),
+                ("req", "ab", ",40,;,50,;,90,", (3, 0)), ("fell(ack)", "b", "40;50;90", (0, 0)),
                 ("req & ack", "ba", "40,10,-3;50,20,-3;90,30,-6;,70,", (1, 3))):
             for words, clock in (["--rise", "clk"], ""), ([], "@clk"):
                 words += ["--channel=%s%s: %s" % (one, clock, {"a": "req", "b": "ack"}[one])
                           for one in channels]
                 got = run("vcdkit-table", [*words, "--flush", flush, "bus"])
                 self.assertEqual((got[0], got[1].decode().splitlines()[1:], got[2].decode()), (
-                    0, rows.split(";"), "vcdkit-table: " + note % counts if counts else ""), flush)
+                    0, rows.split(";"), note % (rows.count(";") + 1, *counts)), flush)
 
     def test_rules_of_several_clocks(self):
         """Each says what it says alone at its clock."""
@@ -774,7 +775,7 @@ class Rules(Case):
     def test_rules_that_overlap(self):
         overlaps = "requests that begin before the previous one is answered: 2. They get the same "
         words = ["--every", "--rise", "clk", "bus"]
-        status, _, messages = self.rules("a: never !(req -> ack within 9)\nb: never req is x\n",
+        status, _, messages = self.rules("a: never !(req -> ack within 9)\nb: never req is z\n",
                                          "--junit", "j.xml", *words)
         self.assertEqual((status, messages.count("\n")), (0, 2))
         self.assertIn("rules:1: a: %sanswer; with `each" % overlaps, messages)
@@ -782,7 +783,7 @@ class Rules(Case):
                          [["system-out"], []])
         messages = run("vcdkit-when", ["--count", *words, "!(req -> ack within 9)"])[2].decode()
         self.assertTrue(messages.startswith("vcdkit-when: warning: " + overlaps))
-        self.assertIn("leaves without an answer: 4\n",
+        self.assertIn("a: 4 requests, 0 late, 0 without an answer, 4 open at the end\n",
                       self.rules("a@clk: each req -> ack & req within 90\n", "bus")[2])
 
     def test_rules_that_are_none(self):

@@ -4,7 +4,7 @@ import re
 import unittest
 
 from cases import Case
-from asker import run
+from asker import said_by
 
 HEADER = ("$timescale 10ns $end $scope module t $end $var wire 1 ! c $end $var reg 4 \" q [3:0] "
           "$end $var real 64 @ r $end $var event 1 $ e $end $var reg 4 \" k[7:4] $end\n"
@@ -41,7 +41,7 @@ class Refused(Case):
             ["--from", "-1"], ["--to", "9" * 99], ["--from", "1.5"], ["--from", "2", "--to", "1"])]
         for words in asked:
             with self.subTest(words=[word[:60] for word in words]):
-                said = run("when", words)
+                said = said_by("when", words)
                 self.assertRegex(said.message, r"\Avcdkit-when: .*\n(see: .*\n)?\Z")
                 self.assertEqual((said.output, said.status in (2, 3)), (b"", True))
 

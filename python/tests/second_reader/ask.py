@@ -11,6 +11,7 @@ import functools
 import multiprocessing
 import os
 import random
+import re
 import subprocess
 import sys
 import tempfile
@@ -19,7 +20,7 @@ import traceback
 import zlib
 from typing import Any, Callable, Counter, Dict, List, NamedTuple, Tuple
 
-from asker import PYTHON, Asker, Skip
+from asker import NEVER, PYTHON, Asker, Skip
 from faulty_dumps import with_fault
 from made_dumps import Made
 
@@ -121,8 +122,11 @@ def ask_one(asker: Asker, source: Source, kind: str, found: Found) -> None:
         found.counts[kind] += 1
     except Skip:
         pass
-    except Exception:  # pylint: disable=broad-except
-        note(found, source, kind, "a traceback", "", traceback.format_exc(limit=-3), "")
+    except Exception as error:  # pylint: disable=broad-except
+        if not re.search(NEVER, str(error)):
+            note(found, source, kind, "a traceback", "", traceback.format_exc(limit=-3), "")
+        elif not asker.is_settled():
+            note(found, source, kind, "refused", "", error, "it may hold")
 
 
 def note(found: Found, source: Source, kind: str, what: str, words: Any, got: Any, wanted: Any

@@ -9,7 +9,8 @@ import sys
 from typing import Any, Callable, Dict, List, NamedTuple, Optional, Sequence, Set, Tuple, Union
 
 from conditions import Conditions
-from dumps import LAST, UNITS, Variable, bare
+from dumps import LAST, UNITS, Real, Variable, bare
+from expressions import COMPARED
 from faulty_dumps import NAMES, read
 from looks import Edges, Look, looks_at_changes
 from made_dumps import Made
@@ -35,11 +36,16 @@ AT_ONCE: Sequence[Tuple[str, str, Sequence[int]]] = (
     ("questions.unknown", "MAX_STARTS", (0, 3)), ("questions.unknown", "MAX_CODES", (0, 2)))
 
 
+NEVER = "bad condition: .* is never |bad condition: nothing is "
 module_of = functools.lru_cache(maxsize=None)(importlib.import_module)
 
 
 class Skip(Exception):
     """The dump does not suit the question, or the pages leave the answer open."""
+
+
+class Refused(Exception):
+    """A comparison never holds, and is refused."""
 
 
 class Said(NamedTuple):
@@ -92,6 +98,14 @@ class _Stream(io.TextIOWrapper):
 
 
 def run(script: str, words: Sequence[str]) -> Said:
+    """Runs vcdkit-SCRIPT in this process; raises Refused if it refuses a comparison."""
+    said = said_by(script, words)
+    if said.status == 2 and re.search(NEVER, said.message):
+        raise Refused(said.message)
+    return said
+
+
+def said_by(script: str, words: Sequence[str]) -> Said:
     """Runs vcdkit-SCRIPT in this process."""
     main = module_of("vcdkit.commands." + script.replace("-", "_")).main
     streams = _Stream(), _Stream()
@@ -129,6 +143,7 @@ class Asker:
         """Begins a question of a kind, whose choices depend only on the seed and the kind."""
         self.random.seed("%d %s" % (self.seed, kind))
         self.conditions.reset()
+        COMPARED.clear()
         is_less = self.happens(.3) and kind != "nested"  # that has long lines
         for name, size, smaller in AT_ONCE:
             module = module_of("vcdkit." + name)
@@ -159,6 +174,17 @@ class Asker:
     def other_text(self) -> bytes:
         """Returns another dump, to be merged with this one: now and then this one again."""
         return self.text if self.happens(.2) else self.other or Made(self.seed + 700000).text
+
+    def is_settled(self) -> bool:
+        """Whether the outcome of a comparison that was made is always the same: it may be refused.
+        """
+        its, looks = self.dump.of_code.values(), []  # type: Any, List[Look]
+        for _ in range(200):
+            digits = self.random.choice(["0", "1", "01", "01", "01", "01x", "01xz"])
+            values: Any = {one.code: Real("%r" % self.random.gauss(0, 9)) if one.is_real else
+                           "".join(self.random.choices(digits, k=one.size)) for one in its}
+            looks.append(Look(self.tick(), values, set(), looks[-1] if looks else None))
+        return any(len({value(look) for look in looks} - {"x"}) < 2 for value in COMPARED)
 
     # ---- Random parts of a question.
 
@@ -261,8 +287,8 @@ class Asker:
             for state in step.before, step.end:
                 digits = found.of.own(Look(step.time, state, set()))
                 state.pop(" e", None)
-                if digits.strip("-") and not self.conditions.codes.isdisjoint(state):
-                    state[" e"] = digits.replace("-", "x")
+                if not self.conditions.codes.isdisjoint(state):
+                    state[" e"] = digits
         one = Variable(-1, (), "an_expression", "wire", found.of.width, " e", 0, 0, False, "")
         return "an_expression = " + found.text, one
 

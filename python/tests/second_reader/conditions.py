@@ -46,11 +46,11 @@ class Operand(NamedTuple):
             self.end - self.begin)
 
     def read(self, state: Any) -> Any:
-        """Returns the digits, or the number that a real variable has; - if there is none."""
+        """Returns the digits, or the number that a real variable has; x if there is none."""
         value, width = state.get(self.of.code), self.end - self.begin
         if isinstance(value, Real) or value is None:
             found = number(value.text) if value and self.of.is_real else None
-            return "-" * (1 if self.of.is_real else width) if found is None else found
+            return "x" * (1 if self.of.is_real else width) if found is None else found
         if self.of.is_real:
             return integer(value) if is_known(value) else "x"
         return value[self.begin:self.end]

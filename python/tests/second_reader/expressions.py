@@ -2,7 +2,7 @@
 what past(), rose() and their like mean, by IEEE Std 1800.
 
 An expression is asked for its digits in a width and a sign, which its context gives. Digits are 0,
-1, x, z, and - for a signal that has no value yet. A real number is a float; x if it is unknown."""
+1, x and z; a signal that has no value yet is x. A real number is a float; x if it is unknown."""
 import ctypes
 import ctypes.util
 import functools
@@ -20,6 +20,7 @@ LEVELS = (("?:",), ("||",), ("&&",), ("|",), ("^", "~^", "^~"), ("&",),
           ("<<", ">>", "<<<", ">>>"), ("+", "-"), ("*", "/", "%"), ("**",))
 LEVEL = {sign: level for level, signs in enumerate(LEVELS) for sign in signs}
 UNARY, OPERAND = len(LEVELS), len(LEVELS) + 1
+COMPARED: List[Callable[[Any], str]] = []  # all comparisons that were made
 C = ctypes.CDLL(ctypes.util.find_library("m"))
 C.pow.restype, C.pow.argtypes = ctypes.c_double, [ctypes.c_double] * 2
 
@@ -144,7 +145,7 @@ def leaf(text: str, width: int, is_signed: bool, read: Callable[[Look], Digits],
         value = read(look)
         if to == 0:  # a real number is asked for
             its = number(value, is_signed)
-            return as_real(its) if its is not None else "-" if "-" in value else "x"
+            return as_real(its) if its is not None else "x"
         return value.rjust(to, fill) if fill else extended(value, to, as_signed)
     return Expression(text, binding, width, is_signed, digits)
 
@@ -285,8 +286,7 @@ def of_two(sign: str, one: Expression, other: Expression) -> Callable[[Look], st
             return bit(sign[0], truth(one.own(look)), truth(other.own(look)))
         its = [side.digits(look, width, is_signed) for side in (one, other)]
         if sign[:3] in ("===", "!=="):
-            is_none = any(isinstance(side, str) and "-" in side for side in its)
-            return "x" if is_none else "%d" % ((its[0] == its[1]) == (sign == "==="))
+            return "%d" % ((its[0] == its[1]) == (sign == "==="))
         numbers = [number(side, is_signed) for side in its]
         if sign in ("==?", "!=?"):
             pairs = [pair for pair in zip(*its) if pair[1] in "01"]
@@ -301,6 +301,7 @@ def of_two(sign: str, one: Expression, other: Expression) -> Callable[[Look], st
         elif width and any({*pair} == {"0", "1"} for pair in zip(*its)):
             found = "0"
         return found if sign == "==" else inverse(found)
+    COMPARED.extend([value] * (sign not in ("&&", "||")))
     return value
 
 
@@ -356,8 +357,6 @@ def has(one: Expression, words: str) -> Expression:
     """Returns `is x`, `is not z`."""
     def value(look: Look) -> str:
         its = one.own(look)
-        if isinstance(its, str) and "-" in its:
-            return "x"
         return "%d" % ((isinstance(its, str) and words[-1].lower() in its) != ("not" in words))
     return own("%s is %s" % (one.inside(LEVEL["=="]), words), LEVEL["=="], 1, False, value)
 
@@ -383,8 +382,6 @@ def at_edges(name: str, one: Expression) -> Expression:
         if name in ("rose", "fell"):
             digit = "1" if name == "rose" else "0"
             return "%d" % (now[-1] == digit != was[-1])
-        if any(isinstance(side, str) and "-" in side for side in (was, now)):
-            return "x"
         is_same = was == now or was != was and now != now  # NaN is NaN
         return "%d" % (is_same == (name == "stable"))
     return own(text, OPERAND, 1, False, value)

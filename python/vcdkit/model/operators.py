@@ -1,8 +1,7 @@
 """What the operators of Verilog make of values: clause 5 of IEEE Std 1364-2005.
 
 A value of some bits is an int if all its digits are 0 or 1, else its digits, a str. A real number
-is a float, with the arithmetic of IEEE Std 754. A signal that has no value yet has the digit -,
-which counts as x, except where digits themselves are asked for. Each operator takes the kind in
+is a float, with the arithmetic of IEEE Std 754; x if it is unknown. Each operator takes the kind in
 which it works first."""
 import functools
 import math
@@ -11,7 +10,7 @@ from typing import Any, Callable, Dict, NamedTuple, Sequence, Tuple
 
 Value = Any  # an int, a float or a str
 Operate = Callable[..., Any]
-INVERSE = str.maketrans("01z-", "10xx")
+INVERSE = str.maketrans("01z", "10x")
 
 
 class Kind(NamedTuple):
@@ -56,7 +55,7 @@ def converted(value: Value, own: Kind, to: Kind) -> Value:
         return to.of(value) if not to.width else value if to.sign else value & own.mask
     if to.width and own.width:
         return value.rjust(to.width, value[0] if to.sign else "0")
-    return "-" if "-" in value else "x"
+    return "x"
 
 
 def _arithmetic(operate: Operate, kind: Kind, *values: Value) -> Value:
@@ -117,7 +116,7 @@ def _table(operate: Operate, decides: str) -> Dict[Tuple[str, str], str]:
     """Returns what digits make, of which one may decide whatever the other is."""
     return {(one, other): str(operate(int(one), int(other)) & 1) if (one + other).isdigit() else
             decides if decides and decides in one + other else "x"
-            for one in "01xz-" for other in "01xz-"}
+            for one in "01xz" for other in "01xz"}
 
 
 def _bitwise(operate: Operate, table: Dict[Tuple[str, str], str], kind: Kind, one: Value,
@@ -160,8 +159,7 @@ def _compared(operate: Operate, kind: Kind, one: Value, other: Value) -> Value:
 
 def _same(_: Kind, one: Value, other: Value) -> Value:
     """Returns whether all digits are the same; NaN is NaN."""
-    is_none = any(isinstance(value, str) and "-" in value for value in (one, other))
-    return "x" if is_none else 1 if one == other or one != one and other != other else 0
+    return 1 if one == other or one != one and other != other else 0
 
 
 def _matched(kind: Kind, one: Value, other: Value) -> Value:
@@ -180,7 +178,7 @@ def _counted(are: Callable[[int], bool], kind: Kind, one: Value) -> Value:
 
 def _has(letter: str, _: Kind, one: Value) -> Value:
     """Returns whether a digit is x, or z."""
-    return 0 if not isinstance(one, str) else "x" if "-" in one else 1 if letter in one else 0
+    return 1 if isinstance(one, str) and letter in one else 0
 
 
 def truth(one: Value) -> Value:

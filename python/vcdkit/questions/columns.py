@@ -42,7 +42,7 @@ class _Columns:
     def front(self, text: bytes) -> bytes:
         """Returns a header that also declares the expressions."""
         lines = "".join("$var %s %d %s %s $end\n" % (
-            "wire" if kind.width else "real", kind.width or 64, code.decode(), name)
+            "wire" if kind.width else "real", kind.width or 1, code.decode(), name)
             for name, kind, code in zip(self._named, self.kinds, self._codes))
         return text[:-len(header.BODY)] + lines.encode("utf-8", "surrogateescape") + header.BODY
 
@@ -51,29 +51,29 @@ class _Columns:
         *_, conditions = self._read()
         values, last = conditions.values(), [b""] * len(self._codes)
         changes_of, is_due = body.Known(conditions.over).__getitem__, False
+        known = 0  # the expressions of which a signal has a value
         for block in body.blocks(file):
             out: List[bytes] = []
             for line in io.BytesIO(block):
                 if line[:1] in (b"#", b"\n") or line == b"$end\n":  # a fault has an empty line
-                    out += self._lines(values(), last) if is_due else ()
+                    out += self._lines(values(), last, known) if is_due else ()
                     is_due = False
                 else:
-                    changes = changes_of(line[:-1])
-                    is_due = bool(changes) or is_due
-                    conditions.take(changes, 0)
+                    found = conditions.take(changes_of(line[:-1]), 0)
+                    is_due, known = bool(found) or is_due, known | found
                 out.append(line)
             yield b"".join(out)
-        yield b"".join(self._lines(values(), last) if is_due else ())
+        yield b"".join(self._lines(values(), last, known) if is_due else ())
 
-    def _lines(self, values: Sequence[Value], last: List[bytes]) -> Iterator[bytes]:
-        """Returns the lines of values that are others than the last ones; none of no value."""
+    def _lines(self, values: Sequence[Value], last: List[bytes], known: int) -> Iterator[bytes]:
+        """Returns the lines of values that are others than the last ones, of known expressions."""
         for at, (value, kind, code) in enumerate(zip(values, self.kinds, self._codes)):
-            digits = "r%r" % value if isinstance(value, float) else "b" + (
-                digits_of(value, kind.width).replace("-", "x") if str(value).strip("-") else "")
+            digits = "r%r" % value if isinstance(value, float) else "b" + digits_of(
+                value, kind.width)
             line = b"%s %s\n" % (digits.encode(), code)
-            if line != last[at] and (digits != "b" or last[at]):
+            if line != last[at] and known >> at & 1:
                 last[at] = line
-                yield line if digits != "b" else b"bx %s\n" % code
+                yield line
 
     def text(self, names: Sequence[str] = (), window: Sequence[str] = ()) -> Headed:
         """Returns the text that has what names select, and in a window of `cut` if there is one,

@@ -13,6 +13,7 @@ from typing import (Any, Callable, Deque, Dict, Iterable, Iterator, List, NamedT
                     Sequence, Set, Tuple)
 
 from ..errors import DumpFault, UnknownName, UsageError
+from ..model.extents import extent_of, extent_of_number
 from ..model.names import FIELD, bare, field_of, full_names
 from ..model.operators import (BIT, OPERATORS, REAL, TAKES, Kind, Operator, Value, converted,
                                kind_of, value_of_digits)
@@ -53,14 +54,14 @@ class _Name(NamedTuple):
         return REAL if self.signal.is_real else kind_of(self.end - self.begin, is_signed)
 
     def value(self, own: Kind, to: Kind, raw: bytes) -> Value:
-        """Returns the value that a body has for the signal, in a kind; none if that is empty, or if
-        it is a real number for bits."""
+        """Returns the value that a body has for the signal, in a kind; x if that is empty, or if it
+        is a real number for bits."""
         if self.signal.type == "event":
             return 1 if raw else 0
         if not raw or raw[:1] == b"r":
             number = real_of(raw) if raw and not own.width else ""
             return number if isinstance(number, float) else converted(
-                "-" * (own.width or 1), own, to)
+                "x" * (own.width or 1), own, to)
         text = raw.decode()
         digits = text.rjust(self.signal.size, extension(text))[self.begin:self.end]
         return converted(value_of_digits(digits, own if own.width else kind_of(len(digits))), own,
@@ -130,7 +131,7 @@ def _type(node: Node) -> None:
         raise bad("%s takes bits, and not real numbers" % sign.replace("unary ", ""))
     if sign in ("signed", "unsigned"):
         node.kind = kind_of(first.width, sign == "signed")
-        if parts[0].sign == "name":  # which is the same, and is faster
+        if parts[0].sign == "name" and sign == "signed":  # which is the same, and is faster
             node.sign, node.value, node.parts = "name", parts[0].value, []
     elif sign == "{":
         if any(one.sign == "number" for one in parts):
@@ -147,40 +148,44 @@ def _type(node: Node) -> None:
         node.kind = REAL if is_real else _common(parts[TAKES[its.kind]])
     elif parts:
         node.kind = BIT
-        if its.kind == "common":
-            _compare(parts[0], parts[1], sign)
-            _compare(parts[1], parts[0], MIRRORED.get(sign, sign))
+        for name, number in (parts, parts[::-1]) if its.kind == "common" else ():
+            if name.sign == "name" and name.kind.width and number.sign == "number" and (
+                    not isinstance(number.value, str) and number.value < 0):
+                name.kind = kind_of(name.kind.width, True)  # a number below 0 makes it signed
 
 
-def _compare(name: Node, number: Node, sign: str) -> None:
-    """Refuses a comparison with a number that never holds. A number below 0 makes a name signed."""
-    value, kind = number.value, name.kind
-    has_x = number.sign in ("number", "literal") and isinstance(value, str)
-    if has_x and sign in ("==", *MIRRORED):
-        raise bad("nothing is %s digits with x or z%s" % (sign, ": write ===" * (sign == "==")))
-    if number.sign not in ("number", "literal") or name.sign != "name" or not kind.width:
-        return
-    its = name.value.text
-    if has_x and number.sign == "number" and len(value) > kind.width:
-        raise bad("%s has more digits than the %d of %s" % (value, kind.width, its))
-    if has_x:
-        return
-    if number.sign == "literal" and not (kind.sign and number.kind.sign):  # neither has a sign
-        value, kind = value & number.kind.mask, kind_of(kind.width)
-    elif number.sign == "number" and value < 0:
-        kind = name.kind = kind_of(kind.width, True)
-    least, greatest = -kind.sign, kind.mask ^ kind.sign
-    if sign in ("==", "!=", "inside") and value % 1:
-        raise bad("%s is never %s: it is a whole number" % (its, value))
-    if value == 0 == least and sign in ("<", ">="):
-        raise bad("%s is never < 0: a dump has no signs; write signed(%s)" % (its, its))
-    is_out = not least <= value <= greatest
-    if {**dict.fromkeys(("==", "!=", "===", "==?", "!=?", "inside"), is_out),
-            "<": least >= value, "<=": least > value, ">": greatest <= value,
-            ">=": greatest < value}.get(sign.strip()):
-        raise bad("%s is never %s%s: it has %d bit%s%s" % (
-            its, sign + " " if sign in MIRRORED else "", value, kind.width,
-            "s" * (kind.width > 1), ", signed" if kind.sign else ""))
+def _number(node: Node) -> Value:
+    """Returns what a number is in the kind in which it is asked for."""
+    value = node.value
+    if node.sign == "number" and not isinstance(value, str):
+        return node.to.of(value)
+    return converted(value.rjust(node.to.width, node.fill) if node.fill else value, node.kind,
+                     node.to)
+
+
+def _check(node: Node, works: Kind) -> None:
+    """Refuses a comparison with a number that never holds."""
+    for side, number, sign in zip(node.parts, node.parts[::-1], (
+            node.sign, MIRRORED.get(node.sign, node.sign))):
+        is_matched = node.sign in ("==?", "!=?", "inside") and number is node.parts[0]
+        if number.sign not in ("number", "literal") or is_matched:  # by an x of the other side
+            continue
+        value, kind, is_name = _number(number), side.kind, side.sign == "name"
+        its = side.value.text if is_name else "the other side"
+        if isinstance(value, str) and (sign in ("==", *MIRRORED) or not works.width):
+            raise bad("nothing is %s digits with x or z%s" % (
+                sign, ": write ===" * (sign == "==")))
+        if is_name and value == 0 == side.extent.least and sign in ("<", ">="):
+            raise bad("%s is never < 0: a dump has no signs; write signed(%s)" % (its, its))
+        shown = value if number.sign == "literal" and isinstance(value, int) else number.value
+        if kind.width and sign not in MIRRORED and isinstance(value, float) and value % 1:
+            raise bad("%s is never %s: it is a whole number" % (its, shown))
+        if side.extent.is_never(sign.strip(), value, works):
+            raise bad("%s is never %s%s: it %s" % (
+                its, sign.strip() + " " if sign in MIRRORED else "", shown,
+                "has %d bit%s%s" % (kind.width, "s" * (kind.width > 1),
+                                    ", signed" * (side.extent.least < 0)) if is_name else
+                "is from %s to %s" % side.extent[:2]))
 
 
 def _place(node: Node) -> Any:
@@ -223,12 +228,12 @@ class Conditions:
         self.paths: Dict[str, None] = {}  # of the signals
         # Of the code of each signal the conditions that name it, and who reads its values where.
         self.over: Dict[bytes, Tuple[int, List[Tuple[int, Read]]]] = {}
-        self.with_more = 0  # those over more than values: events, earlier edges, an answer
+        # Those over more than values (events, earlier edges, an answer), and those over events.
+        self.with_more = self.with_events = 0
         self._values: List[Value] = [0]  # the first one is the time
         self._ages: Set[Tuple[bytes, int]] = set()  # codes, and the ages that matter
         self._places: Dict[Tuple[_Name, Kind, Kind, int], int] = {}
         self._events: Dict[int, Tuple[bytes, int]] = {}  # of their places the codes and the clocks
-        self._pasts: List[Tuple[int, Node]] = []  # places of the last condition, and what is past
         # A call has the value at this edge of a clock.
         self._samples: List[Tuple[int, Deque[Value], str, int]] = []
         self._sampled: Callable[[], Sequence[Value]] = tuple  # the values of all calls
@@ -237,7 +242,7 @@ class Conditions:
 
     def _tree(self, text: str, clock: int) -> Tuple[Node, List[_Name]]:
         """Reads an expression at the edges of a clock; returns it, and its names."""
-        self._clock, parser, self._pasts = clock, ConditionText(text), []
+        self._clock, parser = clock, ConditionText(text)
         tree = parser.tree()
         if not parser.names:
             raise bad("it names no signal; for all edges of a clock, name the clock")
@@ -254,12 +259,11 @@ class Conditions:
         return tree, [*its.values()]
 
     def add_value(self, text: str) -> Kind:
-        """Adds an expression whose value is asked for at each time."""
-        tree, names = self._tree(text, 0)
-        self._typed(tree)
-        self._tests.append(self._call(tree))
-        if (self._pasts or any(code[-1:] == b" " for code in self.over)
-                or any(name.signal.type == "event" for name in names)):
+        """Adds an expression whose value is asked for at each time. It is known once one of its
+        signals is."""
+        tree, names = self._tree(text, -1)
+        self._name(names, self._test(tree, "{}"))
+        if self._samples or self.with_more:
             raise bad("a value of all times is none of an event, an edge or an age")
         return tree.kind
 
@@ -271,28 +275,26 @@ class Conditions:
     def add(self, text: str, clock: int) -> Condition:
         """Adds a condition at the edges of a clock; at each time if that is 0."""
         tree, names = self._tree(text, clock)
-        answer, span = 0, None
+        answer, span, earlier = 0, None, len(self._samples)
         is_refusal = tree.sign == "unary !" and tree.parts[0].sign == "->"
         whole = tree.parts[0] if is_refusal else tree
         if whole.sign == "->":
             span, (whole, wanted) = whole.value, whole.parts
             answer = self._test(wanted)
         found = Condition(self._test(whole), answer, span, is_refusal)
-        calls = [(place, node.value, self._call(node.parts[0])) for place, node in self._pasts]
-        for place, count, call in reversed(calls):  # the inner ones first
-            self._values[place] = value = eval(call, self._known)
-            self._samples.append((place, collections.deque([value] * count, count), call, clock))
-        if calls and not clock:
-            raise bad("past, rose, fell, stable and changed look at edges: " + NAME_A_CLOCK)
-        bits = found.bit | answer
-        self.with_more |= bits if answer or self._pasts else 0
+        self._name(names, found.bit | answer)
+        self.with_more |= found.bit | answer if answer or len(self._samples) > earlier else 0
+        return found
+
+    def _name(self, names: List[_Name], bits: int) -> None:
+        """Takes it that some conditions have these names."""
         for signal in (name.signal for name in names):
             code = signal.code.encode()
+            self.with_events |= bits if signal.type == "event" else 0
             for one in code, code + b" ":
                 if one in self.over:
                     self.over[one] = self.over[one][0] | bits, self.over[one][1]
                     self.with_more |= bits if signal.type == "event" or one != code else 0
-        return found
 
     def take(self, changes: body.Changes, time: int) -> int:
         """Takes changes, of any signals, and the time; returns the conditions that name theirs."""
@@ -403,10 +405,12 @@ class Conditions:
         found: Callable[..., Any] = self._known["found"]
         return found
 
-    def _test(self, tree: Node) -> int:
-        """Adds an expression that may be true; returns its bit."""
+    def _test(self, tree: Node, result: str = "'1' in {0} if {0}.__class__ is str else {0}"
+              ) -> int:
+        """Adds an expression that may be true, or of which another result counts; returns its
+        bit."""
         self._typed(tree)
-        self._tests.append(self._call(tree, "'1' in {0} if {0}.__class__ is str else {0}"))
+        self._tests.append(self._call(tree, result))
         return 1 << len(self._tests) - 1
 
     def _typed(self, tree: Node) -> None:
@@ -433,11 +437,18 @@ class Conditions:
             node.text, works[node] = "", _place(node)
             order += node.parts if node.sign not in ("past", "age") else []
         for node in reversed(order):
-            if not node.text:
-                node.text = self._text(node, works[node])
-                if node.parts:
-                    lines.append("t%d = %s" % (len(lines), node.text))
-                    node.text = "t%d" % (len(lines) - 1)
+            kind, working = OPERATORS.get(node.sign, LEAF).kind, works[node]
+            own = working if kind in TAKES else node.kind
+            node.text = self._text(node, working, own)
+            node.extent = extent_of(node.sign, own, working, *(
+                one.extent for one in node.parts)).to(own, node.to)
+            if node.sign in ("number", "literal"):
+                node.extent = extent_of_number(_number(node), node.to)
+            if kind == "common":
+                _check(node, working)
+            if node.parts:
+                lines.append("t%d = %s" % (len(lines), node.text))
+                node.text = "t%d" % (len(lines) - 1)
         lines.append("return " + result.format(tree.text))
         values = sorted(set(re.findall(r"\bv\d+", " ".join(lines))))
         kept = self._function(", ".join(values), lines)
@@ -451,20 +462,21 @@ class Conditions:
         self._known[name] = value
         return name
 
-    def _text(self, node: Node, works: Any) -> str:
-        """Returns a node in Python."""
+    def _text(self, node: Node, works: Any, own: Kind) -> str:
+        """Returns a node in Python, which works in some kinds and has an own one."""
         sign, value, named = node.sign, node.value, self._named
         if sign == "name":
             return "v%d" % self._value(node)
-        if sign == "number" and not isinstance(value, str):
-            return named(node.to.of(value))
         if not node.parts:
-            value = value.rjust(node.to.width, node.fill) if node.fill else value
-            return named(converted(value, node.kind, node.to))
+            return named(_number(node))
         if sign == "past":
-            self._pasts.append((len(self._values), node))
-            found = "v%d" % len(self._values)
-            self._values.append(None)
+            if not self._clock:
+                raise bad("past, rose, fell, stable and changed look at edges: " + NAME_A_CLOCK)
+            call, found = self._call(node.parts[0]), "v%d" % len(self._values)
+            kept = [eval(call, self._known)] * value
+            self._samples.append((len(self._values), collections.deque(kept, value), call,
+                                  self._clock))
+            self._values.append(kept[0])
         elif sign == "age":
             found = "(v0 - v{0} if v{0} is not None else 'x' * 64)".format(
                 self._date(node.parts[0].value))
@@ -477,7 +489,6 @@ class Conditions:
                                            if not isinstance(self._known.get(one), (int, float)))
                 found = "(%s) if %s else %s" % (its.of_numbers.format(*operands),
                                                 are_numbers or "True", found)
-        own = works if OPERATORS.get(sign, LEAF).kind in TAKES else node.kind
         return found if own == node.to else "converted(%s, %s, %s)" % (
             found, named(own), named(node.to))
 

@@ -5,6 +5,7 @@ import re
 from typing import Any, List, NamedTuple, Sequence, Tuple
 
 from ..errors import UsageError
+from ..model.extents import whole
 from ..model.operators import OPERATORS, REAL, Kind, kind_of, value_of_digits
 from ..model.times import AMOUNT, UNITS
 
@@ -48,7 +49,7 @@ class Span(NamedTuple):
 class Node:
     """A name, a number, or an operator with its operands."""
 
-    __slots__ = ("sign", "parts", "value", "kind", "fill", "to", "text")
+    __slots__ = ("sign", "parts", "value", "kind", "fill", "to", "text", "extent")
 
     def __init__(self, sign: str, parts: Sequence["Node"] = (), value: Any = None,
                  kind: Kind = REAL, fill: str = ""):
@@ -56,6 +57,7 @@ class Node:
         self.kind = self.to = kind  # its own kind, and the one in which it is asked for
         self.fill = fill  # of a number: the digit to the left of its digits
         self.text = ""  # what has its value in the compiled condition
+        self.extent = whole(kind)  # what it can be in the kind in which it is asked for
 
 
 def bad(why: str) -> UsageError:
@@ -265,7 +267,7 @@ class ConditionText:
         self._take(")")
         if name == "age" and one.sign != "name":
             raise bad("age() takes a signal")
-        past = Node("past", [one], count)
+        past = Node("past", [one if name == "past" else self._again(one)], count)
         return past if name == "past" else Node(name, [one, past][:1 + OPERATORS[name].has_past])
 
     def _join(self) -> Node:

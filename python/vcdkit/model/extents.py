@@ -1,0 +1,78 @@
+"""What an expression can be, as far as its width, its sign and its operator say that: a comparison
+with a number that it never is can be refused."""
+import math
+from typing import Any, Callable, Dict, NamedTuple
+
+from .operators import Kind, Value
+
+NEVER: Dict[str, Callable[["Extent", Any], Any]] = {  # when orders never hold
+    "<": lambda side, number: side.least >= number, "<=": lambda side, number: side.least > number,
+    ">": lambda side, number: side.greatest <= number,
+    ">=": lambda side, number: side.greatest < number}
+
+
+class Extent(NamedTuple):
+    """The least and the greatest number of an expression, and how many of its last digits may be x
+    or z. The digits before those may be so only if it is signed, and if they are as the first."""
+
+    least: Any
+    greatest: Any
+    unknown: int
+
+    def size(self, kind: Kind) -> int:
+        """Returns how many of its last digits in a kind may be other than 0."""
+        return kind.width if self.least < 0 else max(self.unknown, int(self.greatest).bit_length())
+
+    def to(self, own: Kind, to: Kind) -> "Extent":
+        """Returns what its values of an own kind are in another one, as `converted` has it."""
+        return self if not to.width or to.sign or self.least >= 0 else Extent(
+            0, own.mask, self.unknown)
+
+    def is_never(self, sign: str, number: Value, kind: Kind) -> bool:
+        """Whether a comparison with a number of a kind never holds; with !=, whether == does not."""
+        if sign in NEVER:
+            return bool(NEVER[sign](self, number))
+        least = greatest = number
+        if isinstance(number, str):
+            front = number[:kind.width - self.unknown]
+            goes_on = kind.sign and self.unknown and len({*number[:len(front) + 1]}) == 1
+            if sign in ("===", "!==") and front.strip("01") and not goes_on:
+                return True
+            least, greatest = (kind.of(int(number.replace("x", digit).replace("z", digit), 2))
+                               for digit in "01")
+        return bool(least <= greatest and not (self.least <= greatest and least <= self.greatest))
+
+
+def whole(kind: Kind) -> Extent:
+    """Returns the extent of all values of a kind."""
+    return (Extent(-kind.sign, kind.mask ^ kind.sign, kind.width) if kind.width else
+            Extent(-math.inf, math.inf, 0))
+
+
+def extent_of_number(value: Value, kind: Kind) -> Extent:
+    """Returns the extent of a number of a kind."""
+    return whole(kind) if isinstance(value, str) else Extent(value, value, 0)
+
+
+# Of operators whose results are not all of a kind: of the kind, and the extents of the operands.
+RULES: Dict[str, Callable[..., Any]] = {
+    "countones": lambda kind, one: Extent(0, kind.width, 0),
+    **dict.fromkeys(("isunknown", "onehot", "onehot0"), lambda kind, one: Extent(0, 1, 0)),
+    **dict.fromkeys(("past", "signed", "unsigned", "unary +"), lambda kind, one: one),
+    "+": lambda kind, one, other: Extent(one.least + other.least, one.greatest + other.greatest,
+                                         kind.width),
+    "-": lambda kind, one, other: Extent(one.least - other.greatest, one.greatest - other.least,
+                                         kind.width),
+    "&": lambda kind, one, other: Extent(
+        0, min(one.greatest, other.greatest), min(one.size(kind), other.size(kind)))
+    if min(one.least, other.least) >= 0 else whole(kind),
+    "?:": lambda kind, _, one, other: Extent(
+        min(one.least, other.least), max(one.greatest, other.greatest),
+        max(one.size(kind), other.size(kind)))}
+
+
+def extent_of(sign: str, own: Kind, works: Kind, *of: Extent) -> Extent:
+    """Returns what an operator can make of operands in the kind in which it works."""
+    every = whole(own)
+    found: Extent = RULES[sign](works, *of) if sign in RULES and own.width else every
+    return found if every.least <= min(found[:2]) and max(found[:2]) <= every.greatest else every
