@@ -1,6 +1,6 @@
 """When a condition is evaluated, when it holds, which answer a request gets, and which transfers
 are a transaction."""
-from typing import Iterable, List, NamedTuple, Optional, Sequence, Set, Tuple
+from typing import Dict, Iterable, List, NamedTuple, Optional, Sequence, Set, Tuple
 
 from conditions import Test, dates
 from dumps import LAST, Dump, State, Step, Value, Variable
@@ -131,25 +131,52 @@ def waits(looks: Sequence[Look], begins: Sequence[bool], answer: Test, span: Spa
     return found
 
 
-def in_order(looks: Sequence[Look], before: Test, after: Test, span: Span, end: int
-             ) -> Tuple[List[int], List[int], int]:
-    """Returns the times of requests without an answer and of answers without a request, if each
-    answer belongs to the first request that still waits, if it is not too early for that; then how
-    many wait at the end."""
-    lost, surplus, waiting = [], [], []  # type: List[int], List[int], List[Tuple[int, int]]
+def facts_of(looks: Sequence[Look], begins: Sequence[bool], answer: Test, span: Span, end: int,
+             is_closed: bool = False) -> Dict[str, int]:
+    """Returns how many requests there are, and how many of them get an answer that is late, or
+    none, or are open at the end (none if `is_closed`: these have none); then by how much the latest
+    answer is late."""
+    places = {look.time: at for at, look in enumerate(looks)}
+    found = waits(looks, begins, answer, span, end)
+    lengths = [[at - places[one.time] if span[0] else look.time - one.time
+                for at, look in enumerate(looks) if look.time > one.time and holds(answer, look)]
+               for one in found if one.answer is None]
+    late = [min(one for one in its if one > span[2]) - span[2]
+            for its in lengths if its and its[-1] > span[2]]
+    left = sum(begins) - len(found)
+    return {"requests": sum(begins), "late": len(late),
+            "lost": len(lengths) - len(late) + left * is_closed, "open": left * (not is_closed),
+            "latest": max(late, default=0)}
+
+
+def in_order(looks: Sequence[Look], before: Test, after: Test, span: Span, end: int,
+             is_closed: bool = False) -> Tuple[Dict[str, List[int]], Dict[str, int]]:
+    """Returns the times of requests without an answer, and with one that is late, and of answers
+    without a request, if each answer belongs to the first request that still waits, if it is not
+    too early for that, else to the first one that waited too long; then the facts of requests. If
+    `is_closed`, those open at the end are without an answer."""
+    of: Dict[str, List[int]] = {"late": [], "lost": [], "surplus": []}
+    waiting, over = [], []  # type: List[Tuple[int, int]], List[Tuple[int, int]]
     is_edges, least, most = span
+    count = latest = 0
     for at, look in enumerate([*looks, Look(end + 1, {}, set())]):
         now = at if is_edges else look.time
         while waiting and waiting[0][0] + most < now:
-            lost.append(waiting.pop(0)[1])
+            over.append(waiting.pop(0))
         if at < len(looks) and holds(before, look):
+            count += 1
             waiting.append((now, look.time))
         if at < len(looks) and holds(after, look):
             if waiting and waiting[0][0] + least <= now:
                 waiting.pop(0)
+            elif over:
+                latest = max(latest, now - over[0][0] - most)
+                of["late"].append(over.pop(0)[1])
             else:
-                surplus.append(look.time)
-    return lost, surplus, len(waiting)
+                of["surplus"].append(look.time)
+    of["lost"] = [time for _, time in [*over, *waiting * is_closed]]
+    return of, {"requests": count, "open": len(waiting) * (not is_closed), "latest": latest,
+                **{what: len(times) for what, times in of.items()}}
 
 
 def transfers(each: Sequence[Sequence[Look]], tests: Sequence[Test], flushes: Sequence[int] = ()

@@ -1,16 +1,18 @@
 """Asks vcdkit-when: conditions, answers, latencies and rules."""
+import itertools
 import json
 import re
 from fractions import Fraction
-from typing import Any, List, NamedTuple, Optional, Tuple
+from typing import Any, Dict, List, NamedTuple, Optional, Tuple
 import xml.etree.ElementTree as xml
 
-from asker import Asker, Said, Skip, Window, run
-from conditions import Condition, Conditions, quoted
+from asker import Asker, Refused, Said, Skip, Window, run
+from conditions import Condition, Conditions, Operand, quoted
 from dumps import UNITS, Dump
-from expressions import joined
-from looks import (Edges, Look, Span, in_order, is_overlapping, looks_at_changes, looks_at_edges,
-                   starts, waits)
+from expressions import (COUNTS, LEVEL, LEVELS, ORDERS, Expression, based, braces, chosen, counted,
+                         fixed, inside, joined, past, read_as, unary)
+from looks import (Edges, Look, Span, Wait, facts_of, in_order, is_overlapping, looks_at_changes,
+                   looks_at_edges, starts, waits)
 from shown import all_from_json
 
 MARKS = "!\"#$%&'()*+,-./:;<=>?@[\\]^_`{|}~0\u00e9\u2211"
@@ -89,29 +91,133 @@ def ask_when(of: Asker) -> None:
     looks = asked.looks(dump, of.conditions)
     begins = starts(looks, first.test, bool(asked.edges), asked.every)
     times = [look.time for look, is_one in zip(looks, begins) if is_one]
-    warned = False
+    warned = note = ""
+    is_idle, failing, fault = idle(of, looks, asked), of.maybe(.2, "--open-fails"), of.fault(
+        asked.window)
     if after:
-        warned = is_overlapping(looks, begins, after.test, span)
-        times = [one.time for one in waits(looks, begins, after.test, span, asked.end(dump))
-                 if (one.answer is None) == refused]
+        is_closed = bool(failing) and not fault
+        warned = "warning: requests that begin before" * is_overlapping(
+            looks, begins, after.test, span)
+        facts = facts_of(looks, begins, after.test, span, asked.end(dump), is_closed)
+        note = note_of(facts, text_of(facts, span, of, unit))
+        times = times_of(waits(looks, begins, after.test, span, asked.end(dump)), times, refused,
+                         is_closed)
     mode = of.random.choice(["", "", "", "", "--count", "--first", "--json", "--never"])
-    words = of.placed([*asked.words, *(["--unit", unit] if unit else []), *[mode] * bool(mode)],
-                      [of.path, text])
-    said, fault = run("when", words), of.fault(asked.window)
+    words = of.placed([*asked.words, *(["--unit", unit] if unit else []), *[mode] * bool(mode),
+                       *failing], [of.path, text])
+    said = run("when", words)
     if of.is_late(asked.window, "when", words, said, 2):
         return
     lines = [dump.time_text(time, unit) for time in times]
     wanted = {"--count": ["%d" % len(times)] * (not fault), "--first": lines[:1],
               "--json": [json.dumps({"time": time}) for time in times]}.get(mode, lines)
-    if asked.edges and not looks and mode == "--never":
-        of.same("when, without an edge", words, (said.status, said.about), (2, fault or True))
+    if is_idle and not times and mode == "--never":
+        of.same("when, never evaluated", words, (said.status, said.about), (2, fault or True))
         return
     status = 2 if fault else int((not times) != (mode == "--never"))
     if mode == "--first" and times:  # it stops there, so there may be a warning or not
         of.same("when", words, (said.status, said.lines), (0, wanted))
         return
-    of.same("when", words, (said.status, said.lines, mode != "--first" and said.about),
-            (status, wanted, mode != "--first" and (fault or warned)))
+    of.same("when", words, (said.status, said.lines, said.about if fault else bool(said.message)),
+            (status, wanted, fault or bool(warned or note)))
+    if not fault:
+        of.same("when, what it says of requests", words, (
+            warned in said.message, said.message.endswith(note + "\n" * bool(note))), (True, True))
+
+
+def times_of(found: List[Wait], begins: List[int], refused: bool, is_closed: bool) -> List[int]:
+    """Returns the times of requests that are answered in time, or of the others; if `is_closed`,
+    the end leaves none open."""
+    answered = {one.time: one.answer for one in found}
+    return [time for time in begins if (answered.get(time) is None) == refused and (
+        time in answered or is_closed)]
+
+
+def idle(of: Asker, looks: List[Look], asked: Question, word: str = "never") -> bool:
+    """Whether a condition was never evaluated: none of its signals had a value. An event is known
+    at each edge, or at each time of the window; but if it has to hold at each trigger, it needs
+    one."""
+    codes, events = of.conditions.codes, of.conditions.events
+    if asked.edges or word == "always" or not events:
+        return not any(codes & {*look.values} or look.events & codes or asked.edges and events
+                       for look in looks)
+    return not looks and not any(time <= asked.window.end for time in of.dump.times)
+
+
+def text_of(facts: Dict[str, int], span: Span, of: Asker, unit: Optional[str]) -> str:
+    """Returns how many requests are late, and how many are without an answer."""
+    by = facts["latest"]
+    return "%d late%s, %d without an answer" % (facts["late"], " (by %s at most)" % (
+        "%d edge%s" % (by, "s" * (by != 1)) if span[0] else of.dump.time_text(by, unit))
+        if facts["late"] else "", facts["lost"])
+
+
+def note_of(facts: Dict[str, int], late: str) -> str:
+    """Returns what is said of requests."""
+    return "%d request%s, %s, %d open at the end" % (
+        facts["requests"], "s" * (facts["requests"] != 1), late, facts["open"])
+
+
+# ---- Comparisons that never hold.
+
+def side_of(of: Asker, one: Expression) -> Tuple[Expression, bool]:
+    """Returns an expression of a name, and whether the script knows all that it can be."""
+    random = of.random
+    known = [lambda: one, lambda: one, lambda: read_as(random.choice(["signed", "unsigned"]), one),
+             lambda: counted(random.choice(COUNTS[:1 if one.width < 2 else None]), one),
+             lambda: braces([one]),
+             lambda: unary(random.choice(["!", "+", "|", "^"]), one),
+             lambda: past(one, random.choice([1, 2]))]
+    others = [lambda: joined(random.choice(["&", "+", "-", "*", "|"]), one, random.choice(
+        [one, based(random), fixed("3", 3)])), lambda: unary(random.choice("~-"), one),
+              lambda: chosen(one, one, random.choice([one, fixed("9", 9)])),
+              lambda: braces([one, one])]
+    made = random.choice([known, known, others])
+    return random.choice(made)(), made is known
+
+
+def ask_refused(of: Asker) -> None:
+    """Asks a comparison with a number, and whether it is refused because it never holds: whether it
+    does is tried with all values of a few digits."""
+    few = [one for one in of.conditions.plain if not one.is_real and one.size <= 4]
+    if not few:
+        raise Skip
+    random, variable = of.random, of.random.choice(few)
+    is_part = re.search(r"\[-?\d+:-?\d+\]$", variable.path)
+    name = Operand(variable, quoted(variable.path), 0, variable.size,
+                   variable.type == "integer" and not is_part)
+    side, is_known = side_of(of, name.expression())
+    value = random.choice([0, 1, 2, 3, 4, 7, 8, 9, 15, 16, 31, -1, -2, -8, -9])
+    number = fixed(str(value), value) if of.happens(.4) else based(random)
+    if side.text == name.text and number.text[:1] == "-":
+        side = name.expression(True)  # a number below 0 makes it signed
+    sign = random.choice([*LEVELS[LEVEL["=="]], *ORDERS, "inside"])
+    sides = [side, number] if sign == "inside" or of.happens(.7) else [number, side]
+    made = inside(side, [[number]]) if sign == "inside" else joined(sign, *sides)
+    outcomes, known = set(), set()
+    looks: List[Any] = [None]
+    for its in itertools.product("01xz", repeat=variable.size):
+        state = {variable.code: "".join(its)}
+        look = Look(0, state, set(), Look(0, state, set(), Look(0, state, set())))
+        outcomes.add(made.own(look))
+        known |= {made.own(look)} if "x" not in its and "z" not in its else set()
+    is_never = {"!=": known == {"1"}, "!==": "0" not in outcomes, "!=?": "0" not in outcomes}.get(
+        sign, "1" not in outcomes)
+    digits = number.own(None)
+    is_known = is_known and not (side.is_signed and number.is_signed and digits[0] in "xz") and (
+        sides[0] is side or sign[-1] != "?") and not (  # x and z of the right side match any
+            "z" in digits and side.width == 1 and side.text != name.text)  # what is x, is never z
+    ordered = sign if sides[0] is side else sign.translate(str.maketrans("<>", "><"))
+    if side.text == name.text and not name.is_signed and "1" not in digits and ordered in (
+            "<", ">="):
+        is_never = True
+    is_refused = False
+    try:
+        run("when", [*of.clocks()[0], of.path, "--", made.text])
+    except Refused:
+        is_refused = True
+    if is_known or is_refused:
+        of.same("refused", made.text, is_refused, is_never)
 
 
 # ---- Latencies.
@@ -133,7 +239,8 @@ def ask_latency(of: Asker) -> None:
         return
     its = [one for one in found if one.answer is not None]
     its.sort(key=lambda one: (one.answer, one.time))  # in the order of the answers
-    warned = is_overlapping(looks, begins, after.test, span)
+    facts = facts_of(looks, begins, after.test, span, end)
+    late = text_of(facts, span, of, unit)
     wanted: List[Any] = [one._asdict() for one in its]
     got: List[Any] = said.lines
     if is_json:
@@ -146,91 +253,145 @@ def ask_latency(of: Asker) -> None:
             return "%.6g" % float(of_all) if span[0] else dump.mean_text(of_all, unit)
         wanted = ["%s %s %s" % (dump.time_text(one.time, unit), dump.time_text(
             one.answer or 0, unit), length(one.length)) for one in its]
-        wanted += [] if fault else summary([one.length for one in its], len(found) - len(its),
-                                           length, mean)
-    of.same("latency", words, (said.status, got, said.about),
-            (2 if fault else int(not its), wanted, fault or warned))
+        wanted += [] if fault or not found else summary([one.length for one in its], late, length,
+                                                        mean)
+    of.same("latency", words, (said.status, got, said.about if fault else said.message.endswith(
+        note_of(facts, late) + "\n")), (2 if fault else int(not its), wanted, fault or True))
 
 
-def summary(lengths: List[int], late: int, length: Any, mean: Any) -> List[str]:
+def summary(lengths: List[int], late: str, length: Any, mean: Any) -> List[str]:
     """Returns the last line of --latency."""
     if not lengths:
-        return ["0 in time, %d late" % late] * bool(late)
-    return ["least %s, mean %s, greatest %s, %d in time, %d late" % (
+        return ["0 in time, %s" % late]
+    return ["least %s, mean %s, greatest %s, %d in time, %s" % (
         length(min(lengths)), mean(Fraction(sum(lengths), len(lengths))), length(max(lengths)),
         len(lengths), late)]
 
 
 # ---- Rules.
 
+class Rule(NamedTuple):
+    """A rule: its name, clock and text, the times of its list, what its line says after them, the
+    facts of its requests with the note about them, and whether it was never evaluated."""
+
+    name: str
+    clock: str
+    text: str
+    times: List[int]
+    line: str
+    facts: Dict[str, int]
+    note: str
+    is_overlapping: bool
+    is_idle: bool
+
+    def is_bad(self, is_never: bool) -> bool:
+        """Whether it is not met."""
+        return bool(self.times) == (is_never or self.word in ("never", "always", "each"))
+
+    @property
+    def word(self) -> str:
+        """The first word."""
+        return self.text.split(" ")[0]
+
+    @property
+    def is_odd(self) -> bool:
+        """Whether there is something to say of its requests."""
+        return bool(self.facts) and (self.facts["open"] > 0 or self.facts["requests"] == 0)
+
+
+def rule_of(of: Asker, name: str, asked: Question, unit: Optional[str], is_closed: bool) -> Rule:
+    """Returns a rule."""
+    of.conditions.reset()
+    has_clock, dump, clock = bool(asked.edges), of.dump, ""
+    one = condition(of, 2, has_clock)
+    if has_clock and of.happens(.3):
+        clock, edges = of.own_clock()
+        asked = asked._replace(edges=edges)
+    word, text = of.random.choice(["", "never", "always"]), one.text
+    after = condition(of, 1, has_clock) if of.happens(.4) else None
+    word = "each" if after and has_clock and of.happens(.5) else word
+    looks = asked.looks(dump, of.conditions)
+    begins = starts(looks, lambda look: one.test(look) != (word == "always" and not after),
+                    has_clock, asked.every)
+    times = [look.time for look, is_one in zip(looks, begins) if is_one]
+    line, facts, note, overlaps = "", {}, "", False  # type: str, Dict[str, int], str, bool
+    if after:
+        within, span = span_of(of, has_clock)
+        text = "%s -> %s within %s" % (one.inside(0), after.inside(0), within)
+        refused = word == "always" or of.happens(.5)
+        text = "!(%s)" % text if refused and word in ("", "never") else text
+        if word == "each":
+            its, facts = in_order(looks, one.test, after.test, span, asked.end(dump), is_closed)
+            times = [*its["late"], *its["lost"], *its["surplus"]]
+            line = ":" + ",".join(" %d %s" % (len(its[what]), words) + (" (%s%s)" % (
+                dump.time_text(its[what][0], unit), ", .." * (len(its[what]) > 1))
+                if its[what] else "") for what, words in (
+                    ("lost", "without an answer"), ("surplus", "without a request"),
+                    ("late", "late")) if its[what] or what != "late")
+        else:
+            overlaps = is_overlapping(looks, begins, after.test, span)
+            facts = facts_of(looks, begins, after.test, span, asked.end(dump), is_closed)
+            times = times_of(waits(looks, begins, after.test, span, asked.end(dump)), times,
+                             refused, is_closed)
+        note = note_of(facts, text_of(facts, span, of, unit))
+    return Rule(name, clock, (word + " " + text).strip(), times, line, facts, note, overlaps,
+                idle(of, looks, asked, word))
+
+
 def ask_rules(of: Asker) -> None:
     """Asks for many conditions in one pass."""
-    dump, asked, unit, rules = of.dump, question(of), of.unit(.2), []
-    warned, has_clock, is_idle, is_never = False, bool(asked.edges), False, of.happens(.4)
-    for number in range(of.random.randint(1, 6)):
-        of.conditions.reset()
-        one, mine, clock = condition(of, 2, has_clock), asked, ""
-        if has_clock and of.happens(.3):
-            clock, edges = of.own_clock()
-            mine = asked._replace(edges=edges)
-        word, after = of.random.choice(["", "never", "always"]), None
-        if has_clock and of.happens(.3):
-            word, after = "each", condition(of, 1, True)
-            within, span = span_of(of, True)
-        looks = mine.looks(dump, of.conditions)
-        begins = starts(looks, lambda look: one.test(look) != (word == "always"), has_clock,
-                        asked.every)
-        times = [look.time for look, is_one in zip(looks, begins) if is_one]
-        note = ""
-        if after:
-            lost, surplus, left = in_order(looks, one.test, after.test, span, asked.end(dump))
-            times = [*lost, *surplus]
-            note = ":" + ",".join(" %d without %s" % (len(its), what) + (
-                " (%s%s)" % (dump.time_text(its[0], unit), ", .." * (len(its) > 1)) if its else "")
-                for its, what in ((lost, "an answer"), (surplus, "a request")))
-            warned = warned or left > 0
-        is_idle = is_idle or has_clock and not looks and bool(word or is_never)
-        text = ("%s -> %s within %s" % (one.inside(0), after.inside(0), within) if after
-                else one.text)
-        rules.append(("rule %d" % number, (word + " " + text).strip(), times, clock, note))
+    dump, asked, unit, is_never = of.dump, question(of), of.unit(.2), of.happens(.4)
+    failing, fault = of.maybe(.2, "--open-fails"), of.fault(asked.window)
+    rules = [rule_of(of, "rule %d" % number, asked, unit, bool(failing) and not fault)
+             for number in range(of.random.randint(1, 6))]
     text = "".join(of.random.choice(["", "# a note\n", "\n"]) + "%s%s: %s\n" % (
-        name, clock, condition) for name, condition, _, clock, _ in rules)
+        one.name, one.clock, one.text) for one in rules)
     file = of.write(of.path + ".rules", text.encode("utf-8", "surrogateescape"))
     is_json, junit = of.happens(.3), of.path + ".xml"
-    words = of.placed([*asked.words, "--rules", file, *["--never"] * is_never,
+    words = of.placed([*asked.words, "--rules", file, *["--never"] * is_never, *failing,
                        *["--json"] * is_json, *of.maybe(.3, "--junit", junit),
                        *(["--unit", unit] if unit else [])], [of.path])
-    said, fault = run("when", words), of.fault(asked.window)
+    said = run("when", words)
     if of.is_late(asked.window, "rules", words, said, 2):
         return
-    held = [rule for rule in rules if rule[2]]
+    held = [one for one in rules if one.times or is_json and one.facts]
     got = all_from_json(said.text) if is_json else said.lines
-    # Of lost and surplus ones it is not said which is known first.
-    first = {rule[0]: line.split(": ", 1)[1].partition(",")[0] if not is_json else line["first"]
-             for rule, line in zip(held, got)}
+    # Of the times of requests it is not said which is known first.
+    first = {one.name: line.split(": ", 1)[1].partition(",")[0] if not is_json else line["first"]
+             for one, line in zip(held, got)}
     wanted: List[Any] = []
-    for name, _, times, _, note in held:
-        begin = next((time for time in times if note and first.get(name) == (
-            time if is_json else dump.time_text(time, unit))), times[0])
-        counts = dict(zip(("lost", "surplus"), map(int, re.findall(r" (\d+) without", note))))
-        wanted.append({"rule": name, "first": begin, "count": len(times), **counts} if is_json else
-                      "%s: %s, %d time%s%s" % (name, dump.time_text(begin, unit), len(times),
-                                               "s" * (len(times) != 1), note))
-    bad = [name for name, text_of, times, *_ in rules if bool(times) == (
-        is_never or text_of.split(" ")[0] in ("never", "always", "each"))]
+    for one in held:
+        begin = next((time for time in one.times if one.line and first.get(one.name) == (
+            time if is_json else dump.time_text(time, unit))), (one.times or [None])[0])
+        wanted.append({"rule": one.name, "first": begin, "count": len(one.times), **one.facts}
+                      if is_json else "%s: %s, %d time%s%s" % (
+                          one.name, dump.time_text(begin or 0, unit), len(one.times),
+                          "s" * (len(one.times) != 1), one.line))
+    bad = [one.name for one in rules if one.is_bad(is_never)]
+    root = xml.parse(junit).getroot() if "--junit" in words else []
+    of_kind = {kind: [one.get("name") for one in root if one.find(kind) is not None]
+               for kind in ("failure", "skipped", "error")}
     if fault:
         of.same("rules", [*words, text], (said.status, got, said.about), (2, wanted, fault))
+        passed = {one.get("name") for one in root} - {*sum(of_kind.values(), [])}
+        of.same("rules, the report of a fault", words, passed, set())
         return
-    status, warned = 2 if is_idle else int(bool(bad)), warned or is_idle
-    count = "vcdkit-when: %d rule%s, " % (len(rules), "s" * (len(rules) > 1))
-    warnings, _, end = said.message.partition(count)
-    of.same("rules", [*words, text], (said.status, got, bool(warnings), end), (
-        status, wanted, warned, "" if is_idle else "not met: %s%s\n" % (
-            ", ".join(bad[:3]), ", .." * (len(bad) > 3)) if bad else "all met\n"))
+    idle_ones = [one.name for one in rules if one.is_idle and not one.times and (
+        is_never or one.word in ("never", "always", "each"))]
+    warnings, _, end = said.message.partition("vcdkit-when: %d rule%s, " % (
+        len(rules), "s" * (len(rules) > 1)))
+    odd = [": %s: %s\n" % (one.name, one.note) for one in rules if one.is_odd]
+    of.same("rules", [*words, text], (
+        said.status, got, warnings.count("\n"), [one for one in odd if one not in warnings], end), (
+            2 if idle_ones else int(bool(bad)), wanted,
+            len(odd) + sum(one.is_overlapping for one in rules) + bool(idle_ones), [],
+            "" if idle_ones else "not met: %s%s\n" % (
+                ", ".join(bad[:3]), ", .." * (len(bad) > 3)) if bad else "all met\n"))
     if "--junit" in words:
-        root = xml.parse(junit).getroot()
-        of.same("rules, the report", words, [one.get("name") for one in root.iter("testcase")
-                                             if one.find("failure") is not None], bad)
+        skipped = [one.name for one in rules if one.name not in bad and (
+            one.name in idle_ones or one.facts and not one.facts["requests"])]
+        of.same("rules, the report", words, of_kind, {
+            "failure": bad, "skipped": skipped, "error": ["fault"] * bool(idle_ones)})
 
 
 # ---- Marks in names.

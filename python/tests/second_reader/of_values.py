@@ -187,8 +187,9 @@ def ask_channels(of: Asker) -> None:
     each = [looks_at_edges(dump, one.edges or edges, window.begin, window.end, among)
             for one in its]
     flushes = [look.time for look in each[0] if flush and holds(flush.test, look)]
+    lines = transfers(each, [one.test for one in its], flushes)
     lacking = early = 0
-    for line in transfers(each, [one.test for one in its], flushes):
+    for line in lines:
         wanted.append([])
         lacking += None in line
         for found, channel in zip(line, its):
@@ -202,8 +203,8 @@ def ask_channels(of: Asker) -> None:
                               if one and other else None)
             counts[pair, wanted[-1][-1]] += 1
         early += any((edge or 0) < 0 for edge in wanted[-1][len(wanted[-1]) - len(pairs):])
-    note = ("vcdkit-table: transactions that lack a transfer: %d; with a number of edges below 0: "
-            "%d\n" % (lacking, early)) * bool(lacking or early)
+    note = "vcdkit-table: %stransactions: %d; that lack a transfer: %d; with a number of edges " \
+        "below 0: %d\n" % ("" if lines else "warning: ", len(lines), lacking, early)
     fault = of.fault(window)
     head += ["%s to %s" % pair for pair in pairs]
     if mode == "--histogram":
@@ -212,10 +213,10 @@ def ask_channels(of: Asker) -> None:
                   for edge in sorted({edge for _, edge in counts if edge is not None})]
     got = all_from_json(said.text) if is_json else list(
         csv.reader(io.StringIO(said.text, newline="")))
-    lines = [["" if cell is None else str(cell) for cell in row] for row in [head, *wanted]]
+    rows = [["" if cell is None else str(cell) for cell in row] for row in [head, *wanted]]
     of.same("channels", words, (said.status, got, said.about if fault else said.message), (
         int(bool(fault)), [dict(zip(head, row)) for row in wanted] if is_json else
-        lines * (not fault or mode != "--histogram"), fault or note))
+        rows * (not fault or mode != "--histogram"), fault or note))
 
 
 def keys_of(columns: List[Variable]) -> List[str]:
@@ -287,6 +288,13 @@ def ask_x(of: Asker) -> None:
         wanted = [(time, path, shown(value, form)) for time, path, value in rows]
     got = [tuple(one.values()) for one in all_from_json(said.text)] if mode == "--json" else (
         said.lines)
+    codes, end = {one.code for one in its}, min(window.end, dump.finished)
+    is_idle = not rows and not any(codes & {*state} for state in (dump.at(window.begin), *(
+        step.end for step in dump.steps_in(window.begin, end))))
+    if is_idle and not fault:
+        of.same("x, of nothing", words, (said.status, said.output, bool(said.message)),
+                (2, b"", True))
+        return
     is_warned = False if is_unclear or mode == "--first" and rows else is_unused
     about = said.about if not is_unclear else fault
     of.same("x", words, (said.status, got, about),

@@ -27,7 +27,7 @@ from ..forms.junit import Test
 from ..forms.many import answer_file
 from ..forms.text import counted, mean_text, write_json
 from ..questions.dump import Dump
-from ..questions.when import Asked, Questions, named
+from ..questions.when import Asked, Question, Questions, named
 from ..reading.files import lines_in
 from . import FAULT, dump_of, parser, part_of, question, times_of, warn_of_quotes
 
@@ -79,6 +79,8 @@ def words_of(words: List[str]) -> argparse.Namespace:
                          "not only those at which it begins to")
     options.add_argument("--never", action="store_true", help="for a CI job: exit with 0 if it "
                          "never held and with 1 if it did")
+    options.add_argument("--open-fails", action="store_true", help="count a request that is open "
+                         "at the end as one without an answer")
     options.window().unit().json().file()
     options.add_argument("condition", metavar="CONDITION", nargs="?",
                          help="a condition (see below); not with --rules")
@@ -128,6 +130,21 @@ def list_times(times: Iterable[int], text: Callable[[int], str], asked: argparse
     return count
 
 
+def late_text(one: Question, text: Callable[[int], str]) -> str:
+    """Returns how many requests got no answer in time, and by how much the latest came late."""
+    facts = one.facts()
+    by = text(facts["latest"]) if one.has_time else counted(facts["latest"], "edge")
+    return "%d late%s, %d without an answer" % (
+        facts["late"], " (by %s at most)" % by if facts["late"] else "", facts["lost"])
+
+
+def requests_text(one: Question, text: Callable[[int], str]) -> str:
+    """Returns how many requests there are, and what became of those not answered in time."""
+    facts = one.facts()
+    return "%s, %s, %d open at the end" % (
+        counted(facts["requests"], "request"), late_text(one, text), facts["open"])
+
+
 def list_latencies(asking: Questions, dump: Dump, text: Callable[[int], str],
                    asked: argparse.Namespace) -> int:
     """Writes when each request gets its answer, and how long that takes; returns how many do."""
@@ -144,12 +161,30 @@ def list_latencies(asking: Questions, dump: Dump, text: Callable[[int], str],
             print(text(begin), text(answer), shown(length))
     if lengths and not asked.json:
         mean = sum(lengths) / len(lengths)
-        print("least %s, mean %s, greatest %s, %d in time, %d late" % (
+        print("least %s, mean %s, greatest %s, %d in time, %s" % (
             shown(min(lengths)), mean_text(dump.timescale, mean, asked.unit) if one.has_time
-            else "%.6g" % mean, shown(max(lengths)), len(lengths), late))
+            else "%.6g" % mean, shown(max(lengths)), len(lengths), late_text(one, text)))
     elif late and not asked.json:
-        print("0 in time, %d late" % late)
+        print("0 in time, " + late_text(one, text))
     return len(lengths)
+
+
+def line_of(one: Question, its: List[int], text: Callable[[int], str]) -> str:
+    """Returns the first time of a list and how many there are, of requests also of each kind."""
+    line, facts = "%s, %s" % (text(its[0]), counted(its[1], "time")), one.facts()
+    for sign, what, words in ((":", "lost", "without an answer"), (",", "surplus",
+                              "without a request"), (",", "late", "late")):
+        count = facts.get(what, 0) if one.asked.in_order else 0
+        if one.asked.in_order and (count or what != "late"):
+            first = " (%s%s)" % (text(one.firsts[what]), ", .." * (count > 1)) if count else ""
+            line += "%s %d %s%s" % (sign, count, words, first)
+    return line
+
+
+def idle(asking: Questions, number: int, rule: Rule, asked: argparse.Namespace) -> str:
+    """Returns why a rule that may be met by no time was never evaluated; an empty text if it was,
+    or if it has to hold at some time."""
+    return asking.idle(number, rule.word == "always") if asked.never or rule.word else ""
 
 
 def list_rules(asking: Questions, rules: List[Rule], text: Callable[[int], str],
@@ -157,36 +192,36 @@ def list_rules(asking: Questions, rules: List[Rule], text: Callable[[int], str],
     """Writes a line for each rule whose list has times: its name, the first time, and how many
     there are; returns the names of the rules that are not met. Adds a test for each."""
     found: Dict[int, List[int]] = {}  # of each rule that held the first time, and the count
-    is_whole = False
+    end = "a fault"  # what the pass ended with before the end of the dump, if anything
     try:
         for time, numbers in asking.times():
             for number in numbers:
                 its = found.setdefault(number, [time, 0])
                 its[1] += 1
             if asked.first and not all(rules[one].is_met(True, asked.never) for one in numbers):
+                end = "--first"
                 break
         else:
-            is_whole = True
+            end = ""
     finally:
-        for number, rule in enumerate(rules):
-            name, its = rule.name, found.get(number, [])
-            line = "%s, %s" % (text(its[0]), counted(its[1], "time")) if its else ""
-            one, alone = asking.each[number], {}
-            if its and rule.word == "each":
-                alone = dict(zip(("lost", "surplus"), map(len, one.alone)))
-                line += "".join("%s %d without %s%s" % (
-                    sign, len(times), what, " (%s%s)" % (text(times[0]), ", .." * (
-                        len(times) > 1)) if times else "") for sign, what, times in zip(
-                            ":,", ("an answer", "a request"), one.alone))
-            if its and asked.json:
-                write_json({"rule": name, "first": its[0], "count": its[1], **alone})
+        for number, (rule, one) in enumerate(zip(rules, asking.each)):
+            its = found.get(number, [])
+            line, facts = line_of(one, its, text) if its else "", {}
+            note = why = "it was undecided at " + end if end and not (
+                its and end == "--first") else "" if end else idle(asking, number, rule, asked)
+            if one.condition.answer:
+                facts, note = one.facts(), requests_text(one, text)
+                why = why or note * (not facts["requests"])
+            if asked.json and (its or facts):
+                write_json({"rule": rule.name, "first": its[0] if its else None,
+                            "count": its[1] if its else 0, **facts})
             elif its:
-                print("%s: %s" % (name, line))
-            is_wrong = not rule.is_met(bool(its), asked.never) and (its or is_whole)
-            tests.append(Test(asking.dump.name, name, "failure" if is_wrong else "",
-                              line or "it never held", rule.condition, one.warning()))
+                print("%s: %s" % (rule.name, line))
+            is_wrong = not rule.is_met(bool(its), asked.never) and (its or not end)
+            tests.append(Test(asking.dump.name, rule.name, "failure" if is_wrong else "skipped" if
+                              why else "", line or why or "it never held", rule.condition, note))
     return [one.name for number, one in enumerate(rules)
-            if (number in found or is_whole) and not one.is_met(number in found, asked.never)]
+            if (number in found or not end) and not one.is_met(number in found, asked.never)]
 
 
 def answer(asked: argparse.Namespace, tests: List[Test]) -> int:
@@ -197,8 +232,8 @@ def answer(asked: argparse.Namespace, tests: List[Test]) -> int:
     if asked.condition is not None:
         warn_of_quotes("vcdkit-when", asked.condition, dump)
     text = times_of(dump, asked)
-    asking = Questions(part_of(dump, asked), [one.asked for one in rules],
-                       asked.rise, asked.fall, asked.every)
+    asking = Questions(part_of(dump, asked), [one.asked for one in rules], asked.rise, asked.fall,
+                       asked.every, (), asked.open_fails)
     if asked.latency and (asking.each[0].is_refusal or not asking.each[0].condition.answer):
         raise UsageError("latencies are those of a condition such as req -> ack within 50")
     if asked.rules is not None:
@@ -208,12 +243,18 @@ def answer(asked: argparse.Namespace, tests: List[Test]) -> int:
         count = (list_latencies(asking, dump, text, asked) if asked.latency
                  else list_times((time for time, _ in asking.times()), text, asked))
         status, is_known = int((count > 0) == asked.never), count > 0
-    for line in filter(None, (one.warning() for one in asking.each)):
-        print("vcdkit-when: warning: " + line, file=sys.stderr)
-    for rule, one in zip(rules, () if asked.first and is_known else asking.each):
-        if one.clock and not asking.counts[one.clock] and (asked.never or rule.word):
-            raise UsageError(one.front + "its clock has no edge in this window, so it was never "
-                             "evaluated")
+    is_whole = not (asked.first and is_known)
+    for one in asking.each:
+        facts, lines = one.facts(), ["warning: " + one.warning()] * bool(one.warning())
+        is_odd = facts["open"] or not facts["requests"]
+        if one.condition.answer and is_whole and (is_odd or asked.rules is None):
+            lines.append("warning: " * bool(is_odd) + one.front + requests_text(one, text))
+        for line in lines:
+            print("vcdkit-when: " + line, file=sys.stderr)
+    for number, (rule, one) in enumerate(zip(rules, asking.each if is_whole else ())):
+        why = idle(asking, number, rule, asked)
+        if why:
+            raise UsageError(one.front + why)
     if asked.rules is not None:
         sys.stdout.flush()
         names = ", ".join(missed[:3]) + ", .." * (len(missed) > 3)

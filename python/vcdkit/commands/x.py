@@ -16,12 +16,13 @@ examples:
 import argparse
 from typing import List, Set
 
+from ..errors import UsageError
 from ..forms.junit import Test
 from ..forms.many import answer_file
 from ..forms.text import in_json, shown, write_json
 from ..model.values import value_in
 from ..questions.saved import Exceptions
-from ..questions.unknown import Signals, values_of
+from ..questions.unknown import Signals, has_values, values_of
 from . import FAULT, dump_of, form_for, parser, question, times_of, warn_of, window_of
 
 
@@ -73,6 +74,9 @@ def answer(asked: argparse.Namespace, tests: List[Test]) -> int:
             break
     else:
         warn_of("vcdkit-x", exceptions)
+    if not count and not has_values(part, signals):
+        raise UsageError("no signal has a value that could be x in this window, so nothing was "
+                         "looked at")
     if asked.count:
         write_json({"count": count}) if asked.json else print(count)
     tests.append(Test("vcdkit-x", asked.file, "failure" if count else "", first, first))

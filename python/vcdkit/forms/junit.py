@@ -8,8 +8,9 @@ NOT_OF_XML = "[\0-\x08\x0b\x0c\x0e-\x1f]|[\ud800-\udfff\ufffe\uffff]"
 
 
 class Test(NamedTuple):
-    """A test: the class and the name that a server shows, `failure`, `error` or an empty text, a
-    message in one line, and all that there is to say; and what is to be said of any test."""
+    """A test: the class and the name that a server shows, `failure`, `error`, `skipped` or an empty
+    text, a message in one line, and all that there is to say; and what is to be said of any test.
+    """
 
     of: str
     name: str
@@ -31,7 +32,8 @@ def write_tests(path: Optional[str], name: str, tests: Sequence[Test]) -> None:
     import xml.etree.ElementTree as xml  # it takes time, and few commands write such a file
     kinds = [test.kind for test in tests]
     suite = xml.Element("testsuite", name=name, tests=str(len(tests)),
-                        failures=str(kinds.count("failure")), errors=str(kinds.count("error")))
+                        failures=str(kinds.count("failure")), errors=str(kinds.count("error")),
+                        skipped=str(kinds.count("skipped")))
     for test in tests:
         case = xml.SubElement(suite, "testcase", classname=clean(test.of), name=clean(test.name))
         if test.kind:

@@ -38,17 +38,16 @@ def heads_of(names: Sequence[str], columns: Sequence[Sequence[Signal]], unit: st
 
 def with_edges(transactions: Iterable[List[Any]]) -> Iterator[Tuple[List[Any], List[Any]]]:
     """Returns transactions with the edges from one transfer to the next. Behind them it says how
-    many lack a transfer, or have one that comes before that to its left."""
-    lacking = early = 0
-    for of in transactions:
+    many there are, lack a transfer, or have one that comes before that to its left."""
+    count = lacking = early = 0
+    for count, of in enumerate(transactions, 1):
         edges = [other[0] - one[1] if one and other else None for one, other in zip(of, of[1:])]
         lacking += None in of
         early += any(one is not None and one < 0 for one in edges)
         yield of, edges
-    if lacking or early:
-        sys.stdout.flush()
-        print("vcdkit-table: transactions that lack a transfer: %d; with a number of edges below "
-              "0: %d" % (lacking, early), file=sys.stderr)
+    sys.stdout.flush()
+    print("vcdkit-table: %stransactions: %d; that lack a transfer: %d; with a number of edges below "
+          "0: %d" % ("" if count else "warning: ", count, lacking, early), file=sys.stderr)
 
 
 def bus_rows(transactions: Iterable[List[Any]], names: List[str], heads: List[List[str]],

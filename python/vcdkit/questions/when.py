@@ -1,6 +1,7 @@
 """The times at which a condition holds, and how long answers take."""
 import collections
 import functools
+import math
 from typing import (Any, Callable, Deque, Dict, Iterator, List, NamedTuple, Optional,
                     Sequence, Tuple)
 
@@ -45,7 +46,7 @@ def named(text: str, place: str = "") -> Tuple[str, str]:
     return name, clock
 
 
-class _Question:
+class Question:
     """A condition that is asked, and its requests that wait for an answer."""
 
     def __init__(self, asked: Asked, condition: Condition, ticks: int, clock: int):
@@ -54,7 +55,13 @@ class _Question:
         self.least = condition.span.least if condition.span else 0
         self.front = asked.name and asked.name + ": "  # of messages
         self.overlaps = 0  # requests that began before the answer of the one before
-        self.alone: Tuple[List[int], List[int]] = [], []  # requests, and answers, without the other
+        # How many requests there are, of these without an answer and with one that came late, and
+        # answers without a request; the first of these, and by how much the latest one was late.
+        self.counts = {"requests": 0, "late": 0, "lost": 0, "surplus": 0}
+        self.firsts: Dict[str, int] = {}
+        self.latest = 0
+        # Requests without an answer: if each gets its own, all of these, else the first one.
+        self._lost: Deque[Tuple[int, int]] = collections.deque()
         self.is_refusal = condition.is_refusal or asked.in_order
         # When requests began that wait, and until when they wait: a time, or a count of edges.
         self.waiting: Deque[Tuple[int, int]] = collections.deque()
@@ -68,6 +75,7 @@ class _Question:
         self._looks += 1
         found = self.late(now)
         if starts & bits.bit:
+            self.counts["requests"] += 1
             self.overlaps += bool(waiting)
             waiting.append((time, now + self.ticks))
         answers = holding & bits.answer
@@ -75,8 +83,11 @@ class _Question:
             begin, until = waiting.popleft()
             found.append((begin, time, now - until + self.ticks))
             answers &= -(not self.asked.in_order)
-        if answers and self.asked.in_order:
-            self.alone[1].append(time)
+        if answers and self._lost:
+            self._answer_late(now)
+        elif answers and self.asked.in_order:
+            self.counts["surplus"] += 1
+            self.firsts.setdefault("surplus", time)
             found.append((time, None, 0))
         if not self.has_time:  # each edge is looked at once
             found += self.late(now + 1)
@@ -85,23 +96,38 @@ class _Question:
                              % MAX_WAITING)
         return found
 
-    def late(self, now: int) -> List[Outcome]:
+    def late(self, now: float) -> List[Outcome]:
         """Returns the requests that waited until a time before this one."""
         found: List[Outcome] = []
         while self.waiting and self.waiting[0][1] < now:
+            if self.asked.in_order or not self._lost:
+                self._lost.append(self.waiting[0])
             found.append((self.waiting.popleft()[0], None, 0))
-            self.alone[0].extend([found[-1][0]] * self.asked.in_order)
+            self.counts["lost"] += 1
         return found
+
+    def _answer_late(self, now: int) -> None:
+        """Takes it that the first request that got no answer has one now, or that all have it."""
+        begin, until = self._lost.popleft()
+        count = 1 if self.asked.in_order else self.counts["lost"]
+        self.counts["late"] += count
+        self.counts["lost"] -= count
+        self.firsts.setdefault("late", begin)
+        self.latest = max(self.latest, now - until)
+
+    def facts(self) -> Dict[str, int]:
+        """Returns how many requests there are, and what became of those not answered in time; by
+        how much the latest answer was late."""
+        self.firsts["lost"] = self._lost[0][0] if self._lost else 0
+        facts = {**self.counts, "open": len(self.waiting), "latest": self.latest}
+        return {what: facts[what] for what in facts if what != "surplus" or self.asked.in_order}
 
     def warning(self) -> str:
         """Returns what may be wrong although each request got its answer; else nothing."""
-        if self.asked.in_order:
-            return "%srequests that the end of the dump leaves without an answer: %d" % (
-                self.front, len(self.waiting)) if self.waiting else ""
         return "%srequests that begin before the previous one is answered: %d. They get the same " \
             "answer; with %s, each gets its own" % (
                 self.front, self.overlaps, "`each req -> ack within N`" if self.front else
-                "vcdkit-table --channel") if self.overlaps else ""
+                "vcdkit-table --channel") if self.overlaps and not self.asked.in_order else ""
 
     def late_at_end(self, is_over: Callable[[int], bool]) -> List[Outcome]:
         """Returns the requests that waited until a time that is over where the dump ends. What else
@@ -114,9 +140,12 @@ class Questions:
     """Conditions that are asked in one pass over a dump."""
 
     def __init__(self, dump: Source, rules: Sequence[Sequence[Any]], rise: Optional[str],
-                 fall: Optional[str], every: bool, columns: Sequence[List[Signal]] = ()):
-        """Rules are as Asked. The first ones may have columns, whose values are asked for."""
+                 fall: Optional[str], every: bool, columns: Sequence[List[Signal]] = (),
+                 open_fails: bool = False):
+        """Rules are as Asked. The first ones may have columns, whose values are asked for. Requests
+        that are open at the end may count as without an answer."""
         self.dump, self.clocks = dump, []  # type: Source, List[str]
+        self._open_fails, self._evaluated = open_fails, 0  # conditions with a known value
         its = [Asked(*rule) for rule in rules]
         # The bits of the clocks: the first is that of the rules without an own one.
         bits = {name: 1 << at for at, name in enumerate(dict.fromkeys(
@@ -125,7 +154,7 @@ class Questions:
             raise UsageError("to list every edge, " + NAME_A_CLOCK)
         self.columns, self.cells = columns, [Cells(its) for its in columns]
         self.conditions, self.again = Conditions(dump), -1 if every else 0
-        self.each: List[_Question] = []
+        self.each: List[Question] = []
         self.edges: Dict[Edge, int] = {}
         has_clock = (rise, fall) != (None, None)
         self._of_clock = dict.fromkeys(bits.values(), 0)  # the conditions at its edges
@@ -148,7 +177,7 @@ class Questions:
                 if asked.name:
                     error.args = ("%s: %s" % (asked.name, error),)
                 raise
-            self.each.append(_Question(asked, one, ticks, clock))
+            self.each.append(Question(asked, one, ticks, clock))
             self._of_clock[clock or 1] |= one.bit | one.answer
             self.again |= one.bit if asked.in_order else 0
         self._add_edges(1, rise, fall)
@@ -169,12 +198,23 @@ class Questions:
             fault = None
         except DumpFault as error:
             fault = error
-        waiting = [number for number, its in enumerate(self.each) if its.has_time and its.waiting]
-        for number in waiting:
-            is_over = self.dump.is_over(fault)
-            yield from (((number,), one) for one in self.each[number].late_at_end(is_over))
+        for number, its in enumerate(self.each):
+            late = its.late_at_end(self.dump.is_over(fault)) if its.has_time and its.waiting else []
+            late += its.late(math.inf) if self._open_fails and not fault else []
+            yield from (((number,), one) for one in late)
         if fault:
             raise fault
+
+    def idle(self, number: int, is_always: bool) -> str:
+        """Returns why a condition was never evaluated; an empty text if it was. That an event is
+        not triggered is known at each time, but what has to hold at its triggers needs one."""
+        one = self.each[number]
+        if one.clock and not self.counts[one.clock]:
+            return "its clock has no edge in this window, so it was never evaluated"
+        is_known = self._evaluated & one.condition.bit or not is_always and (
+            self.conditions.with_events & one.condition.bit and self.dump.check().last is not None)
+        return "" if is_known else ("none of its signals has a value or a trigger in this window, "
+                                    "so it was never evaluated")
 
     def times(self) -> Iterator[Tuple[int, Numbers]]:
         """Returns the times at which conditions hold, with their numbers: a request has its answer
@@ -218,6 +258,7 @@ class Questions:
         numbers_of = functools.lru_cache(maxsize=1 << 12)(self._numbers)
         for time, due, clocks in self._looks():
             now = holding(due)
+            self._evaluated |= now
             starts = now & (~held | self.again)
             held = held & ~due | now
             if starts & plain:
@@ -247,17 +288,20 @@ class Questions:
         codes = {*conditions.over, *(one.code.encode() for one in columns)}
         always = self.again | conditions.with_more if self.edges else 0
         due = -1 if self.edges else 0
+        known = conditions.with_events if self.edges else 0
         conditions.look_back(self.edges)
         looks = at_clocks(self.dump, names, codes, self.edges)
         for time, changes, clocks in looks if self.edges else conditions.woken(looks):
             for cells in self.cells:
                 cells.take(changes)
-            due |= conditions.take(changes, time) | always
+            found = conditions.take(changes, time)
+            known, due = known | found, due | found | always
             some = 0 if clocks else -1
             for bit, its in self._of_clock.items():
                 if bit & clocks:
                     some |= its
                     self.counts[bit] += 1
+            self._evaluated |= known & some
             yield time, due & some, clocks
             due &= ~some
 
