@@ -1,8 +1,8 @@
 #!/usr/bin/env bash
 # Tests the Python package and the scripts on samples/ and on small dumps. It builds nothing: it
 # uses the program that VCDKIT names, or ./vcdkit. extras/test.sh DUMP.. also checks on these dumps
-# what must hold for any dump. If `make library` has left ./libvcdkit.so, it tests the package with
-# that as well. The tests that compare what a command prints are in extras/tests (tools/check.py).
+# what must hold for any dump. If `make library` has left ./libvcdkit.so, it tests that as well. The
+# tests that compare what a command prints are in extras/tests (tools/check.py).
 set -u
 cd "$(dirname "$0")/.."
 export VCDKIT=${VCDKIT:-./vcdkit} LC_ALL=C COLUMNS=80 LINES=24
@@ -47,7 +47,7 @@ finish() {
     later_pids=()
 }
 
-# The package, in both ways, with numpy and without: a Python with pandas, else with numpy, is
+# The package, with numpy and without: a Python with pandas, else with numpy, is
 # looked for, and numpy is hidden by a directory that has an empty one.
 library=
 [[ ! -e libvcdkit.so ]] || library=$PWD/libvcdkit.so
@@ -77,12 +77,8 @@ else
 fi
 later 'the layers of the package' python3 python/tests/test_layers.py
 # The second reader: fixed dumps that it makes, and dumps of simulators.
-second() {
-    later "the scripts and the package, against the second reader: $1" "${@:2}" \
-        "${with_numpy:-python3}" python/tests/second_reader/ask.py --processes 1 --seeds "$1"
-}
-second 0:40 env
-[[ -z $library ]] || second 40:60 env VCDKIT_WAY=library VCDKIT_LIBRARY="$library"
+later 'the scripts and the package, against the second reader' "${with_numpy:-python3}" \
+    python/tests/second_reader/ask.py --processes 1 --seeds 0:40
 later 'the same, about dumps of simulators' "${with_numpy:-python3}" \
     python/tests/second_reader/ask.py --processes 1 --seeds 0:1 samples/*.vcd "$@"
 [[ -n $(type -P node) ]] || echo "the page's script is not asked by the second reader: no node"
@@ -97,7 +93,7 @@ later 'transactions, against two buses in Icarus Verilog' python3 python/tests/t
 later 'conditions, against Verilator' python3 $test --verilator --count 50
 [[ -n $(type -P verilator) ]] || echo 'conditions are not compared with Verilator: no verilator'
 for some in 120 120:60; do
-    later "the same, on every 120th small dump: $some" env VCDKIT_LIBRARY="$library" \
+    later "the same, on every 120th small dump: $some" \
         "${with_numpy:-python3}" python/tests/second_reader/ask.py --processes 1 --small $some
 done
 later 'the scripts, at any argument, file and stream' python3 python/tests/test_scripts.py
@@ -105,7 +101,7 @@ later 'the scripts, on long files and as outputs' python3 python/tests/test_file
 later 'the pages of vcdkit-wave and vcdkit-diff' python3 python/tests/test_page.py
 [[ -n $(type -P chromium chromium-browser google-chrome) ]] ||
     echo 'the pages are not tried in a browser: there is no chromium'
-[[ -n $library ]] || echo 'the package is not tried over the library: no libvcdkit.so'
+[[ -n $library ]] || echo 'arrays are not tried by the library: no libvcdkit.so'
 
 tests=(extras/tests/*.console)
 if [[ -e libvcdkit.a && -n $library ]] && command -v cc > /dev/null; then

@@ -1,6 +1,6 @@
 #!/usr/bin/env python3
-"""Tests of the package vcdkit, the same over the program and over the library, where the second
-reader asks nothing. VCDKIT_LIBRARY names the library; without it the program alone is tried."""
+"""Tests of the package vcdkit, where the second reader asks nothing. VCDKIT_LIBRARY names the
+library, which arrays() asks; without it the program alone is tried."""
 import copy
 import functools
 import io
@@ -12,6 +12,7 @@ import stat
 import subprocess
 import threading
 import unittest
+import unittest.mock
 from concurrent.futures import ThreadPoolExecutor
 from fractions import Fraction
 
@@ -35,19 +36,7 @@ from vcdkit import (Dump, DumpFault, NoTimescale, RunFailed, Timescale, UnknownN
 BROKEN = b"$var wire 1 ! a $end\n$enddefinitions $end\n#0\n1!\n#x\n"
 
 
-class Questions:
-    """What holds in both ways; a class below for each."""
-
-    WAY = ""
-
-    def setUp(self):
-        super().setUp()
-        os.environ["VCDKIT_WAY"] = self.WAY
-        os.environ["VCDKIT_LIBRARY"] = LIBRARY
-
-    def test_the_way(self):
-        self.assertEqual(vcdkit.questions.dump.way().__name__, "vcdkit.reading." + self.WAY)
-
+class Questions(Case):
     def test_signals(self):
         signals = Dump(NESTED).signals
         self.assertEqual((signals[0], signals[1:3], signals[-1]), (
@@ -388,9 +377,7 @@ class Questions:
         self.assertEqual(found, [wanted] * 8)
 
 
-class ByProgram(Questions, Case):
-    WAY = "program"
-
+class Programs(Case):
     def test_a_pipe_is_read_as_it_comes(self):
         front, back = os.pipe()
         os.write(back, b'$timescale 1ns $end $var wire 1 ! c $end $var wire 2 " q $end '
@@ -440,19 +427,22 @@ class ByProgram(Questions, Case):
 
 
 @unittest.skipUnless(LIBRARY, "VCDKIT_LIBRARY names no library")
-class ByLibrary(Questions, Case):
-    WAY = "library"
-
+class Library(unittest.TestCase):
     def test_every_room(self):
-        text = Dump(NESTED).read()
-        whole = subprocess.run([os.environ["VCDKIT"], "cut", "--from", "0", "--to", "900"],
-                               input=text, stdout=subprocess.PIPE, check=True).stdout
-        for room in 1, 2, len(whole) - 1, len(whole), len(whole) + 1:
-            self.assertEqual(vcdkit.reading.library.run(
-                ["cut", "--from", "0", "--to", "900"], text, (), room), (0, whole, b""))
-        found = vcdkit.reading.library.changes(Dump(NESTED).text, b"1")
-        for room in (1, 2, 5, len(found) // 3, len(found) // 3 + 1) if found else ():
-            self.assertEqual(vcdkit.reading.library.changes(Dump(NESTED).text, b"1", room), found)
+        for dump in Dump(NESTED), Dump(Dump(NESTED).read()), Dump(NESTED).cut():
+            changes = functools.partial(vcdkit.reading.library.changes, LIBRARY, dump.text, b"1")
+            found = changes()
+            self.assertEqual([*zip(found[::3], found[1::3])][1:3], [(50, 0), (150, 1)])
+            for room in 1, 2, 5, len(found) // 3, len(found) // 3 + 1:
+                self.assertEqual(changes(room), found)
+        self.assertIsNone(vcdkit.reading.library.changes(LIBRARY, Dump(BROKEN).text, b"!"))
+
+    @unittest.skipUnless(numpy, "there is no numpy")
+    def test_arrays(self):
+        by_library = Dump(NESTED).arrays("bench.slow.count")
+        with unittest.mock.patch.dict(os.environ, VCDKIT_LIBRARY=""):
+            by_program = Dump(NESTED).arrays("bench.slow.count")
+        self.assertEqual(*([one.tolist() for one in both] for both in (by_library, by_program)))
 
 
 class Times(unittest.TestCase):

@@ -7,9 +7,9 @@
     for time, (a, b) in dump.rows(["bench.a", "bench.b"], rise="bench.clock"): ..
     dump.cut("100ns", "2us").pick("bench.slow").save("window.vcd")
 
-The library libvcdkit.so answers if it is beside this package, or if VCDKIT_LIBRARY names it.
-Otherwise the program that VCDKIT names answers, or the vcdkit on the PATH. Library and program run
-the same code, whose core is proved. This package, which reads what they write, is only tested.
+The program that VCDKIT names answers, or the vcdkit on the PATH. Dump.arrays() asks the library
+libvcdkit.so instead if it is beside this package, or if VCDKIT_LIBRARY names it. Both run the same
+code, whose core is proved. This package, which reads what they write, is only tested.
 """
 from typing import TYPE_CHECKING, Any
 

@@ -106,10 +106,10 @@ def ask_all(source: Source, kinds: List[str]) -> Found:
         for kind in kinds if asker.dump.variables else ():
             ask_one(asker, source, kind, found)
             is_again = WAYS and zlib.crc32(b"%d %s" % (source.seed, kind.encode())) % EACH == 0
-            for way in WAYS[0].others if is_again else ():
-                WAYS[0].take(way)
+            if is_again:
+                WAYS[0].take(True)
                 ask_one(asker, source, kind, found)
-                WAYS[0].take()
+                WAYS[0].take(False)
     return found
 
 

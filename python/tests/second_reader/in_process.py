@@ -1,14 +1,18 @@
 """Lets the evaluator of the definitions of vcdkit (hostile/reference) play the program's part in
 this process, because a small dump is read faster than a program starts."""
-from typing import Any, Dict, Iterator, List, Optional, Sequence, Tuple
+import contextlib
+import io
+from typing import Any, BinaryIO, Dict, Iterator, List, Optional, Sequence, Tuple
 
 from faulty_dumps import evaluator
 from reference import comparison, strobe  # type: ignore[import]
-from vcdkit.questions import compare, dump
-from vcdkit.reading import library, program, source
-from vcdkit.reading.texts import Text, library_path, program_path
+from vcdkit.errors import UnknownName, VcdkitError, error_of
+from vcdkit.questions import compare
+from vcdkit.reading import header, program
+from vcdkit.reading.texts import Bytes, File, Headed, Made, Text
 
 MOST = 1000  # answers that are kept
+OPENED = program.opened
 
 
 class Heads:
@@ -30,15 +34,60 @@ class Heads:
 
 
 class Evaluator:
-    """Stands for the library: `run` is as that of vcdkit.reading.library."""
+    """Stands for the program: `opened` is as that of vcdkit.reading.program."""
 
     def __init__(self) -> None:
         self.known: Dict[Any, Tuple[bytes, bytes, int]] = {}
 
-    def run(self, words: Sequence[str], given: Any = b"", files: Sequence[Tuple[bytes, Any]] = (),
-            room: int = 0) -> Tuple[int, bytes, bytes]:
+    @contextlib.contextmanager
+    def opened(self, text: Text) -> Iterator[BinaryIO]:
+        """Opens a text to be read once. An error comes after what was written before it, unless
+        the reader ends early."""
+        if isinstance(text, File):
+            with OPENED(text) as file:
+                yield file
+            return
+        data, error = self._read(text)
+        with io.BytesIO(data) as out:
+            yield out
+            was_read = not out.closed and not out.read(1)
+        if error and was_read:
+            raise error
+
+    def _read(self, text: Text) -> Tuple[bytes, Optional[VcdkitError]]:
+        """Returns the bytes of a text up to its end, or to the error with which it ends."""
+        if isinstance(text, Bytes):
+            return text.data, None
+        if isinstance(text, Headed):
+            data, error = self._read(text.of)
+            front, end, rest = data.partition(header.BODY)
+            if text.body:
+                rest = b"".join(text.body(io.BytesIO(rest + program.FAULT * bool(error))))
+            return (text.front(front + end) if end else program.FAULT) + rest, error
+        if isinstance(text, Made):
+            return self._made(text)
+        with OPENED(text) as file:
+            return file.read(), None
+
+    def _made(self, text: Made) -> Tuple[bytes, Optional[VcdkitError]]:
+        """Returns what a command writes, and its error. That of an input comes first; a merge gets
+        a fault there too, since it would go on with the other dumps."""
+        read = [self._read(one) for one in text.of]
+        is_merge = text.command == "merge"
+        inputs = [(b"%d" % at if is_merge else b"(stdin)",
+                   data + program.FAULT * (is_merge and error is not None))
+                  for at, (data, error) in enumerate(read)]
+        status, out, said = self.run([text.command, *text.words], inputs)
+        names = {name.decode(): one.name for (name, _), one in zip(inputs, text.of)}
+        found = error_of(said.decode(errors="backslashreplace"), status, names) if status else None
+        if isinstance(found, UnknownName):
+            found.of = text.of[0]
+        return out, next((error for _, error in read if error), found)
+
+    def run(self, words: Sequence[str], files: Sequence[Tuple[bytes, bytes]]
+            ) -> Tuple[int, bytes, bytes]:
         """Returns the status, the output and the message."""
-        inputs = tuple((name, bytes(data)) for name, data in files) or ((b"(stdin)", bytes(given)),)
+        inputs = tuple(files)
         key = tuple(words), inputs
         if key not in self.known:
             if len(self.known) > MOST:
@@ -76,7 +125,7 @@ def compared(words: Sequence[str], merged: Text) -> Iterator[List[bytes]]:
             asked.end = int(next(times))
         elif word == "--except":
             asked.exceptions.append(next(times).encode())
-    with library.opened(merged) as file:
+    with program.opened(merged) as file:
         text = file.read()
     out: bytes = comparison.within(asked, [(b"in1", b"in2")], b"(stdin)", text)[0]
     yield from (line.split(b" ") for line in out.splitlines())
@@ -90,20 +139,14 @@ def moment_of(time: str) -> Tuple[int, Optional[int]]:
 
 
 class Ways:
-    """Who answers: the evaluator in this process; the program; the library, if there is one."""
+    """Who answers: the evaluator in this process, or the program."""
 
     def __init__(self) -> None:
         evaluator.read_head = Heads()
-        self._evaluator = Evaluator()
-        self._library, self._lines = (library.run, library.changes), compare.lines
-        self.others = [program] if program_path() else []
-        if library_path():
-            self.others.append(library)
-        self.take()
+        self._evaluator, self._lines = Evaluator(), compare.lines
+        self.take(False)
 
-    def take(self, way: Any = None) -> None:
-        """Lets one of them answer, the evaluator if none is named."""
-        library.run, library.changes = self._library if way is library else (
-            self._evaluator.run, lambda *_: None)
-        compare.lines = self._lines if way else compared
-        source.way = dump.way = lambda: way or library  # type: ignore[assignment]
+    def take(self, is_program: bool) -> None:
+        """Lets one of them answer."""
+        compare.lines = self._lines if is_program else compared
+        program.opened = OPENED if is_program else self._evaluator.opened

@@ -17,7 +17,6 @@ from ..forms.text import FORMS
 from ..model.signals import Signal
 from ..model.times import LAST_TICK, UNITS, Window
 from ..reading.formats import ENDINGS
-from ..reading.texts import program_path
 
 if TYPE_CHECKING:
     from ..questions.dump import Dump
@@ -371,9 +370,6 @@ def command(function: Callable[[List[str]], int], least: int = 0) -> Main:
     def main(words: Optional[List[str]] = None) -> int:
         if hasattr(sys, "set_int_max_str_digits"):
             sys.set_int_max_str_digits(0)  # vectors and times may be longer
-        # Pipes to the program hold no output in memory, so they come first here.
-        if program_path():
-            os.environ.setdefault("VCDKIT_WAY", "program")
         sys.stderr = sys.stderr or open(os.devnull, "w")  # None where it was closed
         _write_bytes(sys.stderr)
         if sys.stdout is None:

@@ -10,13 +10,13 @@ from ..model.names import utf8_names
 from ..model.signals import Signal, keys_of
 from ..model.times import Time
 from ..model.values import Cell, Edges, Row, Value, value_in
-from ..reading import body, program
+from ..reading import body
 from ..reading.files import write
-from ..reading.source import Names, Source, merge, way
-from ..reading.texts import Bytes, File, Text
+from ..reading.source import Names, Source, merge
+from ..reading.texts import Bytes, File, Text, library_path
 from .rows import as_they_come, at_times, edges_of, sampled, states
 
-__all__ = ["Dump", "merge", "way"]
+__all__ = ["Dump", "merge"]
 
 
 class Dump(Source):
@@ -113,9 +113,10 @@ class Dump(Source):
             raise RunFailed("arrays() needs numpy: %s" % error) from error
         signal = self[name]
         is_short = signal.size <= 64 and not signal.is_real
-        if is_short and way() is not program and signal.type != "event":
+        path = library_path() if is_short and signal.type != "event" else None
+        if path:
             from ..reading import library
-            found = library.changes(self.text, signal.code.encode())
+            found = library.changes(path, self.text, signal.code.encode())
             if found is not None:
                 return _columns(found, numpy)
         pairs = list(self.changes(name))
@@ -204,7 +205,7 @@ def _number(one: Cell) -> Union[int, float, str, None]:
 
 
 def _columns(found: Any, numpy: Any) -> Tuple[Any, Any]:
-    """Returns the changes of the library as arrays() gives them."""
+    """Returns the changes that the library found as arrays() gives them."""
     times, values, known = numpy.array(found, dtype=numpy.uint64).reshape(-1, 3).T.copy()
     unknown = known != numpy.uint64(2**64 - 1)
     values[unknown] = 0

@@ -1,39 +1,21 @@
 """Sources: texts of dumps that questions are asked of, with their headers, names and parts."""
 import contextlib
 import functools
-import os
-from types import ModuleType
 from typing import (BinaryIO, Callable, Dict, Iterable, Iterator, List, Optional, Sequence, Tuple,
                     TypeVar, Union)
 
-from ..errors import (AT_A_TIMESTAMP, DumpFault, NoTimescale, RunFailed, UnknownName, UsageError,
-                      VcdkitError)
+from ..errors import (AT_A_TIMESTAMP, DumpFault, NoTimescale, UnknownName, UsageError, VcdkitError)
 from ..model.names import full_names, hint, places_of, utf8_names
 from ..model.signals import Declaration, Header, Scope, Signal, Signals, words_in
 from ..model.times import LAST_TICK, Amount, Time, Timescale, Window, amount_of
 from ..model.values import Report
 from . import header, program
-from .texts import Bytes, File, Headed, Made, Text, library_path, narrowed
+from .texts import Bytes, File, Headed, Made, Text, narrowed
 
 Names = Union[str, Iterable[str]]
 # The path of a clock, the place of its bit from the right, and whether it falls there.
 Edge = Tuple[str, int, bool]
 Its = TypeVar("Its", bound="Source")
-
-
-def way() -> ModuleType:
-    """Returns what answers: the library if there is one, else the program. VCDKIT_WAY=program or
-    VCDKIT_WAY=library takes only one of them."""
-    asked = os.environ.get("VCDKIT_WAY", "")
-    if asked not in ("", "library", "program"):
-        raise UsageError("VCDKIT_WAY is %s: it may be library or program" % asked)
-    if asked != "program" and library_path():
-        from . import library
-        return library
-    if asked == "library":
-        raise RunFailed("there is no libvcdkit.so beside the package: name it by "
-                        "VCDKIT_LIBRARY=FILE")
-    return program
 
 
 class Source:
@@ -76,7 +58,7 @@ class Source:
     def open(self) -> Iterator[BinaryIO]:
         """Opens the text of the dump, to be read as a binary file."""
         try:
-            with way().opened(narrowed(self.text)) as file:
+            with program.opened(narrowed(self.text)) as file:
                 yield file
         except UnknownName as error:
             if error.of is None:
