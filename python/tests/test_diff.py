@@ -49,11 +49,19 @@ ANSWERED = [("a a", "", 0), ("a b", LINES, 1), ("--every a b", LINES + "differs 
             ("--within=0 a short", LINES, 1), ("--always --within=1 a b", "", 0),
             ("--within=1 --common --every bits more", "differs 0 t.qx[1] 0 1\n", 1),
             ("--within=1 --common bit bits", "differs 0 t.q 1 0\n", 1),
-            ("--every --waive=known bits more", "alone A t.q[0:0] 1\nalone B t.q[0] 1\n", 1),
+            ("--every --waive=known bits more", "alone A t.q[0:0] 1\nalone B t.q[0] 1\n", 1,
+             "known:1: t.q: leaves out 1 of 1 signals"),
+            ("--waive=known pair pair", "", 0, "warning: known:1: t.q: selects nothing"),
+            ("--common --at-least=2 --waive=known bits more", "", 2,
+             "compared 0 signals, 2 waived (A has 3, B has 3): --at-least asks for 2"),
+            ("--rise=t.c a a", "", 0,
+             "compared 3 signals (A has 3, B has 3) at 1 edge (A has 1, B has 1)"),
+            ("--to=0 a a t.q", "", 2, "no variable has a value where they are compared"),
+            ("--except=t.q a a t.c", "", 0, "warning: --except t.q: changes nothing"),
             ("pair named", "alone A t.a 1\n", 1), ("named pair", "alone B t.a 1\n", 1),
             ("pair bit", "alone A t.a[1:0] 1\nalone A t.a 1\nalone B t.q 1\nends 0 9\n", 1),
             ("high low", "alone A t.q[3:2] 1\nalone B t.q 1\n", 1), ("high far", "", 0),
-            ("--map=q= top top", "", 0),
+            ("--map=q= top top", "", 0, "warning: --map q=: changes nothing"),
             ("--map=t.a=t.x pair named", "alone A t.a[1:0] 1\n", 1),
             ("--map=t=x --map=t.c=x.d a b x.d", "", 0),
             ("--map=t=x a b x.c", "", 0), ("--map=t= a a c", "", 0),
@@ -92,8 +100,9 @@ class Answers(Case):
                 self.assertRegex(said.message, r"\Avcdkit-diff: .*\nsee: vcdkit-diff --help\n\Z")
 
     def test_what_is_answered(self):
-        for line, wanted, status in ANSWERED:
-            self.assertEqual(run("diff", line.split()), (status, wanted.encode(), ""), line)
+        for line, wanted, status, *messages in ANSWERED:
+            self.assertEqual(run("diff", line.split()), (status, wanted.encode(), "".join(
+                "vcdkit-diff: %s\n" % message for message in messages)), line)
 
     def test_reports(self):
         for line, errors, failures, messages in REPORTS:
@@ -146,7 +155,7 @@ class Failures(Case):
             if compare is not None:
                 self.program("vcdkit-compare", "#!/bin/sh\n%s\nexec '%s-compare' \"$@\"\n" % (
                     compare, REAL))
-            for words in dumps, ["--every", *dumps], [*dumps, "t.q"]:
+            for words in dumps, ["--every", *dumps], [*dumps, "t.c"]:
                 with self.subTest(merge=merge, compare=compare, words=words):
                     said = run("diff", words)
                     is_refused = (said.status in (2, 3) and said.message[:13] == "vcdkit-diff: "

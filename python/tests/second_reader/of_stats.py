@@ -220,11 +220,20 @@ def bit_name(name: str, of: Variable, place: int) -> str:
 def ask_toggle(of: Asker) -> None:
     """Asks how often bits toggle."""
     dump, names, window, is_json = of.dump, of.names(3), of.window(), of.happens(.5)
-    words = of.placed([*window.words, "--toggle", *["--json"] * is_json], [of.path, *names])
+    is_never = of.happens(.4)
+    words = of.placed([*window.words, "--never-toggled" if is_never else "--toggle",
+                       *["--json"] * is_json], [of.path, *names])
     said = run("stats", words)
+    if is_never and (window.begin > dump.end or of.fault(window)):
+        of.same("toggle, a fault", words, (said.status, said.output), (2, b""))
+        return
     if of.is_late(window, "toggle", words, said) or of.has_fault(window, "toggle", words, said):
         return
-    bits = all_toggles(dump, names, window.begin, window.end)
+    every = all_toggles(dump, names, window.begin, window.end)
+    bits = [one for one in every if not is_never or one[2].rises + one[2].falls == 0]
+    if is_never and not every:
+        of.same("toggle, no bit", words, (said.status, said.output), (2, b""))
+        return
     wanted: List[Any] = [(bit_name(one.path, one, place), *toggles[:3])
                          for one, place, toggles in bits]
     if is_json:
@@ -235,13 +244,14 @@ def ask_toggle(of: Asker) -> None:
         got = [(name, *map(int, counts)) for *parts, rises, falls, unknowns in
                (line.split(" ") for line in said.lines[:-1])
                for name, counts in [(" ".join(parts), (rises, falls, unknowns))]]
-        both = sum(one.rises > 0 and one.falls > 0 for _, _, one in bits)
-        never = sum(one.rises + one.falls == 0 for _, _, one in bits)
+        both = sum(one.rises > 0 and one.falls > 0 for _, _, one in every)
+        never = sum(one.rises + one.falls == 0 for _, _, one in every)
         of.same("toggle, the sum", words, said.lines[-1:], [
             "%d bit%s: %d rise and fall, %d do one of these, %d do neither" % (
-                len(bits), "s" * (len(bits) != 1), both, len(bits) - both - never, never)])
+                len(every), "s" * (len(every) != 1), both, len(every) - both - never, never)])
     wanted.sort(key=lambda row: -(row[-3] + row[-2]))  # those that toggle most come first
-    of.same("toggle", words, (said.status, said.message, got), (0, "", wanted))
+    of.same("toggle", words, (said.status, said.message, got), (
+        int(is_never and bool(bits)), "", wanted))
 
 
 # ---- SAIF.

@@ -32,6 +32,7 @@ class Asked(NamedTuple):
     tolerance: float
     x_matches: bool
     within: str = ""
+    waived: Sequence[str] = ()  # the names in the file of --waive
 
     def renamed(self, path: str) -> str:
         """Returns a path as --map has it; the longest OLD counts."""
@@ -114,8 +115,34 @@ class Sides:
         for at in (0, 1):
             self.of_name[at] = {
                 name: its for name, its in self.of_name[at].items()
-                if (not names or any(name in one[at] for one in names))
-                and not any(name in one[at] for one in others)}
+                if not names or any(name in one[at] for one in names)}
+        self.idle = ["--except " + name for name, one in zip(self.asked.exceptions, others)
+                     if all(one[at].isdisjoint(self.of_name[at]) for at in (0, 1))]
+        for at in (0, 1):
+            self.of_name[at] = {name: its for name, its in self.of_name[at].items()
+                                if not any(name in one[at] for one in others)}
+        paths = {one.path for dump in self.dumps for one in dump.variables}
+        self.idle += ["--map %s=%s" % one for one in self.asked.maps if not any(
+            path != self.asked.renamed(path) and is_inside(path, one[0]) and not any(
+                is_inside(path, old) for old, _ in self.asked.maps if len(old) > len(one[0]))
+            for path in paths)]
+
+    def waived(self, name: str) -> Set[str]:
+        """Returns the names that a line of --waive selects, as A has them."""
+        as_a = {other: one for one, other in self.groups}
+        mine, its = self.selected(name)
+        return mine | {as_a.get(one, one) for one in its}
+
+    def notes(self, left_out: Set[str]) -> List[str]:
+        """Returns what is said of each line of --waive, if some names are left out."""
+        found = []
+        for at, name in enumerate(self.asked.waived, 1):
+            its = self.waived(name)
+            found.append("%d: %s: leaves out %d of %d signals" % (
+                at, name, len(its & left_out), len(its)) if its & left_out else
+                "warning: %d: %s: %s" % (at, name, "is not needed" if its else "selects nothing"))
+            left_out = left_out - its
+        return found
 
     def _groups(self) -> List[Tuple[str, str]]:
         """Returns the names that belong together: equal ones, and two that differ only by a range
@@ -262,7 +289,9 @@ def random_asked(of: Asker, changed: Changed, other: Dump) -> Asked:
     names += [bare(name) for name in names] + [name.rpartition(".")[0] or name for name in names]
     if of.happens(.3):
         asked = asked._replace(names=of.random.sample(names, min(len(names), 2)))
-    return asked._replace(exceptions=[of.random.choice(names)] if of.happens(.2) else [])
+    waived = [of.random.choice([*names, "nothing"]) for _ in range(of.random.choice([1, 2]))]
+    return asked._replace(exceptions=[of.random.choice(names)] if of.happens(.2) else [],
+                          waived=waived if of.happens(.2) else [])
 
 
 # ---- What differs.
@@ -401,6 +430,9 @@ def ask_diff(of: Asker) -> None:
         words += ["--map", "%s=%s" % (old, new)]
     for name in asked.exceptions:
         words += ["--except", name]
+    if asked.waived:
+        words.append("--waive=" + of.write(of.path + ".waived", "".join(
+            name + " why\n" for name in asked.waived).encode("utf-8", "surrogateescape")))
     words = of.placed(words, [of.path, path, *asked.names])
     if os.path.exists(page):
         os.unlink(page)
@@ -413,7 +445,22 @@ def ask_diff(of: Asker) -> None:
         of.same("diff, refused", words, (said.status, bool(said.message)), (2, True))
         return
     found = differences(sides, looks, 1 if clock else factors[0])
-    same_lines(of, words, said, sides, found, counts if clock else None, (form, unit, is_json))
+    names = {shown_name: asked.renamed(mine.path) for shown_name, mine, _ in sides.pairs}
+    waived = {name for line in asked.waived for name in sides.waived(line)}
+    left_out = {names[one.name] for one in found} & waived
+    found = [one for one in found if names[one.name] not in waived]
+    pairs = [pair for pair in sides.pairs if names[pair[0]] not in waived]
+    is_idle = not found and pairs and not any(one.is_event or one.code in look.values
+                                              for _, one, _ in pairs for look, _ in looks)
+    notes = ["warning: %s: changes nothing" % one for one in sides.idle] + (
+        [] if found and not asked.every else sides.notes(left_out))
+    notes.append("compared %d signal%s%s (A has %d, B has %d)%s" % (
+        len(pairs), "s" * (len(pairs) != 1), ", %d waived" % (len(sides.pairs) - len(pairs)) if len(
+            sides.pairs) > len(pairs) else "", len(of.dump.variables), len(other.variables),
+        " at %d edge%s (A has %d, B has %d)" % (
+            min(counts), "s" * (min(counts) != 1), *counts) if clock else ""))
+    same_lines(of, words, said, sides, found, counts if clock else None, (form, unit, is_json),
+               bool(pairs and not is_idle), notes)
     if "--junit" in words:
         root = xml.parse(report).getroot()
         of.same("diff, the report", words, int(root.get("failures", "0")), len(
@@ -427,8 +474,10 @@ def ask_diff(of: Asker) -> None:
 
 
 def same_lines(of: Asker, words: List[str], said: Said, sides: Sides, found: List[Difference],
-               counts: Optional[List[int]], how: Tuple[Optional[str], Optional[str], bool]) -> None:
-    """Compares the lines of a difference."""
+               counts: Optional[List[int]], how: Tuple[Optional[str], Optional[str], bool],
+               is_compared: bool, notes: List[str]) -> None:
+    """Compares the lines of a difference, and the messages, of which the last one has what was
+    compared."""
     form, unit, is_json = how
     one, other, asked = *sides.dumps, sides.asked
     wanted: List[List[Any]] = []
@@ -465,17 +514,21 @@ def same_lines(of: Asker, words: List[str], said: Said, sides: Sides, found: Lis
     got = [row[:2] if row[0] == "size" else row[:3] if row[0] == "differs" and row[2] in events
            else row for row in got]
     if not is_json:
-        wanted = [[("-" if cell is None else str(cell)) for cell in row] for row in wanted]
+        wanted = [" ".join("-" if cell is None else str(cell) for cell in row).split(" ")
+                  for row in wanted]
     key = lambda row: json.dumps(row, default=str)  # noqa: E731
     kinds = [row[0] for row in wanted]
     if not asked.every and any(kinds.count(kind) > MAX_LINES for kind in kinds):
         wanted = [row for row in wanted if row in got]
-    is_refused = not sides.pairs and not wanted
+    is_refused = not is_compared and not wanted
     of.same("diff, the order", words, *([row for row in rows if row[0] == "differs"]
                                         for rows in (got, wanted)))
-    of.same("diff", words, (said.status, sorted(got, key=key), bool(said.message)),
-            (2 if is_refused else int(bool(wanted)), sorted(wanted, key=key),
-             is_refused or asked.is_common and not wanted))
+    if wanted or not (asked.is_common or counts) or is_refused:
+        notes.pop()
+    messages = said.message.replace(of.path + ".waived:", "").replace("vcdkit-diff: ", "")
+    of.same("diff", words, (said.status, sorted(got, key=key),
+                            messages.split("\n")[:-1 - is_refused]),
+            (2 if is_refused else int(bool(wanted)), sorted(wanted, key=key), notes))
 
 
 # ---- The windows around the first difference.

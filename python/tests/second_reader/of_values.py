@@ -230,13 +230,14 @@ def keys_of(columns: List[Variable]) -> List[str]:
 
 # ---- vcdkit-x.
 
-def unknown(dump: Dump, its: List[Variable], letters: str, begin: int, end: int
+def unknown(dump: Dump, its: List[Variable], letters: str, begin: int, end: int, becomes: bool
             ) -> List[Tuple[int, str, str]]:
     """Returns the times at whose end a value is another one than before, or the window begins, and
-    has one of the letters. Within a time, they come in the order of their last changes; what the
-    window begins with comes first, in the order of declaration."""
+    has one of the letters; with `becomes`, if the value before has none of them. Within a time,
+    they come in the order of their last changes; what the window begins with comes first, in the
+    order of declaration."""
     found: List[Tuple[int, str, str]] = []
-    before: State = {}
+    before: State = dump.at(begin - 1) if becomes and begin else {}
     changes = {step.time: step.changes for step in dump.steps}
     for time in sorted({begin} | {step.time for step in dump.steps_in(begin, end)}):
         if time > dump.finished:
@@ -247,6 +248,7 @@ def unknown(dump: Dump, its: List[Variable], letters: str, begin: int, end: int
         for code in sorted(order, key=lambda one: order[one]):
             value = state.get(code)
             if isinstance(value, str) and set(letters) & set(value) and (
+                    not set(letters) & set(str(before.get(code, letters))) if becomes else
                     time == begin or value != before.get(code)):
                 found += [(time, one.path, value) for one in its if one.code == code]
         before = state
@@ -257,24 +259,31 @@ def ask_x(of: Asker) -> None:
     """Asks for unknown values."""
     dump, (words, form), unit, window = of.dump, of.form(), of.unit(), of.window()
     names = of.names() if of.happens(.6) else []
-    letters, is_once = of.random.choice(["x", "xz"]), of.happens(.4)
+    letters, is_once, becomes = of.random.choice(["x", "xz"]), of.happens(.4), of.happens(.3)
     mode = of.random.choice(["", "", "--first", "--count", "--json"])
     its = [one for one in (dump.selected(names) if names else dump.variables)
            if not one.is_event and not one.is_real]
     words += [*window.words, *["--z"] * (letters == "xz"), *[mode] * bool(mode),
-              *["--trace"] * is_once, *(["--unit", unit] if unit else [])]
+              *["--trace"] * is_once, *["--becomes"] * becomes, *(["--unit", unit] if unit else [])]
     waived = of.names() if of.happens(.25) else []
     file = of.write(of.path + ".waived", "".join(
         "%s\t it is known\n" % name for name in waived).encode("utf-8", "surrogateescape"))
     words = of.placed([*words, *["--waive", file] * bool(waived)], [of.path, *names])
     said, fault = run("x", words), of.fault(window)
+    paths = {one.path for one in (dump.selected(waived) if waived else ())}
+    if its and paths.issuperset(one.path for one in its):
+        of.same("x, all are waived", words, (said.status, said.lines), (2, []))
+        return
     if of.is_late(window, "x", words, said, 2):
         return
-    rows = unknown(dump, its, letters, window.begin, window.end)
-    paths = {one.path for one in (dump.selected(waived) if waived else ())}
-    of_each = [{one.path for one in dump.selected([name])} for name in waived]
-    is_unused = any(its.isdisjoint(row[1] for row in rows) for its in of_each)
-    is_unclear = any(its & other for its in of_each for other in of_each if its is not other)
+    rows = unknown(dump, its, letters, window.begin, window.end, becomes)
+    notes, left = [], {row[1] for row in rows}
+    for at, name in enumerate(waived, 1):
+        mine = {one.path for one in dump.selected([name])}
+        notes.append("%d: %s: leaves out %d of %d signals" % (
+            at, name, len(mine & left), len(mine)) if mine & left else
+            "warning: %d: %s: is not needed" % (at, name))
+        left -= mine
     rows = [row for row in rows if row[1] not in paths]
     if is_once:
         rows = [row for at, row in enumerate(rows) if row[1] not in [one[1] for one in rows[:at]]]
@@ -295,10 +304,11 @@ def ask_x(of: Asker) -> None:
         of.same("x, of nothing", words, (said.status, said.output, bool(said.message)),
                 (2, b"", True))
         return
-    is_warned = False if is_unclear or mode == "--first" and rows else is_unused
-    about = said.about if not is_unclear else fault
-    of.same("x", words, (said.status, got, about),
-            (2 if fault else int(bool(rows)), wanted, fault or is_warned))
+    if mode == "--first" and rows:
+        notes = []
+    messages = said.message.replace(file + ":", "").replace("vcdkit-x: ", "").splitlines()
+    of.same("x", words, (said.status, got, said.about if fault else messages),
+            (2 if fault else int(bool(rows)), wanted, fault or notes))
 
 
 # ---- vcdkit-find and vcdkit-info.

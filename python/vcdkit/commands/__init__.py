@@ -7,8 +7,8 @@ import os
 import re
 import stat
 import sys
-from typing import (TYPE_CHECKING, Any, Callable, Iterator, List, NoReturn, Optional, TextIO,
-                    Tuple)
+from typing import (TYPE_CHECKING, Any, Callable, Iterable, Iterator, List, NoReturn, Optional,
+                    TextIO, Tuple)
 
 from .. import __version__
 from ..errors import DumpFault, RunFailed, UsageError, VcdkitError
@@ -20,7 +20,6 @@ from ..reading.formats import ENDINGS
 
 if TYPE_CHECKING:
     from ..questions.dump import Dump
-    from ..questions.saved import Exceptions
     from ..reading.source import Source
 
 STATUSES = """
@@ -56,8 +55,8 @@ SHARED = {
     "--four-state": dict(action="store_true",
                          help="convert VHDL's nine states, as vcdkit-four-state does"),
     "--waive": dict(metavar="FILE", help="ignore values of the signals in this file, of which each "
-                    "line is a name, followed by a reason; a warning says which lines were not "
-                    "needed"),
+                    "line is a name, followed by a reason; standard error says how many "
+                    "signals each line leaves out, and which lines are not needed"),
     "--from": dict(dest="begin", default=FIRST, metavar="TIME", help="the first time [default: 0]"),
     "--to": dict(dest="end", default=LAST, metavar="TIME",
                  help="the last time [default: the end of the dump]"),
@@ -332,11 +331,11 @@ def warn_of_quotes(name: str, condition: str, dump: "Source") -> None:
               "single quotes: '%s > %s'" % (name, file, condition, file), file=sys.stderr)
 
 
-def warn_of(command_name: str, exceptions: "Exceptions") -> None:
-    """Warns of the exceptions that were not needed."""
+def say(command_name: str, lines: Iterable[str]) -> None:
+    """Writes messages, after the output."""
     sys.stdout.flush()
-    for line in exceptions.unused():
-        print("%s: warning: %s" % (command_name, line), file=sys.stderr)
+    for line in lines:
+        print("%s: %s" % (command_name, line), file=sys.stderr)
 
 
 def filtering(module: str, usage: str, text: str,

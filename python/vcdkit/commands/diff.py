@@ -8,7 +8,8 @@ variable or scope that only one of them has, and how many variables that is) are
 Values are compared at the end of each time step or, with --rise or --fall, just before the first
 edge of A's clock and the first edge of B's clock, and so on. Dates, identifier codes, sections and
 repeated values do not matter, and tb.q matches tb.q[3:0]. OLD of --map is a path of a dump, or a
-path that another --map has made. More is in extras/README.md.
+path that another --map has made. With --common or a clock, and no difference, standard error says
+how many signals and edges were compared. More is in extras/README.md.
 
 examples:
   vcdkit-diff --context 20ns --into /tmp golden.vcd.gz sim.vcd tb.dut
@@ -16,14 +17,13 @@ examples:
   vcdkit-diff --every --junit diff.xml --except tb.dut.seed golden.vcd sim.vcd"""
 import argparse
 import os
-import sys
 from typing import List, Sequence, Tuple
 
 from ..errors import UsageError
-from ..forms.differences import Lines, part_in, say_ends, say_headers, say_values, write_parts
+from ..forms.differences import (Lines, part_in, say_compared, say_ends, say_headers, say_values,
+                                 write_parts)
 from ..forms.junit import Test
 from ..forms.many import answer_all, each_of, read_by
-from ..forms.text import counted
 from ..model.times import LAST_TICK, Timescale, amount_of
 from ..questions.compare import ALWAYS, EACH_PAIR, FIRST, Comparison, same_within
 from ..questions.dump import Dump
@@ -31,7 +31,7 @@ from ..questions.saved import Exceptions
 from ..questions.sides import sides_of
 from ..reading.files import check_outputs, files_of, write
 from . import (FAULT, LAST, check_begin, dump_of, ends_of, is_part, natural, pair_of,
-               parser, part_of, question, times_of, warn_of)
+               parser, part_of, question, say, times_of)
 
 
 def window_of_both(scales: Sequence[Timescale], begin: str, end: str) -> Tuple[int, int]:
@@ -73,7 +73,8 @@ def compare(asked: argparse.Namespace, report: Lines) -> None:
     dumps = [dump_of(asked, file) for file in (asked.one, asked.other)]  # --names of the first
     if is_part(asked):
         dumps = parts_of_both(dumps, asked, bool(asked.rise or asked.fall))
-    sides = sides_of(dumps, asked.maps, asked.names, asked.exceptions)
+    sides, idle = sides_of(dumps, asked.maps, asked.names, asked.exceptions)
+    say("vcdkit-diff", ["warning: %s: changes nothing" % option for option in idle])
     report.times = [times_of(side.dump, asked) for side in sides]
     spans = [side.dump.ticks(asked.context) for side in sides] if asked.context else []
     name = asked.rise or asked.fall
@@ -94,15 +95,16 @@ def compare(asked: argparse.Namespace, report: Lines) -> None:
     if asked.common and not pairs and not comparison.sizes:
         raise UsageError("the dumps have no path in common: --map OLD=NEW renames a scope")
     say_headers(report, sides, comparison, asked.common)
-    report.compared = "compared %s (A has %d, B has %d)" % (
-        counted(pairs, "signal"), len(sides[0].paths), len(sides[1].paths))
-    if pairs < asked.least:
-        raise UsageError("%s: --at-least asks for %d" % (report.compared, asked.least))
     exceptions = Exceptions(asked.waive, lambda name: set().union(*(
         side.selected([name])[name] for side in sides)))
+    waived = comparison.count(exceptions.covers)
+    say_compared(report, sides, pairs - waived, waived, [])
+    if pairs - waived < asked.least:
+        raise UsageError("%s: --at-least asks for %d" % (report.compared, asked.least))
     found = say_values(report, asked, sides, comparison, exceptions)
     if not found or asked.extent != FIRST:
-        warn_of("vcdkit-diff", exceptions)
+        report.notes = exceptions.notes()
+        say("vcdkit-diff", report.notes)
     if edges and pairs and not any(comparison.times):
         raise UsageError("in both dumps, %s never %s%s%s" % (
             name, "rises" if asked.rise else "falls", " where --if holds" * bool(asked.condition),
@@ -110,8 +112,13 @@ def compare(asked: argparse.Namespace, report: Lines) -> None:
     is_idle = edges and not all(comparison.times)  # then nothing was compared
     if is_idle or not asked.common and not (edges and found):
         say_ends(report, sides, comparison, bool(edges))
-    if not pairs and not report.differs():
-        raise UsageError("no variable is compared")
+    if edges and not found:
+        say_compared(report, sides, pairs - waived, waived, [*map(len, comparison.times)])
+    if not report.differs():
+        if pairs == waived:
+            raise UsageError("no variable is compared" + ": all are waived" * bool(waived))
+        if not comparison.has_value(exceptions.covers):
+            raise UsageError("no variable has a value where they are compared")
     if found and asked.context:
         write_parts(report, sides, found[0].times, spans, asked.into or ".")
     if found and asked.html is not None:
@@ -132,8 +139,8 @@ def words_of(words: List[str]) -> argparse.Namespace:
                          "removes it from paths); may be repeated")
     options.add_argument("--common", action="store_true", help="compare only what both have")
     options.add_argument("--at-least", dest="least", metavar="N", type=natural, default=0,
-                         help="exit with 2 if fewer signals are compared; with --common and no "
-                         "difference, standard error says how many are")
+                         help="exit with 2 if fewer signals are compared; those of --waive do not "
+                         "count")
     options.add_argument("--except", dest="exceptions", metavar="NAME", action="append", default=[],
                          help="leave out this signal or scope; may be repeated")
     options.add_argument("--real-tolerance", dest="tolerance", metavar="T", type=float,
@@ -207,8 +214,8 @@ def answer(asked: argparse.Namespace, tests: List[Test]) -> int:
         compare(asked, report)
     finally:
         tests += report.tests()
-    if asked.common and not report.differs():
-        print("vcdkit-diff: " + report.compared, file=sys.stderr)
+    if (asked.common or asked.rise or asked.fall) and not report.differs():
+        say("vcdkit-diff", [report.compared])
     return 1 if report.differs() else 0
 
 

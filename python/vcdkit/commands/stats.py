@@ -13,19 +13,22 @@ The values that it has longest come first. Only the value at the end of each tim
 the dump ends before --to, the window ends with it.
 
 With --toggle, there is a line for each bit: how often it rises, falls and becomes x. The last line
-counts the bits. --saif writes how long each bit is 0, 1, x and z, and how often it toggles, to a
+counts the bits. With --never-toggled, there are only lines of bits that neither rise nor fall, and
+the exit status is 1 if there is one, and 2 for a fault or an unknown name. --saif writes how long each bit is 0, 1, x and z, and how often it toggles, to a
 backward SAIF file, which power tools read. Both leave out real numbers and events.
 
 examples:
   vcdkit-stats --hex --from 1us sim.vcd.gz tb.cpu.state
   vcdkit-stats --json sim.vcd tb.clk | jq .period
   vcdkit-stats --toggle --from 1us sim.vcd tb.cpu | head
+  vcdkit-stats --never-toggled sim.vcd tb.cpu
   vcdkit-stats --saif power.saif --from 1us --to 2us sim.vcd tb.cpu"""
 import argparse
 import sys
 from typing import Any, Dict, Iterator, List, Optional, Sequence
 
 from .. import __version__
+from ..errors import UsageError, VcdkitError
 from ..forms.text import AnyForm, counted, in_json, mean_text, shown, write_json
 from ..model.signals import Signal
 from ..model.times import Window
@@ -76,7 +79,8 @@ def lines_of(dump: Dump, facts: Dict[str, Any], rest: int, asked: argparse.Names
 
 def write_toggles(bits: Sequence[Any], asked: argparse.Namespace) -> None:
     """Writes a line for each bit, those that toggle most first, and how many did."""
-    ordered = sorted(bits, key=lambda bit: -int(bit.rises + bit.falls))
+    ordered = sorted((bit for bit in bits if asked.toggle or not bit.rises + bit.falls),
+                     key=lambda bit: -int(bit.rises + bit.falls))
     for bit in ordered if asked.json else ():
         write_json({"path": bit.of.signal.path, "bit": bit.number if bit.of.has_numbers else None,
                     "rises": bit.rises, "falls": bit.falls, "x": bit.unknowns})
@@ -106,36 +110,53 @@ def write_glitches(dump: Dump, window: Window, asked: argparse.Namespace) -> Non
         print("%s, %d with a glitch" % (counted(len(every), "signal"), len(found)))
 
 
-def write_bits(dump: Dump, window: Window, asked: argparse.Namespace) -> None:
-    """Writes what each bit does."""
+def write_bits(dump: Dump, window: Window, asked: argparse.Namespace) -> int:
+    """Writes what each bit does; returns the status."""
     from ..forms import saif
     from ..questions.toggles import counts_of
     window = dump.window_to_end(window)
     bits = counts_of(dump, asked.names, window, asked.saif is not None)
-    if asked.toggle:
+    if asked.never and not bits:
+        raise UsageError("there is no bit: real numbers and events have none")
+    if asked.toggle or asked.never:
         write_toggles(bits, asked)
     texts = saif.texts_of(dump, bits, window.last - window.begin, __version__)
     if asked.saif == "-":
         sys.stdout.writelines(texts)
     elif asked.saif is not None:
         write(asked.saif, (text.encode("utf-8", "surrogateescape") for text in texts))
+    return int(asked.never and not all(bit.rises + bit.falls for bit in bits))
 
 
 @command
 def main(words: List[str]) -> int:
+    try:
+        return answer(words)
+    except VcdkitError as error:
+        if "--never-toggled" in words:
+            error.status = max(error.status, 2)  # 1 is an answer
+        raise
+
+
+def answer(words: List[str]) -> int:
+    """Writes what is asked; returns the status."""
     options = parser("vcdkit-stats FILE NAME ..", __doc__)
     options.add_argument("--values", type=natural, metavar="N", help="how many values to "
                          "list for a signal [default: 10, with --json all]")
     options.add_argument("--toggle", action="store_true", help="list how often each bit toggles")
+    options.add_argument("--never-toggled", dest="never", action="store_true", help="list the bits "
+                         "that never toggle; exit with 1 if there is one")
     options.add_argument("--saif", metavar="FILE", help="write a SAIF file (-: standard output)")
     options.add_argument("--glitch", metavar="TIME", help="list how many pulses of each signal are "
                          "shorter than this, the shortest and when the first one begins")
     options.window().form().unit().json().file("+")
     asked = options.parse_args(words)
-    if asked.glitch is not None and (asked.toggle, asked.saif, asked.form, asked.states,
-                                     asked.values) != (False, None, None, [], None):
+    if asked.never and (asked.toggle or asked.saif is not None):
+        options.error("--never-toggled goes with neither --toggle nor --saif")
+    if asked.glitch is not None and (asked.toggle or asked.never, asked.saif, asked.form,
+                                     asked.states, asked.values) != (False, None, None, [], None):
         options.error("--glitch goes with neither --toggle nor --saif, and shows no values")
-    if asked.values is not None and (asked.toggle or asked.json or asked.saif is not None):
+    if asked.values is not None and (asked.toggle or asked.never or asked.json or asked.saif is not None):
         options.error("--values goes with none of --toggle, --saif and --json")
     check_outputs([asked.saif], [asked.file, asked.names_of])
     dump = dump_of(asked)
@@ -145,9 +166,8 @@ def main(words: List[str]) -> int:
     if asked.glitch is not None:
         write_glitches(dump, window, asked)
         return 0
-    if asked.toggle or asked.saif is not None:
-        write_bits(dump, window, asked)
-        return 0
+    if asked.toggle or asked.never or asked.saif is not None:
+        return write_bits(dump, window, asked)
     count = 10 if asked.values is None else asked.values
     for signal, its in statistics_of(dump, asked.names, window):
         facts = facts_of(signal, its, form_for(asked, signal), None if asked.json else count)

@@ -4,15 +4,16 @@ Each line has a time, a path and a value. A value is listed if it has an x at th
 time of the window, or if it has one at the end of a later time and differs from the value before.
 Without NAMEs, all signals are searched, but only what the simulator dumped: Icarus, for example,
 does not dump the words of an array by itself. Verilator simulates two states, so its dumps hide
-what is uninitialised: check for x with a four-state simulator.
+what is uninitialised, as a message says: check for x with a four-state simulator.
 
 --trace lists only the first such value of each path, so the signals come in the order in which they
 become unknown: the cause is often at the top. The order is only that of time, because a dump does
-not say which signal drives which.
+not say which signal drives which. --becomes leaves out what was never known, such as a memory that
+nobody has written: it lists a value only if the value before has no x (with --z: nor a z).
 
 examples:
   vcdkit-x --trace --from 100ns sim.vcd | head
-  vcdkit-x --z --from 1us --to 2us sim.vcd tb.cpu"""
+  vcdkit-x --becomes --trace --from 1us --to 2us sim.vcd tb.cpu"""
 import argparse
 from typing import List, Set
 
@@ -22,8 +23,8 @@ from ..forms.many import answer_file
 from ..forms.text import in_json, shown, write_json
 from ..model.values import value_in
 from ..questions.saved import Exceptions
-from ..questions.unknown import Signals, has_values, values_of
-from . import FAULT, dump_of, form_for, parser, question, times_of, warn_of, window_of
+from ..questions.unknown import Signals, has_values, values_of, values_that_become
+from . import FAULT, dump_of, form_for, parser, question, say, times_of, window_of
 
 
 def words_of(words: List[str]) -> argparse.Namespace:
@@ -35,6 +36,8 @@ def words_of(words: List[str]) -> argparse.Namespace:
     extent.add_argument("--count", action="store_true", help="write only the number of values")
     options.add_argument("--trace", action="store_true",
                          help="list only the first one of each path")
+    options.add_argument("--becomes", action="store_true",
+                         help="list only values that were known before")
     options.add_argument("--z", action="store_true", help="list values with a z too")
     options.many(", with a test for each dump").add("--waive").window().form().unit().json()
     options.file("*")
@@ -51,11 +54,15 @@ def answer(asked: argparse.Namespace, tests: List[Test]) -> int:
             signals.setdefault(one.code.encode(), []).append(one)
     exceptions = Exceptions(asked.waive, lambda name: [
         one.path for one in dump.select([name] if dump.has(name) else [])])
+    if signals and all(exceptions.covers(one.path) for its in signals.values() for one in its):
+        raise UsageError("no signal is searched: all are waived")
     window = window_of(dump, asked)
     part = dump.cut(window.begin, window.last).part(asked.names)
-    count, first = 0, ""
+    count, first, notes = 0, "", []  # type: int, str, List[str]
     traced: Set[str] = set()  # paths
-    for time, code, text in values_of(part, signals, b"xz" if asked.z else b"x"):
+    letters = b"xz" if asked.z else b"x"
+    for time, code, text in (values_that_become(part, signals, letters, window.begin)
+                             if asked.becomes else values_of(part, signals, letters)):
         for one in signals[code]:
             if one.path in traced or exceptions.has(one.path):
                 continue
@@ -73,13 +80,17 @@ def answer(asked: argparse.Namespace, tests: List[Test]) -> int:
         if asked.first and count:
             break
     else:
-        warn_of("vcdkit-x", exceptions)
+        notes = exceptions.notes()
+        if not count and "VerilatedVcd" in str(dump.header.version):
+            notes.append("Verilator wrote this dump: it simulates two states, so it has no x")
+        say("vcdkit-x", notes)
     if not count and not has_values(part, signals):
         raise UsageError("no signal has a value that could be x in this window, so nothing was "
                          "looked at")
     if asked.count:
         write_json({"count": count}) if asked.json else print(count)
-    tests.append(Test("vcdkit-x", asked.file, "failure" if count else "", first, first))
+    tests.append(Test("vcdkit-x", asked.file, "failure" if count else "", first, first,
+                      "\n".join(notes)))
     return 1 if count else 0
 
 

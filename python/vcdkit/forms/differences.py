@@ -12,7 +12,7 @@ from ..questions.saved import Exceptions
 from ..questions.sides import Side, Sides
 from ..reading.files import write
 from .junit import Test
-from .text import AnyForm, form_of, in_json, shown, write_json
+from .text import AnyForm, counted, form_of, in_json, shown, write_json
 
 MAX_LINES = 20
 # What the words of a line are, by its first one.
@@ -31,6 +31,7 @@ class Lines:
         self.times: List[Callable[[int], str]] = [str, str]  # what shows ticks of each
         self.lines: Dict[str, List[str]] = {}
         self.compared = ""
+        self.notes: List[str] = []  # what standard error has of --waive
 
     def _form(self, line: Line) -> AnyForm:
         """Returns the form of both values, binary if they have one text in that which is asked for:
@@ -85,7 +86,7 @@ class Lines:
     def tests(self) -> List[Test]:
         """Returns a test for each kind of line that was looked for."""
         return [Test(self._asked.file, what, "failure" if lines else "", "".join(lines[:1]),
-                     "\n".join(lines), self.compared * (what == "differs"))
+                     "\n".join(lines), "\n".join([self.compared, *self.notes] * (what == "differs")))
                 for what, lines in self.lines.items()]
 
 
@@ -111,6 +112,17 @@ def say_headers(report: Lines, sides: Sides, comparison: Comparison, is_common: 
         for letter, names, side, other in zip("AB", comparison.alone, sides, sides[::-1]):
             report.say_some("alone", [("alone", letter, *one) for one in side.alone(names, other)])
     report.say("size", [("size", *one) for one in comparison.sizes])
+
+
+def say_compared(report: Lines, sides: Sides, count: int, waived: int, edges: Sequence[int]
+                 ) -> None:
+    """Keeps how many signals are compared, and how many edges if there is a clock."""
+    report.compared = "compared %s%s (A has %d, B has %d)" % (
+        counted(count, "signal"), ", %d waived" % waived if waived else "",
+        len(sides[0].paths), len(sides[1].paths))
+    if edges:
+        report.compared += " at %s (A has %d, B has %d)" % (
+            counted(min(edges), "edge"), edges[0], edges[1])
 
 
 def say_ends(report: Lines, sides: Sides, comparison: Comparison, has_clock: bool) -> None:

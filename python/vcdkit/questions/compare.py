@@ -1,4 +1,5 @@
 """Where the values of two dumps differ, for vcdkit-diff. They are as vcdkit-compare writes them."""
+import collections
 import functools
 import itertools
 import re
@@ -100,6 +101,13 @@ class Comparison:
         if counts[0] != counts[1]:
             raise RunFailed("vcdkit-compare pairs %d signals with %d" % (counts[0], counts[1]))
 
+    def count(self, are: Callable[[str], bool]) -> int:
+        """Returns how many pairs are compared of some names of A."""
+        side = self._sides[0]
+        others = [*self.alone[0], *(str(its[0]) for its in self.sizes)]
+        return sum(are(side.names[at]) for at in side.places) - sum(
+            are(side.owns(name)[0]) for name in others)
+
     def _called(self, path: bytes, at: int = 0, alone: Optional[List[str]] = None) -> str:
         """Returns the name of a variable of a dump in a line; of one that is alone, behind others."""
         its = path.decode("utf-8", "surrogateescape").partition(".")[2]
@@ -176,7 +184,7 @@ class Comparison:
 
     def _merged(self, places: Sequence[Sequence[int]]) -> Tuple[Text, int, int]:
         """Returns a merge of both, and the window in which they are compared."""
-        dumps, (begin, end) = [], self.window
+        dumps = []
         for at, (side, factor) in enumerate(zip(self._sides, self.factors)):
             # To pick most signals takes longer than to merge all.
             dumps.append(side.picked([side.paths[place] for place in places[at]])
@@ -185,12 +193,36 @@ class Comparison:
             if side.scale and not self._sides[1 - at].scale:
                 dumps[at] = dumps[at].like(Headed(lambda text: re.sub(
                     rb"(?m)^\$timescale\n.*\n\$end\n", b"", text, count=1), dumps[at].cut().text))
-            last = (side.report.last or 0) * factor
-            if last > LAST_TICK:
+            if (side.report.last or 0) * factor > LAST_TICK:
                 raise UsageError("%s: its last time is 2^64 ticks or more in the time scale of the "
                                  "other dump: give --to" % side.dump.name)
-            end = min(end, last)
-        return merge(*dumps).text, begin, end
+        return merge(*dumps).text, self.window[0], self._end()
+
+    def _end(self) -> int:
+        """Returns the last time at which they are compared without a clock, in ticks of both."""
+        return min(self.window[1], *((side.report.last or 0) * factor for side, factor in zip(
+            self._sides, self.factors)))
+
+    def has_value(self, is_waived: Callable[[str], bool]) -> bool:
+        """Whether a pair has a value where it is compared, or is an event, if nothing differs. Some
+        names do not count."""
+        side = self._sides[0]
+        lines = {at: name + side.behind(at) * (len(side.of_name[name]) > 1)
+                 for at in side.places for name in [side.names[at]] if not is_waived(name)}
+        alone, every = (collections.Counter(its) for its in (self.alone[0], lines.values()))
+        places = [at for at, line in lines.items() if alone[line] < every[line]]
+        paths = [side.paths[at] for at in places]
+        codes = {side.dump.signals.columns()[3][at].encode() for at in places}
+        if any(side.types[at] == "event" for at in places):
+            return True
+        if not self._edges:
+            begin, end = (time // self.factors[0] for time in (self.window[0], self._end()))
+            return any(body.steps(side.picked(paths).cut(begin, end), codes))
+        last, clock = self.times[0][min(map(len, self.times)) - 1], self._edges[0]
+        path = side.paths[side.of_name[clock[0]][0]]
+        return any(changes for time, changes, _ in itertools.takewhile(
+            lambda its: its[0] <= last, at_clocks(
+                side.dump, side.naming([path, *paths]), codes, {(path, *clock[1:]): 1})))
 
     def _strobe(self, at: int, own: str) -> Source:
         """Returns a dump whose times are the numbers of the edges of one of both, with the times of

@@ -1,5 +1,6 @@
 """Files of names: a list, a save file of GTKWave, which has the signals that a viewer showed, or
 exceptions with their reasons."""
+import collections
 import re
 from typing import Callable, Dict, Iterable, List, Optional, Set
 
@@ -34,30 +35,36 @@ def names_of(path: str, dump: Source) -> List[str]:
 
 class Exceptions:
     """Names of a file, each with the reason for which the values of its signals may be as they
-    are. It notes which of them are needed."""
+    are. It notes which signals each of them leaves out."""
 
     def __init__(self, path: Optional[str], selected: Callable[[str], Iterable[str]]):
         """`selected` returns the paths that a name selects; none if it selects nothing."""
         self._of: Dict[str, str] = {}  # of each path the line that has it
-        self._lines: Dict[str, str] = {}  # what is wrong with each that is not needed
-        self._used: Set[str] = set()
+        self._lines: Dict[str, int] = {}  # of each line how many paths it selects
+        self._left_out: Set[str] = set()
         for place, line in lines_in(path) if path is not None else ():
             name, *reason = line.split(None, 1)
             if not reason:
-                raise UsageError("%s%s: write the reason behind the name" % (place, name))
-            paths, place = list(selected(name)), "%s%s: " % (place, name)
-            self._lines[place] = "is not needed" if paths else "selects nothing"
+                raise UsageError("%s%s: write the reason after the name" % (place, name))
+            paths, place = {*selected(name)}, "%s%s: " % (place, name)
+            self._lines[place] = len(paths)
             self._of.update((one, place) for one in paths if one not in self._of)
 
-    def has(self, path: str) -> bool:
-        """Whether a signal is an exception; notes that this is needed."""
-        place = self._of.get(path)
-        self._used.update([place] if place else [])
-        return place is not None
+    def covers(self, path: str) -> bool:
+        """Whether a signal is an exception."""
+        return path in self._of
 
-    def unused(self) -> List[str]:
-        """Returns a line for each exception that was not needed."""
-        return [place + what for place, what in self._lines.items() if place not in self._used]
+    def has(self, path: str) -> bool:
+        """Whether a signal is an exception; notes that it is left out."""
+        self._left_out.update([path] if path in self._of else [])
+        return path in self._of
+
+    def notes(self) -> List[str]:
+        """Returns for each line how many signals it leaves out, or a warning."""
+        counts = collections.Counter(self._of[path] for path in self._left_out)
+        return ["%sleaves out %d of %d signals" % (place, counts[place], size) if counts[place] else
+                "warning: %s%s" % (place, "is not needed" if size else "selects nothing")
+                for place, size in self._lines.items()]
 
 
 def _signals_of(line: str) -> List[str]:

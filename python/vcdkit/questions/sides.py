@@ -22,7 +22,8 @@ Map = Tuple[str, str]  # the path of a scope or a signal, and what it becomes
 class Side:
     """One of the dumps, and its scope in the merge of both, which has its variables in the same
     order, with other codes. `names` are their paths, of which maps replace the front, as A writes
-    them; `mapped` has the maps that fit, and `places` those of the variables that are compared."""
+    them; `mapped` has the maps that fit, `changed` those of them that change a name, and `places`
+    those of the variables that are compared."""
 
     def __init__(self, dump: Source, report: Report, scope: str, columns: Sequence[List[Any]]):
         self.dump, self.report, self._scope = dump, report, scope
@@ -30,6 +31,7 @@ class Side:
         paths, self.types, _, self.codes = columns
         self.paths = [path[len(scope) + 1:] for path in paths]
         self.mapped: Set[str] = set()
+        self.changed: Set[str] = set()
 
     def spell(self, maps: Sequence[Sequence[Map]]) -> None:
         """Gives its variables names, which maps make of the paths, some after the others."""
@@ -45,8 +47,9 @@ class Side:
                    or one[0] == bare(name) and one[0] in no_front]
             self.mapped.update(front for front, _ in its)
             for front, new in its[:1]:
-                rest = name[len(front):]
+                rest, old = name[len(front):], name
                 name = new + rest if new else rest[1:] if rest[:1] == "." else name
+                self.changed.update([front] * (name != old))
         return name
 
     def write_as(self, names: Dict[str, str]) -> None:
@@ -175,9 +178,10 @@ def numbered(paths: Iterable[str]) -> List[Tuple[str, int]]:
 
 
 def sides_of(dumps: Sequence[Source], maps: Sequence[Map], names: Sequence[str],
-             exceptions: Sequence[str]) -> Sides:
+             exceptions: Sequence[str]) -> Tuple[Sides, List[str]]:
     """Reads both dumps, at the same time, and chooses the variables that names select, as choose().
-    Fails if both lack what a map or an exception names."""
+    Returns also the options that change nothing. Fails if both lack what a map or an exception
+    names."""
     from concurrent.futures import ThreadPoolExecutor  # the import takes time
     with ThreadPoolExecutor() as pool:
         reports = [*pool.map(Source.check, dumps)]
@@ -193,12 +197,13 @@ def sides_of(dumps: Sequence[Source], maps: Sequence[Map], names: Sequence[str],
                     for is_known in (True, False)] if maps else [])
     one.write_as({})
     other.write_as(_respelled(one, other))
-    lacking = choose((one, other), names, exceptions)
+    lacking, idle = choose((one, other), names, exceptions)
     lacking += [front for front, _ in maps if front not in one.mapped | other.mapped]
+    idle += ["--map " + "=".join(its) for its in maps if its[0] not in one.changed | other.changed]
     for name in lacking:
         raise UsageError("neither dump has %s%s" % (name, hint(name, [*dict.fromkeys(
             [*one.paths, *other.paths, *one.spelled, *other.spelled])])))
-    return one, other
+    return (one, other), idle
 
 
 def _respelled(one: Side, other: Side) -> Dict[str, str]:
@@ -220,17 +225,22 @@ def _respelled(one: Side, other: Side) -> Dict[str, str]:
     return {theirs: ours for theirs, ours in alike.items() if len(ranges[plain(ours)] - {()}) < 2}
 
 
-def choose(sides: Sides, names: Sequence[str], exceptions: Sequence[str]) -> List[str]:
+def choose(sides: Sides, names: Sequence[str], exceptions: Sequence[str]
+           ) -> Tuple[List[str], List[str]]:
     """Takes the variables that names select, all without names, but for the exceptions. What a name
     selects in one dump, it selects in the other one too. Fails if a dump lacks a name, and returns
-    the exceptions that both lack."""
+    the exceptions that both lack, and the options of those that leave nothing out."""
     found = [side.selected([*names, *exceptions]) for side in sides]
     both = {name: its | found[1][name] for name, its in found[0].items()}
     for side in sides:
         for name in names:
             if not both[name] & side.of_name.keys():
                 raise UnknownName("%s: %s" % (side.dump.name, name), hint(name, side.spelled))
+    chosen: Set[str] = set()
     for side in sides if both else ():
-        some = set().union(*map(both.__getitem__, names)) if names else side.chosen
-        side.choose((side.chosen & some).difference(*map(both.__getitem__, exceptions)))
-    return [name for name in exceptions if not both[name]]
+        some = side.chosen.intersection(
+            set().union(*map(both.__getitem__, names)) if names else side.chosen)
+        chosen |= some
+        side.choose(some.difference(*map(both.__getitem__, exceptions)))
+    return ([name for name in exceptions if not both[name]],
+            ["--except " + name for name in exceptions if chosen.isdisjoint(both[name])])

@@ -73,6 +73,20 @@ def _time(text: bytes, begin: int, end: int) -> Iterator[bytes]:
         yield body.line_at(text, at)
 
 
+def values_that_become(part: Source, signals: Signals, letters: bytes, begin: int
+                       ) -> Iterator[Tuple[int, bytes, bytes]]:
+    """Returns, as values_of(), only values that follow one without the letters, maybe one from
+    before the part, which begins at a time."""
+    known, last = body.Known(signals), {}  # type: body.Known, Dict[bytes, bytes]
+    for time, before, text in body.begun(part):
+        last.update(known[before] if begin else ())
+        for code, value in known[text if begin else before + b"\n" + text]:
+            if body.has_letter(value, letters) and not body.has_letter(
+                    last.get(code, letters), letters):
+                yield time, code, value
+            last[code] = value
+
+
 def values_of(part: Source, signals: Signals, letters: bytes) -> Iterator[Tuple[int, bytes, bytes]]:
     """Returns the time, the code and the text of each value of a part that has one of some letters
     at the end of a time and was another one before."""
