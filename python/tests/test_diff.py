@@ -3,6 +3,7 @@
 program for an answer. (What it finds, the second reader compares.)"""
 import os
 import shutil
+import subprocess
 import unittest
 import xml.etree.ElementTree as xml
 
@@ -162,6 +163,22 @@ class Failures(Case):
                                   and said.message[13:20] != "status ")  # of what?
                     self.assertEqual((said.output, is_refused), (
                         b"", (merge, compare) != ("", "")), said)
+
+    def test_torn_lines(self):
+        """A program that is ended in the middle of a line wrote no line."""
+        self.addCleanup(os.environ.update, VCDKIT=REAL)
+        os.environ["VCDKIT"] = self.program("vcdkit", WRAPPED % ":")
+        self.program("vcdkit-compare", "#!/bin/sh\nexec '%s-compare' \"$@\"\n" % REAL)
+        dump = self.file("a", (FILES["a"] + "#2\n0!\nb11 \"\n#3\n1!\n").encode())
+        whole = subprocess.run([REAL + "-strobe", "--rise", "t.c", "-i", dump], check=True,
+                               stdout=subprocess.PIPE).stdout
+        for length in range(whole.index(b"#1"), len(whole), 3):
+            self.program("vcdkit-strobe", "#!/bin/sh\n'%s-strobe' \"$@\" | head -c %d\n"
+                         "kill -9 $$\n" % (REAL, length))
+            for name, *words in (("diff", "--every", dump, dump), ("table", dump, "t.q")):
+                said = run(name, ["--rise=t.c", *words])
+                self.assertRegex(said.message, r"\Avcdkit-%s: .*\n\Z" % name)
+                self.assertEqual((said.status, b"differs" in said.output), (3, False), said)
 
 
 if __name__ == "__main__":

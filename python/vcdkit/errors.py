@@ -58,7 +58,16 @@ class RunFailed(VcdkitError, OSError):
     """A file cannot be read or written, memory ran out, or there is no vcdkit."""
 
     status = 3
-    is_of_unpacker = False  # whether a program failed to unpack a file, which is then damaged
+
+
+class DamagedFile(DumpFault, RunFailed):
+    """A program could not unpack a file to its end: the dump ends there, as at a fault."""
+
+    status = 3
+
+    def __init__(self, file: str, line: int, fault: str):
+        super().__init__(file, line, fault)
+        self.args = ("%s: %s" % (file, fault),)
 
 
 @contextlib.contextmanager

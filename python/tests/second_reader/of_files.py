@@ -328,3 +328,15 @@ def ask_packed(of: Asker) -> None:
     else:
         got = run("table", [of.write(of.path + "." + how, data), "--", *names])
     of.same("packed", [how, *names], tuple(got), tuple(wanted))
+    # What a file has before it breaks off, the table of a dump with a fault there has too.
+    how = of.random.choice(["gzip", "xz"])
+    data = PACKERS[{"gzip": "gz"}.get(how, how)](of.text)
+    path = of.write(of.path + ".off", data[:of.random.randint(len(data) // 3, len(data) - 9)])
+    with open(path, "rb") as file:
+        part = subprocess.run([how, "-dc"], stdin=file, check=False, stdout=subprocess.PIPE,
+                              stderr=subprocess.DEVNULL).stdout
+    wanted = run("table", [of.write(of.path + ".part", part + b"\n\1\n"), "--", *names])
+    got = run("table", [path, "--", *names])
+    if "time" in str(wanted.about):  # half a timestamp, which ends the time before it
+        raise Skip
+    of.same("packed, cut off", [how, *names], (got.status, got.output), (3, wanted.output))

@@ -11,7 +11,7 @@ from typing import (TYPE_CHECKING, Any, Callable, Iterable, Iterator, List, NoRe
                     TextIO, Tuple)
 
 from .. import __version__
-from ..errors import DumpFault, RunFailed, UsageError, VcdkitError
+from ..errors import DamagedFile, DumpFault, RunFailed, UsageError, VcdkitError
 from ..forms.terminal import Progress
 from ..forms.text import FORMS
 from ..model.signals import Signal
@@ -403,7 +403,7 @@ def _remedy(error: VcdkitError, words: List[str], command_name: str) -> str:
     import shlex  # only a message needs it
     if isinstance(error, RunFailed):
         name, _, said = str(error).partition(": ")
-        if error.is_of_unpacker and command_name != "vcdkit-explain":
+        if isinstance(error, DamagedFile) and command_name != "vcdkit-explain":
             return "\nsee: " + (".. | vcdkit-explain -" if name == "(stdin)" else
                                 "vcdkit-explain " + shlex.quote(name))
         before = words[words.index(name) - 1] if name in words[1:] else ""

@@ -25,7 +25,7 @@ import shlex
 import sys
 from typing import Any, Dict, List, NamedTuple, Optional, TextIO
 
-from ..errors import DumpFault, RunFailed, VcdkitError
+from ..errors import DamagedFile, DumpFault, VcdkitError
 from ..forms.junit import Test, write_tests
 from ..forms.many import each_of, side_by_side
 from ..forms.text import write_json
@@ -143,6 +143,8 @@ def verdict(asked: argparse.Namespace) -> Verdict:
                            facts)
         return Verdict(file, 0, "valid", "%s: %s" % (file, end), [], facts)
     except DumpFault as fault:
+        if isinstance(fault, DamagedFile):
+            return Verdict(file, 3, "unread", str(fault), [], {"message": str(fault)})
         _, found = look_at(dump, fault, around.append)
         cause = found[0] if found else None
         return Verdict(file, fault.status, "fault", str(fault) + (": " + cause if cause else ""),
@@ -193,13 +195,12 @@ def answer(asked: argparse.Namespace, out: Optional[TextIO]) -> int:
             "vcdkit check < FILE", dump.name, unpacker)), flush=True)
     try:
         report = dump.answer("check")
-    except RunFailed as error:
-        if unpacker and error.is_of_unpacker:
-            cause, remedy = BROKEN
-            if asked.salvage is not None:
-                remedy = "vcdkit-explain --salvage %s - < FILE" % shlex.quote(asked.salvage)
-            print("cause: " + cause)
-            print("help:  " + with_file(remedy, dump.name, unpacker), flush=True)
+    except DamagedFile as fault:
+        print("cause: " + BROKEN[0])
+        if asked.salvage is not None:
+            salvage(dump, fault, b"", asked, out)
+        else:
+            print("help:  " + with_file(BROKEN[1], dump.name, unpacker), flush=True)
         raise
     except DumpFault as fault:
         print("vcdkit: %s" % fault, file=sys.stderr, flush=True)

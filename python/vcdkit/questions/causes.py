@@ -26,7 +26,7 @@ SECTION = ("a section ($dumpvars, $dumpall, $dumpoff, $dumpon) whose $end is mis
 TAR = "an archive of tar", "tar -xf FILE    (then check the dumps in it)"
 NOT_VCD = "not VCD text, but perhaps a message or a log", "look at it: head -c 200 < FILE"
 BROKEN = ("the compressed file is cut off or damaged",
-          "vcdkit-explain --salvage - - < FILE > LEFT.vcd    (saves what is before the break)")
+          "vcdkit-explain --salvage LEFT.vcd FILE    (saves what is before the break)")
 # A text with the line of a fault at its end: all of it, and without the signs that any dump has.
 WITHOUT_SIGNS = rb"\A[^$#]{0,%d}\Z" % (FRONT - 1)
 # A value change, or a timestamp, which may lack their begin.

@@ -37,11 +37,13 @@ def change(line: bytes) -> Tuple[bytes, bytes]:
     return line[1:-1], first
 
 
-def blocks(text: BinaryIO) -> Iterator[bytes]:
-    """Returns a text in blocks of whole lines, as they come."""
+def blocks(text: BinaryIO, is_file: bool = False) -> Iterator[bytes]:
+    """Returns a text in blocks of whole lines, as they come. The last line of a file may lack its
+    end; a program that writes such a line was ended, so this is left out."""
     read = cast(io.BufferedReader, text).read1
     for block in iter(lambda: read(BLOCK), b""):
-        yield block if block.endswith(b"\n") else block + text.readline()
+        block = block if block.endswith(b"\n") else block + text.readline()
+        yield block if is_file else block[:block.rfind(b"\n") + 1]
 
 
 def blocks_of(path: str) -> Iterator[bytes]:
@@ -54,7 +56,7 @@ def blocks_of(path: str) -> Iterator[bytes]:
                 part = functools.partial(progress.part_of_file, file.fileno())
                 progress.running.append(part)
                 try:
-                    yield from blocks(file)
+                    yield from blocks(file, True)
                 finally:
                     progress.running.remove(part)
                 return
@@ -62,7 +64,7 @@ def blocks_of(path: str) -> Iterator[bytes]:
             raise UsageError("the input is compressed: unpack it first, for example with gzip -dc")
         from .source import Source
         with Source(File(path)).open() as text:
-            yield from blocks(text)
+            yield from blocks(text, True)
 
 
 def timed(part: "Source", some: Optional[Blocks] = None) -> Iterator[Tuple[int, bytes]]:
@@ -190,7 +192,7 @@ def at_once(part: "Source", code: bytes) -> Iterator[Tuple[int, bytes]]:
         for line in out:
             if line[:1] == b"#":
                 now = int(line[1:])
-            else:
+            elif line[-1:] == b"\n":
                 for _, value in known[line[:-1]]:
                     yield now, value
 
@@ -211,7 +213,7 @@ def first_time(dump: "Source") -> Optional[int]:
     """Returns the first timestamp of any dump, also if no change follows, which vcdkit leaves out;
     `None` if there is none before the end or a fault."""
     section = b""
-    with dump.open() as text:
+    with contextlib.suppress(DumpFault), dump.open() as text:
         words = (word for block in blocks(text) for word in block.split())
         for word in words:
             first = word[:1]

@@ -32,7 +32,7 @@ def raw_header(dump: Source) -> bytes:
 def lines(words: Sequence[str], merged: Text) -> Iterator[List[bytes]]:
     """Returns the words of each line that vcdkit-compare writes of the dumps in a merge."""
     with program.opened(Made("compare", (*words, "in1=in2"), (merged,))) as out:
-        yield from (line[:-1].split(b" ") for line in out)
+        yield from (line[:-1].split(b" ") for line in out if line[-1:] == b"\n")
 
 
 def are_alike(one: Source, other: Source) -> bool:

@@ -9,7 +9,7 @@ import subprocess
 import threading
 from typing import IO, BinaryIO, Dict, Iterator, List, Optional, Sequence, cast
 
-from ..errors import RunFailed, UnknownName, VcdkitError, error_of
+from ..errors import DamagedFile, RunFailed, UnknownName, VcdkitError, error_of
 from . import header, progress
 from .texts import Bytes, File, Headed, Text, program_path, unnamed_file
 
@@ -61,8 +61,9 @@ FAULT = b"\n\x01\n"
 
 
 class _Part:
-    """A running program, and what it calls its inputs. If it fails and a merge or a comparison
-    reads what it writes, a fault comes after that: an end would seem to be that of the dump."""
+    """A running program, and what it calls its inputs. If it fails and unpacks a file, or a merge
+    or a comparison reads what it writes, a fault comes after that: an end would seem to be that of
+    the dump."""
 
     answer = 0  # the greatest status that is an answer and no failure
 
@@ -109,10 +110,8 @@ class _Part:
         """Returns the exception of its status and message."""
         if self.of is None:
             said = "; ".join(filter(None, map(str.strip, self.said.split("\n"))))
-            failure = RunFailed("%s: %s" % (self.names["(stdin)"], said or "%s: status %d" % (
-                self.words[0], self.status)))
-            failure.is_of_unpacker = True
-            return failure
+            return DamagedFile(self.names["(stdin)"], 0, said or "%s: status %d" % (
+                self.words[0], self.status))
         error = error_of(self.said or "%s: status %d" % (" ".join(self.words[:2]), self.status),
                          self.status, self.names)
         if isinstance(error, UnknownName):
@@ -123,7 +122,8 @@ class _Part:
 class _Pipe:
     """The programs of one pipe, the nearest to the files first."""
 
-    def __init__(self) -> None:
+    def __init__(self, is_raw: bool) -> None:
+        self.is_raw = is_raw  # no vcdkit reads the file
         self.files: List[File] = []
         self.parts: List[_Part] = []
         self.threads: List[threading.Thread] = []
@@ -146,7 +146,7 @@ class _Pipe:
             filters = text.filters()
             file = text.open()
             for words in filters:
-                file = self.start(words, file, {"(stdin)": text.name}, None, (), is_merged)
+                file = self.start(words, file, {"(stdin)": text.name}, None, (), not self.is_raw)
             return file
         if isinstance(text, Bytes):
             kept = unnamed_file()
@@ -238,17 +238,18 @@ class _Pipe:
             file.check()
         for error in self.errors:
             raise error
-        for at, part in enumerate(self.parts):
-            is_last = at == len(self.parts) - 1
-            has_failed = not 0 <= part.status <= part.answer
-            if has_failed and (is_last or not part.ended_early()):
+        failed = [part for part in self.parts if not 0 <= part.status <= part.answer]
+        for part in failed:
+            # If only an unpacker failed, vcdkit did not read on to the break.
+            was_read = not part.ended_early() and (part.of or part is not failed[-1])
+            if was_read or part is self.parts[-1]:
                 raise part.error()
 
 
 @contextlib.contextmanager
 def opened(text: Text) -> Iterator[BinaryIO]:
     """Opens a text to be read once. If the reader ends early, so do the programs, with no error."""
-    pipe, was_read = _Pipe(), False
+    pipe, was_read = _Pipe(isinstance(text, File)), False
     try:
         with pipe.feed(text) as out:
             yield out
