@@ -126,7 +126,9 @@ toolchain: sources
 # This builds and proves nothing, so that no proof runs as root: run `make` first.
 install:
 	@for name in $(programs); do test -x $$name || \
-	    { echo "make: there is no ./$$name to install. Run make first." >&2; exit 1; }; done
+	    { echo "make: there is no ./$$name to install. Run make first." >&2; exit 1; }; \
+	    case $$(./$$name --version) in *unproved*) \
+	        echo "make: warning: ./$$name is not proved (make trial built it)" >&2 ;; esac; done
 	install -d "$(bin)" "$(man)" "$(bash_words)" "$(zsh_words)" $(patsubst %,"$(python)/%",$(layers))
 	install -m 755 $(programs) "$(bin)"
 	for name in $(scripts); do install -m 755 extras/launch "$(bin)/$$name"; done

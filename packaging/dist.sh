@@ -16,6 +16,11 @@ set -eu
 top=$(cd "$(dirname "$0")/.." && pwd)
 program=$(realpath "$1") compare=$(realpath "$2") strobe=$(realpath "$3")
 library=${5:+$(realpath -s "$5")}
+for one in "$program" "$compare" "$strobe"; do
+    said=$("$one" --version)
+    [[ $said != *unproved* ]] ||
+        { echo "dist.sh: ${one##*/} is not proved ($said): run make" >&2; exit 1; }
+done
 mkdir -p "$4"
 out=$(realpath "$4")
 cd "$top"
