@@ -45,6 +45,7 @@ pub trait Visit<C>: Drop {
     /// caller. It is also asked before the begin or the end of a section, with the time of the last
     /// timestamp.
     fn ends_before(&self, command: &C, time: u64) -> bool
+        requires { (bytes : List ℕ) × (regs : Regs) × stands self.now command.now bytes regs }
         ensures { result ≡ stops_before self.now command.now time };
 
     /// Returns whether the walk has to stop here, before any other item.

@@ -2,6 +2,9 @@ use Rattle.vcd_body.proofs.Cited.{Err, Ok}
 use Rattle.vcd_body.proofs.Facts.{one_taken, stands_there}
 use Rattle.vcd_body.proofs.walk.take_section.Goals as goal
 
+pub ends_before-requires : goal.ends_before-requires
+ends_before-requires g c = (_, _, c.requires.stands)
+
 pub take_section-requires-clause-item : goal.take_section-requires-clause-item
 take_section-requires-clause-item g c = (_, _, c.in_ok-section.ensures.takes c.args.ahead.now c.args.view c.requires.opens)
 

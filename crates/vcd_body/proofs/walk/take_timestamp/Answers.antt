@@ -2,6 +2,9 @@ use Rattle.vcd_body.proofs.Cited.{Ok, refl}
 use Rattle.vcd_body.proofs.Facts.{one_taken, stands_there}
 use Rattle.vcd_body.proofs.walk.take_timestamp.Goals as goal
 
+pub ends_before-requires : goal.ends_before-requires
+ends_before-requires g c = (_, _, c.requires.stands)
+
 pub take_timestamp-requires-clause-item : goal.take_timestamp-requires-clause-item
 take_timestamp-requires-clause-item g c = (_, _, c.in_ok-timestamp.ensures.takes c.args.ahead.now c.args.view c.requires.opens)
 
