@@ -138,11 +138,11 @@ def late_text(one: Question, text: Callable[[int], str]) -> str:
         facts["late"], " (by %s at most)" % by if facts["late"] else "", facts["lost"])
 
 
-def requests_text(one: Question, text: Callable[[int], str]) -> str:
-    """Returns how many requests there are, and what became of those not answered in time."""
+def note_of(one: Question, text: Callable[[int], str]) -> str:
+    """Returns what became of requests; an empty text if the condition has none."""
     facts = one.facts()
-    return "%s, %s, %d open at the end" % (
-        counted(facts["requests"], "request"), late_text(one, text), facts["open"])
+    return facts and "%s, %s, %d open at the end" % (
+        counted(facts["requests"], "request"), late_text(one, text), facts["open"]) or ""
 
 
 def list_latencies(asking: Questions, dump: Dump, text: Callable[[int], str],
@@ -170,21 +170,13 @@ def list_latencies(asking: Questions, dump: Dump, text: Callable[[int], str],
 
 
 def line_of(one: Question, its: List[int], text: Callable[[int], str]) -> str:
-    """Returns the first time of a list and how many there are, of requests also of each kind."""
-    line, facts = "%s, %s" % (text(its[0]), counted(its[1], "time")), one.facts()
-    for sign, what, words in ((":", "lost", "without an answer"), (",", "surplus",
-                              "without a request"), (",", "late", "late")):
-        count = facts.get(what, 0) if one.asked.in_order else 0
-        if one.asked.in_order and (count or what != "late"):
-            first = " (%s%s)" % (text(one.firsts[what]), ", .." * (count > 1)) if count else ""
-            line += "%s %d %s%s" % (sign, count, words, first)
-    return line
-
-
-def idle(asking: Questions, number: int, rule: Rule, asked: argparse.Namespace) -> str:
-    """Returns why a rule that may be met by no time was never evaluated; an empty text if it was,
-    or if it has to hold at some time."""
-    return asking.idle(number, rule.word == "always") if asked.never or rule.word else ""
+    """Returns the first time of a list and how many there are; of requests in order of each kind."""
+    words = {"lost": "without an answer", "surplus": "without a request", "late": "late"}
+    kinds = ["%d %s%s" % (len(times), words[what], " (%s%s)" % (
+        text(times[0]), ", .." * (len(times) > 1)) if times else "")
+             for what, times in one.times().items() if times or what != "late"]
+    return "%s, %s%s" % (text(its[0]), counted(its[1], "time"),
+                         ": " + ", ".join(kinds) if one.asked.in_order else "")
 
 
 def list_rules(asking: Questions, rules: List[Rule], text: Callable[[int], str],
@@ -192,36 +184,36 @@ def list_rules(asking: Questions, rules: List[Rule], text: Callable[[int], str],
     """Writes a line for each rule whose list has times: its name, the first time, and how many
     there are; returns the names of the rules that are not met. Adds a test for each."""
     found: Dict[int, List[int]] = {}  # of each rule that held the first time, and the count
-    end = "a fault"  # what the pass ended with before the end of the dump, if anything
+    end = "at a fault"  # where the pass ended, if that was not at the end of the dump
     try:
         for time, numbers in asking.times():
             for number in numbers:
                 its = found.setdefault(number, [time, 0])
                 its[1] += 1
             if asked.first and not all(rules[one].is_met(True, asked.never) for one in numbers):
-                end = "--first"
+                end = "with --first"
                 break
         else:
             end = ""
     finally:
+        missed = []
         for number, (rule, one) in enumerate(zip(rules, asking.each)):
-            its = found.get(number, [])
-            line, facts = line_of(one, its, text) if its else "", {}
-            note = why = "it was undecided at " + end if end and not (
-                its and end == "--first") else "" if end else idle(asking, number, rule, asked)
-            if one.condition.answer:
-                facts, note = one.facts(), requests_text(one, text)
-                why = why or note * (not facts["requests"])
+            its, facts, note = found.get(number, []), one.facts(), note_of(one, text)
             if asked.json and (its or facts):
-                write_json({"rule": rule.name, "first": its[0] if its else None,
-                            "count": its[1] if its else 0, **facts})
+                first, count = its or (None, 0)
+                write_json({"rule": rule.name, "first": first, "count": count, **facts})
             elif its:
-                print("%s: %s" % (rule.name, line))
-            is_wrong = not rule.is_met(bool(its), asked.never) and (its or not end)
-            tests.append(Test(asking.dump.name, rule.name, "failure" if is_wrong else "skipped" if
-                              why else "", line or why or "it never held", rule.condition, note))
-    return [one.name for number, one in enumerate(rules)
-            if (number in found or not end) and not one.is_met(number in found, asked.never)]
+                print("%s: %s" % (rule.name, line_of(one, its, text)))
+            is_wrong = not rule.is_met(bool(its), asked.never) and bool(its or not end)
+            missed += [rule.name] * is_wrong
+            # Why the rule says nothing although no failure is known.
+            is_undecided = end == "at a fault" or bool(end) and not its
+            why = "it ended " + end if is_undecided else (
+                asking.idle(number, rule.word) or note * (facts.get("requests") == 0))
+            tests.append(Test(asking.dump.name, rule.name, "failure" if is_wrong else
+                              "skipped" * bool(why), line_of(one, its, text) if its else
+                              why or "it never held", rule.condition, note))
+    return missed
 
 
 def answer(asked: argparse.Namespace, tests: List[Test]) -> int:
@@ -246,13 +238,14 @@ def answer(asked: argparse.Namespace, tests: List[Test]) -> int:
     is_whole = not (asked.first and is_known)
     for one in asking.each:
         facts, lines = one.facts(), ["warning: " + one.warning()] * bool(one.warning())
-        is_odd = facts["open"] or not facts["requests"]
-        if one.condition.answer and is_whole and (is_odd or asked.rules is None):
-            lines.append("warning: " * bool(is_odd) + one.front + requests_text(one, text))
+        if facts and is_whole and (facts["open"] or not facts["requests"]):
+            lines.append("warning: " + one.front + note_of(one, text))
+        elif facts and is_whole and asked.rules is None:
+            lines.append(note_of(one, text))
         for line in lines:
             print("vcdkit-when: " + line, file=sys.stderr)
     for number, (rule, one) in enumerate(zip(rules, asking.each if is_whole else ())):
-        why = idle(asking, number, rule, asked)
+        why = asking.idle(number, rule.word) if asked.never or rule.word else ""
         if why:
             raise UsageError(one.front + why)
     if asked.rules is not None:

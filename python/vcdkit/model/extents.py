@@ -1,14 +1,14 @@
 """What an expression can be, as far as its width, its sign and its operator say that: a comparison
 with a number that it never is can be refused."""
 import math
-from typing import Any, Callable, Dict, NamedTuple
+import operator
+from typing import Any, Callable, Dict, NamedTuple, Tuple
 
 from .operators import Kind, Value
 
-NEVER: Dict[str, Callable[["Extent", Any], Any]] = {  # when orders never hold
-    "<": lambda side, number: side.least >= number, "<=": lambda side, number: side.least > number,
-    ">": lambda side, number: side.greatest <= number,
-    ">=": lambda side, number: side.greatest < number}
+# With which end of an extent an order holds, if it does with anything.
+ORDERS: Dict[str, Tuple[Callable[[Any, Any], Any], int]] = {
+    "<": (operator.lt, 0), "<=": (operator.le, 0), ">": (operator.gt, 1), ">=": (operator.ge, 1)}
 
 
 class Extent(NamedTuple):
@@ -17,21 +17,22 @@ class Extent(NamedTuple):
 
     least: Any
     greatest: Any
-    unknown: int
+    unknown: int = 0
 
     def size(self, kind: Kind) -> int:
         """Returns how many of its last digits in a kind may be other than 0."""
         return kind.width if self.least < 0 else max(self.unknown, int(self.greatest).bit_length())
 
-    def to(self, own: Kind, to: Kind) -> "Extent":
+    def into(self, own: Kind, to: Kind) -> "Extent":
         """Returns what its values of an own kind are in another one, as `converted` has it."""
         return self if not to.width or to.sign or self.least >= 0 else Extent(
             0, own.mask, self.unknown)
 
     def is_never(self, sign: str, number: Value, kind: Kind) -> bool:
         """Whether a comparison with a number of a kind never holds; with !=, whether == does not."""
-        if sign in NEVER:
-            return bool(NEVER[sign](self, number))
+        if sign in ORDERS:
+            holds, end = ORDERS[sign]
+            return not holds(self[end], number)
         least = greatest = number
         if isinstance(number, str):
             front = number[:kind.width - self.unknown]
@@ -40,35 +41,27 @@ class Extent(NamedTuple):
                 return True
             least, greatest = (kind.of(int(number.replace("x", digit).replace("z", digit), 2))
                                for digit in "01")
-        return bool(least <= greatest and not (self.least <= greatest and least <= self.greatest))
+        return bool(least <= greatest and (greatest < self.least or self.greatest < least))
 
 
 def whole(kind: Kind) -> Extent:
     """Returns the extent of all values of a kind."""
     return (Extent(-kind.sign, kind.mask ^ kind.sign, kind.width) if kind.width else
-            Extent(-math.inf, math.inf, 0))
-
-
-def extent_of_number(value: Value, kind: Kind) -> Extent:
-    """Returns the extent of a number of a kind."""
-    return whole(kind) if isinstance(value, str) else Extent(value, value, 0)
+            Extent(-math.inf, math.inf))
 
 
 # Of operators whose results are not all of a kind: of the kind, and the extents of the operands.
 RULES: Dict[str, Callable[..., Any]] = {
-    "countones": lambda kind, one: Extent(0, kind.width, 0),
-    **dict.fromkeys(("isunknown", "onehot", "onehot0"), lambda kind, one: Extent(0, 1, 0)),
+    "countones": lambda kind, one: Extent(0, kind.width),
+    **dict.fromkeys(("isunknown", "onehot", "onehot0"), lambda kind, one: Extent(0, 1)),
     **dict.fromkeys(("past", "signed", "unsigned", "unary +"), lambda kind, one: one),
-    "+": lambda kind, one, other: Extent(one.least + other.least, one.greatest + other.greatest,
-                                         kind.width),
-    "-": lambda kind, one, other: Extent(one.least - other.greatest, one.greatest - other.least,
-                                         kind.width),
+    "+": lambda kind, one, other: Extent(one[0] + other[0], one[1] + other[1], kind.width),
+    "-": lambda kind, one, other: Extent(one[0] - other[1], one[1] - other[0], kind.width),
     "&": lambda kind, one, other: Extent(
-        0, min(one.greatest, other.greatest), min(one.size(kind), other.size(kind)))
-    if min(one.least, other.least) >= 0 else whole(kind),
+        0, min(one[1], other[1]), min(one.size(kind), other.size(kind)))
+    if one[0] >= 0 <= other[0] else whole(kind),
     "?:": lambda kind, _, one, other: Extent(
-        min(one.least, other.least), max(one.greatest, other.greatest),
-        max(one.size(kind), other.size(kind)))}
+        min(one[0], other[0]), max(one[1], other[1]), max(one.size(kind), other.size(kind)))}
 
 
 def extent_of(sign: str, own: Kind, works: Kind, *of: Extent) -> Extent:

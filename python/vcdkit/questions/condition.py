@@ -5,15 +5,15 @@ in Verilog. Then each expression becomes a Python function of values in the kind
 asked for, with a line for each operator. What it returned for the last values is kept."""
 import collections
 import functools
-import heapq
 import itertools
 import math
 import re
+from operator import itemgetter
 from typing import (Any, Callable, Deque, Dict, Iterable, Iterator, List, NamedTuple, Optional,
                     Sequence, Set, Tuple)
 
 from ..errors import DumpFault, UnknownName, UsageError
-from ..model.extents import extent_of, extent_of_number
+from ..model.extents import Extent, extent_of
 from ..model.names import FIELD, bare, field_of, full_names
 from ..model.operators import (BIT, OPERATORS, REAL, TAKES, Kind, Operator, Value, converted,
                                kind_of, value_of_digits)
@@ -335,42 +335,30 @@ class Conditions:
     def woken(self, looks: Iterable[Look]) -> Iterator[Look]:
         """Returns looks without a clock, and those at times at which an age becomes one that is
         asked for."""
-        dates: Dict[bytes, int] = {}
-        due: List[Tuple[int, bytes, int]] = []  # a heap: of each code and age the time when it is
-        ages: Dict[bytes, Dict[int, bool]] = {}  # of each code, and whether they are in the heap
-        for code, age in self._ages:
-            ages.setdefault(code, {})[age] = False
+        due: Dict[Tuple[bytes, int], int] = {}  # of codes and ages, when they are that old
 
         def passed(until: float) -> Iterator[Look]:
             """Returns the looks that ages need up to a time."""
-            while due and due[0][0] <= until:
-                time, code, age = due[0]
-                if time < dates[code] + age:  # there was a change since
-                    heapq.heapreplace(due, (dates[code] + age, code, age))
-                else:
-                    heapq.heappop(due)
-                    ages[code][age] = False
-                    yield time, [(code, b"%d" % dates[code])], 0
+            while due and min(due.values()) <= until:
+                (code, age), time = min(due.items(), key=itemgetter(1))
+                del due[code, age]
+                yield time, [(code, b"%d" % (time - age))], 0
 
         fault: Optional[DumpFault] = None
         try:
             for time, changes, _ in looks:
-                for look in passed(time) if due and due[0][0] <= time else ():
+                for look in passed(time):
                     if look[0] < time:
                         yield look
                     else:
                         changes = look[1] + changes
                 yield time, changes, 0
-                for code, raw in changes:
-                    if code in ages:
-                        dates[code] = date = int(raw)
-                        for age, is_there in ages[code].items():
-                            if not is_there and date + age > time:
-                                ages[code][age] = True
-                                heapq.heappush(due, (date + age, code, age))
+                dates = dict(changes)
+                due.update((one, int(dates[one[0]]) + one[1]) for one in self._ages
+                           if one[0] in dates and int(dates[one[0]]) + one[1] > time)
         except DumpFault as error:
             fault = error
-        if dates:
+        if due:
             is_over = self._dump.is_over(fault)
             yield from itertools.takewhile(lambda look: is_over(look[0]), passed(math.inf))
         if fault:
@@ -441,9 +429,9 @@ class Conditions:
             own = working if kind in TAKES else node.kind
             node.text = self._text(node, working, own)
             node.extent = extent_of(node.sign, own, working, *(
-                one.extent for one in node.parts)).to(own, node.to)
-            if node.sign in ("number", "literal"):
-                node.extent = extent_of_number(_number(node), node.to)
+                one.extent for one in node.parts)).into(own, node.to)
+            if isinstance(node.value, (int, float)) and not node.parts:
+                node.extent = Extent(*[_number(node)] * 2)
             if kind == "common":
                 _check(node, working)
             if node.parts:

@@ -54,18 +54,16 @@ class Question:
         self.has_time = bool(condition.span and condition.span.unit)  # and counts no edges
         self.least = condition.span.least if condition.span else 0
         self.front = asked.name and asked.name + ": "  # of messages
-        self.overlaps = 0  # requests that began before the answer of the one before
-        # How many requests there are, of these without an answer and with one that came late, and
-        # answers without a request; the first of these, and by how much the latest one was late.
-        self.counts = {"requests": 0, "late": 0, "lost": 0, "surplus": 0}
-        self.firsts: Dict[str, int] = {}
-        self.latest = 0
-        # Requests without an answer: if each gets its own, all of these, else the first one.
-        self._lost: Deque[Tuple[int, int]] = collections.deque()
+        # All requests, those that began before the answer of the one before, and by how much the
+        # latest answer was late.
+        self.requests = self.overlaps = self.latest = self._looks = 0
         self.is_refusal = condition.is_refusal or asked.in_order
-        # When requests began that wait, and until when they wait: a time, or a count of edges.
+        # When requests began that wait, and until when they wait: a time, or a count of edges; then
+        # those that waited too long, and have no answer so far.
         self.waiting: Deque[Tuple[int, int]] = collections.deque()
-        self._looks = 0
+        self._lost: Deque[Tuple[int, int]] = collections.deque()
+        # The times of requests whose answer was late, and of answers without a request.
+        self._late, self._surplus = [], []  # type: List[int], List[int]
 
     def look(self, time: int, starts: int, holding: int) -> List[Outcome]:
         """Returns the requests that get their answer at a time, and those that get none. Of all
@@ -75,7 +73,7 @@ class Question:
         self._looks += 1
         found = self.late(now)
         if starts & bits.bit:
-            self.counts["requests"] += 1
+            self.requests += 1
             self.overlaps += bool(waiting)
             waiting.append((time, now + self.ticks))
         answers = holding & bits.answer
@@ -84,10 +82,11 @@ class Question:
             found.append((begin, time, now - until + self.ticks))
             answers &= -(not self.asked.in_order)
         if answers and self._lost:
-            self._answer_late(now)
+            self.latest = max(self.latest, now - self._lost[0][1])
+            for _ in range(1 if self.asked.in_order else len(self._lost)):
+                self._late.append(self._lost.popleft()[0])
         elif answers and self.asked.in_order:
-            self.counts["surplus"] += 1
-            self.firsts.setdefault("surplus", time)
+            self._surplus.append(time)
             found.append((time, None, 0))
         if not self.has_time:  # each edge is looked at once
             found += self.late(now + 1)
@@ -100,27 +99,23 @@ class Question:
         """Returns the requests that waited until a time before this one."""
         found: List[Outcome] = []
         while self.waiting and self.waiting[0][1] < now:
-            if self.asked.in_order or not self._lost:
-                self._lost.append(self.waiting[0])
-            found.append((self.waiting.popleft()[0], None, 0))
-            self.counts["lost"] += 1
+            self._lost.append(self.waiting.popleft())
+            found.append((self._lost[-1][0], None, 0))
         return found
 
-    def _answer_late(self, now: int) -> None:
-        """Takes it that the first request that got no answer has one now, or that all have it."""
-        begin, until = self._lost.popleft()
-        count = 1 if self.asked.in_order else self.counts["lost"]
-        self.counts["late"] += count
-        self.counts["lost"] -= count
-        self.firsts.setdefault("late", begin)
-        self.latest = max(self.latest, now - until)
+    def times(self) -> Dict[str, List[int]]:
+        """Returns the times of requests without an answer, of answers without a request, which
+        only those in order have, and of requests with a late answer."""
+        surplus = {"surplus": self._surplus} if self.asked.in_order else {}
+        return {"lost": [time for time, _ in self._lost], **surplus, "late": self._late}
 
     def facts(self) -> Dict[str, int]:
-        """Returns how many requests there are, and what became of those not answered in time; by
-        how much the latest answer was late."""
-        self.firsts["lost"] = self._lost[0][0] if self._lost else 0
-        facts = {**self.counts, "open": len(self.waiting), "latest": self.latest}
-        return {what: facts[what] for what in facts if what != "surplus" or self.asked.in_order}
+        """Returns how many requests there are, and what became of those not answered in time."""
+        if not self.condition.answer:
+            return {}
+        counts = {what: len(its) for what, its in self.times().items()}
+        return {"requests": self.requests, **counts, "latest": self.latest,
+                "open": len(self.waiting)}
 
     def warning(self) -> str:
         """Returns what may be wrong although each request got its answer; else nothing."""
@@ -205,13 +200,13 @@ class Questions:
         if fault:
             raise fault
 
-    def idle(self, number: int, is_always: bool) -> str:
+    def idle(self, number: int, word: str) -> str:
         """Returns why a condition was never evaluated; an empty text if it was. That an event is
-        not triggered is known at each time, but what has to hold at its triggers needs one."""
+        not triggered is known at each time, but what has to hold `always` needs a trigger."""
         one = self.each[number]
         if one.clock and not self.counts[one.clock]:
             return "its clock has no edge in this window, so it was never evaluated"
-        is_known = self._evaluated & one.condition.bit or not is_always and (
+        is_known = self._evaluated & one.condition.bit or word != "always" and (
             self.conditions.with_events & one.condition.bit and self.dump.check().last is not None)
         return "" if is_known else ("none of its signals has a value or a trigger in this window, "
                                     "so it was never evaluated")
