@@ -255,10 +255,7 @@ LATE = "--from: %s is after the end of the dump, 120ns"
 NO_FILE = "No such file or directory"
 FIRST = NO_FILE + " (the first argument is the dump; - is standard input)"
 TWO = NO_FILE + " (the first two arguments are the dumps; - is standard input)"
-NEVER = "bad condition: q is never %s: it has 4 bits"
-NO_DIGITS = "bad condition: nothing is %s digits with x or z"
 NO_CLOCK = "name a clock with --rise or --fall (in Python: rise or fall)"
-IDLE = "its clock has no edge in this window, so it was never evaluated"
 # A command, its status, and the begin of a line of its message: none for an empty one.
 MESSAGES = [
     *(("%s --from %s edge %s" % (name, time, word), 2, LATE % time) for name, word in (
@@ -308,15 +305,11 @@ MESSAGES = [
     ("table --at - - req", 2, "--at: standard input has the dump")]
 # A condition on the file bits, and its message.
 CONDITIONS = [
-    ("q > 15", NEVER % "> 15"), ("15 < q", NEVER % "> 15"), ("q >= 16", NEVER % ">= 16"),
-    ("q === 16", NEVER % "16"), ("q < -8", NEVER % "< -8" + ", signed"),
-    ("q > 15.5", NEVER % "> 15.5"),
+    ("q === 16", "q is never 16: it has 4 bits"), ("q < -8", "is never < -8: it has 4 bits, signed"),
     ("q < 0", "bad condition: q is never < 0: a dump has no signs; write signed(q)"),
-    ("q[2:0] > 7", "bad condition: q[2:0] is never > 7: it has 3 bits"),
-    ("q < 0bx0", NO_DIGITS % "<"), ("8'hx > q + 1", NO_DIGITS % "<"),
-    ("q == 4'b1x0z", NO_DIGITS % "==" + ": write ==="), ("r[9:1] >= 0", "r has no bits"),
-    *((text, "write signed(") for text in ("q >= 0", "0 <= q", "0 > q", "i[31:0] < 0")),
-    *((text, "is a whole number") for text in ("q == 1.5", "q != -0.5")),
+    ("past(q) == 1", NO_CLOCK), ("{q} == 16", "the other side is never 16: it is from 0 to 15"),
+    ("q == 4'b1x0z", "nothing is == digits with x or z: write ==="), ("r[9:1] >= 0", "has no bits"),
+    ("q != -0.5", "is a whole number"),
     ("q[1]is x", "bad condition: it cannot be read at x, after q[1]is"),
     # These hold; real numbers are as in C.
     *((text, "") for text in (
@@ -743,48 +736,6 @@ class Rules(Case):
             self.assertIn(b"more than 2 transactions are open", run("vcdkit-table", [
                 "--rise=clk", "--channel=a: req", "--channel=b: !req & req", "bus"])[2])
 
-    def test_transfers_after_a_flush(self):
-        note = "vcdkit-table: transactions: %d; that lack a transfer: %d; with a number of edges " \
-            "below 0: %d\n"
-        for flush, channels, rows, counts in (
-                ("rose(req)", "ab", "20,40,2;30,50,2;,90,", (1, 0)),
-                ("ack & past(ack)", "ab", "10,40,3;20,,;30,,;70,90,2", (2, 0)),
-                ("req", "ab", ",40,;,50,;,90,", (3, 0)), ("fell(ack)", "b", "40;50;90", (0, 0)),
-                ("req & ack", "ba", "40,10,-3;50,20,-3;90,30,-6;,70,", (1, 3))):
-            for words, clock in (["--rise", "clk"], ""), ([], "@clk"):
-                words += ["--channel=%s%s: %s" % (one, clock, {"a": "req", "b": "ack"}[one])
-                          for one in channels]
-                got = run("vcdkit-table", [*words, "--flush", flush, "bus"])
-                self.assertEqual((got[0], got[1].decode().splitlines()[1:], got[2].decode()), (
-                    0, rows.split(";"), note % (rows.count(";") + 1, *counts)), flush)
-
-    def test_rules_of_several_clocks(self):
-        """Each says what it says alone at its clock."""
-        its = [(clock, option, one) for clock, option in (
-            ("clk", "--rise"), ("clk", "--fall"), ("ack", "--rise"), ("req", "--fall")) for one in (
-                "req", "rose(req)", "past(req, 2) & !req", "ack", "!(req -> ack within 2)",
-                "changed(ack)")]
-        text = "".join("r%d@%s%s: %s\n" % (at, "!" * (option == "--fall"), clock, one)
-                       for at, (clock, option, one) in enumerate(its))
-        for every in [], ["--every"]:
-            got = dict(re.findall(r"(\w+): .*, (\d+) time", self.rules(text, *every, "bus")[1]))
-            self.assertEqual([got.get("r%d" % at, "0") for at in range(len(its))], [said(
-                "when --count", *every, option, clock, "bus", one)[0] for clock, option, one in its])
-
-    def test_rules_that_overlap(self):
-        overlaps = "requests that begin before the previous one is answered: 2. They get the same "
-        words = ["--every", "--rise", "clk", "bus"]
-        status, _, messages = self.rules("a: never !(req -> ack within 9)\nb: never req is z\n",
-                                         "--junit", "j.xml", *words)
-        self.assertEqual((status, messages.count("\n")), (0, 2))
-        self.assertIn("rules:1: a: %sanswer; with `each" % overlaps, messages)
-        self.assertEqual([[its.tag for its in one] for one in xml.parse("j.xml").getroot()],
-                         [["system-out"], []])
-        messages = run("vcdkit-when", ["--count", *words, "!(req -> ack within 9)"])[2].decode()
-        self.assertTrue(messages.startswith("vcdkit-when: warning: " + overlaps))
-        self.assertIn("a: 4 requests, 0 late, 0 without an answer, 4 open at the end\n",
-                      self.rules("a@clk: each req -> ack & req within 90\n", "bus")[2])
-
     def test_rules_that_are_none(self):
         for text, message in (
                 ("a: req\nb: ack\n# c\na: clk\n", "rules:4: there is a rule a before"),
@@ -807,14 +758,6 @@ class Rules(Case):
         self.assertEqual([message for _, message in self.failed("error")],
                          ["rules:2: b: bad condition: use == instead of ="])
 
-    def test_rules_without_an_edge(self):
-        words = ["--rise=clk", "--junit=j.xml", "--from=71", "--to=78", "bus"]
-        for rule, status in (("a: never req", 2), ("a: always req", 2), ("a: req", 1),
-                             ("a: each req -> ack within 5", 2), ("a@!req: never ack", 0)):
-            got, _, messages = self.rules(rule + "\n", *words)
-            self.assertEqual((got, IDLE in messages), (status, status == 2), rule)
-            self.assertEqual(len(self.failed("error")), int(status == 2))
-
     def test_rules(self):
         self.file("a.vcd", HEAD + b'#0 0! 0" #5 1! #7 1" #9 0! #12 1! #20\n')
         text = ("# of req\nrises: req\n\nnot x: req is x\nlate: !(req -> ack within 2ns)\n"
@@ -833,6 +776,12 @@ class Rules(Case):
         self.assertEqual((status, out), (2, found.replace("2 times", "1 time")))
         self.assertEqual(self.failed(), [("rises", "5ns, 1 time"), ("waits 1", "5ns, 1 time")])
         self.assertEqual([name for name, _ in self.failed("error")], ["fault"])
+        # What --first or a fault leaves undecided is skipped.
+        self.assertEqual([name for name, _ in self.failed("skipped")], ["not x", "late"])
+        self.rules("a: never req\nb: always req is x\nc: !req\n", "--first", "--junit=j.xml",
+                   "a.vcd")
+        self.assertEqual([[name for name, _ in self.failed(tag)] for tag in ("failure", "skipped")],
+                         [["b"], ["a"]])
 
 
 class Output(Case):

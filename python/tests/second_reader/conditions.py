@@ -215,7 +215,8 @@ class Conditions:
         def value(look: Any) -> str:
             its = dates(dump, of.code, look.time - is_clocked) if look else []
             return expressions.binary(look.time - its[-1], 64) if its else "x" * 64
-        text = dump.time_in(ticks, "fs") + "fs" if dump.scale and self.random.random() < .3 else ""
+        text = dump.time_in(ticks, "fs") + "fs" if dump.scale and self.random.random() < .3 else (
+            "%dtick" % ticks * (ticks % 3 == 0))
         number = expressions.fixed(str(ticks), ticks)
         return expressions.joined(
             sign, expressions.own("age(%s)" % quoted(self.name(of)), expressions.OPERAND, 64, False,

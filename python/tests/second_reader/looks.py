@@ -144,7 +144,8 @@ def facts_of(looks: Sequence[Look], begins: Sequence[bool], answer: Test, span: 
     late = [min(one for one in its if one > span[2]) - span[2]
             for its in lengths if its and its[-1] > span[2]]
     left = sum(begins) - len(found)
-    return {"requests": sum(begins), "late": len(late),
+    return {"requests": sum(begins), "overlaps": overlaps(looks, begins, answer, span),
+            "late": len(late),
             "lost": len(lengths) - len(late) + left * is_closed, "open": left * (not is_closed),
             "latest": max(late, default=0)}
 
@@ -198,13 +199,9 @@ def transfers(each: Sequence[Sequence[Look]], tests: Sequence[Test], flushes: Se
     return lines
 
 
-def is_overlapping(looks: Sequence[Look], begins: Sequence[bool], answer: Test, span: Span
-                   ) -> bool:
-    """Whether a request begins while another one still waits for its answer."""
+def overlaps(looks: Sequence[Look], begins: Sequence[bool], answer: Test, span: Span) -> int:
+    """Returns how many requests begin while another one still waits for its answer."""
     places = [at for at, is_one in enumerate(begins) if is_one]
-    for one, other in zip(places, places[1:]):
-        length = other - one if span[0] else looks[other].time - looks[one].time
-        if length <= span[2] and not any(
-                holds(answer, look) for look in looks[one + span[1]:other]):
-            return True
-    return False
+    return sum((other - one if span[0] else looks[other].time - looks[one].time) <= span[2]
+               and not any(holds(answer, look) for look in looks[one + span[1]:other])
+               for one, other in zip(places, places[1:]))

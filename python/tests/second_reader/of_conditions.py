@@ -11,8 +11,7 @@ from conditions import Condition, Conditions, Operand, quoted
 from dumps import UNITS, Dump
 from expressions import (COUNTS, LEVEL, LEVELS, ORDERS, Expression, based, braces, chosen, counted,
                          fixed, inside, joined, past, read_as, unary)
-from looks import (Edges, Look, Span, Wait, facts_of, in_order, is_overlapping, looks_at_changes,
-                   looks_at_edges, starts, waits)
+from looks import (Edges, Look, Span, Wait, facts_of, in_order, looks_at_changes, looks_at_edges, starts, waits)
 from shown import all_from_json
 
 MARKS = "!\"#$%&'()*+,-./:;<=>?@[\\]^_`{|}~0\u00e9\u2211"
@@ -91,13 +90,11 @@ def ask_when(of: Asker) -> None:
     looks = asked.looks(dump, of.conditions)
     begins = starts(looks, first.test, bool(asked.edges), asked.every)
     times = [look.time for look, is_one in zip(looks, begins) if is_one]
-    warned = note = ""
+    note = ""
     is_idle, failing, fault = idle(of, looks, asked), of.maybe(.2, "--open-fails"), of.fault(
         asked.window)
     if after:
         is_closed = bool(failing) and not fault
-        warned = "warning: requests that begin before" * is_overlapping(
-            looks, begins, after.test, span)
         facts = facts_of(looks, begins, after.test, span, asked.end(dump), is_closed)
         note = note_of(facts, text_of(facts, span, of, unit))
         times = times_of(waits(looks, begins, after.test, span, asked.end(dump)), times, refused,
@@ -118,11 +115,8 @@ def ask_when(of: Asker) -> None:
     if mode == "--first" and times:  # it stops there, so there may be a warning or not
         of.same("when", words, (said.status, said.lines), (0, wanted))
         return
-    of.same("when", words, (said.status, said.lines, said.about if fault else bool(said.message)),
-            (status, wanted, fault or bool(warned or note)))
-    if not fault:
-        of.same("when, what it says of requests", words, (
-            warned in said.message, said.message.endswith(note + "\n" * bool(note))), (True, True))
+    of.same("when", words, (said.status, said.lines, said.about if fault else said.message[-len(
+        note):] if note else said.message), (status, wanted, fault or note))
 
 
 def times_of(found: List[Wait], begins: List[int], refused: bool, is_closed: bool) -> List[int]:
@@ -152,10 +146,15 @@ def text_of(facts: Dict[str, int], span: Span, of: Asker, unit: Optional[str]) -
         if facts["late"] else "", facts["lost"])
 
 
-def note_of(facts: Dict[str, int], late: str) -> str:
+def note_of(facts: Dict[str, int], late: str, name: str = "") -> str:
     """Returns what is said of requests."""
-    return "%d request%s, %s, %d open at the end" % (
-        facts["requests"], "s" * (facts["requests"] != 1), late, facts["open"])
+    count, tail = facts.get("overlaps", 0), "`each req -> ack within N`" if name else (
+        "vcdkit-table --channel")
+    front = name and ": %s: " % name
+    return "%s%d request%s, %s, %d open at the end%s\n" % (
+        front, facts["requests"], "s" * (facts["requests"] != 1), late, facts["open"],
+        "; %d begin before the previous one is answered, and get the same answer: with %s, each "
+        "gets its own" % (count, tail) if count else "")
 
 
 # ---- Comparisons that never hold.
@@ -256,7 +255,7 @@ def ask_latency(of: Asker) -> None:
         wanted += [] if fault or not found else summary([one.length for one in its], late, length,
                                                         mean)
     of.same("latency", words, (said.status, got, said.about if fault else said.message.endswith(
-        note_of(facts, late) + "\n")), (2 if fault else int(not its), wanted, fault or True))
+        note_of(facts, late))), (2 if fault else int(not its), wanted, fault or True))
 
 
 def summary(lengths: List[int], late: str, length: Any, mean: Any) -> List[str]:
@@ -281,7 +280,6 @@ class Rule(NamedTuple):
     line: str
     facts: Dict[str, int]
     note: str
-    is_overlapping: bool
     is_idle: bool
 
     def is_bad(self, is_never: bool) -> bool:
@@ -296,7 +294,8 @@ class Rule(NamedTuple):
     @property
     def is_odd(self) -> bool:
         """Whether there is something to say of its requests."""
-        return bool(self.facts) and (self.facts["open"] > 0 or self.facts["requests"] == 0)
+        return bool(self.facts) and (self.facts["open"] > 0 or self.facts["requests"] == 0
+                                     or self.facts.get("overlaps", 0) > 0)
 
 
 def rule_of(of: Asker, name: str, asked: Question, unit: Optional[str], is_closed: bool) -> Rule:
@@ -314,7 +313,7 @@ def rule_of(of: Asker, name: str, asked: Question, unit: Optional[str], is_close
     begins = starts(looks, lambda look: one.test(look) != (word == "always" and not after),
                     has_clock, asked.every)
     times = [look.time for look, is_one in zip(looks, begins) if is_one]
-    line, facts, note, overlaps = "", {}, "", False  # type: str, Dict[str, int], str, bool
+    line, facts, note = "", {}, ""  # type: str, Dict[str, int], str
     if after:
         within, span = span_of(of, has_clock)
         text = "%s -> %s within %s" % (one.inside(0), after.inside(0), within)
@@ -329,12 +328,11 @@ def rule_of(of: Asker, name: str, asked: Question, unit: Optional[str], is_close
                     ("lost", "without an answer"), ("surplus", "without a request"),
                     ("late", "late")) if its[what] or what != "late")
         else:
-            overlaps = is_overlapping(looks, begins, after.test, span)
             facts = facts_of(looks, begins, after.test, span, asked.end(dump), is_closed)
             times = times_of(waits(looks, begins, after.test, span, asked.end(dump)), times,
                              refused, is_closed)
-        note = note_of(facts, text_of(facts, span, of, unit))
-    return Rule(name, clock, (word + " " + text).strip(), times, line, facts, note, overlaps,
+        note = note_of(facts, text_of(facts, span, of, unit), name)
+    return Rule(name, clock, (word + " " + text).strip(), times, line, facts, note,
                 idle(of, looks, asked, word))
 
 
@@ -380,11 +378,11 @@ def ask_rules(of: Asker) -> None:
         is_never or one.word in ("never", "always", "each"))]
     warnings, _, end = said.message.partition("vcdkit-when: %d rule%s, " % (
         len(rules), "s" * (len(rules) > 1)))
-    odd = [": %s: %s\n" % (one.name, one.note) for one in rules if one.is_odd]
+    odd = [one.note for one in rules if one.is_odd]
     of.same("rules", [*words, text], (
         said.status, got, warnings.count("\n"), [one for one in odd if one not in warnings], end), (
             2 if idle_ones else int(bool(bad)), wanted,
-            len(odd) + sum(one.is_overlapping for one in rules) + bool(idle_ones), [],
+            len(odd) + bool(idle_ones), [],
             "" if idle_ones else "not met: %s%s\n" % (
                 ", ".join(bad[:3]), ", .." * (len(bad) > 3)) if bad else "all met\n"))
     if "--junit" in words:

@@ -20,7 +20,7 @@ import argparse
 import os
 import re
 import sys
-from typing import Callable, Dict, Iterable, List, NamedTuple
+from typing import Callable, Dict, Iterable, List
 
 from ..errors import UsageError
 from ..forms.junit import Test
@@ -32,30 +32,6 @@ from ..reading.files import lines_in
 from . import FAULT, dump_of, parser, part_of, question, times_of, warn_of_quotes
 
 WORDED = re.compile(r"(never +|always +|each +|)(.*)", re.S)
-
-
-class Rule(NamedTuple):
-    """A condition with a name, and the word before it: it may hold at no time (never), has to hold
-    at each (always), or has to hold at some time; or each request has its own answer (each)."""
-
-    name: str
-    word: str
-    condition: str
-    clock: str = ""
-    place: str = ""  # of its line, with which messages begin
-
-    @property
-    def asked(self) -> Asked:
-        """The condition whose times are listed: with always, that it does not hold."""
-        text = self.condition
-        if self.word == "always":
-            has_answer = "->" in re.sub('"[^"]*"', "", text)
-            text = ("!(%s)" if has_answer else "!(%s) !== 1'b0") % text
-        return Asked(self.place + self.name, text, self.clock, self.word == "each")
-
-    def is_met(self, found: bool, is_never: bool) -> bool:
-        """Whether the rule is met, if its list has times."""
-        return found != (is_never or bool(self.word))
 
 
 def words_of(words: List[str]) -> argparse.Namespace:
@@ -100,9 +76,9 @@ def words_of(words: List[str]) -> argparse.Namespace:
     return asked
 
 
-def rules_of(path: str) -> List[Rule]:
+def rules_of(path: str) -> List[Asked]:
     """Returns the rules in a file."""
-    found: Dict[str, Rule] = {}
+    found: Dict[str, Asked] = {}
     for place, line in lines_in(path):
         front, sign, condition = line.partition(": ")
         (name, clock), (word, text) = named(front, place), re.findall(WORDED, condition)[0]
@@ -110,7 +86,7 @@ def rules_of(path: str) -> List[Rule]:
             raise UsageError(place + "a rule is `name: condition`")
         if name in found:
             raise UsageError("%sthere is a rule %s before" % (place, name))
-        found[name] = Rule(name, word.strip(), text, clock, place)
+        found[name] = Asked(name, text, clock, word.strip(), place)
     if not found:
         raise UsageError("%s: it has no rule" % path)
     return [*found.values()]
@@ -141,8 +117,12 @@ def late_text(one: Question, text: Callable[[int], str]) -> str:
 def note_of(one: Question, text: Callable[[int], str]) -> str:
     """Returns what became of requests; an empty text if the condition has none."""
     facts = one.facts()
-    return facts and "%s, %s, %d open at the end" % (
-        counted(facts["requests"], "request"), late_text(one, text), facts["open"]) or ""
+    overlaps = "; %d begin before the previous one is answered, and get the same answer: with %s, " \
+        "each gets its own" % (facts.get("overlaps", 0), "`each req -> ack within N`" if
+                               one.asked.name else "vcdkit-table --channel")
+    return facts and "%s, %s, %d open at the end%s" % (
+        counted(facts["requests"], "request"), late_text(one, text), facts["open"],
+        overlaps * bool(facts.get("overlaps"))) or ""
 
 
 def list_latencies(asking: Questions, dump: Dump, text: Callable[[int], str],
@@ -176,10 +156,10 @@ def line_of(one: Question, its: List[int], text: Callable[[int], str]) -> str:
         text(times[0]), ", .." * (len(times) > 1)) if times else "")
              for what, times in one.times().items() if times or what != "late"]
     return "%s, %s%s" % (text(its[0]), counted(its[1], "time"),
-                         ": " + ", ".join(kinds) if one.asked.in_order else "")
+                         ": " + ", ".join(kinds) if one.in_order else "")
 
 
-def list_rules(asking: Questions, rules: List[Rule], text: Callable[[int], str],
+def list_rules(asking: Questions, rules: List[Asked], text: Callable[[int], str],
                asked: argparse.Namespace, tests: List[Test]) -> List[str]:
     """Writes a line for each rule whose list has times: its name, the first time, and how many
     there are; returns the names of the rules that are not met. Adds a test for each."""
@@ -209,7 +189,7 @@ def list_rules(asking: Questions, rules: List[Rule], text: Callable[[int], str],
             # Why the rule says nothing although no failure is known.
             is_undecided = end == "at a fault" or bool(end) and not its
             why = "it ended " + end if is_undecided else (
-                asking.idle(number, rule.word) or note * (facts.get("requests") == 0))
+                asking.idle(number) or note * (facts.get("requests") == 0))
             tests.append(Test(asking.dump.name, rule.name, "failure" if is_wrong else
                               "skipped" * bool(why), line_of(one, its, text) if its else
                               why or "it never held", rule.condition, note))
@@ -219,13 +199,13 @@ def list_rules(asking: Questions, rules: List[Rule], text: Callable[[int], str],
 def answer(asked: argparse.Namespace, tests: List[Test]) -> int:
     """Writes the answer, and returns the status. Adds a test for each rule."""
     rules = (rules_of(asked.rules) if asked.rules is not None
-             else [Rule("", "", asked.condition)])
+             else [Asked("", asked.condition)])
     dump = dump_of(asked)
     if asked.condition is not None:
         warn_of_quotes("vcdkit-when", asked.condition, dump)
     text = times_of(dump, asked)
-    asking = Questions(part_of(dump, asked), [one.asked for one in rules], asked.rise, asked.fall,
-                       asked.every, (), asked.open_fails)
+    asking = Questions(part_of(dump, asked), rules, asked.rise, asked.fall, asked.every, (),
+                       asked.open_fails)
     if asked.latency and (asking.each[0].is_refusal or not asking.each[0].condition.answer):
         raise UsageError("latencies are those of a condition such as req -> ack within 50")
     if asked.rules is not None:
@@ -236,18 +216,16 @@ def answer(asked: argparse.Namespace, tests: List[Test]) -> int:
                  else list_times((time for time, _ in asking.times()), text, asked))
         status, is_known = int((count > 0) == asked.never), count > 0
     is_whole = not (asked.first and is_known)
-    for one in asking.each:
-        facts, lines = one.facts(), ["warning: " + one.warning()] * bool(one.warning())
-        if facts and is_whole and (facts["open"] or not facts["requests"]):
-            lines.append("warning: " + one.front + note_of(one, text))
-        elif facts and is_whole and asked.rules is None:
-            lines.append(note_of(one, text))
-        for line in lines:
-            print("vcdkit-when: " + line, file=sys.stderr)
-    for number, (rule, one) in enumerate(zip(rules, asking.each if is_whole else ())):
-        why = asking.idle(number, rule.word) if asked.never or rule.word else ""
+    for one in asking.each if is_whole else ():
+        facts = one.facts()
+        is_odd = facts and (facts["open"] or facts.get("overlaps") or not facts["requests"])
+        if is_odd or facts and asked.rules is None:
+            print("vcdkit-when: %s%s%s" % ("warning: " if is_odd else "", one.asked.front,
+                                           note_of(one, text)), file=sys.stderr)
+    for number, rule in enumerate(rules if is_whole else ()):
+        why = asking.idle(number) if asked.never or rule.word else ""
         if why:
-            raise UsageError(one.front + why)
+            raise UsageError(rule.front + why)
     if asked.rules is not None:
         sys.stdout.flush()
         names = ", ".join(missed[:3]) + ", .." * (len(missed) > 3)

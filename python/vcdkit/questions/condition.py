@@ -28,6 +28,7 @@ MIRRORED = {sign: sign.translate({60: ">", 62: "<"}) for sign, one in OPERATORS.
             if one.kind == "common" and sign[0] in "<>"}
 NAME_A_CLOCK = "name a clock with --rise or --fall (in Python: rise or fall)"
 GROUP = 30  # bits of which Python is fast
+MASK = (1 << GROUP) - 1
 Read = Callable[[bytes], Value]
 Look = Tuple[int, body.Changes, int]  # a time, what changed, and the bits of clocks
 NONE: Tuple[int, List[Tuple[int, Read]]] = 0, []  # no condition, and nothing that reads
@@ -252,7 +253,8 @@ class Conditions:
             node.value = its[node.value]
             node.kind = node.value.kind
         for node in parser.times:
-            low, high = (self._dump.span(node.value, is_up) for is_up in (False, True))
+            text = node.value.replace("tick", "")
+            low, high = (self._dump.span(text, is_up) for is_up in (False, True))
             ticks = number_of("%d" % low + ".5" * (low < high))  # between two ticks
             node.sign, node.value, node.kind = ticks.sign, ticks.value, ticks.kind
         self.paths.update(dict.fromkeys(name.signal.path for name in its.values()))
@@ -369,23 +371,14 @@ class Conditions:
         self.take([(code, b"") for code in self.over], 0)
         self._sampled = self._function("", [
             "return (%s)" % "".join(call + ", " for _, _, call, _ in self._samples)])
-        groups = [self._function("due=-1", ["now = 0", *(
+        groups = [(begin, self._function("due=-1", ["now = 0", *(
             "if due & %d and %s: now |= %d" % (1 << at, call, 1 << at)
-            for at, call in enumerate(self._tests[begin:begin + GROUP])), "return now"])
+            for at, call in enumerate(self._tests[begin:begin + GROUP])), "return now"]))
                   for begin in range(0, len(self._tests), GROUP)]
         if len(groups) == 1:
-            return groups[0]
-        every = (1 << len(self._tests)) - 1
-
-        def holding(due: int = -1) -> int:
-            """Looks only at the groups that have one of the conditions."""
-            now, due = 0, due & every
-            while due:
-                number = ((due & -due).bit_length() - 1) // GROUP
-                now |= groups[number](due >> number * GROUP & (1 << GROUP) - 1) << number * GROUP
-                due = due >> (number + 1) * GROUP << (number + 1) * GROUP
-            return now
-        return holding
+            return groups[0][1]
+        return lambda due=-1: sum(holding(due >> at & MASK) << at
+                                  for at, holding in groups if due >> at & MASK)
 
     def _function(self, words: str, lines: List[str]) -> Callable[..., Any]:
         """Returns a function of these lines."""

@@ -25,7 +25,7 @@ TOKEN = re.compile(
 SPAN = re.compile(r"(?:(\d+)\.\.(?=\d+\Z))?%s\Z" % AMOUNT)
 BASED = re.compile(r"([\d_]*)\s*'\s*([sS]?)([bodhBODH])\s*(.+)")
 FUNCTIONS = [sign for sign, one in OPERATORS.items() if sign.isidentifier() and not one.level]
-TIME = re.compile(r"\d+(\.\d+)?(%s)\Z" % "|".join(UNITS))
+TIME = re.compile(r"(\d+(\.\d+)?(%s)|\d+tick)\Z" % "|".join(UNITS))
 RANGE = re.compile(r"\[([^:]+):([^:]+)\]\Z")  # of inside
 # What to write instead of words and signs of other languages.
 EDGE = "for an edge of a signal, use rose(..) or fell(..); for a clock, --rise or --fall"

@@ -2,6 +2,7 @@
 import collections
 import functools
 import math
+import re
 from typing import (Any, Callable, Deque, Dict, Iterator, List, NamedTuple, Optional,
                     Sequence, Tuple)
 
@@ -28,14 +29,32 @@ SEVERAL = "bad condition: -> is of several times, and a row has one"
 
 class Asked(NamedTuple):
     """A condition that is asked, with the name that messages have. Its clock is a path, behind a !
-    if it is looked at where that falls; that of all if it is empty. In order, the n-th answer
-    belongs to the n-th request, and the times without an answer, or without a request, are
-    listed."""
+    if it is looked at where that falls; that of all if it is empty. As a rule, it has a word before
+    it: it may hold at no time (never), or has to at each (always), else at some time; with each,
+    the n-th answer belongs to the n-th request, and the times without the other are listed.
+    Messages begin with its place in a file."""
 
     name: str
     condition: str
     clock: str = ""
-    in_order: bool = False
+    word: str = ""
+    place: str = ""
+
+    @property
+    def text(self) -> str:
+        """The condition whose times are listed: with always, that it does not hold."""
+        has_answer = "->" in re.sub('"[^"]*"', "", self.condition)
+        return self.condition if self.word != "always" else (
+            "!(%s)" if has_answer else "!(%s) !== 1'b0") % self.condition
+
+    @property
+    def front(self) -> str:
+        """The begin of messages."""
+        return self.name and self.place + self.name + ": "
+
+    def is_met(self, found: bool, is_never: bool) -> bool:
+        """Whether the rule is met, if its list has times."""
+        return found != (is_never or bool(self.word))
 
 
 def named(text: str, place: str = "") -> Tuple[str, str]:
@@ -53,11 +72,11 @@ class Question:
         self.asked, self.condition, self.ticks, self.clock = asked, condition, ticks, clock
         self.has_time = bool(condition.span and condition.span.unit)  # and counts no edges
         self.least = condition.span.least if condition.span else 0
-        self.front = asked.name and asked.name + ": "  # of messages
+        self.in_order = asked.word == "each"
         # All requests, those that began before the answer of the one before, and by how much the
         # latest answer was late.
         self.requests = self.overlaps = self.latest = self._looks = 0
-        self.is_refusal = condition.is_refusal or asked.in_order
+        self.is_refusal = condition.is_refusal or self.in_order
         # When requests began that wait, and until when they wait: a time, or a count of edges; then
         # those that waited too long, and have no answer so far.
         self.waiting: Deque[Tuple[int, int]] = collections.deque()
@@ -80,12 +99,12 @@ class Question:
         while answers and waiting and waiting[0][1] <= now + self.ticks - self.least:
             begin, until = waiting.popleft()
             found.append((begin, time, now - until + self.ticks))
-            answers &= -(not self.asked.in_order)
+            answers &= -(not self.in_order)
         if answers and self._lost:
             self.latest = max(self.latest, now - self._lost[0][1])
-            for _ in range(1 if self.asked.in_order else len(self._lost)):
+            for _ in range(1 if self.in_order else len(self._lost)):
                 self._late.append(self._lost.popleft()[0])
-        elif answers and self.asked.in_order:
+        elif answers and self.in_order:
             self._surplus.append(time)
             found.append((time, None, 0))
         if not self.has_time:  # each edge is looked at once
@@ -106,7 +125,7 @@ class Question:
     def times(self) -> Dict[str, List[int]]:
         """Returns the times of requests without an answer, of answers without a request, which
         only those in order have, and of requests with a late answer."""
-        surplus = {"surplus": self._surplus} if self.asked.in_order else {}
+        surplus = {"surplus": self._surplus} if self.in_order else {}
         return {"lost": [time for time, _ in self._lost], **surplus, "late": self._late}
 
     def facts(self) -> Dict[str, int]:
@@ -114,15 +133,9 @@ class Question:
         if not self.condition.answer:
             return {}
         counts = {what: len(its) for what, its in self.times().items()}
-        return {"requests": self.requests, **counts, "latest": self.latest,
+        overlaps = {} if self.in_order else {"overlaps": self.overlaps}
+        return {"requests": self.requests, **overlaps, **counts, "latest": self.latest,
                 "open": len(self.waiting)}
-
-    def warning(self) -> str:
-        """Returns what may be wrong although each request got its answer; else nothing."""
-        return "%srequests that begin before the previous one is answered: %d. They get the same " \
-            "answer; with %s, each gets its own" % (
-                self.front, self.overlaps, "`each req -> ack within N`" if self.front else
-                "vcdkit-table --channel") if self.overlaps and not self.asked.in_order else ""
 
     def late_at_end(self, is_over: Callable[[int], bool]) -> List[Outcome]:
         """Returns the requests that waited until a time that is over where the dump ends. What else
@@ -160,21 +173,20 @@ class Questions:
                 if asked.clock:
                     name, is_fall = asked.clock.lstrip("!"), asked.clock[:1] == "!"
                     self._add_edges(clock, *((None, name) if is_fall else (name, None)))
-                elif not has_clock and (len(bits) > 1 or asked.in_order):
+                elif not has_clock and (len(bits) > 1 or asked.word == "each"):
                     raise UsageError("it has no clock: %s, or write NAME@CLOCK" % NAME_A_CLOCK)
-                one = self.conditions.add(asked.condition, clock)
+                one = self.conditions.add(asked.text, clock)
                 if columns and one.answer:
                     raise UsageError(SEVERAL)
-                if asked.in_order and (not one.answer or one.is_refusal):
+                if asked.word == "each" and (not one.answer or one.is_refusal):
                     raise UsageError("bad condition: each is as in each req -> ack within 5")
                 ticks = _ticks_of(one.span, dump, bool(clock))
             except (UsageError, UnknownName) as error:
-                if asked.name:
-                    error.args = ("%s: %s" % (asked.name, error),)
+                error.args = ("%s%s" % (asked.front, error),)
                 raise
             self.each.append(Question(asked, one, ticks, clock))
             self._of_clock[clock or 1] |= one.bit | one.answer
-            self.again |= one.bit if asked.in_order else 0
+            self.again |= one.bit if asked.word == "each" else 0
         self._add_edges(1, rise, fall)
         self._numbers_of = {one.condition.bit.bit_length(): at for at, one in enumerate(self.each)}
         self._answering = sum(one.condition.bit for one in self.each if one.condition.answer)
@@ -200,13 +212,13 @@ class Questions:
         if fault:
             raise fault
 
-    def idle(self, number: int, word: str) -> str:
+    def idle(self, number: int) -> str:
         """Returns why a condition was never evaluated; an empty text if it was. That an event is
         not triggered is known at each time, but what has to hold `always` needs a trigger."""
         one = self.each[number]
         if one.clock and not self.counts[one.clock]:
             return "its clock has no edge in this window, so it was never evaluated"
-        is_known = self._evaluated & one.condition.bit or word != "always" and (
+        is_known = self._evaluated & one.condition.bit or one.asked.word != "always" and (
             self.conditions.with_events & one.condition.bit and self.dump.check().last is not None)
         return "" if is_known else ("none of its signals has a value or a trigger in this window, "
                                     "so it was never evaluated")
