@@ -203,7 +203,7 @@ def ask_refused(of: Asker) -> None:
     is_never = {"!=": known == {"1"}, "!==": "0" not in outcomes, "!=?": "0" not in outcomes}.get(
         sign, "1" not in outcomes)
     digits = number.own(None)
-    is_known = is_known and not (side.is_signed and number.is_signed and digits[0] in "xz") and (
+    is_known = is_known and not (side.is_signed and number.is_signed and digits.strip("01")) and (
         sides[0] is side or sign[-1] != "?") and not (  # x and z of the right side match any
             "z" in digits and side.width == 1 and side.text != name.text)  # what is x, is never z
     ordered = sign if sides[0] is side else sign.translate(str.maketrans("<>", "><"))

@@ -151,10 +151,10 @@ def list_latencies(asking: Questions, dump: Dump, text: Callable[[int], str],
 
 def line_of(one: Question, its: List[int], text: Callable[[int], str]) -> str:
     """Returns the first time of a list and how many there are; of requests in order of each kind."""
-    words = {"lost": "without an answer", "surplus": "without a request", "late": "late"}
-    kinds = ["%d %s%s" % (len(times), words[what], " (%s%s)" % (
-        text(times[0]), ", .." * (len(times) > 1)) if times else "")
-             for what, times in one.times().items() if times or what != "late"]
+    kinds = ["%d %s%s" % (len(times), what, " (%s%s)" % (
+        text(times[0]), ", .." * (len(times) > 1)) if times else "") for what, times in (
+            ("without an answer", [time for time, _ in one.lost]),
+            ("without a request", one.surplus), ("late", one.late)) if times or what != "late"]
     return "%s, %s%s" % (text(its[0]), counted(its[1], "time"),
                          ": " + ", ".join(kinds) if one.in_order else "")
 

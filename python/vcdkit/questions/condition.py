@@ -13,7 +13,7 @@ from typing import (Any, Callable, Deque, Dict, Iterable, Iterator, List, NamedT
                     Sequence, Set, Tuple)
 
 from ..errors import DumpFault, UnknownName, UsageError
-from ..model.extents import Extent, extent_of
+from ..model.extents import ends_of, is_never
 from ..model.names import FIELD, bare, field_of, full_names
 from ..model.operators import (BIT, OPERATORS, REAL, TAKES, Kind, Operator, Value, converted,
                                kind_of, value_of_digits)
@@ -164,6 +164,17 @@ def _number(node: Node) -> Value:
                      node.to)
 
 
+def _known(node: Node, works: Any, own: Kind) -> Value:
+    """Returns what is known of a value of a kind: its digits, x for those that can be any. Only of
+    operators for which an x in an operand can be any digit, more than that is known."""
+    its = OPERATORS.get(node.sign, LEAF)
+    if node.sign == "past":
+        return node.parts[0].known
+    if own.width and (its.kind in TAKES or node.sign in ("{", "signed", "unsigned")):
+        return its.function(works, *(converted(one.known, one.own, one.to) for one in node.parts))
+    return "x" * (own.width or 1)
+
+
 def _check(node: Node, works: Kind) -> None:
     """Refuses a comparison with a number that never holds."""
     for side, number, sign in zip(node.parts, node.parts[::-1], (
@@ -172,21 +183,23 @@ def _check(node: Node, works: Kind) -> None:
         if number.sign not in ("number", "literal") or is_matched:  # by an x of the other side
             continue
         value, kind, is_name = _number(number), side.kind, side.sign == "name"
+        ends = (0, side.parts[0].kind.width) if side.sign == "countones" else ends_of(
+            side.known, side.own, works)
         its = side.value.text if is_name else "the other side"
         if isinstance(value, str) and (sign in ("==", *MIRRORED) or not works.width):
             raise bad("nothing is %s digits with x or z%s" % (
                 sign, ": write ===" * (sign == "==")))
-        if is_name and value == 0 == side.extent.least and sign in ("<", ">="):
+        if is_name and value == 0 == ends[0] and sign in ("<", ">="):
             raise bad("%s is never < 0: a dump has no signs; write signed(%s)" % (its, its))
         shown = value if number.sign == "literal" and isinstance(value, int) else number.value
         if kind.width and sign not in MIRRORED and isinstance(value, float) and value % 1:
             raise bad("%s is never %s: it is a whole number" % (its, shown))
-        if side.extent.is_never(sign.strip(), value, works):
+        if is_never(sign.strip(), ends, converted(side.known, side.own, works), value, works):
             raise bad("%s is never %s%s: it %s" % (
                 its, sign.strip() + " " if sign in MIRRORED else "", shown,
                 "has %d bit%s%s" % (kind.width, "s" * (kind.width > 1),
-                                    ", signed" * (side.extent.least < 0)) if is_name else
-                "is from %s to %s" % side.extent[:2]))
+                                    ", signed" * (ends[0] < 0)) if is_name else
+                "is from %s to %s" % ends))
 
 
 def _place(node: Node) -> Any:
@@ -419,12 +432,10 @@ class Conditions:
             order += node.parts if node.sign not in ("past", "age") else []
         for node in reversed(order):
             kind, working = OPERATORS.get(node.sign, LEAF).kind, works[node]
-            own = working if kind in TAKES else node.kind
+            is_number = node.sign in ("number", "literal")
+            node.own = own = working if kind in TAKES else node.to if is_number else node.kind
             node.text = self._text(node, working, own)
-            node.extent = extent_of(node.sign, own, working, *(
-                one.extent for one in node.parts)).into(own, node.to)
-            if isinstance(node.value, (int, float)) and not node.parts:
-                node.extent = Extent(*[_number(node)] * 2)
+            node.known = _number(node) if is_number else _known(node, working, own)
             if kind == "common":
                 _check(node, working)
             if node.parts:

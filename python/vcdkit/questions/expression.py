@@ -5,7 +5,6 @@ import re
 from typing import Any, List, NamedTuple, Sequence, Tuple
 
 from ..errors import UsageError
-from ..model.extents import whole
 from ..model.operators import OPERATORS, REAL, Kind, kind_of, value_of_digits
 from ..model.times import AMOUNT, UNITS
 
@@ -49,7 +48,7 @@ class Span(NamedTuple):
 class Node:
     """A name, a number, or an operator with its operands."""
 
-    __slots__ = ("sign", "parts", "value", "kind", "fill", "to", "text", "extent")
+    __slots__ = ("sign", "parts", "value", "kind", "fill", "to", "own", "known", "text")
 
     def __init__(self, sign: str, parts: Sequence["Node"] = (), value: Any = None,
                  kind: Kind = REAL, fill: str = ""):
@@ -57,7 +56,8 @@ class Node:
         self.kind = self.to = kind  # its own kind, and the one in which it is asked for
         self.fill = fill  # of a number: the digit to the left of its digits
         self.text = ""  # what has its value in the compiled condition
-        self.extent = whole(kind)  # what it can be in the kind in which it is asked for
+        # The kind of its value before that is converted, and the digits: x for what can be any.
+        self.own, self.known = kind, ""  # type: Kind, Any
 
 
 def bad(why: str) -> UsageError:

@@ -1,12 +1,12 @@
 """The rows of a table: values at times, at changes and at the edges of clocks."""
-import itertools
+import heapq
+from operator import itemgetter
 from typing import (TYPE_CHECKING, Callable, Collection, Dict, Iterable, Iterator, List, Optional,
                     Sequence, Set, Tuple)
 
 from ..errors import DumpFault, UnknownName, UsageError
 from ..model.names import field_of, utf8_names
 from ..model.signals import Signal, words_in
-from ..model.times import LAST_TICK
 from ..model.values import Cell, Row, same, value_in, value_of
 from ..reading import body
 from ..reading.source import Edge, Source
@@ -84,18 +84,15 @@ def at_times(source: Source, columns: Collection[int], times: List[int], names: 
 
 def _holding(source: Source, condition: "Conditions", times: Iterable[int]) -> Set[int]:
     """Returns those of some times at whose end a condition holds."""
-    waiting, found = sorted(set(times), reverse=True), set()
-    holds = condition.compiled()
-    part = source.cut(0, max(waiting, default=0)).part([*condition.paths])
-    end: List[body.Step] = [(LAST_TICK + 1, [])]
-    for time, changes in itertools.chain(body.steps(part, condition.over), end):
-        while waiting and waiting[-1] < time:
-            condition.take([], waiting[-1])
-            found.update([waiting.pop()] * bool(holds()))
+    asked: List[body.Step] = [(time, []) for time in sorted({*times})]
+    holds, found, now = condition.compiled(), set(), 0
+    part = source.cut(0, asked[-1][0] if asked else 0).part([*condition.paths])
+    for time, changes in heapq.merge(body.steps(part, condition.over), asked, key=itemgetter(0)):
+        if time > now:  # the events are over
+            condition.end()
+        now = time
         condition.take(changes, time)
-        if waiting and waiting[-1] == time:
-            found.update([waiting.pop()] * bool(holds()))
-        condition.end()
+        found.update([time] * (not changes and bool(holds())))
     return found
 
 

@@ -80,9 +80,9 @@ class Question:
         # When requests began that wait, and until when they wait: a time, or a count of edges; then
         # those that waited too long, and have no answer so far.
         self.waiting: Deque[Tuple[int, int]] = collections.deque()
-        self._lost: Deque[Tuple[int, int]] = collections.deque()
+        self.lost: Deque[Tuple[int, int]] = collections.deque()
         # The times of requests whose answer was late, and of answers without a request.
-        self._late, self._surplus = [], []  # type: List[int], List[int]
+        self.late, self.surplus = [], []  # type: List[int], List[int]
 
     def look(self, time: int, starts: int, holding: int) -> List[Outcome]:
         """Returns the requests that get their answer at a time, and those that get none. Of all
@@ -90,7 +90,7 @@ class Question:
         waiting, bits = self.waiting, self.condition
         now = time if self.has_time else self._looks
         self._looks += 1
-        found = self.late(now)
+        found = self.over(now)
         if starts & bits.bit:
             self.requests += 1
             self.overlaps += bool(waiting)
@@ -100,48 +100,41 @@ class Question:
             begin, until = waiting.popleft()
             found.append((begin, time, now - until + self.ticks))
             answers &= -(not self.in_order)
-        if answers and self._lost:
-            self.latest = max(self.latest, now - self._lost[0][1])
-            for _ in range(1 if self.in_order else len(self._lost)):
-                self._late.append(self._lost.popleft()[0])
+        if answers and self.lost:
+            self.latest = max(self.latest, now - self.lost[0][1])
+            for _ in range(1 if self.in_order else len(self.lost)):
+                self.late.append(self.lost.popleft()[0])
         elif answers and self.in_order:
-            self._surplus.append(time)
+            self.surplus.append(time)
             found.append((time, None, 0))
         if not self.has_time:  # each edge is looked at once
-            found += self.late(now + 1)
+            found += self.over(now + 1)
         if len(waiting) > MAX_WAITING:
             raise UsageError("more than %d times wait for an answer: give a shorter time"
                              % MAX_WAITING)
         return found
 
-    def late(self, now: float) -> List[Outcome]:
+    def over(self, now: float) -> List[Outcome]:
         """Returns the requests that waited until a time before this one."""
         found: List[Outcome] = []
         while self.waiting and self.waiting[0][1] < now:
-            self._lost.append(self.waiting.popleft())
-            found.append((self._lost[-1][0], None, 0))
+            self.lost.append(self.waiting.popleft())
+            found.append((self.lost[-1][0], None, 0))
         return found
-
-    def times(self) -> Dict[str, List[int]]:
-        """Returns the times of requests without an answer, of answers without a request, which
-        only those in order have, and of requests with a late answer."""
-        surplus = {"surplus": self._surplus} if self.in_order else {}
-        return {"lost": [time for time, _ in self._lost], **surplus, "late": self._late}
 
     def facts(self) -> Dict[str, int]:
         """Returns how many requests there are, and what became of those not answered in time."""
         if not self.condition.answer:
             return {}
-        counts = {what: len(its) for what, its in self.times().items()}
-        overlaps = {} if self.in_order else {"overlaps": self.overlaps}
-        return {"requests": self.requests, **overlaps, **counts, "latest": self.latest,
-                "open": len(self.waiting)}
+        of_one = {"surplus": len(self.surplus)} if self.in_order else {"overlaps": self.overlaps}
+        return {"requests": self.requests, "late": len(self.late), "lost": len(self.lost), **of_one,
+                "open": len(self.waiting), "latest": self.latest}
 
     def late_at_end(self, is_over: Callable[[int], bool]) -> List[Outcome]:
         """Returns the requests that waited until a time that is over where the dump ends. What else
         is left open there is neither in time nor late."""
         late = first_ones([until for _, until in self.waiting], is_over)
-        return self.late(late[-1] + 1) if late else []
+        return self.over(late[-1] + 1) if late else []
 
 
 class Questions:
@@ -207,7 +200,7 @@ class Questions:
             fault = error
         for number, its in enumerate(self.each):
             late = its.late_at_end(self.dump.is_over(fault)) if its.has_time and its.waiting else []
-            late += its.late(math.inf) if self._open_fails and not fault else []
+            late += its.over(math.inf) if self._open_fails and not fault else []
             yield from (((number,), one) for one in late)
         if fault:
             raise fault
