@@ -115,7 +115,9 @@ def ask_table(of: Asker) -> None:
             for one, value in zip(columns, values))))} for look, values in rows]
     got = all_from_json(said.text) if is_json else list(
         csv.reader(io.StringIO(said.text, newline="")))
-    of.same("table", words, (said.status, got, said.about), (int(bool(fault)), wanted, fault))
+    is_warned = "--at" in rows_words and window.end > dump.end
+    of.same("table", words, (said.status, got, said.about), (
+        int(bool(fault)), wanted, fault or is_warned))
 
 
 def states_of(of: Asker, columns: List[Variable]) -> Dict[Any, str]:

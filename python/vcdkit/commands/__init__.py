@@ -1,6 +1,7 @@
 """The commands vcdkit-diff, vcdkit-explain, .. : a module each, whose main() the shell calls. What
 only some need is imported where it is used, because each import takes a part of their start."""
 import argparse
+import contextlib
 import functools
 import io
 import os
@@ -168,9 +169,10 @@ class Parser(argparse.ArgumentParser):
         import difflib  # only a message needs it
         known = [one for action in self._actions for one in action.option_strings if one[1] == "-"]
         near = [its for one in dict.fromkeys(rest) if one[:2] == "--"
-                for its in difflib.get_close_matches(one.partition("=")[0], known, 1)]
+                for its in difflib.get_close_matches(one.partition("=")[0], known, 1, .8)]
         self.error("unrecognized arguments: %s%s" % (
             " ".join(rest), "; there is " + ", ".join(near) if near else
+            "; the dump is an argument, without -i" if rest[0] == "-i" else
             "; write -- before what is no option" * (rest[0][:2] != "--")))
 
     def parse_args(self, words: List[str]) -> argparse.Namespace:  # type: ignore[override]
@@ -193,7 +195,7 @@ def pair_of(text: str) -> Tuple[str, str]:
     """Reads the words around the first =."""
     front, sign, new = text.partition("=")
     if not front or not sign:
-        raise argparse.ArgumentTypeError("expected a name, = and what it is for, as in TOP.tb=tb")
+        raise argparse.ArgumentTypeError("expected two parts with = between them")
     return front, new
 
 
@@ -288,6 +290,14 @@ def after_end(dump: "Source", time: str, is_up: bool = False) -> str:
     last = dump.check().last
     return "%s is after the end of the dump%s" % (
         time, "" if last is None else ", " + dump.time(last))
+
+
+def warn_of_end(command_name: str, dump: "Source", times: Optional[List[str]]) -> None:
+    """Warns if one of the times of --at is after the end of a dump."""
+    with contextlib.suppress(DumpFault):  # it comes after the values before it
+        is_late = after_end(dump, max(times, key=dump.ticks)) if times else ""
+        if is_late:
+            say(command_name, ["warning: --at: %s; its values are the last ones" % is_late])
 
 
 def check_begin(dump: "Source", time: str, option: str = "--from", is_up: bool = True) -> None:
@@ -410,8 +420,9 @@ def _remedy(error: VcdkitError, words: List[str], command_name: str) -> str:
         if name in UNITS and before.replace(".", "", 1).isdigit():
             return " (for a time, write %s%s, without a space)" % (before, name)
         from ..forms.many import READ
-        option = next((one for one in READ.values()
-                       if before == one or one + "=" + name in words), "")
+        option = next((one for one in READ.values() if before == one or one + "=" + name in words),
+                      "--states" * bool(re.search(r"--states[= ]\S*=%s( |\Z)" % re.escape(name),
+                                                  " ".join(words))))
         if option:
             return " (%s names a file)" % option
         is_name = said.startswith("No such file") and not re.search(
@@ -420,7 +431,9 @@ def _remedy(error: VcdkitError, words: List[str], command_name: str) -> str:
                  "argument is the dump")
         return " (the first %s; - is standard input)" % dumps if is_name else ""
     if not isinstance(error, DumpFault):
-        return ""
+        is_swapped = str(error).startswith("bad condition") and not os.path.exists(words[0]) and (
+            os.path.isfile(words[-1]))
+        return "\nthe dump comes before the condition" * is_swapped
     from ..questions.causes import NINE, STRING, look_at
     from ..questions.dump import Dump
     if error.file == "(stdin)":

@@ -118,13 +118,13 @@ def write_bits(dump: Dump, window: Window, asked: argparse.Namespace) -> int:
     bits = counts_of(dump, asked.names, window, asked.saif is not None)
     if asked.never and not bits:
         raise UsageError("there is no bit: real numbers and events have none")
+    texts = saif.texts_of(dump, bits, window.last - window.begin, __version__)
+    if asked.saif not in (None, "-"):  # first, as nobody may read the lines to their end
+        write(asked.saif, (text.encode("utf-8", "surrogateescape") for text in texts))
     if asked.toggle or asked.never:
         write_toggles(bits, asked)
-    texts = saif.texts_of(dump, bits, window.last - window.begin, __version__)
     if asked.saif == "-":
         sys.stdout.writelines(texts)
-    elif asked.saif is not None:
-        write(asked.saif, (text.encode("utf-8", "surrogateescape") for text in texts))
     return int(asked.never and not all(bit.rises + bit.falls for bit in bits))
 
 

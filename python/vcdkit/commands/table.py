@@ -26,7 +26,8 @@ from typing import List
 
 from ..forms.tables import bus_rows, cells_of, heads_of
 from ..forms.text import write_json
-from . import command, dump_of, form_for, is_part, parser, part_of, times_at, warn_of_quotes
+from . import (command, dump_of, form_for, is_part, parser, part_of, times_at, warn_of_end,
+               warn_of_quotes)
 
 
 def words_of(words: List[str]) -> argparse.Namespace:
@@ -79,6 +80,7 @@ def main(words: List[str]) -> int:
     scale = whole.timescale
     unit = asked.unit or (scale.unit if scale else "tick")
     whole.ticks("0" if unit == "tick" else "0" + unit)  # a unit needs a time scale
+    warn_of_end("vcdkit-table", whole, times)
     # Values at the begin of a cut are a section, and none that changed.
     dump = part_of(whole, asked)
     decimal = scale.in_unit(unit) if scale and unit != "tick" and not asked.json else (

@@ -9,14 +9,11 @@ writes x or z for four such digits and X for a mixture, and the other options wr
 examples:
   vcdkit-values --at 115ns --hex sim.vcd.gz tb.cpu
   vcdkit-values --at 1us,2us,3us --names view.gtkw sim.vcd"""
-import contextlib
-import sys
 from typing import List
 
-from ..errors import DumpFault
 from ..forms.text import in_json, shown, write_json
 from ..questions.rows import at_times, states
-from . import after_end, command, dump_of, form_for, parser, times_at, times_of
+from . import command, dump_of, form_for, parser, times_at, times_of, warn_of_end
 
 
 @command
@@ -29,11 +26,7 @@ def main(words: List[str]) -> int:
     times = [str(dump.check().last or 0)] if given is None else given
     names = dump.full(asked.names)
     signals = states(dump.places(names))
-    with contextlib.suppress(DumpFault):  # it comes after the values before it
-        is_late = after_end(dump, max(given, key=dump.ticks)) if given else ""
-        if is_late:
-            print("vcdkit-values: warning: --at: %s; its values are the last ones" % is_late,
-                  file=sys.stderr)
+    warn_of_end("vcdkit-values", dump, given)
     for time, values in at_times(dump, signals, list(map(dump.ticks, times)), names):
         for one, value in zip(signals.values(), values):
             form = form_for(asked, one)

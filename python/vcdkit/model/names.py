@@ -93,6 +93,9 @@ def hint(name: str, paths: Sequence[str]) -> str:
     """Returns what to write instead of a name that selects nothing: paths, or else scopes."""
     its = [(one, plain(one)) for one in dict.fromkeys(itertools.chain(paths, *map(fronts, paths)))]
     is_pattern, base = re.search(r"[*?]", name), FIELD.sub("", name)
+    bit = re.fullmatch(r"(.+)@(\d+)", name)
+    if bit and bit[1] in map(bare, paths):
+        return "; for a bit, write %s[%s]" % bit.groups()
     asked, core = (plain(name), plain(base)), _core(plain(name))
     near = ([one for one, text in its if text in asked]
             or [one for one, text in its if _core(text) == core]
@@ -102,8 +105,8 @@ def hint(name: str, paths: Sequence[str]) -> str:
     if near:
         return "; there is " + ", ".join(near[:3]) + ", .." * (len(near) > 3)
     return ("; a name is not a pattern: vcdkit-find and find() take regular expressions"
-            if is_pattern else
-            "; names are the paths that `list` writes, and the scopes in these paths")
+            if is_pattern else "; for an expression, write spaces around =" if "=" in name else
+            "; names are the paths that `vcdkit list` writes, and the scopes in these paths")
 
 
 def _core(path: str) -> str:
