@@ -129,13 +129,13 @@ def times_of(found: List[Wait], begins: List[int], refused: bool, is_closed: boo
 
 def idle(of: Asker, looks: List[Look], asked: Question, word: str = "never") -> bool:
     """Whether a condition was never evaluated: none of its signals had a value. An event is known
-    at each edge, or at each time of the window; but if it has to hold at each trigger, it needs
-    one."""
+    at each edge, and if the dump has a time; but if it has to hold at each trigger, it needs one.
+    """
     codes, events = of.conditions.codes, of.conditions.events
     if asked.edges or word == "always" or not events:
         return not any(codes & {*look.values} or look.events & codes or asked.edges and events
                        for look in looks)
-    return not looks and not any(time <= asked.window.end for time in of.dump.times)
+    return not looks and not of.dump.times
 
 
 def text_of(facts: Dict[str, int], span: Span, of: Asker, unit: Optional[str]) -> str:

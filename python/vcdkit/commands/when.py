@@ -108,21 +108,19 @@ def list_times(times: Iterable[int], text: Callable[[int], str], asked: argparse
 
 def late_text(one: Question, text: Callable[[int], str]) -> str:
     """Returns how many requests got no answer in time, and by how much the latest came late."""
-    facts = one.facts()
-    by = text(facts["latest"]) if one.has_time else counted(facts["latest"], "edge")
+    by = text(one.latest) if one.has_time else counted(one.latest, "edge")
     return "%d late%s, %d without an answer" % (
-        facts["late"], " (by %s at most)" % by if facts["late"] else "", facts["lost"])
+        len(one.late), " (by %s at most)" % by if one.late else "", len(one.lost))
 
 
 def note_of(one: Question, text: Callable[[int], str]) -> str:
     """Returns what became of requests; an empty text if the condition has none."""
-    facts = one.facts()
-    overlaps = "; %d begin before the previous one is answered, and get the same answer: with %s, " \
-        "each gets its own" % (facts.get("overlaps", 0), "`each req -> ack within N`" if
-                               one.asked.name else "vcdkit-table --channel")
-    return facts and "%s, %s, %d open at the end%s" % (
-        counted(facts["requests"], "request"), late_text(one, text), facts["open"],
-        overlaps * bool(facts.get("overlaps"))) or ""
+    overlaps = "; %d begin before the previous one is answered, and get the same answer: with " \
+        "%s, each gets its own" % (one.overlaps, "`each req -> ack within N`" if one.asked.name
+                                   else "vcdkit-table --channel")
+    return "%s, %s, %d open at the end%s" % (
+        counted(one.requests, "request"), late_text(one, text), len(one.waiting), overlaps * bool(
+            one.overlaps and not one.in_order)) if one.condition.answer else ""
 
 
 def list_latencies(asking: Questions, dump: Dump, text: Callable[[int], str],
@@ -150,7 +148,7 @@ def list_latencies(asking: Questions, dump: Dump, text: Callable[[int], str],
 
 
 def line_of(one: Question, its: List[int], text: Callable[[int], str]) -> str:
-    """Returns the first time of a list and how many there are; of requests in order of each kind."""
+    """Returns the first time of a list and how many there are; of requests in order each kind."""
     kinds = ["%d %s%s" % (len(times), what, " (%s%s)" % (
         text(times[0]), ", .." * (len(times) > 1)) if times else "") for what, times in (
             ("without an answer", [time for time, _ in one.lost]),

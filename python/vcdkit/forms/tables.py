@@ -46,8 +46,8 @@ def with_edges(transactions: Iterable[List[Any]]) -> Iterator[Tuple[List[Any], L
         early += any(one is not None and one < 0 for one in edges)
         yield of, edges
     sys.stdout.flush()
-    print("vcdkit-table: %stransactions: %d; that lack a transfer: %d; with a number of edges below "
-          "0: %d" % ("" if count else "warning: ", count, lacking, early), file=sys.stderr)
+    print("vcdkit-table: %stransactions: %d; that lack a transfer: %d; with a number of edges "
+          "below 0: %d" % ("" if count else "warning: ", count, lacking, early), file=sys.stderr)
 
 
 def bus_rows(transactions: Iterable[List[Any]], names: List[str], heads: List[List[str]],

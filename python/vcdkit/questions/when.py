@@ -3,7 +3,7 @@ import collections
 import functools
 import math
 import re
-from typing import (Any, Callable, Deque, Dict, Iterator, List, NamedTuple, Optional,
+from typing import (Any, Deque, Dict, Iterator, List, NamedTuple, Optional,
                     Sequence, Tuple)
 
 from ..errors import DumpFault, UnknownName, UsageError
@@ -130,12 +130,6 @@ class Question:
         return {"requests": self.requests, "late": len(self.late), "lost": len(self.lost), **of_one,
                 "open": len(self.waiting), "latest": self.latest}
 
-    def late_at_end(self, is_over: Callable[[int], bool]) -> List[Outcome]:
-        """Returns the requests that waited until a time that is over where the dump ends. What else
-        is left open there is neither in time nor late."""
-        late = first_ones([until for _, until in self.waiting], is_over)
-        return self.over(late[-1] + 1) if late else []
-
 
 class Questions:
     """Conditions that are asked in one pass over a dump."""
@@ -181,7 +175,6 @@ class Questions:
             self._of_clock[clock or 1] |= one.bit | one.answer
             self.again |= one.bit if asked.word == "each" else 0
         self._add_edges(1, rise, fall)
-        self._numbers_of = {one.condition.bit.bit_length(): at for at, one in enumerate(self.each)}
         self._answering = sum(one.condition.bit for one in self.each if one.condition.answer)
 
     def _add_edges(self, clock: int, rise: Optional[str], fall: Optional[str]) -> None:
@@ -192,16 +185,18 @@ class Questions:
 
     def outcomes(self) -> Iterator[Tuple[Numbers, Outcome]]:
         """Returns what becomes of each condition, with its number, as soon as that is known. Those
-        without an answer that begin to hold at a time come as one."""
+        without an answer that begin to hold at a time come as one. Of requests that wait at the
+        end, those are late whose time is over there."""
         try:
             yield from self._known()
             fault = None
         except DumpFault as error:
             fault = error
         for number, its in enumerate(self.each):
-            late = its.late_at_end(self.dump.is_over(fault)) if its.has_time and its.waiting else []
-            late += its.over(math.inf) if self._open_fails and not fault else []
-            yield from (((number,), one) for one in late)
+            untils = [until for _, until in its.waiting if its.has_time]
+            late = first_ones(untils, self.dump.is_over(fault)) if untils else []
+            end = math.inf if self._open_fails and not fault else late[-1] + 1 if late else 0
+            yield from (((number,), one) for one in its.over(end))
         if fault:
             raise fault
 
@@ -209,12 +204,11 @@ class Questions:
         """Returns why a condition was never evaluated; an empty text if it was. That an event is
         not triggered is known at each time, but what has to hold `always` needs a trigger."""
         one = self.each[number]
-        if one.clock and not self.counts[one.clock]:
-            return "its clock has no edge in this window, so it was never evaluated"
         is_known = self._evaluated & one.condition.bit or one.asked.word != "always" and (
             self.conditions.with_events & one.condition.bit and self.dump.check().last is not None)
-        return "" if is_known else ("none of its signals has a value or a trigger in this window, "
-                                    "so it was never evaluated")
+        why = ("its clock has no edge" if one.clock and not self.counts[one.clock] else
+               "" if is_known else "none of its signals has a value or a trigger")
+        return why and why + " in this window, so it was never evaluated"
 
     def times(self) -> Iterator[Tuple[int, Numbers]]:
         """Returns the times at which conditions hold, with their numbers: a request has its answer
@@ -255,7 +249,8 @@ class Questions:
         """Returns the outcomes that are known before the end of the dump."""
         conditions, holding, held = self.conditions, self.conditions.compiled(), 0
         plain = sum(one.condition.bit for one in self.each if not one.condition.answer)
-        numbers_of = functools.lru_cache(maxsize=1 << 12)(self._numbers)
+        numbers_of = functools.lru_cache(maxsize=1 << 12)(lambda bits: tuple(
+            at for at, one in enumerate(self.each) if bits & one.condition.bit))
         for time, due, clocks in self._looks():
             now = holding(due)
             self._evaluated |= now
@@ -269,14 +264,6 @@ class Questions:
             over = conditions.with_more and conditions.end(clocks)
             if over and not self.edges:  # the events are over
                 held = held & ~over | holding(over)
-
-    def _numbers(self, bits: int) -> Numbers:
-        """Returns the numbers of some conditions."""
-        found = []
-        while bits:
-            found.append(self._numbers_of[(bits & -bits).bit_length()])
-            bits &= bits - 1
-        return tuple(found)
 
     def _looks(self) -> Iterator[Tuple[int, int, int]]:
         """Returns each time at which conditions are looked at, those of which a value is another
