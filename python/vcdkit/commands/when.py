@@ -126,23 +126,20 @@ def note_of(one: Question, text: Callable[[int], str]) -> str:
 def list_latencies(asking: Questions, dump: Dump, text: Callable[[int], str],
                    asked: argparse.Namespace) -> int:
     """Writes when each request gets its answer, and how long that takes; returns how many do."""
-    one, lengths, late = asking.each[0], [], 0
+    one, lengths = asking.each[0], []  # type: Question, List[int]
     shown = text if one.has_time else (lambda count: str(count))
     for _, (begin, answer, length) in asking.outcomes():
-        if answer is None:
-            late += 1
-            continue
-        lengths.append(length)
-        if asked.json:
+        lengths += [length] * (answer is not None)
+        if answer is not None and asked.json:
             write_json({"time": begin, "answer": answer, "length": length})
-        else:
+        elif answer is not None:
             print(text(begin), text(answer), shown(length))
     if lengths and not asked.json:
         mean = sum(lengths) / len(lengths)
         print("least %s, mean %s, greatest %s, %d in time, %s" % (
             shown(min(lengths)), mean_text(dump.timescale, mean, asked.unit) if one.has_time
             else "%.6g" % mean, shown(max(lengths)), len(lengths), late_text(one, text)))
-    elif late and not asked.json:
+    elif (one.late or one.lost) and not asked.json:
         print("0 in time, " + late_text(one, text))
     return len(lengths)
 

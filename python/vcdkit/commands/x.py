@@ -23,7 +23,8 @@ from ..forms.many import answer_file
 from ..forms.text import in_json, shown, write_json
 from ..model.values import value_in
 from ..questions.saved import Exceptions
-from ..questions.unknown import Signals, has_values, values_of, values_that_become
+from ..questions.unknown import Signals, values_of, values_that_become
+from ..reading import body
 from . import FAULT, dump_of, form_for, parser, question, say, times_of, window_of
 
 
@@ -84,7 +85,7 @@ def answer(asked: argparse.Namespace, tests: List[Test]) -> int:
         if not count and "VerilatedVcd" in str(dump.header.version):
             notes.append("Verilator wrote this dump: it simulates two states, so it has no x")
         say("vcdkit-x", notes)
-    if not count and not has_values(part, signals):
+    if not count and not any(True for _ in body.steps(part, signals)):
         raise UsageError("no signal has a value that could be x in this window, so nothing was "
                          "looked at")
     if asked.count:

@@ -414,13 +414,11 @@ class Conditions:
             order += node.parts
         for node in reversed(order):
             _type(node)
-            for one, other, sign in zip(node.parts, node.parts[::-1], (
-                    node.sign, MIRRORED.get(node.sign, node.sign))):
+            for one, other in zip(node.parts, node.parts[::-1]):
                 if one.sign == "age" and isinstance(other.value, (int, float)):
                     code = one.parts[0].value.signal.code.encode() + b" "
-                    self._ages.update((code, age) for age, others in (
-                        (math.ceil(other.value), (">", "<=")),
-                        (math.floor(other.value) + 1, ("<", ">="))) if sign.strip() not in others)
+                    ages = math.ceil(other.value), math.floor(other.value) + 1
+                    self._ages.update((code, age) for age in ages)
 
     def _call(self, tree: Node, result: str = "{}") -> str:
         """Returns a call of a function of values, which is what an expression is. It has a line for

@@ -98,8 +98,3 @@ def values_of(part: Source, signals: Signals, letters: bytes) -> Iterator[Tuple[
             if is_shown and last.get(code) != text:
                 yield time, code, text
             last[code] = text if is_shown else None
-
-
-def has_values(part: Source, signals: Signals) -> bool:
-    """Whether one of some signals has a value in a part."""
-    return any(True for _ in body.steps(part, signals))
