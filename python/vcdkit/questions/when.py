@@ -43,9 +43,10 @@ class Asked(NamedTuple):
     @property
     def text(self) -> str:
         """The condition whose times are listed: with always, that it does not hold."""
+        if self.word != "always":
+            return self.condition
         has_answer = "->" in re.sub('"[^"]*"', "", self.condition)
-        return self.condition if self.word != "always" else (
-            "!(%s)" if has_answer else "!(%s) !== 1'b0") % self.condition
+        return ("!(%s)" if has_answer else "!(%s) !== 1'b0") % self.condition
 
     @property
     def front(self) -> str:
