@@ -530,6 +530,10 @@ class Answers(Case):
                                  ["0,1", "5,2", "9,3", "status 1"])
                 self.assertEqual(said("table --decimal --at 5,9,11 a.vcd", name)[1:],
                                  ["5,2", *at_9, "status 1"])
+        # A signal without a value is x, and an expression has none before one of its signals has.
+        self.file("a.vcd", made("a 1 !, q 2 @, p 2 #", "#0;1!;#5;b11 @;#7;b1 #;"))
+        self.assertEqual(said("table a.vcd", "b = a ? q : p", "c = q", "d = {p}")[1:-1], [
+            "0,xx,-,-", "5,11,11,-", "7,11,11,01"])
         self.file("a.vcd", made(bus, "#0;0#;#9;1# bad;"))
         self.assertEqual(said("when --rise other --from 9 a.vcd 'age(other) == 9'"),
                          ["9ns", "status 2"])

@@ -177,7 +177,9 @@ def ask_channels(of: Asker) -> None:
     if all(one.edges for one in its) and of.happens(.5):
         options = []
     options += ["--flush=" + flush.text] if flush else []
-    words += [*options, *window.words, *[mode] * bool(mode), *(["--unit", unit] if unit else [])]
+    failing = of.maybe(.3, "--open-fails")
+    words += [*options, *window.words, *[mode] * bool(mode), *(["--unit", unit] if unit else []),
+              *failing]
     words = [*("--channel=" + one.word for one in its), *of.placed(words, [of.path])]
     said, is_json = run("table", words), mode == "--json"
     if of.is_late(window, "channels", words, said):
@@ -217,7 +219,8 @@ def ask_channels(of: Asker) -> None:
         csv.reader(io.StringIO(said.text, newline="")))
     rows = [["" if cell is None else str(cell) for cell in row] for row in [head, *wanted]]
     of.same("channels", words, (said.status, got, said.about if fault else said.message), (
-        int(bool(fault)), [dict(zip(head, row)) for row in wanted] if is_json else
+        int(bool(fault or failing and (lacking or not lines))),
+        [dict(zip(head, row)) for row in wanted] if is_json else
         rows * (not fault or mode != "--histogram"), fault or note))
 
 

@@ -16,13 +16,14 @@ examples:
   vcdkit-table --rise tb.clk --if 'tb.valid & tb.ready' sim.vcd tb.address tb.data
   vcdkit-table --rise clk --channel 'a: valid & ready: addr' --channel 'r: rvalid & rready' a.vcd"""
 import argparse
+import collections
 import csv
 import io
 import itertools
 import os
 import re
 import sys
-from typing import List
+from typing import Any, Counter, List
 
 from ..forms.tables import bus_rows, cells_of, heads_of
 from ..forms.text import write_json
@@ -46,15 +47,17 @@ def words_of(words: List[str]) -> argparse.Namespace:
     options.add_argument("--histogram", action="store_true",
                          help="with --channel: count how many transfers took each number of "
                          "edges")
+    options.add_argument("--open-fails", action="store_true", help="with --channel: exit with 1 if "
+                         "a transaction lacks a transfer, or if there is none")
     options.window().unit("that of the time scale").json().file("*")
     asked = options.parse_args(words)
     if asked.at is not None and (is_part(asked) or (asked.rise, asked.fall) != (None, None)):
         options.error("--at goes with none of --rise, --fall, --from, --to and --after")
     if bool(asked.channels) == bool(asked.names or asked.names_of is not None):
         options.error("give NAMEs, --names or --channel")
-    for name in "histogram", "flush":
+    for name in "histogram", "flush", "open_fails":
         if getattr(asked, name) and not asked.channels:
-            options.error("--%s goes with --channel" % name)
+            options.error("--%s goes with --channel" % name.replace("_", "-"))
     each = [(re.split("(?<! ): ", one, maxsplit=2) + ["", ""])[:3] for one in asked.channels]
     if any(not name.strip() or not condition.strip() for name, condition, _ in each):
         options.error("a channel is 'NAME: CONDITION: SIGNAL ..', with a space after each colon "
@@ -87,14 +90,14 @@ def main(words: List[str]) -> int:
         lambda ticks: ticks)
     cells = [cells_of(decimal, (form_for(asked, one) for one in its), asked.json)
              for its in columns]
-    names = [one[0] for one in channels]
+    names, counts = [one[0] for one in channels], collections.Counter()  # type: Any, Counter[str]
     heads = heads_of(names, columns, unit, bool(asked.channels), asked.json)
     if asked.channels:
         from ..questions.when import Questions
         rules = [(name, text, clock) for name, clock, text, _ in channels]
         rules += [("--flush", asked.flush, channels[0][1])] if asked.flush else []
         asking = Questions(dump, rules, asked.rise, asked.fall, True, columns)
-        head, rows = bus_rows(asking.transactions(), names, heads, cells, asked.histogram)
+        head, rows = bus_rows(asking.transactions(), names, heads, cells, asked.histogram, counts)
     else:
         head, rows = heads[0], itertools.starmap(cells[0], dump.rows(
             asked.names, times, asked.rise, asked.fall, asked.condition))
@@ -109,4 +112,4 @@ def main(words: List[str]) -> int:
             write_json(dict(zip(head, row)))
     else:
         csv.writer(sys.stdout, lineterminator="\n").writerows(itertools.chain([head], rows))
-    return 0
+    return int(asked.open_fails and (counts["lacking"] > 0 or not counts["all"]))

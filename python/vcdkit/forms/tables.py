@@ -3,7 +3,7 @@ import collections
 import functools
 import itertools
 import sys
-from typing import Any, Callable, Iterable, Iterator, List, Sequence, Tuple
+from typing import Any, Callable, Counter, Iterable, Iterator, List, Sequence, Tuple
 
 from ..model.signals import Signal, keys_of
 from ..model.values import Cell, Value
@@ -36,25 +36,27 @@ def heads_of(names: Sequence[str], columns: Sequence[Sequence[Signal]], unit: st
             for name, front, its in zip(names, fronts, columns)]
 
 
-def with_edges(transactions: Iterable[List[Any]]) -> Iterator[Tuple[List[Any], List[Any]]]:
-    """Returns transactions with the edges from one transfer to the next. Behind them it says how
-    many there are, lack a transfer, or have one that comes before that to its left."""
-    count = lacking = early = 0
-    for count, of in enumerate(transactions, 1):
+def with_edges(transactions: Iterable[List[Any]], counts: Counter[str]
+               ) -> Iterator[Tuple[List[Any], List[Any]]]:
+    """Returns transactions with the edges from one transfer to the next. It counts those that lack
+    a transfer, or have one that comes before that to its left, and says so behind them."""
+    for of in transactions:
         edges = [other[0] - one[1] if one and other else None for one, other in zip(of, of[1:])]
-        lacking += None in of
-        early += any(one is not None and one < 0 for one in edges)
+        counts.update(all=1, lacking=None in of,
+                      early=any(one is not None and one < 0 for one in edges))
         yield of, edges
     sys.stdout.flush()
     print("vcdkit-table: %stransactions: %d; that lack a transfer: %d; with a number of edges "
-          "below 0: %d" % ("" if count else "warning: ", count, lacking, early), file=sys.stderr)
+          "below 0: %d" % ("" if counts["all"] else "warning: ", counts["all"], counts["lacking"],
+                           counts["early"]), file=sys.stderr)
 
 
 def bus_rows(transactions: Iterable[List[Any]], names: List[str], heads: List[List[str]],
-           cells: Sequence[Cells], is_histogram: bool) -> Tuple[List[str], Iterable[List[Any]]]:
+           cells: Sequence[Cells], is_histogram: bool, found: Counter[str]
+             ) -> Tuple[List[str], Iterable[List[Any]]]:
     """Returns the head and the rows of channels with some names and heads."""
     pairs = ["%s to %s" % pair for pair in zip(names, names[1:])]
-    each = with_edges(transactions)
+    each = with_edges(transactions, found)
     if is_histogram:
         counts = collections.Counter(pair for _, edges in each for pair in enumerate(edges))
         return ["edges", *pairs], [[one, *(counts[at, one] for at in range(len(pairs)))]
