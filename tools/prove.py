@@ -196,22 +196,23 @@ def take(top, name, to=None):
 def take_programs(top, cpu="", has_objects=False):
     """Takes the programs that `rt ci` passed in a copy, with their object files if they are there
     or wanted, and returns the status."""
+    for crate in MAINS.values():
+        is_there = os.path.isfile(os.path.join(top, "crates", crate, "out", crate + ".o"))
+        if (cpu or has_objects and not is_there) and built(top, crate, "out/%s.o" % crate, cpu):
+            return 1
     for name, crate in MAINS.items():
-        made = "crates/%s/out/%s" % (crate, crate)
-        if cpu or has_objects and not os.path.isfile(os.path.join(top, made + ".o")):
-            status = built(top, crate, "out/%s.o" % crate, cpu)
-            if status:
-                return status
-        take(top, made + ".o")
-        take(top, made, name)
+        take(top, "crates/%s/out/%s.o" % (crate, crate))
+        take(top, "crates/%s/out/%s" % (crate, crate), name)
     with open(STAMP, "w", encoding="utf-8") as stamp:
         stamp.write(cpu)
+    # A source may have changed since the copy was made.
+    os.utime(STAMP, (os.path.getmtime(os.path.dirname(top)),) * 2)
     return 0
 
 
 def is_fresh(cpu="", has_objects=False):
-    """Returns whether the programs, with object files or not, were built for this processor after
-    the last change of a file that they are made of."""
+    """Returns whether the programs, with object files or not, were built for this processor of the
+    files that are there, because none of these changed since `rt ci` began."""
     files = [STAMP, *(os.path.join(TOP, name) for name in MAINS)]
     if has_objects:
         files += [os.path.join(TOP, "crates", it, "out", it + ".o") for it in MAINS.values()]
@@ -236,8 +237,7 @@ def made(what, cpu):
             return take_programs(top, cpu, what == "objects")
         archive = "out/lib%s.a" % LIBRARY
         status = built(top, LIBRARY, archive)
-        if not status:
-            take(top, "crates/%s/%s" % (LIBRARY, archive))
+        take(top, "crates/%s/%s" % (LIBRARY, archive))
         return status
 
 
