@@ -120,6 +120,7 @@ pub fn run_to_end<T: Task, S: Source, W: Sink>(
     ensures devices { CountsBoth S.failures feed.old feed.new
         (W.device out.old) (W.device out.new) result }
     ensures early { EndsIf (T.may_end (T.fixed task.old)) result }
+    ensures fixed { T.fixed task.new ≡ T.fixed task.old }
     ensures last { EndsAtRead (S.last_failed (source_of feed.new)) result }
     ensures windows { SameWindows feed.old feed.new }
     ensures passed_on { HasPassedOn (W.kept_back out.new) result }

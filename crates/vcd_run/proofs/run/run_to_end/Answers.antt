@@ -59,6 +59,9 @@ returns-in_err-advance_ahead-clause-needed g c = λ p h i front begin views give
     rw e (needed_before p h (limit_of c.args.feed.now) (chunk_len_of c.args.feed.now) i front before s.0 (supply_of f) begin
     (g.W.Sink.device c.items.out) (g.W.Sink.device c.advance_ahead.new.out) same read s.2 (take a.1.1.2.0.0 a.1.1.0, a.1.1.2.0.1))
 
+pub returns-in_err-advance_ahead-clause-fixed : goal.returns-in_err-advance_ahead-clause-fixed
+returns-in_err-advance_ahead-clause-fixed g c = c.in_err-advance_ahead.ensures.fixed ∙ c.items.invariant.2
+
 pub returns-in_err-pass_on_before_read-clause-runs : goal.returns-in_err-pass_on_before_read-clause-runs
 returns-in_err-pass_on_before_read-clause-runs g c = λ p h i front begin views given stands on writes.
     let s = c.items.invariant.4 p h i front begin views given stands on writes in
@@ -89,6 +92,9 @@ returns-in_err-pass_on_before_read-clause-needed g c = λ p h i front begin view
     let some = c.in_err-pass_on_before_read.ensures.puts.0 in
     rw e (needed_before p h (limit_of c.args.feed.now) (chunk_len_of c.args.feed.now) i front before all (supply_of f) begin
     (g.W.Sink.device c.advance_ahead.new.out) (g.W.Sink.device c.pass_on_before_read.new.out) same read first (take some.0 [], some.1))
+
+pub returns-in_err-pass_on_before_read-clause-fixed : goal.returns-in_err-pass_on_before_read-clause-fixed
+returns-in_err-pass_on_before_read-clause-fixed g c = c.in_ok-advance_ahead.ensures.fixed ∙ c.items.invariant.2
 
 pub returns-in_err-step-clause-runs : goal.returns-in_err-step-clause-runs
 returns-in_err-step-clause-runs g c = λ p h i front begin views given stands on writes.
@@ -166,6 +172,9 @@ returns-in_err-step-clause-passed_on g c = λ input is.
       | inr holds ↦ absurd (not_one_more _ (sym (ap g.S.Source.failures (s.ahead holds)) ∙ s.over.advances.failed (ap step_end read) unfailed))
     ]
 
+pub returns-in_err-step-clause-fixed : goal.returns-in_err-step-clause-fixed
+returns-in_err-step-clause-fixed g c = c.in_err-step.ensures.fixed ∙ c.in_ok-advance_ahead.ensures.fixed ∙ c.items.invariant.2
+
 pub returns-in-Ended-clause-early : goal.returns-in-Ended-clause-early
 returns-in-Ended-clause-early g c = λ is.
     let fixed = c.in_ok-advance_ahead.ensures.fixed ∙ c.items.invariant.2 in
@@ -221,6 +230,9 @@ returns-in-Ended-clause-devices g c =
           ∙ ap (λ n. n + 0) same,
       c.in_ok-step.ensures.over.writes ∙ ap (λ n. n + 0) out,
     )
+
+pub returns-in-Ended-clause-fixed : goal.returns-in-Ended-clause-fixed
+returns-in-Ended-clause-fixed g c = c.in_ok-step.ensures.fixed ∙ c.in_ok-advance_ahead.ensures.fixed ∙ c.items.invariant.2
 
 pub items-preserved : goal.items-preserved
 items-preserved g c =
