@@ -1,6 +1,6 @@
 -- Items that a strobe takes ahead in a chunk, one after the other.
 use Rattle.std.proofs.Common.{◌≡◌, ◌⊎◌, inl, inr, ℕ, ◌+◌, ◌<◌, ◌≤◌, ◌^◌, false, List, [], ◌∷◌, ◌++◌, length, Result, Ok, Err, refl, sym, ap, subst, ◌∙◌, arith, append-nil, append_assoc, length-append}
-use Rattle.std.specs.Prelude.{IfOk}
+use Rattle.std.specs.Prelude.{IfOk, ⊤}
 use Rattle.std.proofs.lemmas.Bool.{false≢true}
 use Rattle.vcd_model.specs.Header.{Header}
 use Rattle.vcd_model.specs.Items.{BodyItem}
@@ -27,9 +27,10 @@ use Rattle.vcd_body.specs.declared.walk.WalkEnd.{WalkEnd}
 use Rattle.vcd_body.specs.declared.walk.WalkEnd.TheVariants.{AtItem, AtLines, Over}
 use Rattle.vcd_run.specs.Plan.{Plan}
 use Rattle.vcd_run.specs.Task.{EndsAhead, RunsOver}
+use Rattle.vcd_strobe.proofs.FixedSteps.{same_itself, same_then}
 use Rattle.vcd_strobe.proofs.TaskSteps.{takes_rest}
 use Rattle.vcd_strobe.specs.Ahead.{IsReady, StrobesOne}
-use Rattle.vcd_strobe.specs.Strobes.{HasStrobed}
+use Rattle.vcd_strobe.specs.Strobes.{HasStrobed, SameStrobe}
 use Rattle.vcd_strobe.specs.declared.ahead.EachItem.{EachItem}
 use Rattle.vcd_strobe.specs.declared.whole.Strobe.{Strobe}
 
@@ -50,7 +51,7 @@ pub rest_next : (s : Strobe) (p : Plan) (h : Header) (items : List BodyItem) (ha
     → AreRegsAfter (items ++ x ∷ []) (regs_after before one) → IsItem h.codes text one x → Rests one
     → TakesDue {A = Unit {0}} {E = WriteFailed} out out (p.opens items) (p.opens (items ++ x ∷ [])) (Ok tt) × HasStrobed s p h (items ++ x ∷ [])
 rest_next s p h items has text x one before out known read is =
-    let t = takes_rest {E = WriteFailed} s p h items has text x one before (regs_after before one) out known refl read is in (t.due, t.keeps_on refl)
+    let t = takes_rest {E = WriteFailed} {T = λ (l : List BodyItem) (t : List ℕ). ⊤} s p h items has text x one before (regs_after before one) out known refl read is in (t.due, t.keeps_on refl)
 
 -- ---- a walk
 
@@ -175,6 +176,18 @@ module _ (v : HeadView) (s : Stage EachItem Strobe) where
     counts (Ok AtItem) w = w.failures
     counts (Ok Over) w = absurd (false≢true w.3)
     counts (Err e) w = counts-on {A = Unit {0}} s.out w.0.out z.out (Err e) w.1.failures w.2.counts
+
+    along_same : (y : Stage EachItem Strobe) → Trail StrobesOne IsReady (λ _. false) v s y → SameStrobe s.command y.command
+    along_same y Begins = same_itself s.command
+    along_same _ (Further b c so_far one on) = same_then s.command b.command c.command (along_same b so_far) one.did.same
+    along_same _ (Past b c so_far there none is) = rw is (along_same b so_far)
+
+    -- the clocks stay, even if a write failed
+    pub same_ahead : (ended : Result WalkEnd WriteFailed) → Walked ended → SameStrobe s.command z.command
+    same_ahead (Ok AtLines) w = absurd w
+    same_ahead (Ok AtItem) w = along_same z w.trail
+    same_ahead (Ok Over) w = absurd (false≢true w.3)
+    same_ahead (Err e) w = let b = w.0 in same_then s.command b.command z.command (along_same b w.1.trail) w.2.did.same
 
     pub ready_ahead : (ended : Result WalkEnd WriteFailed) → Walked ended → IfOk (as_done ended) (λ _. z.command.count ≤ length z.command.listed.now)
     ready_ahead (Ok AtLines) w = absurd w

@@ -7,6 +7,8 @@ pub mod EdgeLemmas
 pub mod BinaryDigits
 pub mod LineSteps
 pub mod WholeSteps
+pub mod FixedSteps
+pub mod EdgesLeft
 pub mod ItemSteps
 pub mod TurnLemmas
 pub mod PlaceSteps
@@ -19,5 +21,6 @@ pub mod StartSteps
 pub mod HeadSteps
 pub mod CopySteps
 pub mod LongSteps
+pub mod PathSteps
 pub mod NamedSteps
 pub mod Outcomes

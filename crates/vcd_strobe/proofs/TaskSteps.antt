@@ -4,7 +4,6 @@ use Rattle.std.proofs.lemmas.Bool.{le-ltb, lt-ltb}
 use Rattle.std.proofs.lemmas.Option.{none-some, same_Some}
 use Rattle.std.proofs.lemmas.Slice.Eq.{bytes_eq-Decides}
 use Rattle.std.specs.List.{AllByRecursion, list_any}
-use Rattle.std.specs.Prelude.{⊤}
 use Rattle.vcd_model.specs.Declarations.{IdCode, same_code}
 use Rattle.vcd_model.specs.Header.{Header}
 use Rattle.vcd_model.specs.History.{final_value, gives_to}
@@ -154,29 +153,29 @@ module _ (s s' : Strobe) (p : Plan) (h : Header) (items : List BodyItem) (has : 
 strobe_goes : (s : Strobe) (p : Plan) (h : Header) (items : List BodyItem) → HasStrobed s p h items → (more : List BodyItem) → p.ends more ≡ false
 strobe_goes s p h items has more = ap (λ (q : Plan). q.ends more) has.by_plan
 
-pub takes_on : {E : Type 0} (s : Strobe) (p : Plan) (h : Header) (items : List BodyItem) (x : BodyItem) (out out' : Device)
+pub takes_on : {E : Type 0} {T : List BodyItem → List ℕ → Type 0} (s : Strobe) (p : Plan) (h : Header) (items : List BodyItem) (x : BodyItem) (out out' : Device)
     → DueBy (Appends out.held out'.held) (p.opens items) (p.opens (items ++ x ∷ [])) → HasStrobed s p h (items ++ x ∷ [])
-    → TakesOne {E = E} (HasStrobed s p h) (λ (l : List BodyItem) (t : List ℕ). ⊤) p items x out out' (Ok false)
-takes_on s p h items x out out' due has = record { due = due; ends = sym (strobe_goes s p h (items ++ x ∷ []) has (items ++ x ∷ [])); keeps_on = λ e. has; tells_all = λ e. tt }
+    → TakesOne {E = E} (HasStrobed s p h) T p items x out out' (Ok false)
+takes_on s p h items x out out' due has = record { due = due; ends = sym (strobe_goes s p h (items ++ x ∷ []) has (items ++ x ∷ [])); keeps_on = λ e. has; tells_all = λ e. absurd (cc) }
 
-pub takes_failed : {E : Type 0} (s : Strobe) (p : Plan) (h : Header) (items : List BodyItem) (x : BodyItem) (out out' : Device) (failed : E)
+pub takes_failed : {E : Type 0} {T : List BodyItem → List ℕ → Type 0} (s : Strobe) (p : Plan) (h : Header) (items : List BodyItem) (x : BodyItem) (out out' : Device) (failed : E)
     → DueBy (AppendsSome out.held out'.held) (p.opens items) (p.opens (items ++ x ∷ []))
-    → TakesOne {E = E} (HasStrobed s p h) (λ (l : List BodyItem) (t : List ℕ). ⊤) p items x out out' (Err failed)
-takes_failed s p h items x out out' failed due = record { due = due; ends = tt; keeps_on = λ e. absurd (cc); tells_all = λ e. tt }
+    → TakesOne {E = E} (HasStrobed s p h) T p items x out out' (Err failed)
+takes_failed s p h items x out out' failed due = record { due = due; ends = tt; keeps_on = λ e. absurd (cc); tells_all = λ e. absurd (cc) }
 
 -- an item that is no change
-pub takes_rest : {E : Type 0} (s : Strobe) (p : Plan) (h : Header) (items : List BodyItem) (has : HasStrobed s p h items) (text : List ℕ)
+pub takes_rest : {E : Type 0} {T : List BodyItem → List ℕ → Type 0} (s : Strobe) (p : Plan) (h : Header) (items : List BodyItem) (has : HasStrobed s p h items) (text : List ℕ)
     (x : BodyItem) (one : Item) (before r : Regs) (out : Device) → AreRegsAfter (items ++ x ∷ []) r → r ≡ regs_after before one
     → IsItem h.codes text one x
     → ((t : ℕ) × (one ≡ item.Time t)) ⊎ (((b : Section) × (one ≡ item.Begin b)) ⊎ ((one ≡ item.End) ⊎ (one ≡ item.Finish)))
-    → TakesOne {E = E} (HasStrobed s p h) (λ (l : List BodyItem) (t : List ℕ). ⊤) p items x out out (Ok false)
-takes_rest {E = E} s p h items has text x one before r out known next read is = by_item is
+    → TakesOne {E = E} (HasStrobed s p h) T p items x out out (Ok false)
+takes_rest {E = E} {T = T} s p h items has text x one before r out known next read is = by_item is
   where
     same : SameEdges s s
     same = record { edges = refl; last = refl }
 
     Takes : BodyItem → Type 0
-    Takes y = TakesOne {E = E} (HasStrobed s p h) (λ (l : List BodyItem) (t : List ℕ). ⊤) p items y out out (Ok false)
+    Takes y = TakesOne {E = E} (HasStrobed s p h) T p items y out out (Ok false)
 
     read_as : (other : Item) → one ≡ other → IsItem h.codes text other x
     read_as other e = subst (λ (i : Item). IsItem h.codes text i x) e read

@@ -15,7 +15,7 @@ use Rattle.vcd_body.specs.declared.ahead.ScannedItem.{ScannedItem}
 use Rattle.vcd_body.specs.declared.item.Item.{Item}
 use Rattle.vcd_body.specs.declared.item.Regs.{Regs}
 use Rattle.vcd_run.specs.Plan.{Plan}
-use Rattle.vcd_strobe.specs.Strobes.{HasStrobed}
+use Rattle.vcd_strobe.specs.Strobes.{HasStrobed, SameStrobe}
 use Rattle.vcd_strobe.specs.declared.ahead.EachItem.{EachItem}
 use Rattle.vcd_strobe.specs.declared.whole.Strobe.{Strobe}
 
@@ -32,6 +32,7 @@ pub record StrobesOne (v : HeadView) (s t : Stage EachItem Strobe) (result : Res
   pub item : TakesItem v s.ahead t.ahead s.regs scanned
   pub regs : t.regs ≡ regs_after s.regs scanned.item
   pub on : TakesNext v scanned.text.now scanned.item s.regs s.command t.command s.out t.out result
+  pub same : SameStrobe s.command t.command
 
 -- the strobe can be called
 abbrev pub IsReady : EachItem → Strobe → List ℕ → Regs → Type 0

@@ -1,5 +1,5 @@
 -- Clocks, and whether a change is a turn of one.
-use Rattle.std.specs.Prelude.{◌≡◌, ℕ, ◌+◌, ◌&&◌, ◌==◌, Bool, false, cond, List, Option, Some, slice_get}
+use Rattle.std.specs.Prelude.{◌≡◌, ℕ, ◌+◌, ◌-◌, ◌&&◌, ◌==◌, Bool, false, cond, List, Option, Some, filter_map, option_map, slice_get}
 use Rattle.std.specs.List.{AllZip}
 use Rattle.std.specs.Str.{byte}
 use Rattle.vcd_model.specs.Declarations.{IdCode}
@@ -20,6 +20,14 @@ pub record IsClock (codes : List IdCode) (c : Clock) (k : ModelClock) : Type 0 w
 
 abbrev pub AreClocks : List IdCode → List Clock → List ModelClock → Type 0
 AreClocks codes clocks ks = AllZip (IsClock codes) clocks ks
+
+-- the clock of a code of these places, each code of which has several
+abbrev pub clock_shown : List IdCode → Clock → Option ModelClock
+clock_shown places c = option_map (λ code. record { code = code; place = code.size - 1 - c.index; falls = c.falls }) (slice_get places (place_of c.code 0))
+
+-- the clocks as the definitions have them
+abbrev pub clocks_shown : HeadView → List Clock → List ModelClock
+clocks_shown v clocks = filter_map (clock_shown (codes_shown v)) clocks
 
 -- the digit goes as the clock's edges do
 abbrev pub goes : Bool → Option ℕ → Option ℕ → Bool

@@ -10,7 +10,8 @@
 //! - `touched`: the list of codes that may have a line at the next edge
 //! - `edge_lines`: the lines of an edge
 //! - `clocks`: `Clock`, and whether a change is a turn of one
-//! - `named`: `ClockName`; the clocks that names select
+//! - `named`: `ClockName`, `NoClock`; the clocks of names
+//! - `paths`: whether a variable has a path, and is a real number
 //! - `whole`: `Strobe`, and what it does with a change
 //! - `longest`: the length of the longest code
 //! - `places`: a header that has each code four times
@@ -25,6 +26,7 @@ mod clocks;
 mod edge_lines;
 mod longest;
 mod named;
+mod paths;
 mod places;
 mod role;
 mod run;
@@ -35,7 +37,7 @@ mod whole;
 
 pub use clocks::Clock;
 pub use longest::longest_code;
-pub use named::{ClockName, find_clocks};
+pub use named::{ClockName, NoClock, find_clocks};
 pub use places::places_of;
 pub use role::{Role, Wanted};
 pub use run::strobe;

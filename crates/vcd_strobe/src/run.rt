@@ -1,8 +1,8 @@
 //! A whole strobe over a body.
-ghost use Rattle.std.specs.Prelude.{◌≡◌, ℕ, ◌-◌, ◌^◌, ◌<◌, ◌≤◌, List, [], length, ⊤};
+ghost use Rattle.std.specs.Prelude.{◌≡◌, ◌↔◌, ℕ, ◌-◌, ◌^◌, ◌<◌, ◌≤◌, List, [], length};
 ghost use Rattle.vcd_model.specs.Header.{Header};
 ghost use Rattle.vcd_model.specs.Input.{Input};
-ghost use Rattle.vcd_model.specs.Strobe.{Clock as ModelClock, bare, strobe_head, time_code};
+ghost use Rattle.vcd_model.specs.Strobe.{Clock as ModelClock, bare, edges_in, strobe_head, time_code};
 ghost use Rattle.vcd_model.specs.Tokens.{Token};
 ghost use Rattle.vcd_text.specs.Advances.{HasNotFailed};
 ghost use Rattle.vcd_text.specs.Device.{Counts, Puts, Takes};
@@ -69,7 +69,8 @@ fn put_strobe_head<W: Sink>(
 
 /// Writes the head of a strobe of the variables that are marked (have 1 in `marks`, as `select`
 /// sets them), and the lines of all edges of the body that follows the header of `view`. `strobe`
-/// is one before the first item.
+/// is one before the first item. Once the body was read to its end, its `edges` are 0 if and only if
+/// there was no edge.
 ///
 /// # Errors
 ///
@@ -88,7 +89,8 @@ pub fn strobe<S: Source, W: Sink>(
     ensures gives { (h : Header) (names : List (List ℕ)) (ks : List ModelClock) (i : Input)
         (front : List Token) → IsViewOf view.entry h → marks.now ≡ marks_of names h.declarations
         → HasStrobed strobe.old (strobe_plan ks h names) h [] → HasGiven i front feed.old
-        → BodyGives (λ _ _. ⊤) (strobe_plan ks h names) h i front (limit_of feed.old)
+        → BodyGives (λ items _. strobe.new.edges ≡ 0 ↔ edges_in ks items ≡ [])
+        (strobe_plan ks h names) h i front (limit_of feed.old)
         (seen feed.new) (W.device out.old) (W.device out.new) result }
     ensures needed { (h : Header) (names : List (List ℕ)) (ks : List ModelClock) (i : Input)
         (front : List Token) → IsViewOf view.entry h → marks.now ≡ marks_of names h.declarations

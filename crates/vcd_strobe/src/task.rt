@@ -1,8 +1,12 @@
 //! A strobe as a task.
-ghost use Rattle.std.specs.Prelude.{◌≡◌, ◌-◌, ◌^◌, ◌<◌, ◌≤◌, IfOk, false, length, ⊤};
+ghost use Rattle.std.specs.Prelude.{◌≡◌, ◌-◌, ◌^◌, ◌<◌, ◌≤◌, IfOk, List, false, length};
+ghost use Rattle.vcd_model.specs.Strobe.{edges_in};
 ghost use Rattle.vcd_body.specs.Given.{IsGoodText};
 ghost use Rattle.vcd_text.specs.Device.{Counts};
-ghost use Rattle.vcd_strobe.specs.Strobes.{HasStrobed, TakesAny};
+ghost use Rattle.vcd_view.specs.declared.view.HeadView.{HeadView};
+ghost use Rattle.vcd_strobe.specs.Clocks.{clocks_shown};
+ghost use Rattle.vcd_strobe.specs.declared.clocks.Clock.{Clock};
+ghost use Rattle.vcd_strobe.specs.Strobes.{HasStrobed, SameStrobe, TakesAny};
 
 use crate::ahead::EachItem;
 use crate::whole::Strobe;
@@ -30,6 +34,7 @@ impl Strobe<'_> {
         ensures takes { TakesAny view.entry self.old self.new regs code form text.now
             (W.device out.old) (W.device out.new) result }
         ensures counts { Counts (W.device out.old) (W.device out.new) result }
+        ensures same { SameStrobe self.old self.new }
         ensures count { IfOk result (λ _. self.new.count ≤ length self.new.listed.now) }
     {
         let Some(role) = self.role(code) else {
@@ -52,11 +57,14 @@ impl Strobe<'_> {
 impl Task for Strobe<'_> {
     ghost keeps = { λ strobe plan h items. HasStrobed strobe plan h items };
 
-    ghost tells = { λ _ _ _. ⊤ };
+    ghost tells = { λ strobe items _. strobe.edges
+        ≡ length (edges_in (clocks_shown strobe.places strobe.clocks.now) items) };
 
     ghost is_ready = { λ strobe. strobe.count ≤ length strobe.listed.now };
 
-    ghost fixed = { λ _. tt };
+    ghost Fixed = { HeadView × List Clock };
+
+    ghost fixed = { λ strobe. (strobe.places, strobe.clocks.now) };
 
     ghost may_end = { λ _. false };
 

@@ -252,6 +252,7 @@ impl Strobe<'_> {
             → is_followed r.wanted ≡ true → TakesChange self.old self.new regs code form text.now
             (W.device out.old) (W.device out.new) result }
         ensures counts { Counts (W.device out.old) (W.device out.new) result }
+        ensures same { SameStrobe self.old self.new }
         ensures count { IfOk result (λ _. self.new.count ≤ length self.new.listed.now) }
     {
         let Some(role) = self.role(code) else {

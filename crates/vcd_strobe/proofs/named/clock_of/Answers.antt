@@ -1,69 +1,51 @@
-use Rattle.std.proofs.Common.{◌∙◌, arith, refl, sym}
-use Rattle.vcd_view.proofs.LookUpLemmas.{codes_len}
-use Rattle.vcd_view.proofs.RowLemmas.{none_of_shown}
-use Rattle.vcd_strobe.proofs.NamedSteps.{bit_none, bit_some, code_lost, event_none, flags_are, not_one, refused_none}
-use Rattle.vcd_strobe.specs.Named.{model_name}
+use Rattle.std.proofs.Common.{◌≡◌, [], Err, Ok, Some, rules, subst, sym}
+use Rattle.std.specs.Prelude.{string_bytes}
+use Rattle.vcd_model.specs.Strobe.{variables_at}
+use Rattle.vcd_strobe.proofs.NamedSteps.{by_path, by_word, missing, several_paths, several_words}
+use Rattle.vcd_strobe.specs.Named.{FindsRow, IsFirst, IsFound, model_name}
 use Rattle.vcd_strobe.proofs.named.clock_of.Goals as goal
 
-pub returns-then-is_err-clause-finds : goal.returns-then-is_err-clause-finds
-returns-then-is_err-clause-finds c = λ h views.
-    refused_none h c.args.name.now c.from_ref.result.now c.select.result c.from_ref.ensures.value (c.select.ensures.names h views)
-    (sym c.is_err.ensures.value ∙ c.if-is_err.true)
+pub returns-in_err-row : goal.returns-in_err-row
+returns-in_err-row c = λ h views.
+    let name = model_name c.args.name.now in
+    let word : c.deref.result.now ≡ string_bytes c.args.name.now.word = search rules in
+    let e : c.from_residual.result ≡ Err c.in_err-row.field-0.0 = search rules in
+    rw e (several_words h name c.in_err-row.field-0.0 (subst (λ w. FindsRow h w (Err c.in_err-row.field-0.0)) word (c.in_err-row.ensures h views)))
 
-pub returns-in_err-code-clause-finds : goal.returns-in_err-code-clause-finds
-returns-in_err-code-clause-finds c = λ h views.
-    let flags = c.flag_codes.new.flags in
-    let are = flags_are c.args.view h c.args.name.now c.from_ref.result.now c.select.new.marks flags c.select.result views c.from_ref.ensures.value
-    (c.select.ensures.marks h views)
-    (sym c.is_err.ensures.value ∙ c.if-is_err.false) c.flag_codes.ensures.flags in
-    let many = codes_len c.args.view.text.now c.args.view.codes.now h.codes views.codes in
-    rw c.from_residual.ensures (not_one h (model_name c.args.name.now) flags are (omega (arith, many, c.flag_codes.ensures.len, c.requires.flags))
-    (sym c.in_err-code.was ∙ c.only_flag.ensures))
+pub returns-in-Some : goal.returns-in-Some
+returns-in-Some c = λ h views.
+    let name = model_name c.args.name.now in
+    let word : c.deref.result.now ≡ string_bytes c.args.name.now.word = search rules in
+    let is : IsFirst h (variables_at h name.word) (Some c.in-Some.row) = subst (IsFirst h (variables_at h name.word)) c.in-Some.is
+    (subst (λ w. FindsRow h w (Ok c.in_ok-row.field-0)) word (c.in_ok-row.ensures h views)) in
+    subst (λ a. IsFound h a c.bit_of.result) (sym (by_word h name c.in-Some.row is)) (c.bit_of.ensures h is.0 views is.2)
 
-pub returns-in_err-declared-clause-finds : goal.returns-in_err-declared-clause-finds
-returns-in_err-declared-clause-finds c = λ h views.
-    let flags = c.flag_codes.new.flags in
-    let are = flags_are c.args.view h c.args.name.now c.from_ref.result.now c.select.new.marks flags c.select.result views c.from_ref.ensures.value
-    (c.select.ensures.marks h views)
-    (sym c.is_err.ensures.value ∙ c.if-is_err.false) c.flag_codes.ensures.flags in
-    let many = codes_len c.args.view.text.now c.args.view.codes.now h.codes views.codes in
-    let none = none_of_shown c.args.view.text.now c.args.view.codes.now h.codes c.in_ok-code.code views.codes (sym c.code_at.ensures
-    ∙ c.in_err-declared.was) in
-    rw c.from_residual-in_err-declared.ensures
-    (code_lost h (model_name c.args.name.now) flags are (omega (arith, many, c.flag_codes.ensures.len, c.requires.flags)) c.in_ok-code.code
-    (sym c.in_ok-code.was ∙ c.only_flag.ensures) none)
+pub returns-in_err-row-2 : goal.returns-in_err-row-2
+returns-in_err-row-2 c = λ h views.
+    let name = model_name c.args.name.now in
+    let word : c.deref.result.now ≡ string_bytes c.args.name.now.word = search rules in
+    let path : c.deref-2.result.now ≡ string_bytes c.args.name.now.path = search rules in
+    let none : variables_at h name.word ≡ [] = subst (IsFirst h (variables_at h name.word)) c.in_default.is
+    (subst (λ w. FindsRow h w (Ok c.in_ok-row.field-0)) word (c.in_ok-row.ensures h views)) in
+    let e : c.from_residual-in_err-row-2.result ≡ Err c.in_err-row-2.field-0.0 = search rules in
+    rw e (several_paths h name none c.in_err-row-2.field-0.0 (subst (λ w. FindsRow h w (Err c.in_err-row-2.field-0.0)) path (c.in_err-row-2.ensures h views)))
 
-pub returns-then-declared-clause-finds : goal.returns-then-declared-clause-finds
-returns-then-declared-clause-finds c = λ h views.
-    let flags = c.flag_codes.new.flags in
-    let are = flags_are c.args.view h c.args.name.now c.from_ref.result.now c.select.new.marks flags c.select.result views c.from_ref.ensures.value
-    (c.select.ensures.marks h views)
-    (sym c.is_err.ensures.value ∙ c.if-is_err.false) c.flag_codes.ensures.flags in
-    let many = codes_len c.args.view.text.now c.args.view.codes.now h.codes views.codes in
-    event_none c.args.view h (model_name c.args.name.now) flags views are
-    (omega (arith, many, c.flag_codes.ensures.len, c.requires.flags)) c.in_ok-code.code c.in_ok-declared.declared
-    (sym c.in_ok-code.was ∙ c.only_flag.ensures) (sym c.code_at.ensures ∙ c.in_ok-declared.was) c.if-declared.true
+pub returns-in-Some-2 : goal.returns-in-Some-2
+returns-in-Some-2 c = λ h views.
+    let name = model_name c.args.name.now in
+    let word : c.deref.result.now ≡ string_bytes c.args.name.now.word = search rules in
+    let path : c.deref-2.result.now ≡ string_bytes c.args.name.now.path = search rules in
+    let none : variables_at h name.word ≡ [] = subst (IsFirst h (variables_at h name.word)) c.in_default.is
+    (subst (λ w. FindsRow h w (Ok c.in_ok-row.field-0)) word (c.in_ok-row.ensures h views)) in
+    let is : IsFirst h (variables_at h name.path) (Some c.in-Some-2.row) = subst (IsFirst h (variables_at h name.path)) c.in-Some-2.is
+    (subst (λ w. FindsRow h w (Ok c.in_ok-row-2.field-0)) path (c.in_ok-row-2.ensures h views)) in
+    subst (λ a. IsFound h a c.bit_of-in-Some-2.result) (sym (by_path h name none c.in-Some-2.row is)) (c.bit_of-in-Some-2.ensures h is.0 views is.2)
 
-pub returns-in_err-index-clause-finds : goal.returns-in_err-index-clause-finds
-returns-in_err-index-clause-finds c = λ h views.
-    let flags = c.flag_codes.new.flags in
-    let are = flags_are c.args.view h c.args.name.now c.from_ref.result.now c.select.new.marks flags c.select.result views c.from_ref.ensures.value
-    (c.select.ensures.marks h views)
-    (sym c.is_err.ensures.value ∙ c.if-is_err.false) c.flag_codes.ensures.flags in
-    let many = codes_len c.args.view.text.now c.args.view.codes.now h.codes views.codes in
-    rw c.from_residual-in_err-index.ensures (bit_none c.args.view h (model_name c.args.name.now) flags views are
-    (omega (arith, many, c.flag_codes.ensures.len, c.requires.flags)) c.in_ok-code.code c.in_ok-declared.declared
-    (sym c.in_ok-code.was ∙ c.only_flag.ensures) (sym c.code_at.ensures ∙ c.in_ok-declared.was) (sym c.in_err-index.was ∙ c.index_of.ensures))
-
-pub returns-clause-finds : goal.returns-clause-finds
-returns-clause-finds c = λ h views.
-    let flags = c.flag_codes.new.flags in
-    let are = flags_are c.args.view h c.args.name.now c.from_ref.result.now c.select.new.marks flags c.select.result views c.from_ref.ensures.value
-    (c.select.ensures.marks h views)
-    (sym c.is_err.ensures.value ∙ c.if-is_err.false) c.flag_codes.ensures.flags in
-    let many = codes_len c.args.view.text.now c.args.view.codes.now h.codes views.codes in
-    bit_some c.args.view h (model_name c.args.name.now) flags views are
-    (omega (arith, many, c.flag_codes.ensures.len, c.requires.flags)) c.in_ok-code.code c.in_ok-declared.declared
-    (sym c.in_ok-code.was ∙ c.only_flag.ensures) (sym c.code_at.ensures ∙ c.in_ok-declared.was)
-    (record { code = c.in_ok-code.code; index = c.in_ok-index.index; falls = c.args.name.now.falls }) refl refl (sym c.in_ok-index.was
-    ∙ c.index_of.ensures) c.if-declared.false
+pub returns-in-None : goal.returns-in-None
+returns-in-None c = λ h views.
+    let name = model_name c.args.name.now in
+    let word : c.deref.result.now ≡ string_bytes c.args.name.now.word = search rules in
+    let path : c.deref-2.result.now ≡ string_bytes c.args.name.now.path = search rules in
+    let none : variables_at h name.word ≡ [] = subst (IsFirst h (variables_at h name.word)) c.in_default.is
+    (subst (λ w. FindsRow h w (Ok c.in_ok-row.field-0)) word (c.in_ok-row.ensures h views)) in
+    missing h name none (subst (IsFirst h (variables_at h name.path)) c.in-None.is (subst (λ w. FindsRow h w (Ok c.in_ok-row-2.field-0)) path (c.in_ok-row-2.ensures h views)))

@@ -8,6 +8,7 @@ pub returns-clause-takes : goal.returns-clause-takes
 returns-clause-takes g c = λ a a' item. record {
   scanned = c.args.change;
   item = item;
+  same = c.take_any.ensures.same;
   regs = sym (ap (regs_after c.args.regs) c.in-Change.is);
   on = λ p h items x views is known next few has.
       let its = subst (λ (i : Item). IsItem h.codes c.args.change.text.now i x) c.in-Change.is is in

@@ -1,4 +1,5 @@
 use Rattle.std.proofs.Common.{inl, refl}
+use Rattle.vcd_strobe.proofs.FixedSteps.{same_itself}
 use Rattle.vcd_strobe.proofs.AheadSteps.{rest_next}
 use Rattle.vcd_strobe.proofs.ahead.EachItemVisitStrobe.take_timestamp.Goals as goal
 
@@ -6,6 +7,7 @@ pub returns-clause-takes : goal.returns-clause-takes
 returns-clause-takes c = λ a a' out item. record {
   scanned = c.args._timestamp;
   item = item;
+  same = same_itself c.args._strobe.now;
   regs = refl;
   on = λ p h items x views is known next few has.
       let one = c.args._timestamp in

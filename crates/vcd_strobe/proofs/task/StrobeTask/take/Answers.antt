@@ -2,6 +2,7 @@ use Rattle.std.proofs.Common.{rules, ◌≡◌, ◌∙◌, Err, ap, subst, sym}
 use Rattle.vcd_body.specs.Given.{IsItem}
 use Rattle.vcd_body.specs.Items.{AreRegsAfter, regs_after}
 use Rattle.vcd_body.specs.declared.item.Item.{Item}
+use Rattle.vcd_strobe.proofs.FixedSteps.{same_fixed}
 use Rattle.vcd_strobe.proofs.TaskSteps.{takes_failed, takes_on, takes_rest}
 use Rattle.vcd_strobe.proofs.task.StrobeTask.take.Goals as goal
 
@@ -23,3 +24,9 @@ returns-in_ok-take_any-in-Change-clause-takes g c = λ p h items before x views 
 pub returns-in-Time-clause-takes : goal.returns-in-Time-clause-takes
 returns-in-Time-clause-takes g c = λ p h items before x views known next r read few has on.
     takes_rest c.args.self.now p h items has c.args.text.now x c.args.item before c.args.regs (g.W.Sink.device c.args.out.now) next r read c.in-Time.is
+
+pub returns-in_err-take_any-in-Change-clause-fixed : goal.returns-in_err-take_any-in-Change-clause-fixed
+returns-in_err-take_any-in-Change-clause-fixed g c = same_fixed _ _ c.in_err-take_any-in-Change.ensures.same
+
+pub returns-in_ok-take_any-in-Change-clause-fixed : goal.returns-in_ok-take_any-in-Change-clause-fixed
+returns-in_ok-take_any-in-Change-clause-fixed g c = same_fixed _ _ c.in_ok-take_any-in-Change.ensures.same

@@ -8,6 +8,7 @@ use Rattle.vcd_run.specs.Plan.{Plan}
 use Rattle.vcd_text.proofs.Writes.{AppendsSome}
 use Rattle.vcd_text.specs.Device.{Appends}
 use Rattle.vcd_strobe.proofs.ChangeSteps.{clocks_placed, edges_as, edges_placed, from_low, full_text, turn_placed, unneeded_by}
+use Rattle.vcd_strobe.proofs.FixedSteps.{same_but_table, same_then}
 use Rattle.vcd_strobe.proofs.LineSteps.{code_low}
 use Rattle.vcd_strobe.proofs.Sampled.{time_still}
 use Rattle.vcd_strobe.specs.Roles.{is_followed}
@@ -72,3 +73,9 @@ returns-clause-takes g c = λ q at kept p h items a d has known only distinct ev
             (full_text c.args.form d c.args.text.now a.size good plain size some);
       },
     )
+
+pub returns-in_err-put_turn-clause-same : goal.returns-in_err-put_turn-clause-same
+returns-in_err-put_turn-clause-same g c = same_then _ _ _ (same_but_table _ _ c.put_value.ensures.rest) c.in_err-put_turn.ensures.same
+
+pub returns-clause-same : goal.returns-clause-same
+returns-clause-same g c = same_then _ _ _ (same_then _ _ _ (same_but_table _ _ c.put_value.ensures.rest) c.in_ok-put_turn.ensures.same) c.turn.ensures.same
